@@ -28,3 +28,5 @@ pub use std_sink::StdSink;
 pub use std_source::StdSource;
 pub use steps::Steps;
 
+#[cfg(test)]
+mod tests;

@@ -1,9 +1,9 @@
-ghost use Rattle.std.specs.Prelude.{◌≡◌, ◌<◌, ◌≤◌, ◌↔◌, ◌⊎◌, ◌-◌, ◌++◌, [], Some, Contains, IsErr, IfOk, OnOk, OnErr, length, take, min};
+ghost use Rattle.std.specs.Prelude.{◌≡◌, ◌<◌, ◌≤◌, ◌↔◌, ◌+◌, ◌-◌, [], Some, IsErr, IfOk, OnOk, OnErr, length, take, min};
 ghost use Rattle.std.specs.Io.{WritesAtMost};
 ghost use Rattle.std.specs.Io.KnownBytes.{Appends};
 ghost use Rattle.ax_base.specs.Bytes.{AppendsFront};
 ghost use Rattle.ax_base.specs.Faults.{Rose};
-ghost use Rattle.ax_base.specs.Calls.{next_number, after_success, after_failure, RefusesPiece};
+ghost use Rattle.ax_base.specs.Calls.{after_success, after_failure, RefusesPiece};
 
 use crate::calls::CallCount;
 use crate::{Failed, Memory, Sink};
@@ -72,6 +72,7 @@ impl Sink for MemSink {
         // What this sink adds: how many bytes, and which calls fail.
         ensures count { IfOk result (λ n. n ≡ min (length bytes.now) (self.old.room - length self.old.written)) }
         ensures fails { IsErr result ↔ RefusesPiece self.old bytes.now }
+        ensures whole { self.old.calls.failing ≡ [] → length self.old.written + length bytes.now ≤ self.old.room → result ≡ Ok (length bytes.now) }
         ensures room { self.new.room ≡ self.old.room }
         ensures unchanged { OnErr result (self.new.written ≡ self.old.written) }
         ensures ok_calls { OnOk result (self.new.calls ≡ after_success self.old.calls) }
