@@ -1,0 +1,4 @@
+pub mod Slot
+pub mod Part
+pub mod Frame
+pub mod View
