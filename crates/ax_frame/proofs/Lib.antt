@@ -1,2 +1,3 @@
-pub mod Parts
 pub mod Frames
+pub mod Parts
+pub mod Slots
