@@ -8,6 +8,7 @@
 #![tactic(auto)]
 
 mod frame;
+pub mod laws;
 mod memory;
 mod part;
 mod parts_text;
