@@ -104,6 +104,14 @@ nothing_in bytes (p ∷ ps) all e none = absurd (none p (parts_bytes ps) all.0 e
 pub none_left : (bytes : List ℕ) → Holds bytes → ((p : PartValue) (rest : List ℕ) → Fits p → bytes ≡ part_bytes p ++ rest → ⊥) → parts_in bytes ≡ []
 none_left bytes holds none = nothing_in bytes (parts_in bytes) (fit_of bytes holds) (spelled_of bytes holds) none
 
+-- a text without a byte holds no part, and one that holds no part has no byte
+pub empty_seen : (bytes : List ℕ) → Holds bytes → length bytes ≡ 0 → parts_in bytes ≡ []
+unfolding parts_in parts_within
+empty_seen bytes holds none = rw none refl
+
+pub seen_empty : (bytes : List ℕ) → Holds bytes → parts_in bytes ≡ [] → length bytes ≡ 0
+seen_empty bytes holds none = ap length (spelled_of bytes holds ∙ ap parts_bytes none)
+
 -- ---- whether bytes are parts
 
 pub text_seen : (bytes : List ℕ) → IsPartsText bytes → Holds bytes

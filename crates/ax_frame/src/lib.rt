@@ -19,3 +19,6 @@ pub use memory::Memory;
 pub use part::{MOST_PAYLOAD, Part, PartHead, part_head};
 pub use parts_text::PartsText;
 pub use slot::{RootSlot, read_slot, write_slot};
+
+#[cfg(test)]
+mod tests;

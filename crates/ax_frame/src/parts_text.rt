@@ -1,6 +1,6 @@
 //! A list of parts that is being written.
 
-ghost use Rattle.std.specs.Prelude.{◌≡◌, ◌≤◌, ◌<◌, ◌^◌, [], ◌∷◌, ◌++◌, length, OnOk, OnErr};
+ghost use Rattle.std.specs.Prelude.{◌≡◌, ◌≤◌, ◌<◌, ◌^◌, ◌↔◌, [], ◌∷◌, ◌++◌, length, IsTrue, OnOk, OnErr};
 ghost use Rattle.ax_frame.specs.Part.{part_value, part_bytes, parts_bytes, AllFit};
 
 use crate::memory::Memory;
@@ -34,6 +34,13 @@ impl PartsText {
         PartsText {
             text: Vec::new(alloc),
         }
+    }
+
+    /// Whether no part was added.
+    pub fn is_empty(&self) -> bool
+        ensures { IsTrue result ↔ (self.now ≡ []) }
+    {
+        self.text.is_empty()
     }
 
     /// Puts a part at the end.
