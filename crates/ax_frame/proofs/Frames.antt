@@ -1,10 +1,10 @@
 -- One spelling for each frame, and what the readers of frames rest on.
-use Rattle.std.proofs.Common.{◌≡◌, ℕ, ◌+◌, ◌^◌, ◌<◌, ◌≤◌, List, [], ◌∷◌, ◌++◌, length, take, drop, refl, sym, ap, subst, ◌∙◌, append_assoc, length-append, arith}
-use Rattle.std.specs.Int.{w64, to_le_bytes, from_le_bytes}
+use Rattle.std.proofs.Common.{◌≡◌, ℕ, ◌^◌, ◌<◌, ◌≤◌, List, [], ◌∷◌, ◌++◌, length, take, drop, refl, sym, ap, subst, ◌∙◌, arith}
+use Rattle.std.specs.Int.{w64, from_le_bytes}
 use Rattle.std.proofs.lemmas.List.{take_at, drop_at, take-append-drop, length-take-le}
 use Rattle.std.proofs.lemmas.Nat.{from_le_bytes-to_le_bytes_8}
-use Rattle.ax_frame.specs.Part.{PartValue, part_bytes, parts_bytes, Fits, AllFit, IsPartsText}
-use Rattle.ax_frame.specs.Frame.{open_head, open_frame, frame_bytes, CanFrame, Begins, NoFrame}
+use Rattle.ax_frame.specs.Part.{PartValue, parts_bytes, IsPartsText}
+use Rattle.ax_frame.specs.Frame.{open_head, open_frame, Begins, NoFrame}
 use Rattle.ax_frame.specs.View.{parts_in, Holds}
 use Rattle.ax_frame.proofs.Parts.{fit_of, spelled_of, seen_as, one_list, text_seen}
 

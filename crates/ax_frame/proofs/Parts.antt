@@ -1,12 +1,11 @@
 -- One spelling for each part and for each list of parts, and what a text of parts is seen as.
-use Rattle.std.proofs.Common.{◌≡◌, ℕ, zero, suc, ◌+◌, ◌^◌, ◌<◌, ◌≤◌, List, [], ◌∷◌, ◌++◌, length, take, drop, refl, sym, ap, subst, ◌∙◌, append_assoc, length-append, arith}
+use Rattle.std.proofs.Common.{◌≡◌, ℕ, zero, suc, ◌<◌, ◌≤◌, List, [], ◌∷◌, ◌++◌, length, take, drop, refl, sym, ap, subst, ◌∙◌, length-append, arith}
 use Rattle.std.specs.Prelude.{Result, Ok, Err, OnOk, OnErr}
-use Rattle.std.specs.List.{flat_map}
 use Rattle.std.specs.Int.{w32, to_le_bytes, from_le_bytes}
 use Rattle.std.proofs.lemmas.List.{take_at, drop_at, append-nil}
 use Rattle.std.proofs.lemmas.List.Concat.{flat_map-append}
 use Rattle.std.proofs.lemmas.Nat.{from_le_bytes-to_le_bytes_4}
-use Rattle.ax_frame.specs.Part.{PartValue, head_bytes, part_bytes, parts_bytes, Fits, AllFit, IsPartsText}
+use Rattle.ax_frame.specs.Part.{PartValue, part_bytes, parts_bytes, Fits, AllFit, IsPartsText}
 use Rattle.ax_frame.specs.View.{front_of, parts_within, parts_in, Holds}
 
 -- the front of a text is the part whose spelling stands there
@@ -70,9 +69,9 @@ AllFit-push (q ∷ ps) p all fit = (all.0, AllFit-push ps p all.1 fit)
 pub pushed : (old new : List ℕ) (p : PartValue) → Holds old → Fits p → new ≡ old ++ part_bytes p → Seen new (parts_in old ++ p ∷ [])
 pushed old new p holds fit e =
     let spelled : new ≡ parts_bytes (parts_in old ++ p ∷ []) =
-        e ∙ ap (λ (text : List ℕ). text ++ part_bytes p) (spelled_of old holds)
-        ∙ ap (λ (text : List ℕ). parts_bytes (parts_in old) ++ text) (sym (append-nil (part_bytes p)))
-        ∙ sym (flat_map-append part_bytes (parts_in old) (p ∷ [])) in
+    e ∙ ap (λ (text : List ℕ). text ++ part_bytes p) (spelled_of old holds)
+    ∙ ap (λ (text : List ℕ). parts_bytes (parts_in old) ++ text) (sym (append-nil (part_bytes p)))
+    ∙ sym (flat_map-append part_bytes (parts_in old) (p ∷ [])) in
     seen_as new (parts_in old ++ p ∷ []) (AllFit-push (parts_in old) p (fit_of old holds) fit) spelled
 
 pub nothing_seen : Seen [] []

@@ -1,10 +1,9 @@
 -- A frame read in pieces is the frame.
-use Rattle.std.proofs.Common.{◌≡◌, ℕ, zero, suc, ◌+◌, ◌^◌, ◌<◌, ◌≤◌, List, [], ◌∷◌, ◌++◌, length, take, drop, refl, sym, ap, subst, ◌∙◌, append_assoc, length-append, arith}
-use Rattle.std.specs.Int.{w64, to_le_bytes}
+use Rattle.std.proofs.Common.{◌≡◌, ℕ, ◌<◌, List, [], ◌∷◌, ◌++◌, length, take, drop, refl, sym, ap, subst, ◌∙◌, length-append, arith}
 use Rattle.std.proofs.lemmas.List.{take_at, drop_at, take-append-drop, length-take-le}
-use Rattle.ax_frame.specs.Part.{PartValue, head_bytes, part_bytes, parts_bytes, Fits, AllFit, IsPartHead}
-use Rattle.ax_frame.specs.Frame.{open_head, open_frame, frame_bytes, CanFrame, Begins}
-use Rattle.ax_frame.specs.Pieces.{head_of_part, PartsInPieces, FrameInPieces}
+use Rattle.ax_frame.specs.Part.{PartValue, head_bytes, parts_bytes, AllFit}
+use Rattle.ax_frame.specs.Frame.{open_head, open_frame, frame_bytes, Begins}
+use Rattle.ax_frame.specs.Pieces.{PartsInPieces, FrameInPieces}
 use Rattle.ax_frame.proofs.Frames.{body_found, parts_take_bytes}
 
 -- ---- parts
@@ -13,9 +12,12 @@ pub parts_in_pieces : (ps : List PartValue) → AllFit ps → PartsInPieces (par
 parts_in_pieces [] fit = refl
 parts_in_pieces (p ∷ ps) fit =
     let front : take (length p.payload) (p.payload ++ parts_bytes ps) ≡ p.payload = take_at p.payload (parts_bytes ps) (length p.payload) refl in
-    let behind : drop (length p.payload) (p.payload ++ parts_bytes ps) ≡ parts_bytes ps = drop_at p.payload (parts_bytes ps) (length p.payload) refl in
-    (record { spelled = refl; key_fits = fit.0.key_fits; len_fits = omega (arith, fit.0.payload_fits) },
-    fit.0.payload_fits, front, subst (λ (text : List ℕ). PartsInPieces text ps) (sym behind) (parts_in_pieces ps fit.1))
+    let behind : drop (length p.payload) (p.payload ++ parts_bytes ps) ≡ parts_bytes ps = drop_at p.payload (parts_bytes ps) (length p.payload) refl in (
+      record { spelled = refl; key_fits = fit.0.key_fits; len_fits = omega (arith, fit.0.payload_fits) },
+      fit.0.payload_fits,
+      front,
+      subst (λ (text : List ℕ). PartsInPieces text ps) (sym behind) (parts_in_pieces ps fit.1),
+    )
 
 pub record Spelled (text : List ℕ) (ps : List PartValue) : Type 0 where
   pub fit : AllFit ps
@@ -26,9 +28,9 @@ parts_from_pieces text [] e = record { fit = tt; is = e }
 parts_from_pieces text (p ∷ ps) (head, short, payload, others) =
     let more = parts_from_pieces (drop (length p.payload) (drop 9 text)) ps others in
     let behind : drop 9 text ≡ p.payload ++ parts_bytes ps =
-        sym (take-append-drop (length p.payload) (drop 9 text)) ∙ rw (payload, more.is) refl in
+    sym (take-append-drop (length p.payload) (drop 9 text)) ∙ rw (payload, more.is) refl in
     let whole : text ≡ head_bytes p.kind p.key (length p.payload) ++ (p.payload ++ parts_bytes ps) =
-        sym (take-append-drop 9 text) ∙ rw (head.spelled, behind) refl in
+    sym (take-append-drop 9 text) ∙ rw (head.spelled, behind) refl in
     record { fit = (record { key_fits = head.key_fits; payload_fits = short }, more.fit); is = whole }
 
 -- ---- frames

@@ -1,10 +1,10 @@
 -- One spelling for each slot, and what sixteen bytes say.
-use Rattle.std.proofs.Common.{◌≡◌, ℕ, zero, suc, ◌+◌, ◌^◌, ◌<◌, ◌≤◌, List, [], ◌∷◌, ◌++◌, length, get_or, take, drop, refl, sym, ap, subst, ◌∙◌, arith}
+use Rattle.std.proofs.Common.{◌≡◌, ℕ, zero, suc, ◌<◌, List, [], ◌∷◌, ◌++◌, length, get_or, take, drop, refl, sym, ap, ◌∙◌, arith}
 use Rattle.std.specs.Int.{w16, w64, to_le_bytes, from_le_bytes}
 use Rattle.std.proofs.lemmas.Nat.{le_bytes_2, le_bytes_8, from_le_bytes-to_le_bytes_2, from_le_bytes-to_le_bytes_8}
 use Rattle.ax_frame.specs.declared.slot.RootSlot.{RootSlot}
 use Rattle.ax_frame.specs.declared.slot.RootSlot.TheVariants.{Closed, Live, Bad}
-use Rattle.ax_frame.specs.Slot.{mark, slot_names, slot_bytes, CanName, IsOpenSlot, IsSlot}
+use Rattle.ax_frame.specs.Slot.{mark, slot_bytes, IsOpenSlot, IsSlot}
 
 -- ---- what is read is spelled so
 

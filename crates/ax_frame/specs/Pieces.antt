@@ -15,7 +15,8 @@ head_of_part p = record { kind = p.kind; key = p.key; len = length p.payload }
 abbrev pub PartsInPieces : List ℕ → List PartValue → Type 0
 PartsInPieces text [] = text ≡ []
 PartsInPieces text (p ∷ ps) =
-    IsPartHead (take 9 text) (head_of_part p) × (length p.payload ≤ 65536) × (take (length p.payload) (drop 9 text) ≡ p.payload)
+    IsPartHead (take 9 text) (head_of_part p) × (length p.payload ≤ 65536)
+    × (take (length p.payload) (drop 9 text) ≡ p.payload)
     × PartsInPieces (drop (length p.payload) (drop 9 text)) ps
 
 -- The first nine bytes are the head of a frame. The bytes that it spans are the parts, and the rest follows them.

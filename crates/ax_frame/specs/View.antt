@@ -12,9 +12,10 @@ len_after_kind bytes = from_le_bytes w32 (take 4 (drop 4 bytes))
 -- the part at the front, and the bytes after it
 abbrev pub front_of : List ℕ → PartValue × List ℕ
 front_of [] = (record { kind = 0; key = 0; payload = [] }, [])
-front_of (kind ∷ bytes) =
-    (record { kind = kind; key = from_le_bytes w32 (take 4 bytes); payload = take (len_after_kind bytes) (drop 8 bytes) },
-    drop (len_after_kind bytes) (drop 8 bytes))
+front_of (kind ∷ bytes) = (
+  record { kind = kind; key = from_le_bytes w32 (take 4 bytes); payload = take (len_after_kind bytes) (drop 8 bytes) },
+  drop (len_after_kind bytes) (drop 8 bytes),
+)
 
 -- at most so many parts from the front
 unfoldable pub parts_within : ℕ → List ℕ → List PartValue

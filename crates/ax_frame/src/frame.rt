@@ -64,15 +64,17 @@ impl<'a> Model for FrameParts<'a> {
 impl<'a> FrameParts<'a> {
     /// The next part, in the order in which they stand. `None` exactly at the end.
     pub fn next(&mut self) -> Option<Part<'a>>
-        ensures { MatchOption result ((self.old ≡ []) × (self.new ≡ [])) (λ p. self.old ≡ part_value p ∷ self.new) }
+        ensures { MatchOption result
+            ((self.old ≡ []) × (self.new ≡ []))
+            (λ p. self.old ≡ part_value p ∷ self.new) }
     {
         let (part, rest) = split_part(self.text)?;
         self.text = rest;
         Some(part)
     }
 
-    /// How many bytes the parts that are left take. Of a list that `read_frame` just gave it is nine less than
-    /// the frame's own length.
+    /// How many bytes the parts that are left take. Before the first `next` that is what the frame's head says, and
+    /// the frame ends nine bytes later: `frame_bytes` of the list has nine bytes before those of its parts.
     pub fn bytes_left(&self) -> usize
         ensures { result ≡ length (parts_bytes self.now) }
     {
@@ -85,7 +87,8 @@ impl<'a> FrameParts<'a> {
 fn frame_body(bytes: &[u8]) -> Option<&[u8]>
     ensures fits { IfSome result (λ body. (0 < length body.now) × (length body.now < 2 ^ 64)) }
     ensures found { IfSome result (λ body. (rest : List ℕ) × (bytes.now ≡ open_frame body.now ++ rest)) }
-    ensures none { IfNone result ((body rest : List ℕ) → 0 < length body → length body < 2 ^ 64 → bytes.now ≡ open_frame body ++ rest → ⊥) }
+    ensures none { IfNone result ((body rest : List ℕ) → 0 < length body → length body < 2 ^ 64
+        → bytes.now ≡ open_frame body ++ rest → ⊥) }
 {
     let (front, rest) = bytes.split_first_chunk::<9>()?;
     match frame_head(front) {
@@ -100,7 +103,8 @@ fn frame_body(bytes: &[u8]) -> Option<&[u8]>
 /// bytes, or what it spans is not one well-formed part after another.
 pub fn read_frame(bytes: &[u8]) -> Result<FrameParts<'_>, NotFrame>
     ensures found { IfOk result (λ ps. (rest : List ℕ) × Begins bytes.now ps rest) }
-    ensures only { (ps : List PartValue) (rest : List ℕ) → Begins bytes.now ps rest → IsOkAnd result (λ found. found ≡ ps) }
+    ensures only { (ps : List PartValue) (rest : List ℕ) → Begins bytes.now ps rest
+        → IsOkAnd result (λ found. found ≡ ps) }
     ensures none { OnErr result (NoFrame bytes.now) }
 {
     let Some(text) = frame_body(bytes) else {

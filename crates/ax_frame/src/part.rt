@@ -53,7 +53,8 @@ pub(crate) fn head_of(kind: u8, key: u32, len: u32) -> [u8; 9]
 
 /// The part at the front of the bytes, and what follows it. `None` exactly where no part stands there.
 pub(crate) fn split_part(bytes: &[u8]) -> Option<(Part<'_>, &[u8])>
-    ensures found { IfSome result (λ x. Fits (part_value x.0) × (bytes.now ≡ part_bytes (part_value x.0) ++ x.1.now)) }
+    ensures found { IfSome result (λ x. Fits (part_value x.0)
+        × (bytes.now ≡ part_bytes (part_value x.0) ++ x.1.now)) }
     ensures none { IfNone result ((p : PartValue) (rest : List ℕ) → Fits p → bytes.now ≡ part_bytes p ++ rest → ⊥) }
 {
     let (front, rest) = bytes.split_first_chunk::<9>()?;

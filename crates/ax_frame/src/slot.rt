@@ -28,7 +28,24 @@ pub fn read_slot(bytes: &[u8; 16]) -> RootSlot
     ensures is { IsSlot bytes.now result }
     ensures only { (slot : RootSlot) → IsSlot bytes.now slot → slot ≡ result }
 {
-    let [gate, v0, v1, area, g0, g1, g2, g3, g4, g5, g6, g7, m0, m1, m2, m3] = *bytes;
+    let [
+        gate,
+        v0,
+        v1,
+        area,
+        g0,
+        g1,
+        g2,
+        g3,
+        g4,
+        g5,
+        g6,
+        g7,
+        m0,
+        m1,
+        m2,
+        m3,
+    ] = *bytes;
     if gate != 1 {
         return RootSlot::Closed;
     }

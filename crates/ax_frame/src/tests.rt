@@ -45,11 +45,7 @@ fn parts_of_area() -> [Part<'static>; 3] {
 }
 
 /// The frame of the parts, its own gate open.
-fn frame_of(
-    rt: &impl Abort,
-    alloc: Global,
-    parts: &[Part<'_>],
-) -> Result<Vec<u8>, Memory> {
+fn frame_of(rt: &impl Abort, alloc: Global, parts: &[Part<'_>]) -> Result<Vec<u8>, Memory> {
     let mut text = PartsText::begin(alloc);
     for part in parts {
         assert!(rt; part.payload.len() <= MOST_PAYLOAD);
@@ -110,8 +106,14 @@ fn the_worked_area(rt: HostRuntime) -> Result<(), Fail> {
     let parts = parts_of_area();
     assert_reads(&rt, &AREA, &parts);
     assert_reads(&rt, &AREA[..63], &parts);
-    assert_eq!(rt; frame_of(&rt, rt.alloc(), &parts)?.as_slice(), AREA.as_slice());
-    assert_eq!(rt; read_frame(&AREA).ok().expect(&rt, "a frame").bytes_left(), 54);
+    assert_eq!(rt;
+        frame_of(&rt, rt.alloc(), &parts)?.as_slice(),
+        AREA.as_slice()
+    );
+    assert_eq!(rt;
+        read_frame(&AREA).ok().expect(&rt, "a frame").bytes_left(),
+        54
+    );
     let (head, mut rest) = AREA.split_first_chunk::<9>().expect(&rt, "nine bytes");
     assert_eq!(rt; frame_head(head), FrameHead::Frame { len: 54 });
     for part in parts {
@@ -147,7 +149,12 @@ fn what_is_no_frame(rt: HostRuntime) {
         (1, 0x37, false, "one byte after the last part"),
         (1, 0x38, false, "a length past the end"),
         (8, 0x80, false, "a length past all ends"),
-        (14, 0x0C, false, "a payload that takes the next head's first byte"),
+        (
+            14,
+            0x0C,
+            false,
+            "a payload that takes the next head's first byte",
+        ),
         (16, 0x01, false, "a payload too long"),
         (52, 0x09, false, "a part that runs past its frame"),
     ];

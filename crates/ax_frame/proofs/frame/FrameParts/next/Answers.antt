@@ -1,4 +1,4 @@
-use Rattle.std.proofs.Common.{◌≡◌, ◌∷◌, [], List, sym, ap, ◌∙◌}
+use Rattle.std.proofs.Common.{sym, ◌∙◌}
 use Rattle.ax_frame.specs.Part.{part_value}
 use Rattle.ax_frame.proofs.Parts.{first_given, none_left}
 use Rattle.ax_frame.proofs.frame.FrameParts.next.Goals as goal

@@ -1,4 +1,4 @@
-use Rattle.std.proofs.Common.{◌≡◌, List, ℕ, subst, sym, ap, ◌∙◌}
+use Rattle.std.proofs.Common.{subst, sym, ap, ◌∙◌}
 use Rattle.ax_frame.specs.View.{Holds, parts_in}
 use Rattle.ax_frame.proofs.Parts.{nothing_seen}
 use Rattle.ax_frame.proofs.parts_text.PartsText.begin.Goals as goal
