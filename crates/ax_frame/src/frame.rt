@@ -118,7 +118,7 @@ pub fn read_frame(bytes: &[u8]) -> Result<FrameParts<'_>, NotFrame>
 
 /// The frame of these parts without its own gate: length, parts, and the closed gate that follows.
 ///
-/// The gate is written apart, as the last step of a commit.
+/// The gate is written apart, as the last step of a commit. `Memory` where there is no room for the bytes.
 pub fn write_frame(alloc: Global, parts: &PartsText) -> Result<Vec<u8>, Memory>
     requires { parts.now ≢ [] }
     ensures spelled { IfOk result (λ text. 1 ∷ text.items ≡ frame_bytes parts.now ++ 0 ∷ []) }

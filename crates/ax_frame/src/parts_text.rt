@@ -27,7 +27,7 @@ impl Model for PartsText {
 }
 
 impl PartsText {
-    /// The empty list. It takes no memory yet; what is added later takes it from `alloc`.
+    /// The empty list. It takes no memory yet: what is added later takes it from `alloc`.
     pub fn begin(alloc: Global) -> PartsText
         ensures { result ≡ [] }
     {
@@ -43,7 +43,7 @@ impl PartsText {
         self.text.is_empty()
     }
 
-    /// Puts a part at the end.
+    /// Puts a part at the end. `Memory` where there is no room for it; the list is then as it was.
     pub fn add(&mut self, part: Part<'_>) -> Result<(), Memory>
         requires { length part.payload.now ≤ 65536 }
         ensures ok { OnOk result (self.new ≡ self.old ++ part_value part.entry ∷ []) }
