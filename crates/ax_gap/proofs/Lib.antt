@@ -1,0 +1,2 @@
+pub mod VarintLaws
+pub mod Long

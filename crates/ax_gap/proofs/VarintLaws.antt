@@ -1,0 +1,134 @@
+-- Varints: the grammar, the spelling and the reading of one are the same.
+use Rattle.std.proofs.Common.{◌≡◌, ℕ, ◌+◌, ◌-◌, ◌*◌, ◌/◌, ◌%◌, ◌<◌, ◌≤◌, ◌^◌, ◌==◌, Bool, true, false, length, List, [], ◌∷◌, ◌++◌, Option, Some, None, zero, suc, nat_lt, if◌then◌else◌, arith, refl, ap, ◌∙◌, sym, subst, inl, inr, ⊎_elim, All}
+use Rattle.std.proofs.lemmas.Bool.{le-ltb, lt-ltb, ltb-true, ltb-false, ne_eqb, cases_lt}
+use Rattle.std.proofs.lemmas.List.Elements.{All-head, All-tail}
+use Rattle.std.proofs.lemmas.Nat.{div-mul-add, mod-mul-add, div-add-mod'}
+use Rattle.ax_gap.specs.Varint.{IsVarint, groups, varint}
+use Rattle.ax_gap.specs.Reading.{front, longer}
+
+below_self : (n k : ℕ) → n ≤ suc k → 128 ≤ n → n / 128 ≤ k
+below_self n k h l = omega arith
+
+-- more groups than a number needs change nothing
+groups_enough : (k j n : ℕ) → n ≤ k → n ≤ j → groups k n ≡ groups j n
+unfolding groups
+groups_enough zero zero n a b = refl
+groups_enough zero (suc j) n a b = let s : nat_lt n 128 ≡ true = lt-ltb n 128 (omega arith) in rw s refl
+groups_enough (suc k) zero n a b = let s : nat_lt n 128 ≡ true = lt-ltb n 128 (omega arith) in rw s refl
+groups_enough (suc k) (suc j) n a b =
+    ⊎_elim
+    (λ h. let s : nat_lt n 128 ≡ true = lt-ltb n 128 h in rw s refl)
+    (λ h. let s : nat_lt n 128 ≡ false = le-ltb n 128 h in
+        rw s (ap (λ bs. (128 + n % 128) ∷ bs) (groups_enough k j (n / 128) (below_self n k a h) (below_self n j b h))))
+    (cases_lt n 128)
+
+pub varint-small : (n : ℕ) → n < 128 → varint n ≡ n ∷ []
+unfolding varint groups
+varint-small zero h = refl
+varint-small (suc n) h = let s : nat_lt (suc n) 128 ≡ true = lt-ltb (suc n) 128 h in rw s refl
+
+pub varint-large : (n : ℕ) → 128 ≤ n → varint n ≡ (128 + n % 128) ∷ varint (n / 128)
+unfolding varint groups
+varint-large zero h = absurd (omega arith)
+varint-large (suc n) h =
+    let s : nat_lt (suc n) 128 ≡ false = le-ltb (suc n) 128 h in
+    rw s (ap (λ bs. (128 + suc n % 128) ∷ bs) (groups_enough n (suc n / 128) (suc n / 128) (below_self (suc n) n (omega arith) h) (omega arith)))
+
+-- a fact of every number, from its groups: what holds below 128 and goes up from n / 128 to n
+upward : (P : ℕ → Type 0) → ((n : ℕ) → n < 128 → P n) → ((n : ℕ) → 128 ≤ n → P (n / 128) → P n) → (k n : ℕ) → n ≤ k → P n
+upward P small large zero n h = small n (omega arith)
+upward P small large (suc k) n h =
+    ⊎_elim (small n) (λ l. large n l (upward P small large k (n / 128) (below_self n k h l))) (cases_lt n 128)
+
+pub by_groups : (P : ℕ → Type 0) → ((n : ℕ) → n < 128 → P n) → ((n : ℕ) → 128 ≤ n → P (n / 128) → P n) → (n : ℕ) → P n
+by_groups P small large n = upward P small large n n (omega arith)
+
+longer_found : (byte m : ℕ) (rest : List ℕ) → 0 < m → longer byte (Some (m, rest)) ≡ Some (byte - 128 + 128 * m, rest)
+longer_found byte m rest h = let s : (m == 0) ≡ false = ne_eqb m 0 (λ e. omega arith) in rw s refl
+
+-- what is spelled so is read
+pub front_again : (n : ℕ) (rest : List ℕ) → front (varint n ++ rest) ≡ Some (n, rest)
+front_again n rest =
+    by_groups (λ n. front (varint n ++ rest) ≡ Some (n, rest))
+    (λ n h. let s : nat_lt n 128 ≡ true = lt-ltb n 128 h in rw (varint-small n h, s) refl)
+    (λ n h was.
+        let s : nat_lt (128 + n % 128) 128 ≡ false = le-ltb (128 + n % 128) 128 (omega arith) in
+        let whole : 128 + n % 128 - 128 + 128 * (n / 128) ≡ n = omega arith in
+        rw (varint-large n h, s, was, longer_found (128 + n % 128) (n / 128) rest (omega arith), whole) refl)
+    n
+
+-- no varint is empty
+varint-cons : (n : ℕ) → (byte : ℕ) × (rest : List ℕ) × (varint n ≡ byte ∷ rest)
+varint-cons n =
+    ⊎_elim (λ h. (n, [], varint-small n h)) (λ h. (128 + n % 128, varint (n / 128), varint-large n h)) (cases_lt n 128)
+
+pub length-varint : (n : ℕ) → 0 < length (varint n)
+length-varint n = let c : (byte : ℕ) × (rest : List ℕ) × (varint n ≡ byte ∷ rest) = varint-cons n in rw c.2 (omega arith)
+
+abbrev found : ℕ → List ℕ → Option (ℕ × List ℕ)
+found n rest = Some (n, rest)
+
+number_of : Option (ℕ × List ℕ) → ℕ
+number_of None = 0
+number_of (Some x) = x.0
+
+after_of : Option (ℕ × List ℕ) → List ℕ
+after_of None = []
+after_of (Some x) = x.1
+
+pub same_number : (m n : ℕ) (x y : List ℕ) → found m x ≡ found n y → m ≡ n
+unfolding number_of
+same_number m n x y e = ap number_of e
+
+pub same_after : (m n : ℕ) (x y : List ℕ) → found m x ≡ found n y → x ≡ y
+unfolding after_of
+same_after m n x y e = ap after_of e
+
+large_again : (byte m n : ℕ) (bytes rest : List ℕ) → byte < 256 → 128 ≤ byte → 0 < m → byte - 128 + 128 * m ≡ n → bytes ≡ varint m ++ rest → byte ∷ bytes ≡ varint n ++ rest
+large_again byte m n bytes rest s l p e was =
+    let high : n / 128 ≡ m = omega arith in
+    let low : 128 + n % 128 ≡ byte = omega arith in
+    rw (varint-large n (omega arith), low, high, was) refl
+
+takes_longer : (byte : ℕ) (bytes : List ℕ) (r : Option (ℕ × List ℕ)) (n : ℕ) (rest : List ℕ) → byte < 256 → 128 ≤ byte → ((m : ℕ) → r ≡ Some (m, rest) → bytes ≡ varint m ++ rest) → longer byte r ≡ Some (n, rest) → byte ∷ bytes ≡ varint n ++ rest
+takes_longer byte bytes None n rest s l was e = absurd (cc)
+takes_longer byte bytes (Some (zero, r)) n rest s l was e = absurd (cc)
+takes_longer byte bytes (Some (suc m, r)) n rest s l was e =
+    let f : found (byte - 128 + 128 * suc m) r ≡ found n rest = sym (longer_found byte (suc m) r (omega arith)) ∙ e in
+    let number : byte - 128 + 128 * suc m ≡ n = same_number _ _ r rest f in
+    let after : r ≡ rest = same_after _ _ r rest f in
+    large_again byte (suc m) n bytes rest s l (omega arith) number (was (suc m) (ap (λ (x : List ℕ). Some (suc m, x)) after))
+
+-- what is read is spelled so
+pub front_takes : (bytes : List ℕ) (n : ℕ) (rest : List ℕ) → All (λ b. b < 256) bytes → front bytes ≡ Some (n, rest) → bytes ≡ varint n ++ rest
+front_takes [] n rest all e = absurd (cc)
+front_takes (byte ∷ bytes) n rest all e =
+    ⊎_elim
+    (λ h.
+        let s : nat_lt byte 128 ≡ true = lt-ltb byte 128 h in
+        let f : found byte bytes ≡ found n rest = rw s at e in
+        let number : byte ≡ n = same_number byte n bytes rest f in
+        let after : bytes ≡ rest = same_after byte n bytes rest f in
+        rw (← number, varint-small byte h, after) refl)
+    (λ h.
+        let s : nat_lt byte 128 ≡ false = le-ltb byte 128 h in
+        let f : longer byte (front bytes) ≡ Some (n, rest) = rw s at e in
+        takes_longer byte bytes (front bytes) n rest (All-head (λ b. b < 256) byte bytes all) h
+        (λ m was. front_takes bytes m rest (All-tail (λ b. b < 256) byte bytes all) was) f)
+    (cases_lt byte 128)
+
+-- the grammar
+pub grammar_spells : (bytes : List ℕ) (n : ℕ) → IsVarint bytes n → bytes ≡ varint n
+grammar_spells [] n h = absurd h
+grammar_spells (byte ∷ []) n h = ap (λ (b : ℕ). b ∷ []) h.1 ∙ sym (varint-small n (omega (arith, h.0, h.1)))
+grammar_spells (byte ∷ next ∷ rest) n h = ap (λ b. b ∷ next ∷ rest) h.1 ∙ ap (λ bs. (128 + n % 128) ∷ bs) (grammar_spells (next ∷ rest) (n / 128) h.2) ∙ sym (varint-large n h.0)
+
+grammar_longer : (n : ℕ) (bytes : List ℕ) → (byte : ℕ) × (rest : List ℕ) × (bytes ≡ byte ∷ rest) → 128 ≤ n → IsVarint bytes (n / 128) → IsVarint ((128 + n % 128) ∷ bytes) n
+grammar_longer n [] c h was = absurd was
+grammar_longer n (byte ∷ rest) c h was = (h, refl, was)
+
+pub spells_grammar : (n : ℕ) → IsVarint (varint n) n
+spells_grammar =
+    by_groups (λ n. IsVarint (varint n) n)
+    (λ n h. rw (varint-small n h) (h, refl))
+    (λ n h was. rw (varint-large n h) (grammar_longer n (varint (n / 128)) (varint-cons (n / 128)) h was))

@@ -1,0 +1,4 @@
+pub mod Cursor
+pub mod Gaps
+pub mod Reading
+pub mod Varint

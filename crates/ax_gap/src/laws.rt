@@ -1,0 +1,9 @@
+//! Laws.
+ghost use Rattle.std.specs.Prelude.{◌≡◌, ◌↔◌, ℕ, List};
+ghost use Rattle.ax_gap.specs.Varint.{IsVarint, varint};
+
+/// The varint of a number is the one text in the grammar of varints for it.
+pub fn varint_is_the_one()
+    ensures { (bytes : List ℕ) (n : ℕ) → IsVarint bytes n ↔ (bytes ≡ varint n) }
+{
+}

@@ -1,0 +1,6 @@
+//! Gap lists of rising numbers.
+#![tactic(auto)]
+
+pub mod varint;
+
+pub mod laws;
