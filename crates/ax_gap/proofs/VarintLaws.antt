@@ -1,10 +1,11 @@
 -- Varints: the grammar, the spelling and the reading of one are the same.
-use Rattle.std.proofs.Common.{◌≡◌, ℕ, ◌+◌, ◌-◌, ◌*◌, ◌/◌, ◌%◌, ◌<◌, ◌≤◌, ◌^◌, ◌==◌, Bool, true, false, length, List, [], ◌∷◌, ◌++◌, Option, Some, None, zero, suc, nat_lt, if◌then◌else◌, arith, refl, ap, ◌∙◌, sym, subst, inl, inr, ⊎_elim, All}
-use Rattle.std.proofs.lemmas.Bool.{le-ltb, lt-ltb, ltb-true, ltb-false, ne_eqb, cases_lt}
-use Rattle.std.proofs.lemmas.List.Elements.{All-head, All-tail}
+use Rattle.std.proofs.Common.{◌≡◌, ℕ, ◌+◌, ◌-◌, ◌*◌, ◌/◌, ◌%◌, ◌<◌, ◌≤◌, ◌^◌, ◌==◌, Bool, true, false, length, List, [], ◌∷◌, ◌++◌, Option, Some, None, zero, suc, nat_lt, if◌then◌else◌, arith, refl, ap, ◌∙◌, sym, subst, inl, inr, ⊎_elim, All, nat_le, cond, get_or, drop, take, min}
+use Rattle.std.proofs.lemmas.Bool.{le-ltb, lt-ltb, ltb-true, ltb-false, ne_eqb, cases_lt, le-leb}
+use Rattle.std.proofs.lemmas.List.{length-append, length-take, drop_at, take-append-le, append_assoc}
+use Rattle.std.proofs.lemmas.List.Elements.{All-head, All-tail, All-from_get_or}
 use Rattle.std.proofs.lemmas.Nat.{div-mul-add, mod-mul-add, div-add-mod'}
 use Rattle.ax_gap.specs.Varint.{IsVarint, groups, varint}
-use Rattle.ax_gap.specs.Reading.{front, longer}
+use Rattle.ax_gap.specs.Reading.{front, longer, at_most}
 
 below_self : (n k : ℕ) → n ≤ suc k → 128 ≤ n → n / 128 ≤ k
 below_self n k h l = omega arith
@@ -65,7 +66,10 @@ varint-cons n =
 pub length-varint : (n : ℕ) → 0 < length (varint n)
 length-varint n = let c : (byte : ℕ) × (rest : List ℕ) × (varint n ≡ byte ∷ rest) = varint-cons n in rw c.2 (omega arith)
 
-abbrev found : ℕ → List ℕ → Option (ℕ × List ℕ)
+abbrev pub spelled : ℕ → ℕ → Option (ℕ × ℕ)
+spelled n used = Some (n, used)
+
+abbrev pub found : ℕ → List ℕ → Option (ℕ × List ℕ)
 found n rest = Some (n, rest)
 
 number_of : Option (ℕ × List ℕ) → ℕ
@@ -132,3 +136,44 @@ spells_grammar =
     by_groups (λ n. IsVarint (varint n) n)
     (λ n h. rw (varint-small n h) (h, refl))
     (λ n h was. rw (varint-large n h) (grammar_longer n (varint (n / 128)) (varint-cons (n / 128)) h was))
+
+-- ---- what the code takes off the front
+
+most_found : (most : ℕ) (r : Option (ℕ × List ℕ)) (n : ℕ) (rest : List ℕ) → found n rest ≡ at_most most r → found n rest ≡ r
+most_found most None n rest e = e
+most_found most (Some x) n rest e =
+    elim (nat_le x.0 most) as (λ b. found n rest ≡ cond b (Some x) None → found n rest ≡ Some x) [ true ↦ λ h. h | false ↦ λ h. absurd (cc) ] e
+
+-- what is taken off is spelled so
+pub split_takes : (bytes : List ℕ) (n : ℕ) (rest : List ℕ) → ((i : ℕ) → get_or bytes i 0 < 256) → found n rest ≡ at_most 4294967296 (front bytes) → bytes ≡ varint n ++ rest
+split_takes bytes n rest fits e =
+    front_takes bytes n rest (All-from_get_or (λ b. b < 256) bytes 0 (λ i h. fits i)) (sym (most_found 4294967296 (front bytes) n rest e))
+
+-- what is spelled so is taken off
+pub split_again : (bytes : List ℕ) (n : ℕ) (rest : List ℕ) → n ≤ 4294967296 → bytes ≡ varint n ++ rest → at_most 4294967296 (front bytes) ≡ found n rest
+split_again bytes n rest h e =
+    ap (λ bs. at_most 4294967296 (front bs)) e ∙ ap (at_most 4294967296) (front_again n rest) ∙ rw (le-leb n 4294967296 h) refl
+
+pub length-split : (bytes : List ℕ) (n : ℕ) (rest : List ℕ) → bytes ≡ varint n ++ rest → length bytes ≡ length (varint n) + length rest
+length-split bytes n rest e = ap length e ∙ length-append (varint n) rest
+
+pub drop-split : (bytes : List ℕ) (n : ℕ) (rest : List ℕ) → bytes ≡ varint n ++ rest → drop (length bytes - length rest) bytes ≡ rest
+drop-split bytes n rest e =
+    let l : length bytes ≡ length (varint n) + length rest = length-split bytes n rest e in
+    let k : length (varint n) ≡ length bytes - length rest = omega arith in
+    ap (λ bs. drop (length bytes - length rest) bs) e ∙ drop_at (varint n) rest (length bytes - length rest) k
+
+pub same_used : (m n : ℕ) (used : ℕ) → m ≡ n → used ≡ length (varint m) → spelled m used ≡ spelled n (length (varint n))
+same_used m n used e h = rw (h, e) refl
+
+-- ---- what the code writes at the end
+
+pub push-large : (bytes : List ℕ) (n : ℕ) → 128 ≤ n → bytes ++ (128 + n % 128) ∷ [] ++ varint (n / 128) ≡ bytes ++ varint n
+push-large bytes n h = append_assoc bytes ((128 + n % 128) ∷ []) (varint (n / 128)) ∙ ap (λ bs. bytes ++ bs) (sym (varint-large n h))
+
+-- a text begins with what it began with before more was written
+pub take-more_written : (old new more : List ℕ) → take (length old) new ≡ old → take (length old) (new ++ more) ≡ old
+take-more_written old new more e =
+    let l : min (length old) (length new) ≡ length old = sym (length-take (length old) new) ∙ ap length e in
+    let within : length old ≤ length new = omega arith in
+    take-append-le (length old) new more within ∙ e
