@@ -1,2 +1,4 @@
+pub mod GapLaws
+pub mod Rising
 pub mod VarintLaws
 pub mod Long

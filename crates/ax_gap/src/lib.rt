@@ -9,8 +9,10 @@
 //! the intersection, the union and the difference of rising lists, each in one pass over both.
 #![tactic(auto)]
 
+mod gaps;
 pub mod laws;
 mod memory;
 pub mod varint;
 
+pub use gaps::put_gaps;
 pub use memory::Memory;
