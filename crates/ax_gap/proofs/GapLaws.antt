@@ -1,12 +1,13 @@
 -- Gap lists: the grammar, the spelling and the reading of one are the same.
-use Rattle.std.proofs.Common.{◌≡◌, ℕ, ◌+◌, ◌-◌, ◌<◌, ◌≤◌, List, [], ◌∷◌, ◌++◌, length, get_or, drop, arith, refl, ap, ◌∙◌, sym, Option, Some, None, Bool, true, false, cond, nat_lt}
-use Rattle.std.proofs.lemmas.List.{at_drop_more, at_drop_all, drop_more, append_assoc, append-nil}
+use Rattle.std.proofs.Common.{◌≡◌, ℕ, ◌+◌, ◌-◌, ◌<◌, ◌≤◌, List, [], ◌∷◌, ◌++◌, length, get_or, drop, arith, refl, ap, ◌∙◌, sym, Option, Some, None, Bool, true, false, cond, nat_lt, zero, suc, option_and_then, All, subst}
+use Rattle.std.proofs.lemmas.List.{at_drop_more, at_drop_all, drop_more, append_assoc, drop_at, length-append}
+use Rattle.std.proofs.lemmas.List.Elements.{All-same, All-drop}
 use Rattle.std.proofs.lemmas.Bool.{lt-ltb, ltb-true}
 use Rattle.ax_gap.specs.Varint.{varint}
 use Rattle.ax_gap.specs.Gaps.{gaps, gaps_from, AreGaps, IsGapList, IsRisingList}
 use Rattle.ax_gap.specs.Reading.{front, before, body}
 use Rattle.ax_gap.proofs.Rising.{RisesFrom, rises, rising_list}
-use Rattle.ax_gap.proofs.VarintLaws.{grammar_spells, spells_grammar, front_again}
+use Rattle.ax_gap.proofs.VarintLaws.{grammar_spells, spells_grammar, front_again, front_takes, found, length-varint}
 
 -- ---- what is written
 
@@ -75,10 +76,84 @@ body_again (n ∷ list) least rest h =
 
 -- ---- what is read is spelled so
 
-before_found : (n : ℕ) (r : Option (List ℕ × List ℕ)) (list rest : List ℕ) → before n r ≡ given list rest → (ns : List ℕ) × (r ≡ given ns rest) × (list ≡ n ∷ ns)
+list_of : Option (List ℕ × List ℕ) → List ℕ
+list_of None = []
+list_of (Some x) = x.0
+
+after_of : Option (List ℕ × List ℕ) → List ℕ
+after_of None = []
+after_of (Some x) = x.1
+
+pub same_list : (list other x y : List ℕ) → given list x ≡ given other y → list ≡ other
+unfolding list_of
+same_list list other x y e = ap list_of e
+
+pub same_end : (list other x y : List ℕ) → given list x ≡ given other y → x ≡ y
+unfolding after_of
+same_end list other x y e = ap after_of e
+
+before_found : (n : ℕ) (r : Option (List ℕ × List ℕ)) (list rest : List ℕ) → before n r ≡ given list rest → (ns : List ℕ) × (r ≡ given ns rest) × (n ∷ ns ≡ list)
 before_found n None list rest e = absurd (cc)
-before_found n (Some (ns, after)) list rest e = ?
+before_found n (Some (ns, after)) list rest e =
+    (ns, ap (given ns) (same_end (n ∷ ns) list after rest e), same_list (n ∷ ns) list after rest e)
 
 chosen_found : (b : Bool) (r : Option (List ℕ × List ℕ)) (list rest : List ℕ) → cond b r None ≡ given list rest → (b ≡ true) × (r ≡ given list rest)
 chosen_found true r list rest e = (refl, e)
 chosen_found false r list rest e = absurd (cc)
+
+gap_found : (r : Option (ℕ × List ℕ)) (f : ℕ × List ℕ → Option (List ℕ × List ℕ)) (list rest : List ℕ) → option_and_then f r ≡ given list rest → (gap : ℕ) × (after : List ℕ) × (r ≡ found gap after) × (f (gap, after) ≡ given list rest)
+gap_found None f list rest e = absurd (cc)
+gap_found (Some (gap, after)) f list rest e = (gap, after, refl, e)
+
+all_after : (bytes : List ℕ) (gap : ℕ) (after : List ℕ) → All (λ b. b < 256) bytes → bytes ≡ varint gap ++ after → All (λ b. b < 256) after
+all_after bytes gap after all e =
+    let k : drop (length (varint gap)) bytes ≡ after =
+        ap (λ bs. drop (length (varint gap)) bs) e ∙ drop_at (varint gap) after (length (varint gap)) refl
+    in All-same (λ b. b < 256) after (drop (length (varint gap)) bytes) (sym k) (All-drop (λ b. b < 256) (length (varint gap)) bytes all)
+
+-- `list` is read from `bytes` as `count` numbers, and `rest` is left
+pub record IsReadAs (least count : ℕ) (bytes list rest : List ℕ) : Type 0 where
+  pub spelled : bytes ≡ gaps_from least list ++ rest
+  pub rises : RisesFrom least list
+  pub counted : length list ≡ count
+
+read_more : (least count gap : ℕ) (bytes after ns list rest : List ℕ) → bytes ≡ varint gap ++ after → least + gap < 4294967296 → (least + gap) ∷ ns ≡ list → IsReadAs (least + gap + 1) count after ns rest → IsReadAs least (suc count) bytes list rest
+unfolding gaps_from
+read_more least count gap bytes after ns list rest first small is later =
+    let this : least + gap - least ≡ gap = omega arith in
+    let whole : bytes ≡ gaps_from least ((least + gap) ∷ ns) ++ rest =
+        first ∙ ap (λ bs. varint gap ++ bs) later.spelled
+        ∙ sym (append_assoc (varint gap) (gaps_from (least + gap + 1) ns) rest)
+        ∙ ap (λ (m : ℕ). varint m ++ gaps_from (least + gap + 1) ns ++ rest) (sym this)
+    in
+    let up : RisesFrom least ((least + gap) ∷ ns) = (omega arith, small, later.rises) in
+    record {
+      spelled = whole ∙ ap (λ l. gaps_from least l ++ rest) is;
+      rises = subst (RisesFrom least) is up;
+      counted = sym (ap length is) ∙ omega (arith, later.counted)
+    }
+
+pub body_takes : (count least : ℕ) (bytes list rest : List ℕ) → All (λ b. b < 256) bytes → body least count bytes ≡ given list rest → IsReadAs least count bytes list rest
+unfolding gaps_from body
+body_takes zero least bytes list rest all e =
+    let none : [] ≡ list = same_list [] list bytes rest e in
+    let left : bytes ≡ rest = same_end [] list bytes rest e in
+    record { spelled = rw (← none) left; rises = rw (← none) tt; counted = rw (← none) refl }
+body_takes (suc count) least bytes list rest all e =
+    let (gap, after, first, more) = gap_found (front bytes) _ list rest e in
+    let chosen = chosen_found (nat_lt (least + gap) 4294967296) _ list rest more in
+    let (ns, later, is) = before_found (least + gap) _ list rest chosen.1 in
+    let split : bytes ≡ varint gap ++ after = front_takes bytes gap after all first in
+    read_more least count gap bytes after ns list rest split (ltb-true (least + gap) 4294967296 chosen.0) is
+    (body_takes count (least + gap + 1) after ns rest (all_after bytes gap after all split) later)
+
+-- each number takes a byte at least
+pub length-gaps_from : (list : List ℕ) (least : ℕ) → length list ≤ length (gaps_from least list)
+unfolding gaps_from
+length-gaps_from [] least = omega arith
+length-gaps_from (n ∷ list) least =
+    let later : length list ≤ length (gaps_from (n + 1) list) = length-gaps_from list (n + 1) in
+    let one : 0 < length (varint (n - least)) = length-varint (n - least) in
+    let both : length (varint (n - least) ++ gaps_from (n + 1) list) ≡ length (varint (n - least)) + length (gaps_from (n + 1) list) =
+        length-append (varint (n - least)) (gaps_from (n + 1) list)
+    in omega arith
