@@ -105,7 +105,7 @@ gap_found : (r : Option (ℕ × List ℕ)) (f : ℕ × List ℕ → Option (List
 gap_found None f list rest e = absurd (cc)
 gap_found (Some (gap, after)) f list rest e = (gap, after, refl, e)
 
-all_after : (bytes : List ℕ) (gap : ℕ) (after : List ℕ) → All (λ b. b < 256) bytes → bytes ≡ varint gap ++ after → All (λ b. b < 256) after
+pub all_after : (bytes : List ℕ) (gap : ℕ) (after : List ℕ) → All (λ b. b < 256) bytes → bytes ≡ varint gap ++ after → All (λ b. b < 256) after
 all_after bytes gap after all e =
     let k : drop (length (varint gap)) bytes ≡ after =
         ap (λ bs. drop (length (varint gap)) bs) e ∙ drop_at (varint gap) after (length (varint gap)) refl
@@ -146,6 +146,15 @@ body_takes (suc count) least bytes list rest all e =
     let split : bytes ≡ varint gap ++ after = front_takes bytes gap after all first in
     read_more least count gap bytes after ns list rest split (ltb-true (least + gap) 4294967296 chosen.0) is
     (body_takes count (least + gap + 1) after ns rest (all_after bytes gap after all split) later)
+
+pub body_counts : (count least : ℕ) (bytes list rest : List ℕ) → body least count bytes ≡ given list rest → length list ≡ count
+unfolding body
+body_counts zero least bytes list rest e = ap length (sym (same_list [] list bytes rest e))
+body_counts (suc count) least bytes list rest e =
+    let (gap, after, first, more) = gap_found (front bytes) _ list rest e in
+    let chosen = chosen_found (nat_lt (least + gap) 4294967296) _ list rest more in
+    let (ns, later, is) = before_found (least + gap) _ list rest chosen.1 in
+    sym (ap length is) ∙ ap suc (body_counts count (least + gap + 1) after ns rest later)
 
 -- each number takes a byte at least
 pub length-gaps_from : (list : List ℕ) (least : ℕ) → length list ≤ length (gaps_from least list)

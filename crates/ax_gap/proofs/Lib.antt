@@ -1,3 +1,4 @@
+pub mod CursorLaws
 pub mod GapLaws
 pub mod Rising
 pub mod VarintLaws

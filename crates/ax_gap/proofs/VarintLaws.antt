@@ -139,7 +139,7 @@ spells_grammar =
 
 -- ---- what the code takes off the front
 
-most_found : (most : ℕ) (r : Option (ℕ × List ℕ)) (n : ℕ) (rest : List ℕ) → found n rest ≡ at_most most r → found n rest ≡ r
+pub most_found : (most : ℕ) (r : Option (ℕ × List ℕ)) (n : ℕ) (rest : List ℕ) → found n rest ≡ at_most most r → found n rest ≡ r
 most_found most None n rest e = e
 most_found most (Some x) n rest e =
     elim (nat_le x.0 most) as (λ b. found n rest ≡ cond b (Some x) None → found n rest ≡ Some x) [ true ↦ λ h. h | false ↦ λ h. absurd (cc) ] e

@@ -9,10 +9,12 @@
 //! the intersection, the union and the difference of rising lists, each in one pass over both.
 #![tactic(auto)]
 
+mod cursor;
 mod gaps;
 pub mod laws;
 mod memory;
 pub mod varint;
 
+pub use cursor::{GapCursor, read_gaps};
 pub use gaps::put_gaps;
 pub use memory::Memory;
