@@ -5,12 +5,12 @@ use Rattle.std.proofs.lemmas.List.{append_assoc, length-append, drop_at}
 use Rattle.std.proofs.lemmas.List.Elements.{All-from_get_or}
 use Rattle.std.proofs.lemmas.Bool.{lt-ltb, le-ltb, leb-false, cases_lt}
 use Rattle.ax_gap.specs.Varint.{varint}
-use Rattle.ax_gap.specs.Gaps.{gaps, gaps_from, IsRisingList}
+use Rattle.ax_gap.specs.Gaps.{gaps, gaps_from, IsRisingList, IsGapList}
 use Rattle.ax_gap.specs.Reading.{front, at_most, before, body}
 use Rattle.ax_gap.specs.Cursor.{numbers_of}
 use Rattle.ax_gap.proofs.Rising.{RisesFrom, rises, rising_list, length_rises}
 use Rattle.ax_gap.proofs.VarintLaws.{found, split_takes, split_again, front_takes, same_number, same_after, most_found}
-use Rattle.ax_gap.proofs.GapLaws.{given, IsReadAs, body_takes, body_again, body_counts, all_after, length-gaps_from}
+use Rattle.ax_gap.proofs.GapLaws.{given, IsReadAs, body_takes, body_again, body_counts, all_after, length-gaps_from, list_grammar_spells, same_list, same_end}
 
 -- ---- one step
 
@@ -153,3 +153,22 @@ whole_takes bytes rest tail count fits h e =
       drops = ap (λ bs. drop (length bytes - length tail) bs) whole ∙ drop_at (gaps list) tail (length bytes - length tail) (omega arith);
       length = both
     }
+
+-- ---- no gap list begins another
+
+one_spelling : (x y a b : List ℕ) → IsRisingList a → IsRisingList b → gaps a ++ x ≡ gaps b ++ y → given a x ≡ given b y
+one_spelling x y a b up vp e =
+    let first : IsWhole (gaps a ++ x) a x = whole_again (gaps a ++ x) a x up refl in
+    let second : IsWhole (gaps a ++ x) b y = whole_again (gaps a ++ x) b y vp e in
+    let count : length a ≡ length b = same_number _ _ _ _ (sym first.count ∙ second.count) in
+    let after : gaps_from 0 a ++ x ≡ gaps_from 0 b ++ y = same_after _ _ _ _ (sym first.count ∙ second.count) in
+    sym first.reads ∙ ap (λ (k : ℕ). body 0 k (gaps_from 0 a ++ x)) count ∙ ap (body 0 (length b)) after ∙ second.reads
+
+pub one_list_form : (s t x y a b : List ℕ) → IsGapList s a → IsGapList t b → s ++ x ≡ t ++ y → (a ≡ b) × (s ≡ t) × (x ≡ y)
+one_list_form s t x y a b h k e =
+    let first : IsRisingList a × (s ≡ gaps a) = list_grammar_spells s a h in
+    let second : IsRisingList b × (t ≡ gaps b) = list_grammar_spells t b k in
+    let whole : gaps a ++ x ≡ gaps b ++ y = ap (λ bs. bs ++ x) (sym first.1) ∙ e ∙ ap (λ bs. bs ++ y) second.1 in
+    let read : given a x ≡ given b y = one_spelling x y a b first.0 second.0 whole in
+    let same : a ≡ b = same_list a b x y read in
+    (same, first.1 ∙ ap gaps same ∙ sym second.1, same_end a b x y read)

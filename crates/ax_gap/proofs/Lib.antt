@@ -1,3 +1,5 @@
+pub mod Members
+pub mod Merging
 pub mod CursorLaws
 pub mod GapLaws
 pub mod Rising

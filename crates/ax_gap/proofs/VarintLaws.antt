@@ -177,3 +177,15 @@ take-more_written old new more e =
     let l : min (length old) (length new) ≡ length old = sym (length-take (length old) new) ∙ ap length e in
     let within : length old ≤ length new = omega arith in
     take-append-le (length old) new more within ∙ e
+
+-- ---- no varint begins another
+
+pub one_form : (s t x y : List ℕ) (m n : ℕ) → IsVarint s m → IsVarint t n → s ++ x ≡ t ++ y → (m ≡ n) × (s ≡ t) × (x ≡ y)
+one_form s t x y m n h k e =
+    let first : s ≡ varint m = grammar_spells s m h in
+    let second : t ≡ varint n = grammar_spells t n k in
+    let read : found m x ≡ found n y =
+        sym (front_again m x) ∙ ap (λ bs. front (bs ++ x)) (sym first) ∙ ap front e ∙ ap (λ bs. front (bs ++ y)) second ∙ front_again n y
+    in
+    let same : m ≡ n = same_number m n x y read in
+    (same, first ∙ ap varint same ∙ sym second, same_after m n x y read)

@@ -13,8 +13,10 @@ mod cursor;
 mod gaps;
 pub mod laws;
 mod memory;
+mod sets;
 pub mod varint;
 
 pub use cursor::{GapCursor, read_gaps};
 pub use gaps::put_gaps;
 pub use memory::Memory;
+pub use sets::{join, meet, without};
