@@ -1,5 +1,5 @@
 -- One step of reading gaps, and the reading of a whole gap list.
-use Rattle.std.proofs.Common.{◌≡◌, ℕ, ◌+◌, ◌-◌, ◌<◌, ◌≤◌, List, [], ◌∷◌, ◌++◌, length, get_or, drop, arith, refl, ap, ◌∙◌, sym, Option, Some, None, IsSome, Bool, true, false, cond, nat_lt, nat_le, zero, suc, option_and_then, All, ⊎_elim}
+use Rattle.std.proofs.Common.{◌≡◌, ℕ, ◌+◌, ◌-◌, ◌<◌, ◌≤◌, List, [], ◌∷◌, ◌++◌, length, get_or, drop, arith, refl, ap, ◌∙◌, sym, Option, Some, None, IsSome, Bool, true, false, cond, nat_lt, nat_le, suc, option_and_then, All, ⊎_elim}
 use Rattle.std.specs.Option.{option_map}
 use Rattle.std.proofs.lemmas.List.{append_assoc, length-append, drop_at}
 use Rattle.std.proofs.lemmas.List.Elements.{All-from_get_or}
@@ -9,7 +9,7 @@ use Rattle.ax_gap.specs.Gaps.{gaps, gaps_from, IsRisingList, IsGapList}
 use Rattle.ax_gap.specs.Reading.{front, at_most, before, body}
 use Rattle.ax_gap.specs.Cursor.{numbers_of}
 use Rattle.ax_gap.proofs.Rising.{RisesFrom, rises, rising_list, length_rises}
-use Rattle.ax_gap.proofs.VarintLaws.{found, split_takes, split_again, front_takes, same_number, same_after, most_found}
+use Rattle.ax_gap.proofs.VarintLaws.{found, split_takes, split_again, same_number, same_after, most_found}
 use Rattle.ax_gap.proofs.GapLaws.{given, IsReadAs, body_takes, body_again, body_counts, all_after, length-gaps_from, list_grammar_spells, same_list, same_end}
 
 -- ---- one step
@@ -71,15 +71,15 @@ reads_on least left gap bytes after l h some =
     let one : left ≡ suc (left - 1) = omega arith in
     ⊎_elim
     (λ under.
-        let e : body least left bytes ≡ before (least + gap) (body (least + gap + 1) (left - 1) after) =
-            body_more least left (left - 1) gap bytes after one h under
-        in
-        let parts : (IsSome (body (least + gap + 1) (left - 1) after)) × (numbers_of (before (least + gap) (body (least + gap + 1) (left - 1) after)) ≡ (least + gap) ∷ numbers_of (body (least + gap + 1) (left - 1) after)) =
-            some_before (least + gap) (body (least + gap + 1) (left - 1) after) (rw e at some)
-        in record { small = under; reads = parts.0; numbers = ap numbers_of e ∙ parts.1 })
+    let e : body least left bytes ≡ before (least + gap) (body (least + gap + 1) (left - 1) after) =
+    body_more least left (left - 1) gap bytes after one h under
+    in
+    let parts : (IsSome (body (least + gap + 1) (left - 1) after)) × (numbers_of (before (least + gap) (body (least + gap + 1) (left - 1) after)) ≡ (least + gap) ∷ numbers_of (body (least + gap + 1) (left - 1) after)) =
+    some_before (least + gap) (body (least + gap + 1) (left - 1) after) (rw e at some)
+    in record { small = under; reads = parts.0; numbers = ap numbers_of e ∙ parts.1 })
     (λ over.
-        let e : body least left bytes ≡ None = body_high least left (left - 1) gap bytes after one h over in
-        absurd (none_is_some (body least left bytes) e some))
+    let e : body least left bytes ≡ None = body_high least left (left - 1) gap bytes after one h over in
+    absurd (none_is_some (body least left bytes) e some))
     (cases_lt (least + gap) 4294967296)
 
 pub body_done : (least left : ℕ) (bytes : List ℕ) → left ≡ 0 → body least left bytes ≡ given [] bytes
@@ -116,7 +116,7 @@ whole_again bytes list tail h e =
     record {
       count = split_again bytes (length list) rest most split;
       fits = omega (arith, length-gaps_from list 0, length-append (gaps_from 0 list) tail);
-      reads = body_again list 0 tail up
+      reads = body_again list 0 tail up;
     }
 
 pub record IsTaken (bytes list tail : List ℕ) : Type 0 where
@@ -140,18 +140,18 @@ whole_takes bytes rest tail count fits h e =
     let first : bytes ≡ varint count ++ rest = split_takes bytes count rest fits h in
     let all : All (λ b. b < 256) bytes = All-from_get_or (λ b. b < 256) bytes 0 (λ i _. fits i) in
     let later : IsReadAs 0 count rest list tail =
-        body_takes count 0 rest list tail (all_after bytes count rest all first) (end_found (body 0 count rest) tail e)
+    body_takes count 0 rest list tail (all_after bytes count rest all first) (end_found (body 0 count rest) tail e)
     in
     let whole : bytes ≡ varint (length list) ++ gaps_from 0 list ++ tail =
-        first ∙ ap (λ bs. varint count ++ bs) later.spelled ∙ sym (append_assoc (varint count) (gaps_from 0 list) tail)
-        ∙ ap (λ (k : ℕ). varint k ++ gaps_from 0 list ++ tail) (sym later.counted)
+    first ∙ ap (λ bs. varint count ++ bs) later.spelled ∙ sym (append_assoc (varint count) (gaps_from 0 list) tail)
+    ∙ ap (λ (k : ℕ). varint k ++ gaps_from 0 list ++ tail) (sym later.counted)
     in
     let both : length bytes ≡ length (gaps list) + length tail = ap length whole ∙ length-append (gaps list) tail in
     record {
       whole = whole;
       rising = rising_list 0 list later.rises;
       drops = ap (λ bs. drop (length bytes - length tail) bs) whole ∙ drop_at (gaps list) tail (length bytes - length tail) (omega arith);
-      length = both
+      length = both;
     }
 
 -- ---- no gap list begins another

@@ -23,7 +23,7 @@ gaps_from-all list index least h = at_drop_all (gaps_from least) list index h
 pub rises-more : (list : List ℕ) (index least n : ℕ) → index < length list → n ≡ get_or list index 0 → RisesFrom least (drop index list) → (least ≤ n) × (n < 4294967296) × RisesFrom (n + 1) (drop (index + 1) list)
 rises-more list index least n h e up =
     let split : drop index list ≡ n ∷ drop (index + 1) list =
-        drop_more list index 0 h ∙ ap (λ (m : ℕ). m ∷ drop (index + 1) list) (sym e)
+    drop_more list index 0 h ∙ ap (λ (m : ℕ). m ∷ drop (index + 1) list) (sym e)
     in rw split at up
 
 pub gaps-parts : (list : List ℕ) → gaps list ≡ varint (length list) ++ gaps_from 0 list
@@ -68,7 +68,7 @@ unfolding gaps_from body
 body_again [] least rest h = refl
 body_again (n ∷ list) least rest h =
     let split : varint (n - least) ++ gaps_from (n + 1) list ++ rest ≡ varint (n - least) ++ (gaps_from (n + 1) list ++ rest) =
-        append_assoc (varint (n - least)) (gaps_from (n + 1) list) rest
+    append_assoc (varint (n - least)) (gaps_from (n + 1) list) rest
     in
     let number : least + (n - least) ≡ n = omega (arith, h.0) in
     let small : nat_lt n 4294967296 ≡ true = lt-ltb n 4294967296 h.1 in
@@ -108,7 +108,7 @@ gap_found (Some (gap, after)) f list rest e = (gap, after, refl, e)
 pub all_after : (bytes : List ℕ) (gap : ℕ) (after : List ℕ) → All (λ b. b < 256) bytes → bytes ≡ varint gap ++ after → All (λ b. b < 256) after
 all_after bytes gap after all e =
     let k : drop (length (varint gap)) bytes ≡ after =
-        ap (λ bs. drop (length (varint gap)) bs) e ∙ drop_at (varint gap) after (length (varint gap)) refl
+    ap (λ bs. drop (length (varint gap)) bs) e ∙ drop_at (varint gap) after (length (varint gap)) refl
     in All-same (λ b. b < 256) after (drop (length (varint gap)) bytes) (sym k) (All-drop (λ b. b < 256) (length (varint gap)) bytes all)
 
 -- `list` is read from `bytes` as `count` numbers, and `rest` is left
@@ -122,15 +122,15 @@ unfolding gaps_from
 read_more least count gap bytes after ns list rest first small is later =
     let this : least + gap - least ≡ gap = omega arith in
     let whole : bytes ≡ gaps_from least ((least + gap) ∷ ns) ++ rest =
-        first ∙ ap (λ bs. varint gap ++ bs) later.spelled
-        ∙ sym (append_assoc (varint gap) (gaps_from (least + gap + 1) ns) rest)
-        ∙ ap (λ (m : ℕ). varint m ++ gaps_from (least + gap + 1) ns ++ rest) (sym this)
+    first ∙ ap (λ bs. varint gap ++ bs) later.spelled
+    ∙ sym (append_assoc (varint gap) (gaps_from (least + gap + 1) ns) rest)
+    ∙ ap (λ (m : ℕ). varint m ++ gaps_from (least + gap + 1) ns ++ rest) (sym this)
     in
     let up : RisesFrom least ((least + gap) ∷ ns) = (omega arith, small, later.rises) in
     record {
       spelled = whole ∙ ap (λ l. gaps_from least l ++ rest) is;
       rises = subst (RisesFrom least) is up;
-      counted = sym (ap length is) ∙ omega (arith, later.counted)
+      counted = sym (ap length is) ∙ omega (arith, later.counted);
     }
 
 pub body_takes : (count least : ℕ) (bytes list rest : List ℕ) → All (λ b. b < 256) bytes → body least count bytes ≡ given list rest → IsReadAs least count bytes list rest
@@ -164,5 +164,5 @@ length-gaps_from (n ∷ list) least =
     let later : length list ≤ length (gaps_from (n + 1) list) = length-gaps_from list (n + 1) in
     let one : 0 < length (varint (n - least)) = length-varint (n - least) in
     let both : length (varint (n - least) ++ gaps_from (n + 1) list) ≡ length (varint (n - least)) + length (gaps_from (n + 1) list) =
-        length-append (varint (n - least)) (gaps_from (n + 1) list)
+    length-append (varint (n - least)) (gaps_from (n + 1) list)
     in omega arith

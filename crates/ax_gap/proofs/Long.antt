@@ -1,6 +1,6 @@
 -- Reading a varint byte by byte: what the bytes so far and the rest give together.
-use Rattle.std.proofs.Common.{◌≡◌, ℕ, ◌+◌, ◌-◌, ◌*◌, ◌<◌, ◌≤◌, ◌^◌, ◌&&◌, false, get_or, length, ◌==◌, List, [], ◌∷◌, Option, Some, None, zero, suc, nat_lt, nat_le, drop, if◌then◌else◌, arith, refl, ap, ◌∙◌, sym}
-use Rattle.std.proofs.lemmas.Bool.{le-ltb, lt-ltb, lt-leb, le-leb, ne_eqb, eq-eqb, cases_eq, and_right}
+use Rattle.std.proofs.Common.{◌≡◌, ℕ, ◌+◌, ◌-◌, ◌*◌, ◌<◌, ◌≤◌, ◌^◌, ◌&&◌, false, get_or, length, ◌==◌, List, ◌∷◌, Option, Some, None, zero, suc, nat_lt, drop, if◌then◌else◌, arith, refl, ap, ◌∙◌, sym}
+use Rattle.std.proofs.lemmas.Bool.{le-ltb, lt-ltb, lt-leb, ne_eqb, and_right}
 use Rattle.std.proofs.lemmas.List.{at_drop_more}
 use Rattle.std.proofs.lemmas.Nat.{mul-le}
 use Rattle.ax_gap.specs.Reading.{front, longer, at_most}
@@ -57,5 +57,5 @@ more low scale taken byte bytes was within at long small fits =
       reads = sym (placed_more low scale taken byte (front rest)) ∙ ap (placed low scale taken) (sym (here ∙ named ∙ goes_on)) ∙ was.reads;
       below = omega (arith, was.below, part);
       scale_fits = omega arith;
-      first = λ e. absurd (omega arith)
+      first = λ e. absurd (omega arith);
     }

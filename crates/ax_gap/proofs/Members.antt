@@ -1,7 +1,7 @@
 -- What the set operations on rising lists contain.
-use Rattle.std.proofs.Common.{◌≡◌, ℕ, ◌+◌, ◌<◌, ◌≤◌, ◌==◌, ◌||◌, ◌&&◌, List, [], ◌∷◌, length, get_or, arith, refl, ap, ◌∙◌, sym, subst, Bool, true, false, not, cond, nat_lt, zero, suc, filter, inl, inr, ⊎_elim, ◌⊎◌, Contains, ◌↔◌, All}
+use Rattle.std.proofs.Common.{◌≡◌, ℕ, ◌+◌, ◌==◌, ◌||◌, ◌&&◌, List, [], ◌∷◌, arith, refl, ap, ◌∙◌, sym, subst, Bool, true, false, not, cond, nat_lt, zero, suc, filter, inl, inr, ⊎_elim, ◌⊎◌, Contains, ◌↔◌}
 use Rattle.std.specs.List.Sorted.{IsStrictlyIncreasing}
-use Rattle.std.proofs.lemmas.Bool.{lt-ltb, le-ltb, ne_eqb, eq-eqb, eqb-true, cases_order, cases_eq, and_parts, and_from, or_cases, cases_Bool, not-true, false≢true, and_right, both_ways}
+use Rattle.std.proofs.lemmas.Bool.{lt-ltb, ne_eqb, eq-eqb, eqb-true, cases_order, cases_eq, and_parts, and_from, or_cases, cases_Bool, not-true, false≢true, and_right, both_ways}
 use Rattle.std.proofs.lemmas.List.Kept.{IsStrictlyIncreasing-filter}
 use Rattle.ax_gap.specs.Gaps.{IsRisingList}
 use Rattle.ax_gap.proofs.Rising.{RisesFrom, rises, rising_list}
@@ -36,7 +36,7 @@ pub in_filter : (p : ℕ → Bool) (xs : List ℕ) (n : ℕ) → is_in n (filter
 in_filter p [] n = refl
 in_filter p (x ∷ xs) n =
     let parts : is_in n (cond (p x) (x ∷ filter p xs) (filter p xs)) ≡ cond (p x) (is_in n (x ∷ filter p xs)) (is_in n (filter p xs)) =
-        elim (p x) as (λ b. is_in n (cond b (x ∷ filter p xs) (filter p xs)) ≡ cond b (is_in n (x ∷ filter p xs)) (is_in n (filter p xs))) [ true ↦ refl | false ↦ refl ]
+    elim (p x) as (λ b. is_in n (cond b (x ∷ filter p xs) (filter p xs)) ≡ cond b (is_in n (x ∷ filter p xs)) (is_in n (filter p xs))) [ true ↦ refl | false ↦ refl ]
     in
     parts
     ∙ filter_step (p x) (n == x) (is_in n xs) (p n) (is_in n (filter p xs)) (in_filter p xs n) (λ e. ap p (eqb-true n x e))
@@ -59,12 +59,12 @@ in_put x [] n = refl
 in_put x (y ∷ ys) n =
     ⊎_elim
     (λ e.
-        ap (is_in n) (put-equal x y ys e) ∙ or_twice (n == y) (is_in n ys) ∙ ap (λ (m : ℕ). (n == m) || ((n == y) || is_in n ys)) (sym e))
+    ap (is_in n) (put-equal x y ys e) ∙ or_twice (n == y) (is_in n ys) ∙ ap (λ (m : ℕ). (n == m) || ((n == y) || is_in n ys)) (sym e))
     (λ apart. ⊎_elim
-        (λ below. let s : nat_lt x y ≡ true = lt-ltb x y below in rw s refl)
-        (λ above.
-            ap (is_in n) (put-above x y ys above) ∙ ap (λ b. (n == y) || b) (in_put x ys n) ∙ or_swap (n == y) (n == x) (is_in n ys))
-        apart)
+    (λ below. let s : nat_lt x y ≡ true = lt-ltb x y below in rw s refl)
+    (λ above.
+    ap (is_in n) (put-above x y ys above) ∙ ap (λ b. (n == y) || b) (in_put x ys n) ∙ or_swap (n == y) (n == x) (is_in n ys))
+    apart)
     (cases_order x y)
 
 pub in_join : (xs ys : List ℕ) (n : ℕ) → is_in n (join_of xs ys) ≡ (is_in n xs || is_in n ys)
@@ -87,31 +87,34 @@ not_in xs n h =
 
 pub meet_members : (out a b : List ℕ) → out ≡ meet_of a b → (n : ℕ) → Contains out n ↔ (Contains a n × Contains b n)
 meet_members out a b e n =
-    let test : is_in n out ≡ (is_in n a && is_in n b) = ap (is_in n) e ∙ in_filter (λ m. is_in m b) a n in
-    ((λ h.
-        let both = and_parts (is_in n a) (is_in n b) (sym test ∙ in_from_contains out n h) in
-        (contains_from_in a n both.0, contains_from_in b n both.1)),
-    λ h. contains_from_in out n (test ∙ and_from (is_in n a) (is_in n b) (in_from_contains a n h.0) (in_from_contains b n h.1)))
+    let test : is_in n out ≡ (is_in n a && is_in n b) = ap (is_in n) e ∙ in_filter (λ m. is_in m b) a n in (
+      (λ h.
+          let both = and_parts (is_in n a) (is_in n b) (sym test ∙ in_from_contains out n h) in
+          (contains_from_in a n both.0, contains_from_in b n both.1)),
+      λ h. contains_from_in out n (test ∙ and_from (is_in n a) (is_in n b) (in_from_contains a n h.0) (in_from_contains b n h.1)),
+    )
 
 pub join_members : (out a b : List ℕ) → out ≡ join_of a b → (n : ℕ) → Contains out n ↔ (Contains a n ⊎ Contains b n)
 join_members out a b e n =
-    let test : is_in n out ≡ (is_in n a || is_in n b) = ap (is_in n) e ∙ in_join a b n in
-    ((λ h.
-        ⊎_elim (λ l. inl (contains_from_in a n l)) (λ r. inr (contains_from_in b n r))
-        (or_cases (is_in n a) (is_in n b) (sym test ∙ in_from_contains out n h))),
-    λ h. contains_from_in out n
-        (test ∙ ⊎_elim
-        (λ l. or_left (is_in n a) (is_in n b) (in_from_contains a n l))
-        (λ r. or_right (is_in n a) (is_in n b) (in_from_contains b n r)) h))
+    let test : is_in n out ≡ (is_in n a || is_in n b) = ap (is_in n) e ∙ in_join a b n in (
+      (λ h.
+          ⊎_elim (λ l. inl (contains_from_in a n l)) (λ r. inr (contains_from_in b n r))
+          (or_cases (is_in n a) (is_in n b) (sym test ∙ in_from_contains out n h))),
+      λ h. contains_from_in out n
+          (test ∙ ⊎_elim
+          (λ l. or_left (is_in n a) (is_in n b) (in_from_contains a n l))
+          (λ r. or_right (is_in n a) (is_in n b) (in_from_contains b n r)) h),
+    )
 
 pub without_members : (out a b : List ℕ) → out ≡ without_of a b → (n : ℕ) → Contains out n ↔ (Contains a n × (Contains b n → ⊥))
 without_members out a b e n =
-    let test : is_in n out ≡ (is_in n a && not (is_in n b)) = ap (is_in n) e ∙ in_filter (λ m. not (is_in m b)) a n in
-    ((λ h.
-        let both = and_parts (is_in n a) (not (is_in n b)) (sym test ∙ in_from_contains out n h) in
-        (contains_from_in a n both.0, λ k. both_ways (is_in n b) (not-true (is_in n b) both.1) (in_from_contains b n k))),
-    λ h. contains_from_in out n
-        (test ∙ and_from (is_in n a) (not (is_in n b)) (in_from_contains a n h.0) (not_in b n h.1)))
+    let test : is_in n out ≡ (is_in n a && not (is_in n b)) = ap (is_in n) e ∙ in_filter (λ m. not (is_in m b)) a n in (
+      (λ h.
+          let both = and_parts (is_in n a) (not (is_in n b)) (sym test ∙ in_from_contains out n h) in
+          (contains_from_in a n both.0, λ k. both_ways (is_in n b) (not-true (is_in n b) both.1) (in_from_contains b n k))),
+      λ h. contains_from_in out n
+          (test ∙ and_from (is_in n a) (not (is_in n b)) (in_from_contains a n h.0) (not_in b n h.1)),
+    )
 
 pub meet_increases : (out a b : List ℕ) → out ≡ meet_of a b → IsStrictlyIncreasing a → IsStrictlyIncreasing out
 meet_increases out a b e up = subst IsStrictlyIncreasing (sym e) (IsStrictlyIncreasing-filter (λ n. is_in n b) a up)
@@ -133,12 +136,12 @@ tail_test : (x : ℕ) (xs ys : List ℕ) → RisesFrom (x + 1) xs → RisesFrom 
 tail_test x xs ys up vp same n =
     ⊎_elim
     (λ e.
-        let first : is_in n xs ≡ false = below_all n (x + 1) xs (omega arith) up in
-        let second : is_in n ys ≡ false = below_all n (x + 1) ys (omega arith) vp in
-        first ∙ sym second)
+    let first : is_in n xs ≡ false = below_all n (x + 1) xs (omega arith) up in
+    let second : is_in n ys ≡ false = below_all n (x + 1) ys (omega arith) vp in
+    first ∙ sym second)
     (λ apart.
-        let other : (n == x) ≡ false = ne_eqb n x apart in
-        ap (λ b. b || is_in n xs) (sym other) ∙ same n ∙ ap (λ b. b || is_in n ys) other)
+    let other : (n == x) ≡ false = ne_eqb n x apart in
+    ap (λ b. b || is_in n xs) (sym other) ∙ same n ∙ ap (λ b. b || is_in n ys) other)
     (cases_eq n x)
 
 head_in : (x : ℕ) (xs : List ℕ) → is_in x (x ∷ xs) ≡ true
@@ -151,18 +154,18 @@ same_from_tests (x ∷ xs) [] low least up vp same = absurd (false≢true (sym (
 same_from_tests (x ∷ xs) (y ∷ ys) low least up vp same =
     ⊎_elim
     (λ e.
-        let tails : (n : ℕ) → is_in n xs ≡ is_in n ys =
-            tail_test x xs ys up.2 (rw e vp.2) (λ n. same n ∙ ap (λ (m : ℕ). is_in n (m ∷ ys)) (sym e))
-        in ap (λ l. x ∷ l) (same_from_tests xs ys (x + 1) (y + 1) up.2 vp.2 tails) ∙ ap (λ (m : ℕ). m ∷ ys) e)
+    let tails : (n : ℕ) → is_in n xs ≡ is_in n ys =
+    tail_test x xs ys up.2 (rw e vp.2) (λ n. same n ∙ ap (λ (m : ℕ). is_in n (m ∷ ys)) (sym e))
+    in ap (λ l. x ∷ l) (same_from_tests xs ys (x + 1) (y + 1) up.2 vp.2 tails) ∙ ap (λ (m : ℕ). m ∷ ys) e)
     (λ apart. absurd (⊎_elim
-        (λ below. false≢true (sym (below_all x y (y ∷ ys) below (omega arith, vp.1, vp.2)) ∙ sym (same x) ∙ head_in x xs))
-        (λ above. false≢true (sym (below_all y x (x ∷ xs) above (omega arith, up.1, up.2)) ∙ same y ∙ head_in y ys))
-        apart))
+    (λ below. false≢true (sym (below_all x y (y ∷ ys) below (omega arith, vp.1, vp.2)) ∙ sym (same x) ∙ head_in x xs))
+    (λ above. false≢true (sym (below_all y x (x ∷ xs) above (omega arith, up.1, up.2)) ∙ same y ∙ head_in y ys))
+    apart))
     (cases_order x y)
 
 pub same_members : (a b : List ℕ) → IsRisingList a → IsRisingList b → ((n : ℕ) → Contains a n ↔ Contains b n) → a ≡ b
 same_members a b up vp same =
     same_from_tests a b 0 0 (rises a up) (rises b vp)
     (λ n. same_test (is_in n a) (is_in n b)
-        (λ h. in_from_contains b n ((same n).0 (contains_from_in a n h)))
-        (λ h. in_from_contains a n ((same n).1 (contains_from_in b n h))))
+    (λ h. in_from_contains b n ((same n).0 (contains_from_in a n h)))
+    (λ h. in_from_contains a n ((same n).1 (contains_from_in b n h))))

@@ -1,7 +1,6 @@
 -- The set operations on lists that rise strictly, as functions on lists, and what each step of a merge does to them.
-use Rattle.std.proofs.Common.{◌≡◌, ℕ, ◌+◌, ◌<◌, ◌≤◌, ◌==◌, ◌||◌, List, [], ◌∷◌, ◌++◌, length, get_or, drop, arith, refl, ap, ◌∙◌, sym, subst, Bool, true, false, not, cond, nat_lt, if◌then◌else◌, zero, suc, filter, inl, inr, ⊎_elim, ◌⊎◌, Contains, ◌↔◌}
-use Rattle.std.specs.List.Sorted.{IsStrictlyIncreasing}
-use Rattle.std.proofs.lemmas.Bool.{lt-ltb, le-ltb, ltb-true, ltb-false, ne_eqb, eq-eqb, eqb-true, eqb-false, cases_order, cases_lt}
+use Rattle.std.proofs.Common.{◌≡◌, ℕ, ◌+◌, ◌<◌, ◌≤◌, ◌==◌, ◌||◌, List, [], ◌∷◌, ◌++◌, length, get_or, drop, arith, refl, ap, ◌∙◌, sym, Bool, true, false, not, nat_lt, if◌then◌else◌, filter, ⊎_elim, ◌⊎◌}
+use Rattle.std.proofs.lemmas.Bool.{lt-ltb, le-ltb, ne_eqb, eq-eqb, cases_order}
 use Rattle.std.proofs.lemmas.List.{drop_more, drop_all, append_assoc, append-nil}
 use Rattle.ax_gap.proofs.Rising.{RisesFrom}
 
@@ -108,9 +107,9 @@ put_rises least x (y ∷ ys) l h up =
     ⊎_elim
     (λ e. rw (put-equal x y ys e) up)
     (λ (apart : (x < y) ⊎ (y < x)). ⊎_elim
-        (λ (below : x < y). let s : nat_lt x y ≡ true = lt-ltb x y below in rw s (l, h, (omega arith, up.1, up.2)))
-        (λ (above : y < x). rw (put-above x y ys above) (up.0, up.1, put_rises (y + 1) x ys (omega arith) h up.2))
-        apart)
+    (λ (below : x < y). let s : nat_lt x y ≡ true = lt-ltb x y below in rw s (l, h, (omega arith, up.1, up.2)))
+    (λ (above : y < x). rw (put-above x y ys above) (up.0, up.1, put_rises (y + 1) x ys (omega arith) h up.2))
+    apart)
     (cases_order x y)
 
 pub join_rises : (least : ℕ) (xs ys : List ℕ) → RisesFrom least xs → RisesFrom least ys → RisesFrom least (join_of xs ys)
@@ -154,7 +153,7 @@ begin_merge op out a b e up vp = record {
   first = up;
   second = vp;
   i_within = omega arith;
-  j_within = omega arith
+  j_within = omega arith;
 }
 
 at_drop : (xs : List ℕ) (i : ℕ) → i < length xs → RisesFrom 0 (drop i xs) → RisesFrom 0 (get_or xs i 0 ∷ drop (i + 1) xs)
@@ -176,7 +175,7 @@ first_taken op out new a b i j was h k step =
       first = rest_rises a i h was.first;
       second = was.second;
       i_within = omega arith;
-      j_within = was.j_within
+      j_within = was.j_within;
     }
 
 pub second_taken : (op : List ℕ → List ℕ → List ℕ) (out new a b : List ℕ) (i j : ℕ) → IsMerging op out a b i j → i < length a → j < length b → (RisesFrom 0 (get_or a i 0 ∷ drop (i + 1) a) → RisesFrom 0 (get_or b j 0 ∷ drop (j + 1) b) → new ++ op (get_or a i 0 ∷ drop (i + 1) a) (drop (j + 1) b) ≡ out ++ op (get_or a i 0 ∷ drop (i + 1) a) (get_or b j 0 ∷ drop (j + 1) b)) → IsMerging op new a b i (j + 1)
@@ -190,14 +189,14 @@ second_taken op out new a b i j was h k step =
       first = was.first;
       second = rest_rises b j k was.second;
       i_within = was.i_within;
-      j_within = omega arith
+      j_within = omega arith;
     }
 
 pub both_taken : (op : List ℕ → List ℕ → List ℕ) (out new a b : List ℕ) (i j : ℕ) → IsMerging op out a b i j → i < length a → j < length b → get_or b j 0 ≡ get_or a i 0 → (RisesFrom 0 (get_or a i 0 ∷ drop (i + 1) a) → new ++ op (drop (i + 1) a) (drop (j + 1) b) ≡ out ++ op (get_or a i 0 ∷ drop (i + 1) a) (get_or a i 0 ∷ drop (j + 1) b)) → IsMerging op new a b (i + 1) (j + 1)
 both_taken op out new a b i j was h k same step =
     let x : drop i a ≡ get_or a i 0 ∷ drop (i + 1) a = drop_more a i 0 h in
     let y : drop j b ≡ get_or a i 0 ∷ drop (j + 1) b =
-        drop_more b j 0 k ∙ ap (λ (m : ℕ). m ∷ drop (j + 1) b) same
+    drop_more b j 0 k ∙ ap (λ (m : ℕ). m ∷ drop (j + 1) b) same
     in
     let now = step (at_drop a i h was.first) in
     record {
@@ -205,7 +204,7 @@ both_taken op out new a b i j was h k same step =
       first = rest_rises a i h was.first;
       second = rest_rises b j k was.second;
       i_within = omega arith;
-      j_within = omega arith
+      j_within = omega arith;
     }
 
 pub pushed : (out new : List ℕ) (x : ℕ) (more whole : List ℕ) → new ≡ out ++ x ∷ [] → whole ≡ x ∷ more → new ++ more ≡ out ++ whole
@@ -216,27 +215,27 @@ pushed out new x more whole e w = rw (e, w) (append_assoc out (x ∷ []) more)
 pub meet_end : (out a b : List ℕ) (i j : ℕ) → IsMerging meet_of out a b i j → (length a ≤ i) ⊎ (length b ≤ j) → out ≡ meet_of a b
 meet_end out a b i j was ended =
     let none : meet_of (drop i a) (drop j b) ≡ [] =
-        ⊎_elim
-        (λ h. ap (λ xs. meet_of xs (drop j b)) (drop_all i a h))
-        (λ h. ap (λ ys. meet_of (drop i a) ys) (drop_all j b h) ∙ meet-none (drop i a))
-        ended
+    ⊎_elim
+    (λ h. ap (λ xs. meet_of xs (drop j b)) (drop_all i a h))
+    (λ h. ap (λ ys. meet_of (drop i a) ys) (drop_all j b h) ∙ meet-none (drop i a))
+    ended
     in sym (append-nil out) ∙ ap (λ l. out ++ l) (sym none) ∙ was.adds
 
 pub without_end : (out a b : List ℕ) (i j : ℕ) → IsMerging without_of out a b i j → (length a ≤ i) ⊎ (length b ≤ j) → out ++ drop i a ≡ without_of a b
 without_end out a b i j was ended =
     let rest : without_of (drop i a) (drop j b) ≡ drop i a =
-        ⊎_elim
-        (λ h. ap (λ xs. without_of xs (drop j b)) (drop_all i a h) ∙ sym (drop_all i a h))
-        (λ h. ap (λ ys. without_of (drop i a) ys) (drop_all j b h) ∙ without-none (drop i a))
-        ended
+    ⊎_elim
+    (λ h. ap (λ xs. without_of xs (drop j b)) (drop_all i a h) ∙ sym (drop_all i a h))
+    (λ h. ap (λ ys. without_of (drop i a) ys) (drop_all j b h) ∙ without-none (drop i a))
+    ended
     in ap (λ l. out ++ l) (sym rest) ∙ was.adds
 
 pub join_end : (out a b : List ℕ) (i j : ℕ) → IsMerging join_of out a b i j → (length a ≤ i) ⊎ (length b ≤ j) → out ++ drop i a ++ drop j b ≡ join_of a b
 join_end out a b i j was ended =
     let rest : join_of (drop i a) (drop j b) ≡ drop i a ++ drop j b =
-        ⊎_elim
-        (λ h. ap (λ xs. join_of xs (drop j b)) (drop_all i a h) ∙ ap (λ xs. xs ++ drop j b) (sym (drop_all i a h)))
-        (λ h. ap (λ ys. join_of (drop i a) ys) (drop_all j b h) ∙ join-none 0 (drop i a) was.first
-            ∙ sym (append-nil (drop i a)) ∙ ap (λ ys. drop i a ++ ys) (sym (drop_all j b h)))
-        ended
+    ⊎_elim
+    (λ h. ap (λ xs. join_of xs (drop j b)) (drop_all i a h) ∙ ap (λ xs. xs ++ drop j b) (sym (drop_all i a h)))
+    (λ h. ap (λ ys. join_of (drop i a) ys) (drop_all j b h) ∙ join-none 0 (drop i a) was.first
+    ∙ sym (append-nil (drop i a)) ∙ ap (λ ys. drop i a ++ ys) (sym (drop_all j b h)))
+    ended
     in append_assoc out (drop i a) (drop j b) ∙ ap (λ l. out ++ l) (sym rest) ∙ was.adds

@@ -28,10 +28,12 @@ increasing-cons n m list h up (suc k) l =
 rises_up : (least : ℕ) (list : List ℕ) → IsStrictlyIncreasing list → All (λ n. n < 4294967296) list → (0 < length list → least ≤ get_or list 0 0) → RisesFrom least list
 rises_up least [] up all low = tt
 rises_up least (n ∷ []) up all low = (low (omega arith), All-head (λ n. n < 4294967296) n [] all, tt)
-rises_up least (n ∷ m ∷ list) up all low =
-    (low (omega arith), All-head (λ n. n < 4294967296) n (m ∷ list) all,
-    rises_up (n + 1) (m ∷ list) (increasing-tail n (m ∷ list) up) (All-tail (λ n. n < 4294967296) n (m ∷ list) all)
-    (λ _. let h : n < m = increasing-head n m list up in omega arith))
+rises_up least (n ∷ m ∷ list) up all low = (
+  low (omega arith),
+  All-head (λ n. n < 4294967296) n (m ∷ list) all,
+  rises_up (n + 1) (m ∷ list) (increasing-tail n (m ∷ list) up) (All-tail (λ n. n < 4294967296) n (m ∷ list) all)
+      (λ _. let h : n < m = increasing-head n m list up in omega arith),
+)
 
 pub rises : (list : List ℕ) → IsRisingList list → RisesFrom 0 list
 rises list h = rises_up 0 list h.rising h.numbers (λ _. omega arith)

@@ -1,9 +1,8 @@
 -- Varints: the grammar, the spelling and the reading of one are the same.
-use Rattle.std.proofs.Common.{◌≡◌, ℕ, ◌+◌, ◌-◌, ◌*◌, ◌/◌, ◌%◌, ◌<◌, ◌≤◌, ◌^◌, ◌==◌, Bool, true, false, length, List, [], ◌∷◌, ◌++◌, Option, Some, None, zero, suc, nat_lt, if◌then◌else◌, arith, refl, ap, ◌∙◌, sym, subst, inl, inr, ⊎_elim, All, nat_le, cond, get_or, drop, take, min}
-use Rattle.std.proofs.lemmas.Bool.{le-ltb, lt-ltb, ltb-true, ltb-false, ne_eqb, cases_lt, le-leb}
+use Rattle.std.proofs.Common.{◌≡◌, ℕ, ◌+◌, ◌-◌, ◌*◌, ◌/◌, ◌%◌, ◌<◌, ◌≤◌, ◌==◌, true, false, length, List, [], ◌∷◌, ◌++◌, Option, Some, None, zero, suc, nat_lt, arith, refl, ap, ◌∙◌, sym, ⊎_elim, All, nat_le, cond, get_or, drop, take, min}
+use Rattle.std.proofs.lemmas.Bool.{le-ltb, lt-ltb, ne_eqb, cases_lt, le-leb}
 use Rattle.std.proofs.lemmas.List.{length-append, length-take, drop_at, take-append-le, append_assoc}
 use Rattle.std.proofs.lemmas.List.Elements.{All-head, All-tail, All-from_get_or}
-use Rattle.std.proofs.lemmas.Nat.{div-mul-add, mod-mul-add, div-add-mod'}
 use Rattle.ax_gap.specs.Varint.{IsVarint, groups, varint}
 use Rattle.ax_gap.specs.Reading.{front, longer, at_most}
 
@@ -20,7 +19,7 @@ groups_enough (suc k) (suc j) n a b =
     ⊎_elim
     (λ h. let s : nat_lt n 128 ≡ true = lt-ltb n 128 h in rw s refl)
     (λ h. let s : nat_lt n 128 ≡ false = le-ltb n 128 h in
-        rw s (ap (λ bs. (128 + n % 128) ∷ bs) (groups_enough k j (n / 128) (below_self n k a h) (below_self n j b h))))
+    rw s (ap (λ bs. (128 + n % 128) ∷ bs) (groups_enough k j (n / 128) (below_self n k a h) (below_self n j b h))))
     (cases_lt n 128)
 
 pub varint-small : (n : ℕ) → n < 128 → varint n ≡ n ∷ []
@@ -53,9 +52,9 @@ front_again n rest =
     by_groups (λ n. front (varint n ++ rest) ≡ Some (n, rest))
     (λ n h. let s : nat_lt n 128 ≡ true = lt-ltb n 128 h in rw (varint-small n h, s) refl)
     (λ n h was.
-        let s : nat_lt (128 + n % 128) 128 ≡ false = le-ltb (128 + n % 128) 128 (omega arith) in
-        let whole : 128 + n % 128 - 128 + 128 * (n / 128) ≡ n = omega arith in
-        rw (varint-large n h, s, was, longer_found (128 + n % 128) (n / 128) rest (omega arith), whole) refl)
+    let s : nat_lt (128 + n % 128) 128 ≡ false = le-ltb (128 + n % 128) 128 (omega arith) in
+    let whole : 128 + n % 128 - 128 + 128 * (n / 128) ≡ n = omega arith in
+    rw (varint-large n h, s, was, longer_found (128 + n % 128) (n / 128) rest (omega arith), whole) refl)
     n
 
 -- no varint is empty
@@ -109,16 +108,16 @@ front_takes [] n rest all e = absurd (cc)
 front_takes (byte ∷ bytes) n rest all e =
     ⊎_elim
     (λ h.
-        let s : nat_lt byte 128 ≡ true = lt-ltb byte 128 h in
-        let f : found byte bytes ≡ found n rest = rw s at e in
-        let number : byte ≡ n = same_number byte n bytes rest f in
-        let after : bytes ≡ rest = same_after byte n bytes rest f in
-        rw (← number, varint-small byte h, after) refl)
+    let s : nat_lt byte 128 ≡ true = lt-ltb byte 128 h in
+    let f : found byte bytes ≡ found n rest = rw s at e in
+    let number : byte ≡ n = same_number byte n bytes rest f in
+    let after : bytes ≡ rest = same_after byte n bytes rest f in
+    rw (← number, varint-small byte h, after) refl)
     (λ h.
-        let s : nat_lt byte 128 ≡ false = le-ltb byte 128 h in
-        let f : longer byte (front bytes) ≡ Some (n, rest) = rw s at e in
-        takes_longer byte bytes (front bytes) n rest (All-head (λ b. b < 256) byte bytes all) h
-        (λ m was. front_takes bytes m rest (All-tail (λ b. b < 256) byte bytes all) was) f)
+    let s : nat_lt byte 128 ≡ false = le-ltb byte 128 h in
+    let f : longer byte (front bytes) ≡ Some (n, rest) = rw s at e in
+    takes_longer byte bytes (front bytes) n rest (All-head (λ b. b < 256) byte bytes all) h
+    (λ m was. front_takes bytes m rest (All-tail (λ b. b < 256) byte bytes all) was) f)
     (cases_lt byte 128)
 
 -- the grammar
@@ -185,7 +184,7 @@ one_form s t x y m n h k e =
     let first : s ≡ varint m = grammar_spells s m h in
     let second : t ≡ varint n = grammar_spells t n k in
     let read : found m x ≡ found n y =
-        sym (front_again m x) ∙ ap (λ bs. front (bs ++ x)) (sym first) ∙ ap front e ∙ ap (λ bs. front (bs ++ y)) second ∙ front_again n y
+    sym (front_again m x) ∙ ap (λ bs. front (bs ++ x)) (sym first) ∙ ap front e ∙ ap (λ bs. front (bs ++ y)) second ∙ front_again n y
     in
     let same : m ≡ n = same_number m n x y read in
     (same, first ∙ ap varint same ∙ sym second, same_after m n x y read)

@@ -19,4 +19,7 @@ pub mod varint;
 pub use cursor::{GapCursor, read_gaps};
 pub use gaps::put_gaps;
 pub use memory::Memory;
-pub use sets::{join, meet, without};
+pub use sets::{is_rising, join, meet, without};
+
+#[cfg(test)]
+mod tests;

@@ -1,10 +1,22 @@
 //! Lists of numbers that rise strictly, as sets: what two have in common, have together, and have apart.
 
-ghost use Rattle.std.specs.Prelude.{◌≡◌, ℕ, ◌↔◌, ◌⊎◌, IfOk, Contains};
+ghost use Rattle.std.specs.Prelude.{◌≡◌, ℕ, ◌↔◌, ◌⊎◌, IfOk, IsTrue, Contains};
 ghost use Rattle.std.specs.List.Sorted.{IsStrictlyIncreasing};
 
 use crate::memory::Memory;
 use std::alloc::Global;
+
+/// Is each number above the one before? The other calls of this crate require it of their lists.
+pub fn is_rising(list: &[u32]) -> bool
+    ensures { IsTrue result ↔ IsStrictlyIncreasing list.now }
+{
+    for i in 1..list.len() {
+        if list[i] <= list[i - 1] {
+            return false;
+        }
+    }
+    true
+}
 
 /// The numbers that are in both lists, in order.
 pub fn meet(alloc: Global, a: &[u32], b: &[u32]) -> Result<Vec<u32>, Memory>
@@ -52,6 +64,7 @@ pub fn join(alloc: Global, a: &[u32], b: &[u32]) -> Result<Vec<u32>, Memory>
             all.push(y)?;
             j += 1;
         } else {
+            // It is in both, and stands once.
             all.push(x)?;
             i += 1;
             j += 1;
@@ -81,6 +94,7 @@ pub fn without(alloc: Global, a: &[u32], b: &[u32]) -> Result<Vec<u32>, Memory>
         } else if y < x {
             j += 1;
         } else {
+            // It is in both, and falls out.
             i += 1;
             j += 1;
         }

@@ -1,9 +1,8 @@
-use Rattle.std.proofs.Common.{◌≡◌, ℕ, ◌+◌, ◌-◌, ◌++◌, List, length, drop, arith, refl, ap, ◌∙◌, sym}
-use Rattle.std.specs.Option.{option_map}
+use Rattle.std.proofs.Common.{◌≡◌, ◌++◌, length, arith, ap, ◌∙◌, sym}
 use Rattle.ax_gap.specs.Gaps.{gaps, gaps_from}
-use Rattle.ax_gap.specs.Reading.{body, front, at_most}
+use Rattle.ax_gap.specs.Reading.{body}
 use Rattle.ax_gap.specs.Cursor.{numbers_of}
-use Rattle.ax_gap.proofs.VarintLaws.{same_number, same_after, found}
+use Rattle.ax_gap.proofs.VarintLaws.{same_number, same_after}
 use Rattle.ax_gap.proofs.GapLaws.{given}
 use Rattle.ax_gap.proofs.CursorLaws.{IsWhole, whole_again, IsTaken, whole_takes, none_or_end}
 use Rattle.ax_gap.proofs.cursor.read_gaps.Goals as goal
@@ -31,25 +30,25 @@ returns-in_err-end-clause-only c list rest up e =
 pub overflow_sub-result : goal.overflow_sub-result
 overflow_sub-result c =
     let taken : IsTaken c.args.bytes.now (numbers_of (body 0 c.in_ok-count.count c.in_ok-count.rest.now)) c.in_ok-end.end.now =
-        whole_takes _ _ _ _ (λ i. omega (arith, c.type_inv.bytes i)) c.in_ok-count.ensures c.in_ok-end.ensures
+    whole_takes _ _ _ _ (λ i. omega (arith, c.type_inv.bytes i)) c.in_ok-count.ensures c.in_ok-end.ensures
     in omega (arith, taken.length)
 
 pub returns-clause-found : goal.returns-clause-found
 returns-clause-found c =
     let taken : IsTaken c.args.bytes.now (numbers_of (body 0 c.in_ok-count.count c.in_ok-count.rest.now)) c.in_ok-end.end.now =
-        whole_takes _ _ _ _ (λ i. omega (arith, c.type_inv.bytes i)) c.in_ok-count.ensures c.in_ok-end.ensures
+    whole_takes _ _ _ _ (λ i. omega (arith, c.type_inv.bytes i)) c.in_ok-count.ensures c.in_ok-end.ensures
     in taken.whole ∙ ap (λ bs. gaps (numbers_of (body 0 c.in_ok-count.count c.in_ok-count.rest.now)) ++ bs) (sym taken.drops)
 
 pub returns-clause-rising : goal.returns-clause-rising
 returns-clause-rising c =
     let taken : IsTaken c.args.bytes.now (numbers_of (body 0 c.in_ok-count.count c.in_ok-count.rest.now)) c.in_ok-end.end.now =
-        whole_takes _ _ _ _ (λ i. omega (arith, c.type_inv.bytes i)) c.in_ok-count.ensures c.in_ok-end.ensures
+    whole_takes _ _ _ _ (λ i. omega (arith, c.type_inv.bytes i)) c.in_ok-count.ensures c.in_ok-end.ensures
     in taken.rising
 
 pub returns-clause-used : goal.returns-clause-used
 returns-clause-used c =
     let taken : IsTaken c.args.bytes.now (numbers_of (body 0 c.in_ok-count.count c.in_ok-count.rest.now)) c.in_ok-end.end.now =
-        whole_takes _ _ _ _ (λ i. omega (arith, c.type_inv.bytes i)) c.in_ok-count.ensures c.in_ok-end.ensures
+    whole_takes _ _ _ _ (λ i. omega (arith, c.type_inv.bytes i)) c.in_ok-count.ensures c.in_ok-end.ensures
     in omega (arith, taken.length)
 
 pub returns-clause-only : goal.returns-clause-only

@@ -1,4 +1,3 @@
-use Rattle.ax_gap.specs.Gaps.{IsGapList, gaps}
 use Rattle.ax_gap.proofs.GapLaws.{list_grammar_spells, spells_list_grammar}
 use Rattle.ax_gap.proofs.laws.gap_list_is_the_one.Goals as goal
 

@@ -1,5 +1,3 @@
-use Rattle.std.proofs.Common.{sym, subst}
-use Rattle.ax_gap.specs.Varint.{IsVarint}
 use Rattle.ax_gap.proofs.VarintLaws.{grammar_spells, spells_grammar}
 use Rattle.ax_gap.proofs.laws.varint_is_the_one.Goals as goal
 

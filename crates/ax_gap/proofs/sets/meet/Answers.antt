@@ -1,7 +1,7 @@
-use Rattle.std.proofs.Common.{◌++◌, ◌⊎◌, ◌≤◌, ◌<◌, length, arith, ap, sym, refl, inl, inr, subst}
+use Rattle.std.proofs.Common.{◌++◌, ◌⊎◌, ◌≤◌, ◌<◌, length, arith, ap, sym, inl, inr}
 use Rattle.std.proofs.lemmas.List.Elements.{All-from_get_or}
-use Rattle.ax_gap.proofs.Rising.{RisesFrom, rises}
-use Rattle.ax_gap.proofs.Merging.{IsMerging, begin_merge, first_taken, second_taken, both_taken, pushed, meet_of, meet-first_less, meet-second_less, meet-both, meet_end}
+use Rattle.ax_gap.proofs.Rising.{rises}
+use Rattle.ax_gap.proofs.Merging.{begin_merge, first_taken, second_taken, both_taken, pushed, meet_of, meet-first_less, meet-second_less, meet-both, meet_end}
 use Rattle.ax_gap.proofs.Members.{meet_members, meet_increases}
 use Rattle.ax_gap.proofs.sets.meet.Goals as goal
 use Rattle.ax_gap.proofs.sets.meet.Goals.{then-loop-i-test+else-j-b, else-loop-i-test}
@@ -30,11 +30,11 @@ loop-i-preserved c =
 pub returns-clause-rising : goal.returns-clause-rising
 returns-clause-rising c =
     let ended : (length c.args.a.now ≤ c.loop-i.i) ⊎ (length c.args.b.now ≤ c.loop-i.j) =
-        elim c.loop-i-test.branch [ then-loop-i-test+else-j-b w ↦ inr (omega arith) | else-loop-i-test w ↦ inl (omega arith) ]
+    elim c.loop-i-test.branch [ then-loop-i-test+else-j-b w ↦ inr (omega arith) | else-loop-i-test w ↦ inl (omega arith) ]
     in meet_increases _ c.args.a.now c.args.b.now (meet_end _ _ _ _ _ c.loop-i.invariant ended) c.requires.first
 
 pub returns-clause-members : goal.returns-clause-members
 returns-clause-members c =
     let ended : (length c.args.a.now ≤ c.loop-i.i) ⊎ (length c.args.b.now ≤ c.loop-i.j) =
-        elim c.loop-i-test.branch [ then-loop-i-test+else-j-b w ↦ inr (omega arith) | else-loop-i-test w ↦ inl (omega arith) ]
+    elim c.loop-i-test.branch [ then-loop-i-test+else-j-b w ↦ inr (omega arith) | else-loop-i-test w ↦ inl (omega arith) ]
     in meet_members _ c.args.a.now c.args.b.now (meet_end _ _ _ _ _ c.loop-i.invariant ended)

@@ -1,4 +1,4 @@
-use Rattle.std.proofs.Common.{◌≡◌, ℕ, ◌+◌, ◌-◌, ◌++◌, List, length, drop, arith, ap, sym, ◌∙◌, Some, None}
+use Rattle.std.proofs.Common.{◌≡◌, ◌++◌, arith, ap, sym, ◌∙◌}
 use Rattle.ax_gap.specs.Varint.{varint}
 use Rattle.ax_gap.specs.Reading.{front, at_most}
 use Rattle.ax_gap.proofs.VarintLaws.{split_takes, split_again, length-split, drop-split, same_used, same_number, found}
@@ -18,19 +18,19 @@ returns-then-number-clause-only c n rest h e =
 pub overflow_sub-result : goal.overflow_sub-result
 overflow_sub-result c =
     let e : c.args.bytes.now ≡ varint c.in_ok-number.number ++ c.in_ok-number.rest.now =
-        split_takes c.args.bytes.now _ _ (λ i. omega (arith, c.type_inv.bytes i)) c.in_ok-number.ensures
+    split_takes c.args.bytes.now _ _ (λ i. omega (arith, c.type_inv.bytes i)) c.in_ok-number.ensures
     in omega (arith, length-split c.args.bytes.now _ _ e)
 
 pub returns-clause-found : goal.returns-clause-found
 returns-clause-found c =
     let e : c.args.bytes.now ≡ varint c.in_ok-number.number ++ c.in_ok-number.rest.now =
-        split_takes c.args.bytes.now _ _ (λ i. omega (arith, c.type_inv.bytes i)) c.in_ok-number.ensures
+    split_takes c.args.bytes.now _ _ (λ i. omega (arith, c.type_inv.bytes i)) c.in_ok-number.ensures
     in e ∙ ap (λ bs. varint c.in_ok-number.number ++ bs) (sym (drop-split c.args.bytes.now c.in_ok-number.number c.in_ok-number.rest.now e))
 
 pub returns-clause-used : goal.returns-clause-used
 returns-clause-used c =
     let e : c.args.bytes.now ≡ varint c.in_ok-number.number ++ c.in_ok-number.rest.now =
-        split_takes c.args.bytes.now _ _ (λ i. omega (arith, c.type_inv.bytes i)) c.in_ok-number.ensures
+    split_takes c.args.bytes.now _ _ (λ i. omega (arith, c.type_inv.bytes i)) c.in_ok-number.ensures
     in omega (arith, length-split c.args.bytes.now _ _ e)
 
 pub returns-clause-only : goal.returns-clause-only
