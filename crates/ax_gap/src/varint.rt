@@ -1,0 +1,95 @@
+//! Varints, in their shortest form: what a gap list is made of.
+
+ghost use Rattle.std.specs.Prelude.{◌≡◌, ℕ, ◌++◌, ◌^◌, ◌<◌, ◌≤◌, Some, None, List, length, take, drop, IfSome, OnOk, OnErr};
+ghost use Rattle.std.specs.Option.{option_map};
+ghost use Rattle.ax_gap.specs.Reading.{front, at_most};
+ghost use Rattle.ax_gap.specs.Varint.{varint};
+
+use crate::memory::Memory;
+
+/// The greatest number that is read: the count of a gap list that has every 32-bit number.
+const MOST: u64 = 1 << 32;
+
+/// Writes the varint of a number at the end: one byte to five.
+pub fn put_varint(out: &mut Vec<u8>, number: u32) -> Result<(), Memory>
+    ensures ok { OnOk result (out.new.items ≡ out.old.items ++ varint number) }
+    ensures err { OnErr result (out.new.items ≡ out.old.items) }
+{
+    let length = out.len();
+    let put = push_varint(out, number as u64);
+    if put.is_err() {
+        out.truncate(length);
+    }
+    put
+}
+
+/// Reads the varint at the front: its number, and how many bytes it takes. `None` where no varint of a number below
+/// 2^32 stands there. Anything may follow it.
+pub fn read_varint(bytes: &[u8]) -> Option<(u32, usize)>
+    // What is read is spelled so.
+    ensures found { IfSome result (λ found. bytes.now ≡ varint found.0 ++ drop found.1 bytes.now) }
+    ensures used { IfSome result (λ found. found.1 ≡ length (varint found.0)) }
+    ensures within { IfSome result (λ found. found.1 ≤ length bytes.now) }
+
+    // What is spelled so is read.
+    ensures only { (n : ℕ) (rest : List ℕ) → n < 2 ^ 32 → bytes.now ≡ varint n ++ rest → result ≡ Some (n, length (varint n)) }
+{
+    let (number, rest) = split_varint(bytes)?;
+    if number > u32::MAX as u64 {
+        return None;
+    }
+    Some((number as u32, bytes.len() - rest.len()))
+}
+
+/// Writes the varint of a number at the end. An error may leave some of its bytes there.
+pub(crate) fn push_varint(out: &mut Vec<u8>, number: u64) -> Result<(), Memory>
+    ensures ok { OnOk result (out.new.items ≡ out.old.items ++ varint number) }
+    ensures front { take (length out.old.items) out.new.items ≡ out.old.items }
+{
+    let mut rest = number;
+    while rest >= 128 {
+        out.push(128 + (rest % 128) as u8)?;
+        rest /= 128;
+    }
+    out.push(rest as u8)?;
+    Ok(())
+}
+
+/// Takes the varint at the front off, where its number is at most `MOST`: the number, and the bytes after it.
+#[inline]
+pub(crate) fn split_varint(bytes: &[u8]) -> Option<(u64, &[u8])>
+    ensures { option_map (λ found. (found.0, found.1.now)) result ≡ at_most (2 ^ 32) (front bytes.now) }
+{
+    if bytes.is_empty() {
+        return None;
+    }
+    let byte = bytes[0];
+    if byte < 128 {
+        Some((byte as u64, &bytes[1..]))
+    } else {
+        split_longer(bytes)
+    }
+}
+
+/// The same, for a varint of any length.
+fn split_longer(bytes: &[u8]) -> Option<(u64, &[u8])>
+    ensures { option_map (λ found. (found.0, found.1.now)) result ≡ at_most (2 ^ 32) (front bytes.now) }
+{
+    let mut low = 0u64;
+    let mut scale = 1u64;
+    for (i, &byte) in bytes.iter().enumerate() {
+        if scale > MOST {
+            return None;
+        }
+        if byte < 128 {
+            let number = low + byte as u64 * scale;
+            if number > MOST || (byte == 0 && i > 0) {
+                return None;
+            }
+            return Some((number, &bytes[i + 1..]));
+        }
+        low += (byte - 128) as u64 * scale;
+        scale *= 128;
+    }
+    None
+}
