@@ -1,0 +1,18 @@
+//! JSON trees and what they mean: the values that documents are made of, their one canonical text,
+//! and what makes a tree a document. Every crate that speaks of documents cites these definitions.
+//!
+//! Stands on `serde_json`, which writes the texts. Its one contract: `write_tree` gives exactly the
+//! canonical text of a tree, and `Tree::copy` an equal tree.
+#![tactic(auto)]
+
+mod items;
+mod members;
+mod memory;
+mod text;
+mod tree;
+
+pub use items::Items;
+pub use members::{Member, Members};
+pub use memory::Memory;
+pub use text::Text;
+pub use tree::Tree;
