@@ -1,3 +1,7 @@
+pub mod CanonicalText
+pub mod Document
 pub mod Names
+pub mod Nesting
 pub mod Rising
+pub mod SerdeData
 pub mod formers

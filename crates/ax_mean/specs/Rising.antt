@@ -1,19 +1,12 @@
 -- Names that rise strictly by their bytes, as the members of a map do in its canonical text: each is
 -- before the next, so that no name stands twice.
-use Rattle.std.specs.Prelude.{ℕ, List, [], ◌∷◌, Bool, true, false, ◌&&◌}
-use Rattle.std.specs.declared.cmp.Ordering.{Ordering}
-use Rattle.std.specs.declared.cmp.Ordering.TheVariants.{Less, Equal, Greater}
-use Rattle.std.specs.Ordering.{nat_cmp}
+use Rattle.std.specs.Prelude.{ℕ, List, [], ◌∷◌, Bool, true, ◌&&◌}
+use Rattle.std.specs.Ordering.{nat_cmp, is_lt}
 use Rattle.std.specs.Cmp.Lexicographic.{slice_cmp}
-
-abbrev pub is_less : Ordering → Bool
-is_less Less = true
-is_less Equal = false
-is_less Greater = false
 
 -- a text is before another by bytes
 abbrev pub is_before : List ℕ → List ℕ → Bool
-is_before a b = is_less (slice_cmp nat_cmp a b)
+is_before a b = is_lt (slice_cmp nat_cmp a b)
 
 -- each name is before the next
 abbrev pub is_rising : List (List ℕ) → Bool

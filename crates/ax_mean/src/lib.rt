@@ -10,9 +10,11 @@ mod members;
 mod memory;
 mod text;
 mod tree;
+mod write;
 
 pub use items::Items;
 pub use members::{Member, Members};
 pub use memory::Memory;
 pub use text::Text;
 pub use tree::Tree;
+pub use write::write_tree;

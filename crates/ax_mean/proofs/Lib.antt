@@ -1,0 +1,2 @@
+pub mod RisingNames
+mod SerdeLemmas
