@@ -5,6 +5,8 @@
 //! canonical text of a tree, and `Tree::copy` an equal tree.
 #![tactic(auto)]
 
+mod copy;
+mod document;
 mod items;
 mod members;
 mod memory;
@@ -12,6 +14,7 @@ mod text;
 mod tree;
 mod write;
 
+pub use document::{id_of, may_be_id};
 pub use items::Items;
 pub use members::{Member, Members};
 pub use memory::Memory;
