@@ -29,7 +29,7 @@ put_all-front [] front rising = ap data_members (sym (append-nil front))
 put_all-front (m ∷ ms) front rising =
     let last : Member serde.Data = member_data m in
     let regrouped : names front ++ names (m ∷ ms) ≡ names (front ++ last ∷ []) ++ names ms
-      = sym (append_assoc (names front) (m.name ∷ []) (names ms)) ∙ ap (λ l. l ++ names ms) (sym (map-append (λ a. a.name) front (last ∷ []))) in
+    = sym (append_assoc (names front) (m.name ∷ []) (names ms)) ∙ ap (λ l. l ++ names ms) (sym (map-append (λ a. a.name) front (last ∷ []))) in
     ap (put_all ms) (put-last front m.name (data_of m.value) (rising_before (names front) m.name (names ms) rising))
     ∙ put_all-front ms (front ++ last ∷ []) (ap is_rising (sym regrouped) ∙ rising)
     ∙ ap data_members (append_assoc front (last ∷ []) (map member_data ms))
@@ -72,7 +72,7 @@ members_text-joined : (ms : List (Member serde.Data)) → 123 ∷ members_text f
 members_text-joined [] = refl
 members_text-joined (m ∷ ms) =
     ap (λ l. 123 ∷ l) (member_split m (members_text true (data_members ms))
-      ∙ ap (λ l. written m ++ l) (members_text-later ms) ∙ joined-first 125 (written m) (map written ms))
+    ∙ ap (λ l. written m ++ l) (members_text-later ms) ∙ joined-first 125 (written m) (map written ms))
 
 -- one level of a tree, by its text and by its data
 text-roll : (x : Tree-F Tree) → canonical_text (roll-Tree x) ≡ text_step (map-Tree Tree (List ℕ) canonical_text x)
@@ -127,9 +127,9 @@ level_written (Tree-F.Object ms) = (members_text-joined (map member_data (map me
 
 roll_written : (y : Tree-F Written) → IsWritten (roll-Tree (map-Tree Written Tree tree_in y))
 roll_written y = let x = map-Tree Written Tree tree_in y in record {
-    text = ap compact_text (data-roll x) ∙ (level_written y).0 ∙ sym (text-roll x);
-    no_float = ap has_float (data-roll x) ∙ (level_written y).1;
-  }
+  text = ap compact_text (data-roll x) ∙ (level_written y).0 ∙ sym (text-roll x);
+  no_float = ap has_float (data-roll x) ∙ (level_written y).1;
+}
 
 pub is_written : (t : Tree) → IsWritten t
 is_written = ind-Tree IsWritten (λ x y is. subst (λ z. IsWritten (roll-Tree z)) is (roll_written y))

@@ -1,11 +1,10 @@
 ghost use Rattle.std.specs.Prelude.{◌≡◌, IfOk};
 
-use std::alloc::Global;
-
 use crate::items::Items;
 use crate::members::{Member, Members};
 use crate::memory::Memory;
 use crate::tree::Tree;
+use std::alloc::Global;
 
 impl Tree {
     /// An equal tree.

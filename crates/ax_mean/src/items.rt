@@ -1,9 +1,8 @@
 ghost use Rattle.std.specs.Prelude.{◌≡◌, [], ◌∷◌, ◌++◌, OnOk, OnErr};
 
+use crate::memory::Memory;
 use std::alloc::Global;
 use std::marker::Model;
-
-use crate::memory::Memory;
 
 /// A vector that contracts see as the list of its elements. It is made from a `Vec` and gives it
 /// back without a copy.

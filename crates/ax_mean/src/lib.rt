@@ -10,6 +10,8 @@ mod document;
 mod items;
 mod members;
 mod memory;
+#[cfg(test)]
+mod tests;
 mod text;
 mod tree;
 mod write;

@@ -1,10 +1,9 @@
 ghost use Rattle.std.specs.Prelude.{◌≡◌, [], true};
 ghost use Rattle.ax_mean.specs.Rising.{is_rising};
 
+use crate::text::Text;
 use std::alloc::Global;
 use std::marker::Model;
-
-use crate::text::Text;
 
 /// A member of a map: its name and its value.
 #[derive(Debug, Drop)]

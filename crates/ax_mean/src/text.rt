@@ -1,9 +1,8 @@
 ghost use Rattle.std.specs.Prelude.{◌≡◌, IfOk, IsUtf8, string_bytes};
 
+use crate::memory::Memory;
 use std::alloc::Global;
 use std::marker::Model;
-
-use crate::memory::Memory;
 
 /// A text that contracts see as its bytes, which are UTF-8. It is made from a `String` and gives it
 /// back without a copy.

@@ -3,13 +3,12 @@ ghost use Rattle.serde_json.specs.View.{view, members_view};
 ghost use Rattle.ax_mean.specs.CanonicalText.{canonical_text};
 ghost use Rattle.ax_mean.specs.SerdeData.{data_of, data_members, member_data};
 
-use serde_json::{Map, Number, Value};
-use std::alloc::Global;
-
 use crate::items::Items;
 use crate::members::Members;
 use crate::memory::Memory;
 use crate::tree::Tree;
+use serde_json::{Map, Number, Value};
+use std::alloc::Global;
 
 /// The canonical text of a tree: compact JSON with the members in byte order of their names.
 pub fn write_tree(alloc: Global, tree: &Tree) -> Result<Vec<u8>, Memory>

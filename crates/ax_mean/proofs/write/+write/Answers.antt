@@ -10,7 +10,7 @@ use Rattle.ax_mean.proofs.write.+write.Goals as goal
 pub map_of-returns : goal.map_of-returns
 map_of-returns t c =
     let none_left : drop c.loop-member.member-index c.as_slice-member-items.result.now ≡ []
-      = drop_all c.loop-member.member-index c.as_slice-member-items.result.now (omega (arith, c.loop-member-test.false)) in
+    = drop_all c.loop-member.member-index c.as_slice-member-items.result.now (omega (arith, c.loop-member-test.false)) in
     ap (λ l. put_all l (members_view c.loop-member.found.entries)) (sym none_left)
     ∙ c.loop-member.invariant
     ∙ ap (λ l. put_all l serde.no_members) c.as_slice-member-items.ensures.members

@@ -70,7 +70,7 @@ module _ (R S : RattleType) (h : R.Denot → S.Denot) where
       (λ u e. rising_over h u.members.items ∙ e) (λ u e. sym (rising_over h u.members.items) ∙ e)
       (over (I.the_row R)) (over (I.the_row S))
       (struct_places (I.the_type R) (I.the_type S) (vec.mapped (on_value h), tt) _ (λ d. refl) refl
-        (laid _ _ _ (vec.the_places heap.the_row ghosts (M.the_row R) (M.the_row S) (on_value h) (member_places alike)), tt))
+      (laid _ _ _ (vec.the_places heap.the_row ghosts (M.the_row R) (M.the_row S) (on_value h) (member_places alike)), tt))
 
   pub the_codes_placed : Recodes R S h → Recodes (C.the_row R) (C.the_row S) ((the_former this).map R.Denot S.Denot h)
   the_codes_placed same members = sym (code_map _ _ (on_value h) (λ m i. gcons ((coded_list coded_ℕ).code m.name) (sym (same m.value) i)) members)
