@@ -1,5 +1,5 @@
 -- The tree's data has no float, so that its text is determined, and is the canonical one.
-use Rattle.std.proofs.Common.{◌≡◌, ◌∙◌, ap, sym}
+use Rattle.std.proofs.Common.{◌∙◌, ap}
 use Rattle.serde_json.specs.Written.{compact_text, has_float}
 use Rattle.ax_mean.proofs.SerdeLemmas.{IsWritten, is_written}
 use Rattle.ax_mean.proofs.write.write_tree.Goals as goal

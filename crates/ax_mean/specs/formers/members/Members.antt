@@ -11,7 +11,7 @@ use denote.Hole.Carrier.{listed}
 use denote.Hole.Fix.{over}
 use denote.Param.Weighed.{Weighed, w_list, w_via, w_pair, w_const}
 use denote.Model.Placed.{view_places}
-use Rattle.std.specs.Prelude.{ℕ, true}
+use Rattle.std.specs.Prelude.{ℕ}
 use Rattle.std.specs.formers.vec.Vec as vec
 use Rattle.std.specs.declared.alloc.Global.{Global}
 use Rattle.std.specs.contracts.alloc.Global as heap
