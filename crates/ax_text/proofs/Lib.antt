@@ -1,0 +1,4 @@
+pub mod Depth
+pub mod Entries
+pub mod Joined
+pub mod Readings
