@@ -1,4 +1,6 @@
-pub mod Depth
+pub mod DataDepth
 pub mod Entries
+pub mod Formed
 pub mod Joined
+pub mod Levels
 pub mod Readings

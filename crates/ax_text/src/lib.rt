@@ -4,10 +4,10 @@
 //! contract: `read_tree` answers exactly what the bytes are as a JSON text.
 #![tactic(auto)]
 
+mod depth;
 mod fault;
-mod levels;
 mod read;
 
-pub use levels::nesting;
+pub use depth::nesting;
 pub use fault::TextFault;
 pub use read::read_tree;

@@ -2,6 +2,7 @@ ghost use Rattle.std.specs.Prelude.{◌≡◌, ◌≤◌, IfOk, IfErr, Some, Non
 ghost use Rattle.serde_json.specs.View.{view, items_view, members_view};
 ghost use Rattle.ax_mean.specs.Nesting.{nesting as nesting_of};
 ghost use Rattle.ax_text.specs.TreeOf.{tree_of, items_of, members_of};
+ghost use Rattle.ax_text.specs.WellFormed.{IsWellFormed};
 ghost use Rattle.ax_text.specs.Reading.{reading, Stands, NotJson, NotWhole};
 
 use crate::fault::TextFault;
@@ -16,6 +17,7 @@ pub fn read_tree(alloc: Global, bytes: &[u8]) -> Result<Tree, TextFault>
     ensures json { result ≡ Err TextFault.Json → reading bytes.now ≡ NotJson }
     ensures number { result ≡ Err TextFault.Number → reading bytes.now ≡ NotWhole }
     ensures nests { IfOk result (λ tree. nesting_of tree ≤ 127) }
+    ensures well_formed { IfOk result (λ tree. IsWellFormed tree) }
 {
     match Value::from_slice(alloc, bytes) {
         Ok(value) => tree_from(alloc, value),
@@ -32,6 +34,7 @@ fn tree_from(alloc: Global, value: Value) -> Result<Tree, TextFault>
     ensures tree { IfOk result (λ tree. tree_of (view value) ≡ Some tree) }
     ensures json { result ≡ Err TextFault.Json → ⊥ }
     ensures number { result ≡ Err TextFault.Number → tree_of (view value) ≡ None }
+    ensures well_formed { IfOk result (λ tree. IsWellFormed tree) }
 {
     match value {
         Value::Null => Ok(Tree::Null),
@@ -51,6 +54,7 @@ fn items_from(alloc: Global, values: Vec<Value>) -> Result<Items<Tree>, TextFaul
     ensures items { IfOk result (λ items. items_of (items_view values.items) ≡ Some items) }
     ensures json { result ≡ Err TextFault.Json → ⊥ }
     ensures number { result ≡ Err TextFault.Number → items_of (items_view values.items) ≡ None }
+    ensures well_formed { IfOk result (λ items. IsWellFormed (Tree.List items)) }
 {
     let mut items = Vec::with_capacity(alloc, values.len())?;
     for value in values {
@@ -64,6 +68,7 @@ fn members_from(alloc: Global, entries: Map<String, Value>) -> Result<Members<Tr
     ensures members { IfOk result (λ members. members_of (members_view entries.entries) ≡ Some members) }
     ensures json { result ≡ Err TextFault.Json → ⊥ }
     ensures number { result ≡ Err TextFault.Number → members_of (members_view entries.entries) ≡ None }
+    ensures well_formed { IfOk result (λ members. IsWellFormed (Tree.Object members)) }
 {
     let mut members = Vec::with_capacity(alloc, entries.len())?;
     for (name, value) in entries {

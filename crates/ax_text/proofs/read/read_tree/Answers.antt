@@ -5,7 +5,7 @@ use Rattle.serde_json.specs.View.{view}
 use Rattle.ax_mean.specs.Nesting.{nesting}
 use Rattle.ax_text.specs.Reading.{Stands, reading, of_tree}
 use Rattle.ax_text.specs.TreeOf.{tree_of}
-use Rattle.ax_text.proofs.Depth.{nesting_bound}
+use Rattle.ax_text.proofs.DataDepth.{nesting_bound}
 use Rattle.ax_text.proofs.Readings.{reading-data, reading-refused}
 use Rattle.ax_text.proofs.read.read_tree.Goals as goal
 use Rattle.ax_text.proofs.read.read_tree.Goals.{then-is_memory, else-is_memory}

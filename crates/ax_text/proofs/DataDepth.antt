@@ -1,12 +1,12 @@
 -- A tree nests as deep as the data that it is the tree of.
-use Rattle.std.proofs.Common.{rules, Bool, ◌≡◌, ℕ, ℤ, suc, ◌+◌, List, ◌∷◌, map, max, Option, Some, None, option_map, refl, ap, ap₂, ◌∙◌, add-one, subst, ◌≤◌, arith}
+use Rattle.std.proofs.Common.{◌≡◌, ℕ, ℤ, suc, List, ◌∷◌, map, max, Option, Some, None, option_map, refl, ap, ap₂, ◌∙◌, add-one, subst, ◌≤◌, arith}
 use Rattle.std.specs.Option.{IfSome}
 use Rattle.serde_json.specs.Data as serde
 use Rattle.serde_json.specs.Find.{as_i64}
 use Rattle.ax_mean.specs.Nesting.{nesting, greatest}
-use Rattle.ax_mean.specs.declared.members.Member.{Member}
 use Rattle.ax_mean.specs.declared.tree.Tree as tree
 use Rattle.ax_text.specs.TreeOf.{both, named, tree_of, items_of, members_of}
+use Rattle.ax_text.proofs.Levels.{deepest, nesting-Null, nesting-Truth, nesting-Number, nesting-Text, nesting-List, nesting-Object}
 
 -- what holds of each, holds of both
 pub of_both : {A : Type 0} (first : Option A) (rest : Option (List A)) (P : A → Type 0) (Q R : List A → Type 0)
@@ -18,32 +18,6 @@ of_both (Some a) (Some l) P Q R f p q = f a l p q
 pub of_map : {A B : Type 0} (o : Option A) (g : A → B) (P : A → Type 0) (Q : B → Type 0) → ((a : A) → P a → Q (g a)) → IfSome o P → IfSome (option_map g o) Q
 of_map None g P Q f p = tt
 of_map (Some a) g P Q f p = f a p
-
--- a member, whose value is seen as its nesting
-abbrev nested : Member tree.Tree → Member ℕ
-nested m = record { name = m.name; value = nesting m.value }
-
--- how deep the members' values nest
-abbrev deepest : List (Member tree.Tree) → ℕ
-deepest members = greatest (map (λ m. m.value) (map nested members))
-
-nesting-Null : nesting tree.Null ≡ 0
-nesting-Null = search (rules, tree.the_lemmas)
-
-nesting-Truth : (b : Bool) → nesting (tree.Truth b) ≡ 0
-nesting-Truth b = search (rules, tree.the_lemmas)
-
-nesting-Number : (z : ℤ) → nesting (tree.Number z) ≡ 0
-nesting-Number z = search (rules, tree.the_lemmas)
-
-nesting-Text : (s : List ℕ) → nesting (tree.Text s) ≡ 0
-nesting-Text s = search (rules, tree.the_lemmas)
-
-nesting-List : (ts : List tree.Tree) → nesting (tree.List ts) ≡ greatest (map nesting ts) + 1
-nesting-List ts = search (rules, tree.the_lemmas)
-
-nesting-Object : (l : List (Member tree.Tree)) → nesting (tree.Object l) ≡ deepest l + 1
-nesting-Object l = search (rules, tree.the_lemmas)
 
 number_depth : (o : Option ℤ) → IfSome (option_map tree.Number o) (λ t. nesting t ≡ 0)
 number_depth None = tt
