@@ -1,1 +1,4 @@
+pub mod Cuts
 mod Newlines
+pub mod Runs
+mod Soundness
