@@ -1,0 +1,37 @@
+-- The calls of a source or a sink in memory, of which chosen ones fail, and what contracts see of such a part.
+-- It is this project's own; it comes from no public document.
+use Rattle.std.specs.Prelude.{ℕ, ◌<◌, ◌≤◌, ◌⊎◌, List, length, Contains}
+use Rattle.ax_base.specs.Faults.{raised}
+
+-- how many calls were made, how many failed, and the numbers of the calls that are to fail
+pub record Calls : Type 0 where
+  pub made : ℕ
+  pub faults : ℕ
+  pub failing : List ℕ
+
+-- the number of the next call; the first is 1
+abbrev pub next_number : Calls → ℕ
+next_number calls = raised calls.made
+
+-- the calls after one that did not fail
+abbrev pub after_success : Calls → Calls
+after_success calls = record calls { made = next_number calls }
+
+-- the calls after one that failed
+abbrev pub after_failure : Calls → Calls
+after_failure calls = record calls { made = next_number calls; faults = raised calls.faults }
+
+-- a source in memory: the bytes that are still to come, and its calls
+pub record SourceState : Type 0 where
+  pub rest : List ℕ
+  pub calls : Calls
+
+-- a sink in memory: the bytes that it holds, how many it may hold, and its calls
+pub record SinkState : Type 0 where
+  pub written : List ℕ
+  pub room : ℕ
+  pub calls : Calls
+
+-- the next write of the piece fails: it is one that is to fail, or no room is left for any byte of the piece
+abbrev pub RefusesPiece : SinkState → List ℕ → Type 0
+RefusesPiece sink piece = Contains sink.calls.failing (next_number sink.calls) ⊎ ((0 < length piece) × (sink.room ≤ length sink.written))

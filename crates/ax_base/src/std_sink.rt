@@ -1,0 +1,57 @@
+ghost use Rattle.std.specs.Prelude.{◌≡◌};
+
+use crate::{Failed, Sink};
+use std::io::Write;
+use std::marker::Model;
+
+/// A sink over a writer of the standard library. It flushes after each piece, tells the bytes that
+/// the writer tells, tries no write again, and counts each write or flush that fails and each write
+/// that takes nothing of a piece that is not empty.
+#[derive(Drop)]
+pub struct StdSink<W: Write> {
+    inner: W,
+    faults: u64,
+}
+
+impl<W: Write> Model for StdSink<W> {
+    ghost use Rattle.ax_base.specs.Adapter.{Adapter};
+
+    ghost Value = { Adapter };
+
+    ghost view = { λ s. record { told = W.contents s.inner; faults = s.faults } };
+}
+
+impl<W: Write> StdSink<W> {
+    /// A sink into the writer, with no fault yet.
+    pub fn new(inner: W) -> StdSink<W>
+        ensures { result ≡ record { told = W.contents inner; faults = 0 } }
+    {
+        StdSink { inner, faults: 0 }
+    }
+
+    /// The writer.
+    pub fn into_inner(self) -> W
+        ensures { W.contents result ≡ self.told }
+    {
+        let StdSink { inner, faults: _ } = self;
+        inner
+    }
+}
+
+impl<W: Write> Sink for StdSink<W> {
+    ghost written = { λ s. s.told };
+
+    ghost faults = { λ s. s.faults };
+
+    fn write_some(&mut self, bytes: &[u8]) -> Result<usize, Failed> {
+        let Ok(count) = self.inner.write(bytes) else {
+            self.faults = self.faults.saturating_add(1);
+            return Err(Failed);
+        };
+        if self.inner.flush().is_err() || (count == 0 && !bytes.is_empty()) {
+            self.faults = self.faults.saturating_add(1);
+            return Err(Failed);
+        }
+        Ok(count)
+    }
+}

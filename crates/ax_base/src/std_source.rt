@@ -1,0 +1,46 @@
+ghost use Rattle.std.specs.Prelude.{◌≡◌};
+
+use crate::{Failed, Source};
+use std::io::Read;
+use std::marker::Model;
+
+/// A source over a reader of the standard library. It tells the bytes that the reader tells, tries
+/// no read again, and counts each read that fails.
+#[derive(Drop)]
+pub struct StdSource<R: Read> {
+    inner: R,
+    faults: u64,
+}
+
+impl<R: Read> Model for StdSource<R> {
+    ghost use Rattle.ax_base.specs.Adapter.{Adapter};
+
+    ghost Value = { Adapter };
+
+    ghost view = { λ s. record { told = R.remaining s.inner; faults = s.faults } };
+}
+
+impl<R: Read> StdSource<R> {
+    /// A source of what the reader gives from here on, with no fault yet.
+    pub fn new(inner: R) -> StdSource<R>
+        ensures { result ≡ record { told = R.remaining inner; faults = 0 } }
+    {
+        StdSource { inner, faults: 0 }
+    }
+}
+
+impl<R: Read> Source for StdSource<R> {
+    ghost rest = { λ s. s.told };
+
+    ghost faults = { λ s. s.faults };
+
+    fn read_some(&mut self, buf: &mut [u8]) -> Result<usize, Failed> {
+        match self.inner.read(buf) {
+            Ok(count) => Ok(count),
+            Err(_) => {
+                self.faults = self.faults.saturating_add(1);
+                Err(Failed)
+            }
+        }
+    }
+}

@@ -1,0 +1,4 @@
+pub mod Frames
+pub mod Parts
+pub mod Slots
+pub mod Pieces

@@ -1,0 +1,141 @@
+-- One spelling for each part and for each list of parts, and what a text of parts is seen as.
+use Rattle.std.proofs.Common.{◌≡◌, ℕ, zero, suc, ◌<◌, ◌≤◌, List, [], ◌∷◌, ◌++◌, length, take, drop, refl, sym, ap, subst, ◌∙◌, length-append, arith}
+use Rattle.std.specs.Prelude.{Result, Ok, Err, OnOk, OnErr}
+use Rattle.std.specs.Int.{w32, to_le_bytes, from_le_bytes}
+use Rattle.std.proofs.lemmas.List.{take_at, drop_at, append-nil}
+use Rattle.std.proofs.lemmas.List.Concat.{flat_map-append}
+use Rattle.std.proofs.lemmas.Nat.{from_le_bytes-to_le_bytes_4}
+use Rattle.ax_frame.specs.Part.{PartValue, part_bytes, parts_bytes, Fits, AllFit, IsPartsText}
+use Rattle.ax_frame.specs.View.{front_of, parts_within, parts_in, Holds}
+
+-- the front of a text is the part whose spelling stands there
+pub front_again : (p : PartValue) (more : List ℕ) → Fits p → front_of (part_bytes p ++ more) ≡ (p, more)
+front_again p more fit =
+    let key-is = from_le_bytes-to_le_bytes_4 p.key fit.key_fits in
+    let len-is = from_le_bytes-to_le_bytes_4 (length p.payload) (omega (arith, fit.payload_fits)) in
+    let seen : ℕ → ℕ → PartValue × List ℕ = λ key len. (record { kind = p.kind; key = key; payload = take len (p.payload ++ more) }, drop len (p.payload ++ more)) in
+    ap (λ (key : ℕ). seen key (from_le_bytes w32 (to_le_bytes w32 (length p.payload)))) key-is ∙ ap (seen p.key) len-is
+    ∙ rw (take_at p.payload more (length p.payload) refl, drop_at p.payload more (length p.payload) refl) refl
+
+-- two parts at the front of one text are the same, and so is what follows
+pub one_part : (p q : PartValue) (x y : List ℕ) → Fits p → Fits q → part_bytes p ++ x ≡ part_bytes q ++ y → (p ≡ q) × (x ≡ y)
+one_part p q x y fp fq e =
+    let same : (p, x) ≡ (q, y) = sym (front_again p x fp) ∙ ap front_of e ∙ front_again q y fq in
+    (ap (λ (f : PartValue × List ℕ). f.0) same, ap (λ (f : PartValue × List ℕ). f.1) same)
+
+list_within : (ps : List PartValue) (most : ℕ) → AllFit ps → length (parts_bytes ps) ≤ most → parts_within most (parts_bytes ps) ≡ ps
+unfolding parts_within
+list_within [] zero fit le = refl
+list_within [] (suc most) fit le = refl
+list_within (p ∷ ps) zero fit le = absurd (omega arith)
+list_within (p ∷ ps) (suc most) fit le =
+    ap (λ (f : PartValue × List ℕ). f.0 ∷ parts_within most f.1) (front_again p (parts_bytes ps) fit.0)
+    ∙ ap (λ (qs : List PartValue). p ∷ qs) (list_within ps most fit.1 (omega (arith, length-append p.payload (parts_bytes ps))))
+
+-- a list of parts is what its spelling is seen as
+pub parts_again : (ps : List PartValue) → AllFit ps → parts_in (parts_bytes ps) ≡ ps
+unfolding parts_in
+parts_again ps fit = list_within ps (length (parts_bytes ps)) fit (omega arith)
+
+Holds-spelled : (ps : List PartValue) → AllFit ps → Holds (parts_bytes ps)
+unfolding Holds
+Holds-spelled ps fit = let again = parts_again ps fit in (subst AllFit (sym again) fit, ap parts_bytes (sym again))
+
+pub fit_of : (bytes : List ℕ) → Holds bytes → AllFit (parts_in bytes)
+unfolding Holds
+fit_of bytes holds = holds.0
+
+pub spelled_of : (bytes : List ℕ) → Holds bytes → bytes ≡ parts_bytes (parts_in bytes)
+unfolding Holds
+spelled_of bytes holds = holds.1
+
+-- a text that is spelled by a list holds that list
+pub record Seen (bytes : List ℕ) (ps : List PartValue) : Type 0 where
+  pub holds : Holds bytes
+  pub are : parts_in bytes ≡ ps
+
+pub seen_as : (bytes : List ℕ) (ps : List PartValue) → AllFit ps → bytes ≡ parts_bytes ps → Seen bytes ps
+seen_as bytes ps fit e = subst (λ (text : List ℕ). Seen text ps) (sym e) (record { holds = Holds-spelled ps fit; are = parts_again ps fit })
+
+pub one_list : (ps qs : List PartValue) → AllFit ps → AllFit qs → parts_bytes ps ≡ parts_bytes qs → ps ≡ qs
+one_list ps qs fp fq e = sym (parts_again ps fp) ∙ ap parts_in e ∙ parts_again qs fq
+
+-- ---- from the front
+
+AllFit-push : (ps : List PartValue) (p : PartValue) → AllFit ps → Fits p → AllFit (ps ++ p ∷ [])
+AllFit-push [] p all fit = (fit, tt)
+AllFit-push (q ∷ ps) p all fit = (all.0, AllFit-push ps p all.1 fit)
+
+pub pushed : (old new : List ℕ) (p : PartValue) → Holds old → Fits p → new ≡ old ++ part_bytes p → Seen new (parts_in old ++ p ∷ [])
+pushed old new p holds fit e =
+    let spelled : new ≡ parts_bytes (parts_in old ++ p ∷ []) =
+    e ∙ ap (λ (text : List ℕ). text ++ part_bytes p) (spelled_of old holds)
+    ∙ ap (λ (text : List ℕ). parts_bytes (parts_in old) ++ text) (sym (append-nil (part_bytes p)))
+    ∙ sym (flat_map-append part_bytes (parts_in old) (p ∷ [])) in
+    seen_as new (parts_in old ++ p ∷ []) (AllFit-push (parts_in old) p (fit_of old holds) fit) spelled
+
+pub nothing_seen : Seen [] []
+nothing_seen = seen_as [] [] tt refl
+
+-- a list whose spelling begins with a part begins with that part
+pub split_list : (qs : List PartValue) (p : PartValue) (rest : List ℕ) → AllFit qs → Fits p → parts_bytes qs ≡ part_bytes p ++ rest
+    → (ps : List PartValue) × (qs ≡ p ∷ ps) × AllFit ps × (rest ≡ parts_bytes ps)
+split_list [] p rest all fit e = absurd cc
+split_list (q ∷ qs) p rest all fit e =
+    let one = one_part q p (parts_bytes qs) rest all.0 fit e in
+    (qs, ap (λ (first : PartValue). first ∷ qs) one.0, all.1, sym one.1)
+
+pub record GivesFirst (bytes : List ℕ) (p : PartValue) (rest : List ℕ) : Type 0 where
+  pub holds : Holds rest
+  pub are : parts_in bytes ≡ p ∷ parts_in rest
+
+pub first_given : (bytes : List ℕ) (p : PartValue) (rest : List ℕ) → Holds bytes → Fits p → bytes ≡ part_bytes p ++ rest → GivesFirst bytes p rest
+first_given bytes p rest holds fit e =
+    let s = split_list (parts_in bytes) p rest (fit_of bytes holds) fit (sym (spelled_of bytes holds) ∙ e) in
+    let seen = seen_as rest s.0 s.2 s.3 in
+    record { holds = seen.holds; are = s.1 ∙ ap (λ (ps : List PartValue). p ∷ ps) (sym seen.are) }
+
+-- where no part stands at the front, none is left
+nothing_in : (bytes : List ℕ) (ps : List PartValue) → AllFit ps → bytes ≡ parts_bytes ps → ((p : PartValue) (rest : List ℕ) → Fits p → bytes ≡ part_bytes p ++ rest → ⊥) → ps ≡ []
+nothing_in bytes [] all e none = refl
+nothing_in bytes (p ∷ ps) all e none = absurd (none p (parts_bytes ps) all.0 e)
+
+pub none_left : (bytes : List ℕ) → Holds bytes → ((p : PartValue) (rest : List ℕ) → Fits p → bytes ≡ part_bytes p ++ rest → ⊥) → parts_in bytes ≡ []
+none_left bytes holds none = nothing_in bytes (parts_in bytes) (fit_of bytes holds) (spelled_of bytes holds) none
+
+-- a text without a byte holds no part, and one that holds no part has no byte
+pub empty_seen : (bytes : List ℕ) → Holds bytes → length bytes ≡ 0 → parts_in bytes ≡ []
+unfolding parts_in parts_within
+empty_seen bytes holds none = rw none refl
+
+pub seen_empty : (bytes : List ℕ) → Holds bytes → parts_in bytes ≡ [] → length bytes ≡ 0
+seen_empty bytes holds none = ap length (spelled_of bytes holds ∙ ap parts_bytes none)
+
+-- ---- whether bytes are parts
+
+pub text_seen : (bytes : List ℕ) → IsPartsText bytes → Holds bytes
+text_seen bytes is = (seen_as bytes is.parts is.fit is.spelled).holds
+
+pub text_more : (bytes : List ℕ) (p : PartValue) (rest : List ℕ) → Fits p → bytes ≡ part_bytes p ++ rest → IsPartsText rest → IsPartsText bytes
+text_more bytes p rest fit e is =
+    record { parts = p ∷ is.parts; fit = (fit, is.fit); spelled = e ∙ ap (λ (text : List ℕ). part_bytes p ++ text) is.spelled }
+
+pub text_less : (bytes : List ℕ) (p : PartValue) (rest : List ℕ) → Fits p → bytes ≡ part_bytes p ++ rest → IsPartsText bytes → IsPartsText rest
+text_less bytes p rest fit e is =
+    let s = split_list is.parts p rest is.fit fit (sym is.spelled ∙ e) in
+    record { parts = s.0; fit = s.2; spelled = s.3 }
+
+pub text_none : (bytes : List ℕ) → 0 < length bytes → ((p : PartValue) (rest : List ℕ) → Fits p → bytes ≡ part_bytes p ++ rest → ⊥) → IsPartsText bytes → ⊥
+text_none bytes long none is =
+    let nothing : is.parts ≡ [] = nothing_in bytes is.parts is.fit is.spelled none in
+    let empty : bytes ≡ [] = is.spelled ∙ ap parts_bytes nothing in
+    omega (arith, ap length empty)
+
+-- what a call that appends a part, or changes nothing, leaves
+pub record Added {E : Type 0} (r : Result (Unit {0}) E) (old new : List ℕ) (p : PartValue) : Type 0 where
+  pub holds : Holds new
+  pub are : OnOk r (parts_in new ≡ parts_in old ++ p ∷ [])
+
+pub added : {E : Type 0} (r : Result (Unit {0}) E) (old new : List ℕ) (p : PartValue) → Holds old → Fits p → OnOk r (new ≡ old ++ part_bytes p) → OnErr r (new ≡ old) → Added r old new p
+added (Ok x) old new p holds fit ok err = let seen = pushed old new p holds fit ok in record { holds = seen.holds; are = seen.are }
+added (Err e) old new p holds fit ok err = record { holds = subst Holds (sym err) holds; are = tt }

@@ -1,0 +1,5 @@
+pub mod Slot
+pub mod Part
+pub mod Frame
+pub mod View
+pub mod Pieces
