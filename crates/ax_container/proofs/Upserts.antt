@@ -45,7 +45,7 @@ numbers_created : (new : Entry) (es : List Entry) (before : ℕ) → NumbersRise
 numbers_created new [] before h = (h, omega arith)
 numbers_created new (e ∷ es) before h = (h.0, numbers_created new es e.number h.1)
 
-or_none : (a b : Bool) → (a || b) ≡ false → (a ≡ false) × (b ≡ false)
+pub or_none : (a b : Bool) → (a || b) ≡ false → (a ≡ false) × (b ≡ false)
 or_none true b e = absurd (true≢false e)
 or_none false b e = (refl, e)
 
@@ -55,7 +55,7 @@ any_created id new (e ∷ es) none other =
     let parts = or_none (has_id id e) (list_any (has_id id) es) none in
     ap (λ b. b || list_any (has_id id) (es ++ new ∷ [])) parts.0 ∙ any_created id new es parts.1 other
 
-distinct_created : (new : Entry) (es : List Entry) → list_any (has_id new.id) es ≡ false → IdsAreDistinct es → IdsAreDistinct (es ++ new ∷ [])
+pub distinct_created : (new : Entry) (es : List Entry) → list_any (has_id new.id) es ≡ false → IdsAreDistinct es → IdsAreDistinct (es ++ new ∷ [])
 distinct_created new [] none h = (refl, tt)
 distinct_created new (e ∷ es) none h =
     let parts = or_none (has_id new.id e) (list_any (has_id new.id) es) none in
@@ -88,10 +88,10 @@ upsert_keeps_soundness c tree id doc h = subst IsSound (sym (upserted-document i
 
 -- ---- the entry of an id
 
-with_tree-own : (id : List ℕ) (tree : Tree) (e : Entry) → has_id id e ≡ true → with_tree id tree e ≡ record { number = e.number; id = e.id; tree = tree }
+pub with_tree-own : (id : List ℕ) (tree : Tree) (e : Entry) → has_id id e ≡ true → with_tree id tree e ≡ record { number = e.number; id = e.id; tree = tree }
 with_tree-own id tree e own = ap (λ b. cond b (record { number = e.number; id = e.id; tree = tree }) e) own
 
-with_tree-other : (id : List ℕ) (tree : Tree) (e : Entry) → has_id id e ≡ false → with_tree id tree e ≡ e
+pub with_tree-other : (id : List ℕ) (tree : Tree) (e : Entry) → has_id id e ≡ false → with_tree id tree e ≡ e
 with_tree-other id tree e differs = ap (λ b. cond b (record { number = e.number; id = e.id; tree = tree }) e) differs
 
 -- one entry in front, which is of the id or is not
