@@ -14,4 +14,4 @@ mod replies;
 pub use cut::first_line;
 pub use laws::{a_step_keeps_soundness, the_lines_are_one, there_are_lines, there_is_a_run};
 pub use plain::PlainMachine;
-pub use replies::{OUT_OF_MEMORY, ok_text, refusal_text, rows_text};
+pub use replies::{ok_text, out_of_memory_text, refusal_text, rows_text};

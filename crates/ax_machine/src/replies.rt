@@ -1,14 +1,18 @@
 ghost use Rattle.std.specs.Prelude.{◌≡◌, ◌++◌, map, IfOk, OnOk};
 ghost use Rattle.ax_machine.specs.Step.{Done, Rows, Refused};
-ghost use Rattle.ax_machine.specs.Replies.{reply_text, row_text, end_text};
+ghost use Rattle.ax_machine.specs.Replies.{reply_text, row_text, end_text, out_of_memory};
 
 use ax_container::Entry;
 use ax_lines::Refusal;
 use ax_mean::{Memory, Tree, write_tree};
 use std::alloc::Global;
 
-/// The reply to a line that is not served for want of memory. It takes none itself.
-pub const OUT_OF_MEMORY: &[u8] = b"err 9 memory\n";
+/// The reply to a line that is not served because memory ran out. It takes none itself.
+pub fn out_of_memory_text() -> &'static [u8]
+    ensures { result.now ≡ reply_text out_of_memory }
+{
+    b"err 9 memory\n"
+}
 
 /// The reply to a write that is done.
 pub fn ok_text(alloc: Global) -> Result<Vec<u8>, Memory>
