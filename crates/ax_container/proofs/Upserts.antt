@@ -69,15 +69,15 @@ own_created new (e ∷ es) own h = (h.0, own_created new es own h.1)
 sound_upserted : (id : List ℕ) (tree : Tree) (c : Container) (b : Bool) → holds id c ≡ b → document_id tree ≡ Some id → IsSound c
     → IsSound (cond b (replaced id tree c) (created id tree c))
 sound_upserted id tree c true held doc h = record {
-    numbers = numbers_replaced id tree c.entries 0 c.next_number h.numbers;
-    distinct = distinct_replaced id tree c.entries h.distinct;
-    own_ids = own_replaced id tree c.entries doc h.own_ids;
-  }
+  numbers = numbers_replaced id tree c.entries 0 c.next_number h.numbers;
+  distinct = distinct_replaced id tree c.entries h.distinct;
+  own_ids = own_replaced id tree c.entries doc h.own_ids;
+}
 sound_upserted id tree c false held doc h = let new : Entry = record { number = c.next_number; id = id; tree = tree } in record {
-    numbers = numbers_created new c.entries 0 h.numbers;
-    distinct = distinct_created new c.entries held h.distinct;
-    own_ids = own_created new c.entries doc h.own_ids;
-  }
+  numbers = numbers_created new c.entries 0 h.numbers;
+  distinct = distinct_created new c.entries held h.distinct;
+  own_ids = own_created new c.entries doc h.own_ids;
+}
 
 -- an upsert of a document, by its id
 pub upserted-document : (id : List ℕ) (tree : Tree) (c : Container) → document_id tree ≡ Some id → upserted tree c ≡ upserted_at id tree c
@@ -175,15 +175,15 @@ number_kept (Some entry) after tree e = ap (option_map (λ a. a.number)) e
 
 sets_one : (id : List ℕ) (tree : Tree) (c : Container) (b : Bool) → holds id c ≡ b → SetsOne id tree c (cond b (replaced id tree c) (created id tree c))
 sets_one id tree c true held = let found = find_some id c.entries held in record {
-    one = ap (option_map (λ a. a.tree)) (find_replaced-same id tree c.entries ∙ ap (option_map (λ a. record { number = a.number; id = a.id; tree = tree })) found.1);
-    number = number_kept (entry_of id c) (entry_of id (replaced id tree c)) tree (find_replaced-same id tree c.entries);
-    others = λ other differs. find_replaced-other id other tree c.entries differs;
-  }
+  one = ap (option_map (λ a. a.tree)) (find_replaced-same id tree c.entries ∙ ap (option_map (λ a. record { number = a.number; id = a.id; tree = tree })) found.1);
+  number = number_kept (entry_of id c) (entry_of id (replaced id tree c)) tree (find_replaced-same id tree c.entries);
+  others = λ other differs. find_replaced-other id other tree c.entries differs;
+}
 sets_one id tree c false held = let new : Entry = record { number = c.next_number; id = id; tree = tree } in record {
-    one = ap (option_map (λ a. a.tree)) (find_created-same id new c.entries held (bytes_eq-self id));
-    number = let P : Option Entry → Type 0 = λ o. IfSome o (λ e. option_map (λ a. a.number) (entry_of id (created id tree c)) ≡ Some e.number) in subst P (sym (find_none id c.entries held)) tt;
-    others = λ other differs. find_created-other other new c.entries differs;
-  }
+  one = ap (option_map (λ a. a.tree)) (find_created-same id new c.entries held (bytes_eq-self id));
+  number = let P : Option Entry → Type 0 = λ o. IfSome o (λ e. option_map (λ a. a.number) (entry_of id (created id tree c)) ≡ Some e.number) in subst P (sym (find_none id c.entries held)) tt;
+  others = λ other differs. find_created-other other new c.entries differs;
+}
 
 pub upsert_sets_one : (c : Container) (tree : Tree) (id : List ℕ) → document_id tree ≡ Some id → SetsOne id tree c (upserted tree c)
 upsert_sets_one c tree id doc = subst (SetsOne id tree c) (sym (upserted-document id tree c doc)) (sets_one id tree c (holds id c) refl)

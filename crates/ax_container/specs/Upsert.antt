@@ -15,9 +15,9 @@ replaced id tree container = record { entries = map (with_tree id tree) containe
 
 abbrev pub created : List ℕ → Tree → Container → Container
 created id tree container = record {
-    entries = container.entries ++ record { number = container.next_number; id = id; tree = tree } ∷ [];
-    next_number = container.next_number + 1;
-  }
+  entries = container.entries ++ record { number = container.next_number; id = id; tree = tree } ∷ [];
+  next_number = container.next_number + 1;
+}
 
 abbrev pub upserted_at : List ℕ → Tree → Container → Container
 upserted_at id tree container = if holds id container then replaced id tree container else created id tree container

@@ -1,2 +1,5 @@
+pub mod Fitting
+pub mod OneText
 pub mod RisingNames
-mod SerdeLemmas
+pub mod SerdeLemmas
+pub mod WholeNumbers

@@ -4,4 +4,5 @@ pub mod Names
 pub mod Nesting
 pub mod Rising
 pub mod SerdeData
+pub mod WellFormed
 pub mod formers

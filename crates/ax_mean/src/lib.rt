@@ -8,6 +8,7 @@
 mod copy;
 mod document;
 mod items;
+mod laws;
 mod members;
 mod memory;
 #[cfg(test)]
@@ -18,6 +19,7 @@ mod write;
 
 pub use document::{id_of, may_be_id};
 pub use items::Items;
+pub use laws::{numbers_of_well_formed_fit, one_canonical_text};
 pub use members::{Member, Members};
 pub use memory::Memory;
 pub use text::Text;

@@ -42,5 +42,8 @@ mutual
   members_depth (serde.member k d ms) = of_both (named k (tree_of d)) (members_of ms) (λ m. nesting m.value ≡ serde.depth d) (λ l. deepest l ≡ serde.members_depth ms) _
       (λ m l p q. ap₂ max p q) (of_map (tree_of d) (λ t. record { name = k; value = t }) (λ t. nesting t ≡ serde.depth d) (λ m. nesting m.value ≡ serde.depth d) (λ t p. p) (tree_depth d)) (members_depth ms)
 
+pub depth_of : (d : serde.Data) (t : tree.Tree) → tree_of d ≡ Some t → nesting t ≡ serde.depth d
+depth_of d t e = subst (λ o. IfSome o (λ s. nesting s ≡ serde.depth d)) e (tree_depth d)
+
 pub nesting_bound : (d : serde.Data) (t : tree.Tree) (n : ℕ) → tree_of d ≡ Some t → serde.depth d ≤ n → nesting t ≤ n
-nesting_bound d t n e h = let same : nesting t ≡ serde.depth d = subst (λ o. IfSome o (λ s. nesting s ≡ serde.depth d)) e (tree_depth d) in omega arith
+nesting_bound d t n e h = let same : nesting t ≡ serde.depth d = depth_of d t e in omega arith

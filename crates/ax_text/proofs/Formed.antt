@@ -7,7 +7,7 @@ use Rattle.ax_mean.specs.Names.{names, HaveRisingNames}
 use Rattle.ax_mean.specs.Rising.{is_rising}
 use Rattle.ax_mean.specs.declared.members.Member.{Member}
 use Rattle.ax_mean.specs.declared.tree.Tree as tree
-use Rattle.ax_text.specs.WellFormed.{is_of_64_bits, is_well_formed, IsWellFormed}
+use Rattle.ax_mean.specs.WellFormed.{is_of_64_bits, is_well_formed, IsWellFormed}
 
 -- a name beside whether the value is well formed
 abbrev judged : Member tree.Tree → Member Bool

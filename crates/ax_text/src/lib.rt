@@ -6,8 +6,13 @@
 
 mod depth;
 mod fault;
+mod laws;
 mod read;
 
 pub use depth::nesting;
 pub use fault::TextFault;
+pub use laws::canonical_text_reads_back;
 pub use read::read_tree;
+
+#[cfg(test)]
+mod tests;

@@ -1,8 +1,8 @@
-ghost use Rattle.std.specs.Prelude.{◌≡◌, ◌≤◌, IfOk, IfErr, Some, None, option_map};
+ghost use Rattle.std.specs.Prelude.{◌≡◌, ◌≤◌, IfOk, IfErr, Some, None, string_bytes};
 ghost use Rattle.serde_json.specs.View.{view, items_view, members_view};
 ghost use Rattle.ax_mean.specs.Nesting.{nesting as nesting_of};
 ghost use Rattle.ax_text.specs.TreeOf.{tree_of, items_of, members_of};
-ghost use Rattle.ax_text.specs.WellFormed.{IsWellFormed};
+ghost use Rattle.ax_mean.specs.WellFormed.{IsWellFormed};
 ghost use Rattle.ax_text.specs.Reading.{reading, Stands, NotJson, NotWhole};
 
 use crate::fault::TextFault;
@@ -43,10 +43,17 @@ fn tree_from(alloc: Global, value: Value) -> Result<Tree, TextFault>
             Some(value) => Ok(Tree::Number(value)),
             None => Err(TextFault::Number),
         },
-        Value::String(text) => Ok(Tree::Text(Text::from_string(text))),
+        Value::String(text) => Ok(text_from(text)),
         Value::Array(values) => Ok(Tree::List(items_from(alloc, values)?)),
         Value::Object(entries) => Ok(Tree::Object(members_from(alloc, entries)?)),
     }
+}
+
+fn text_from(text: String) -> Tree
+    ensures tree { result ≡ Tree.Text (string_bytes text) }
+    ensures well_formed { IsWellFormed result }
+{
+    Tree::Text(Text::from_string(text))
 }
 
 #[cycle(read)]

@@ -7,8 +7,8 @@ use Rattle.std.proofs.lemmas.Map.Iter.{rest_more}
 use Rattle.ax_mean.specs.declared.members.Member.{Member}
 use Rattle.ax_mean.specs.declared.tree.Tree as tree
 use Rattle.ax_mean.specs.declared.tree.Tree.{Tree}
-use Rattle.ax_text.specs.WellFormed.{is_well_formed}
-use Rattle.ax_text.proofs.Formed.{is_good_member, formed-List, all-more, object-formed, text-formed}
+use Rattle.ax_mean.specs.WellFormed.{is_well_formed}
+use Rattle.ax_text.proofs.Formed.{is_good_member, formed-List, all-more, object-formed}
 use Rattle.ax_text.proofs.Joined.{items-more, members-more, names-more, names-rise}
 use Rattle.ax_text.proofs.read.+read.Goals as goal
 
@@ -45,6 +45,3 @@ pub members_from-returns-clause-well_formed : goal.members_from-returns-clause-w
 members_from-returns-clause-well_formed t c =
     ap (λ l. is_well_formed (tree.Object l)) c.from_vec.ensures
     ∙ object-formed c.loop-name.members.items (names-rise _ _ _ c.loop-name.invariant.names c.in-None.ensures.steps.0 c.len.ensures.ordered) c.loop-name.invariant.formed
-
-pub tree_from-returns-in-String-clause-well_formed : goal.tree_from-returns-in-String-clause-well_formed
-tree_from-returns-in-String-clause-well_formed t c = ap (λ s. is_well_formed (tree.Text s)) c.from_string.ensures ∙ text-formed c.in-String.text

@@ -1,5 +1,4 @@
-use Rattle.std.proofs.Common.{◌≡◌, ℕ, List, sym, ap, ◌∙◌, subst}
-use Rattle.ax_container.specs.declared.entry.Entry.{Entry}
+use Rattle.std.proofs.Common.{◌≡◌, sym, ap, ◌∙◌, subst}
 use Rattle.ax_container.specs.Container.{Container, IdsAreDistinct}
 use Rattle.ax_container.specs.Upsert.{replaced}
 use Rattle.ax_script.specs.Places.{place_of, with_tree_at}

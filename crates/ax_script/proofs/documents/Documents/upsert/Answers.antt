@@ -1,6 +1,5 @@
-use Rattle.std.proofs.Common.{◌≡◌, ℕ, List, Some, None, IfOk, OnOk, Result, sym, ap, ◌∙◌, subst}
+use Rattle.std.proofs.Common.{◌≡◌, Some, None, sym, ap, ◌∙◌}
 use Rattle.ax_mean.specs.Document.{document_id}
-use Rattle.ax_container.specs.Upsert.{replaced, created}
 use Rattle.ax_script.specs.Places.{place_of}
 use Rattle.ax_script.proofs.Places.{upsert_replaces, upsert_creates, not_held}
 use Rattle.ax_script.proofs.documents.Documents.upsert.Goals as goal
