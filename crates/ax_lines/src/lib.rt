@@ -7,6 +7,8 @@
 mod line;
 mod read;
 mod refusal;
+#[cfg(test)]
+mod tests;
 
 pub use line::{Line, LineFault};
 pub use read::read_line;

@@ -1,6 +1,5 @@
-use ax_mean::Tree;
-
 use crate::refusal::Refusal;
+use ax_mean::Tree;
 
 /// What a line asks for.
 #[derive(Debug, Drop)]

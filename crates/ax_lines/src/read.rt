@@ -3,12 +3,11 @@ ghost use Rattle.ax_text.specs.Reading.{reading};
 ghost use Rattle.ax_lines.specs.Answers.{Answers};
 ghost use Rattle.ax_lines.specs.Lines as spec;
 
+use crate::line::{Line, LineFault};
+use crate::refusal::Refusal;
 use ax_mean::{Tree, id_of};
 use ax_text::{TextFault, nesting, read_tree};
 use std::alloc::Global;
-
-use crate::line::{Line, LineFault};
-use crate::refusal::Refusal;
 
 /// The deepest that the argument of a line may nest.
 const DEEPEST: u32 = 100;

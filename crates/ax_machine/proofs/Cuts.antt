@@ -29,13 +29,13 @@ All_lines-append (x ∷ a) b first second = (first.0, All_lines-append a b first
 pub AreLines-more : (bytes piece : List ℕ) (lines more : List (List ℕ)) (last rest : List ℕ)
     → AreLines bytes lines last → AreLines (last ++ piece) more rest → AreLines (bytes ++ piece) (lines ++ more) rest
 AreLines-more bytes piece lines more last rest first second = record {
-    cut = ap (λ l. l ++ piece) first.cut ∙ append_assoc (flat_map closed lines) last piece
+  cut = ap (λ l. l ++ piece) first.cut ∙ append_assoc (flat_map closed lines) last piece
       ∙ ap (λ l. flat_map closed lines ++ l) second.cut
       ∙ sym (append_assoc (flat_map closed lines) (flat_map closed more) rest)
       ∙ ap (λ l. l ++ rest) (sym (flat_map-append closed lines more));
-    each = All_lines-append lines more first.each second.each;
-    rest = second.rest;
-  }
+  each = All_lines-append lines more first.each second.each;
+  rest = second.rest;
+}
 
 pub AreLines-none : (bytes : List ℕ) → IsOneLine bytes → AreLines bytes [] bytes
 AreLines-none bytes plain = record { cut = refl; each = tt; rest = plain }
@@ -43,10 +43,10 @@ AreLines-none bytes plain = record { cut = refl; each = tt; rest = plain }
 -- a line in two pieces, with its newline
 pub AreLines-one : (first second : List ℕ) → IsOneLine first → IsOneLine second → AreLines (first ++ closed second) ((first ++ second) ∷ []) []
 AreLines-one first second p q = record {
-    cut = sym (append_assoc first second (newline ∷ [])) ∙ sym (append-nil (closed (first ++ second))) ∙ ap (λ l. l ++ []) (sym (append-nil (closed (first ++ second))));
-    each = (IsOneLine-append first second p q, tt);
-    rest = refl;
-  }
+  cut = sym (append_assoc first second (newline ∷ [])) ∙ sym (append-nil (closed (first ++ second))) ∙ ap (λ l. l ++ []) (sym (append-nil (closed (first ++ second))));
+  each = (IsOneLine-append first second p q, tt);
+  rest = refl;
+}
 
 -- ---- there is one cut
 
@@ -93,17 +93,25 @@ lines_are_one bytes a b p q first second =
 -- a byte before bytes that are cut
 cut_before : (byte : ℕ) (bytes : List ℕ) (newline_here : Bool) → (byte == newline) ≡ newline_here
     → (lines : List (List ℕ)) × (last : List ℕ) × AreLines bytes lines last → (lines : List (List ℕ)) × (last : List ℕ) × AreLines (byte ∷ bytes) lines last
-cut_before byte bytes true here (lines, last, later) = ([] ∷ lines, last, record {
+cut_before byte bytes true here (lines, last, later) = (
+  [] ∷ lines,
+  last,
+  record {
     cut = ap (λ b. b ∷ bytes) (eqb-true byte newline here) ∙ ap (λ l. newline ∷ l) later.cut;
     each = (refl, later.each);
     rest = later.rest;
-  })
+  },
+)
 cut_before byte bytes false here ([], last, later) = ([], byte ∷ last, record { cut = ap (λ l. byte ∷ l) later.cut; each = tt; rest = or_both (byte == newline) (has_newline last) here later.rest })
-cut_before byte bytes false here (line ∷ lines, last, later) = ((byte ∷ line) ∷ lines, last, record {
+cut_before byte bytes false here (line ∷ lines, last, later) = (
+  (byte ∷ line) ∷ lines,
+  last,
+  record {
     cut = ap (λ l. byte ∷ l) later.cut;
     each = (or_both (byte == newline) (has_newline line) here later.each.0, later.each.1);
     rest = later.rest;
-  })
+  },
+)
 
 pub there_are_lines : (bytes : List ℕ) → (lines : List (List ℕ)) × (last : List ℕ) × AreLines bytes lines last
 there_are_lines [] = ([], [], AreLines-none [] refl)

@@ -16,10 +16,10 @@ Run-append a b c (line ∷ lines) more (reply ∷ replies) others first second =
 
 pub RunsTo-append : (a b c : Container) (lines more : List (List ℕ)) (text other : List ℕ) → RunsTo a lines text b → RunsTo b more other c → RunsTo a (lines ++ more) (text ++ other) c
 RunsTo-append a b c lines more text other first second = (
-    first.0 ++ second.0,
-    Run-append a b c lines more first.0 second.0 first.1 second.1,
-    (λ i. first.2 i ++ second.2 i) ∙ sym (flat_map-append reply_text first.0 second.0),
-  )
+  first.0 ++ second.0,
+  Run-append a b c lines more first.0 second.0 first.1 second.1,
+  (λ i. first.2 i ++ second.2 i) ∙ sym (flat_map-append reply_text first.0 second.0),
+)
 
 pub RunsTo-nil : (a : Container) → RunsTo a [] [] a
 RunsTo-nil a = ([], refl, refl)
@@ -52,10 +52,10 @@ RunsThrough-more a lines more text run =
 -- a run of some lines, and then the beginning of a run of more
 pub RunsThrough-after : (a b : Container) (lines more : List (List ℕ)) (text other : List ℕ) → RunsTo a lines text b → RunsThrough b more other → RunsThrough a (lines ++ more) (text ++ other)
 RunsThrough-after a b lines more text other first second = (
-    second.0,
-    second.1,
-    subst (λ x. RunsTo a (lines ++ more) x second.1) (sym (append_assoc text other second.0)) (RunsTo-append a b second.1 lines more text (other ++ second.0) first second.2),
-  )
+  second.0,
+  second.1,
+  subst (λ x. RunsTo a (lines ++ more) x second.1) (sym (append_assoc text other second.0)) (RunsTo-append a b second.1 lines more text (other ++ second.0) first second.2),
+)
 
 -- a line is served, and some of the text of its reply is there
 pub RunsThrough-line : (a b : Container) (line : List ℕ) (reply : Reply) (front rest : List ℕ) → Serves a line reply b → reply_text reply ≡ front ++ rest → RunsThrough a (line ∷ []) front

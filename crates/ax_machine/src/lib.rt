@@ -10,6 +10,8 @@ mod cut;
 mod laws;
 mod plain;
 mod replies;
+#[cfg(test)]
+mod tests;
 
 pub use cut::first_line;
 pub use laws::{a_step_keeps_soundness, the_lines_are_one, there_are_lines, there_is_a_run};

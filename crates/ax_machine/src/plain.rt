@@ -5,13 +5,12 @@ ghost use Rattle.std.specs.List.{list_any};
 ghost use Rattle.ax_machine.specs.Step.{step};
 ghost use Rattle.ax_machine.specs.Replies.{reply_text};
 
+use crate::replies::{ok_text, refusal_text, rows_text};
 use ax_container::Entry;
 use ax_lines::{Line, LineFault, read_line};
 use ax_mean::{Memory, Text, Tree, id_of};
 use std::alloc::Global;
 use std::marker::Model;
-
-use crate::replies::{ok_text, refusal_text, rows_text};
 
 /// A store that is a list of whole documents, copied at each write: slow, and easy to believe.
 #[derive(Drop)]

@@ -58,23 +58,23 @@ serves_nothing before pending held plain = ([], [], AreLines-none pending plain,
 pub serves_more : (a b c : Container) (bytes piece pending rest : List ℕ) (held between holds : Option (List ℕ))
     → ServesLines a bytes b pending held between → ServesLines b (pending ++ piece) c rest between holds → ServesLines a (bytes ++ piece) c rest held holds
 serves_more a b c bytes piece pending rest held between holds (lines, text, cut, run, added) (more, other, later, then_run, then_added) = (
-    lines ++ more,
-    text ++ other,
-    AreLines-more bytes piece lines more pending rest cut later,
-    RunsTo-append a b c lines more text other run then_run,
-    Appends-trans held between holds text other added then_added,
-  )
+  lines ++ more,
+  text ++ other,
+  AreLines-more bytes piece lines more pending rest cut later,
+  RunsTo-append a b c lines more text other run then_run,
+  Appends-trans held between holds text other added then_added,
+)
 
 pub begins_more : (a b : Container) (bytes piece pending : List ℕ) (held between holds : Option (List ℕ))
     → ServesLines a bytes b pending held between → BeginsLines b (pending ++ piece) between holds → BeginsLines a (bytes ++ piece) held holds
 begins_more a b bytes piece pending held between holds (lines, text, cut, run, added) (more, rest, other, later, then_run, then_added) = (
-    lines ++ more,
-    rest,
-    text ++ other,
-    AreLines-more bytes piece lines more pending rest cut later,
-    RunsThrough-after a b lines more text other run then_run,
-    Appends-trans held between holds text other added then_added,
-  )
+  lines ++ more,
+  rest,
+  text ++ other,
+  AreLines-more bytes piece lines more pending rest cut later,
+  RunsThrough-after a b lines more text other run then_run,
+  Appends-trans held between holds text other added then_added,
+)
 
 -- what begins with some of the bytes begins with all
 pub begins_longer : (a : Container) (bytes piece : List ℕ) (held holds : Option (List ℕ)) → BeginsLines a bytes held holds → BeginsLines a (bytes ++ piece) held holds
@@ -92,10 +92,10 @@ pub record InPiece (before now : Container) (first pending piece rest : List ℕ
 
 pub piece_begins : (before : Container) (first piece : List ℕ) (held : Option (List ℕ)) → IsOneLine first → InPiece before before first first piece piece held held
 piece_begins before first piece held plain = record {
-    done = [];
-    whole = refl;
-    served = subst (λ bytes. ServesLines before bytes before first held held) (sym (append-nil first)) (serves_nothing before first held plain);
-  }
+  done = [];
+  whole = refl;
+  served = subst (λ bytes. ServesLines before bytes before first held held) (sym (append-nil first)) (serves_nothing before first held plain);
+}
 
 module _ (before now : Container) (first pending piece rest : List ℕ) (held holds : Option (List ℕ)) (p : InPiece before now first pending piece rest held holds) where
   regrouped : (first ++ p.done) ++ rest ≡ first ++ piece
@@ -104,11 +104,11 @@ module _ (before now : Container) (first pending piece rest : List ℕ) (held ho
   pub piece_goes_on : (after : Container) (head tail pending' : List ℕ) (holds' : Option (List ℕ)) → rest ≡ closed head ++ tail
       → ServesLines now (pending ++ closed head) after pending' holds holds' → InPiece before after first pending' piece tail held holds'
   piece_goes_on after head tail pending' holds' cut more = record {
-      done = p.done ++ closed head;
-      whole = p.whole ∙ ap (λ l. p.done ++ l) cut ∙ sym (append_assoc p.done (closed head) tail);
-      served = subst (λ bytes. ServesLines before bytes after pending' held holds') (append_assoc first p.done (closed head))
+    done = p.done ++ closed head;
+    whole = p.whole ∙ ap (λ l. p.done ++ l) cut ∙ sym (append_assoc p.done (closed head) tail);
+    served = subst (λ bytes. ServesLines before bytes after pending' held holds') (append_assoc first p.done (closed head))
         (serves_more before now after (first ++ p.done) (closed head) pending pending' held holds holds' p.served more);
-    }
+  }
 
   pub piece_fails : (head tail : List ℕ) (holds' : Option (List ℕ)) → rest ≡ closed head ++ tail
       → BeginsLines now (pending ++ closed head) holds holds' → BeginsLines before (first ++ piece) held holds'
@@ -122,7 +122,7 @@ module _ (before now : Container) (first pending piece rest : List ℕ) (held ho
   piece_ends plain plain_rest =
       subst (λ bytes. ServesLines before bytes now (pending ++ rest) held holds) regrouped
       (serves_more before now now (first ++ p.done) rest pending (pending ++ rest) held holds holds p.served
-        (serves_nothing now (pending ++ rest) holds (IsOneLine-append pending rest plain plain_rest)))
+      (serves_nothing now (pending ++ rest) holds (IsOneLine-append pending rest plain plain_rest)))
 
   pub piece_breaks_off : BeginsLines before (first ++ piece) held holds
   piece_breaks_off =
@@ -150,28 +150,30 @@ begins_last before after last held holds some served =
 
 pub progress_begins : (had held : Option (List ℕ)) → Progress had had held held fresh fresh [] 0
 progress_begins had held = record {
-    bytes = []; text = []; lines = [];
-    taken = Consumes-nil had;
-    added = Appends-nil held;
-    cut = AreLines-none [] refl;
-    run = RunsTo-nil fresh;
-    counted = refl;
-  }
+  bytes = [];
+  text = [];
+  lines = [];
+  taken = Consumes-nil had;
+  added = Appends-nil held;
+  cut = AreLines-none [] refl;
+  run = RunsTo-nil fresh;
+  counted = refl;
+}
 
 module _ (had left held holds : Option (List ℕ)) (now : Container) (pending : List ℕ) (count : ℕ) (p : Progress had left held holds fresh now pending count) where
   -- a piece was read and served
   pub progress_goes_on : (left' holds' : Option (List ℕ)) (after : Container) (piece rest : List ℕ) (n : ℕ) → Consumes left left' piece → length piece ≡ n
       → ServesLines now (pending ++ piece) after rest holds holds' → Progress had left' held holds' fresh after rest (count + n)
   progress_goes_on left' holds' after piece rest n consumed size (more, other, later, run, added) = record {
-      bytes = p.bytes ++ piece;
-      text = p.text ++ other;
-      lines = p.lines ++ more;
-      taken = Consumes-trans had left left' p.bytes piece p.taken consumed;
-      added = Appends-trans held holds holds' p.text other p.added added;
-      cut = AreLines-more p.bytes piece p.lines more pending rest p.cut later;
-      run = RunsTo-append fresh now after p.lines more p.text other p.run run;
-      counted = length-append p.bytes piece ∙ (λ i. p.counted i + size i);
-    }
+    bytes = p.bytes ++ piece;
+    text = p.text ++ other;
+    lines = p.lines ++ more;
+    taken = Consumes-trans had left left' p.bytes piece p.taken consumed;
+    added = Appends-trans held holds holds' p.text other p.added added;
+    cut = AreLines-more p.bytes piece p.lines more pending rest p.cut later;
+    run = RunsTo-append fresh now after p.lines more p.text other p.run run;
+    counted = length-append p.bytes piece ∙ (λ i. p.counted i + size i);
+  }
 
   not_long : count ≤ most_input → (ended : Status) → (ended ≡ status.Long → ⊥) → (ended ≡ status.Long) ↔ (most_input < length p.bytes)
   not_long within ended other = ((λ e. absurd (other e)), (λ more. absurd (omega (arith, more, within, p.counted))))
@@ -179,12 +181,12 @@ module _ (had left held holds : Option (List ℕ)) (now : Container) (pending : 
   -- a read failed
   pub ends_by_read_fault : (left' : Option (List ℕ)) → Keeps left left' → count ≤ most_input → Exchanged had left' held holds (IsEnded status.ReadFault left')
   ends_by_read_fault left' kept within = (
-      p.bytes,
-      p.text,
-      Consumes-kept had left left' p.bytes p.taken kept,
-      p.added,
-      ((p.lines, pending, p.cut, (now, p.run)), not_long within status.ReadFault (λ e. cc)),
-    )
+    p.bytes,
+    p.text,
+    Consumes-kept had left left' p.bytes p.taken kept,
+    p.added,
+    ((p.lines, pending, p.cut, (now, p.run)), not_long within status.ReadFault (λ e. cc)),
+  )
 
   -- more was taken than one run reads
   pub ends_long : (left' : Option (List ℕ)) (piece : List ℕ) (n : ℕ) → Consumes left left' piece → length piece ≡ n → most_input < count + n
@@ -209,13 +211,13 @@ module _ (had left held holds : Option (List ℕ)) (now : Container) (pending : 
   front_in_piece : (left' holds' : Option (List ℕ)) (piece : List ℕ) → Consumes left left' piece → BeginsLines now (pending ++ piece) holds holds'
       → (taken text : List ℕ) × Consumes had left' taken × Appends held holds' text × (length taken ≡ count + length piece) × IsFrontOfText left' taken text
   front_in_piece left' holds' piece consumed (more, last, other, later, run, added) = (
-      p.bytes ++ piece,
-      p.text ++ other,
-      Consumes-trans had left left' p.bytes piece p.taken consumed,
-      Appends-trans held holds holds' p.text other p.added added,
-      length-append p.bytes piece ∙ (λ i. p.counted i + length piece),
-      (p.lines ++ more, last, AreLines-more p.bytes piece p.lines more pending last p.cut later, inl (RunsThrough-after fresh now p.lines more p.text other p.run run)),
-    )
+    p.bytes ++ piece,
+    p.text ++ other,
+    Consumes-trans had left left' p.bytes piece p.taken consumed,
+    Appends-trans held holds holds' p.text other p.added added,
+    length-append p.bytes piece ∙ (λ i. p.counted i + length piece),
+    (p.lines ++ more, last, AreLines-more p.bytes piece p.lines more pending last p.cut later, inl (RunsThrough-after fresh now p.lines more p.text other p.run run)),
+  )
 
   -- the serving of a piece broke off
   pub ends_in_piece : (left' holds' : Option (List ℕ)) (piece : List ℕ) (n : ℕ) (ended : Status) → Consumes left left' piece → length piece ≡ n → count + n ≤ most_input

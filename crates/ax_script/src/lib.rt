@@ -10,10 +10,12 @@ mod documents;
 mod serve;
 mod session;
 mod status;
+#[cfg(test)]
+mod tests;
 mod top;
 mod words;
 
 pub use documents::Documents;
-pub use top::run;
 pub use serve::serve_line;
 pub use status::Status;
+pub use top::run;

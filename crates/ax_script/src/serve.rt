@@ -4,13 +4,12 @@ ghost use Rattle.ax_machine.specs.Step.{step};
 ghost use Rattle.ax_machine.specs.Replies.{reply_text};
 ghost use Rattle.ax_script.specs.Progress.{ServesWhole, ServesFront};
 
+use crate::documents::Documents;
 use ax_base::{Failed, Sink, write_all};
 use ax_lines::{Line, LineFault, read_line};
 use ax_machine::{ok_text, out_of_memory_text, refusal_text, rows_text};
 use ax_mean::Memory;
 use std::alloc::Global;
-
-use crate::documents::Documents;
 
 /// The text of a line's reply, and the line's change to the documents; or out of memory, with no
 /// change.

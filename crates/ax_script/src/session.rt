@@ -6,13 +6,12 @@ ghost use Rattle.ax_machine.specs.ScriptLines.{IsOneLine};
 ghost use Rattle.ax_script.specs.Progress.{ServesLines, BeginsLines, EndsLine, BeginsLast};
 ghost use Rattle.ax_script.specs.Served.{Exchanged, IsEnded, most_input};
 
-use ax_base::{Failed, Sink, Source};
-use ax_machine::first_line;
-use std::alloc::Global;
-
 use crate::documents::Documents;
 use crate::serve::serve_line;
 use crate::status::Status;
+use ax_base::{Failed, Sink, Source};
+use ax_machine::first_line;
+use std::alloc::Global;
 
 /// The most bytes that one run reads.
 const MOST_INPUT: u64 = 1 << 40;

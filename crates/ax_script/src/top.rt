@@ -3,15 +3,14 @@ ghost use Rattle.ax_base.specs.Faults.{Rose};
 ghost use Rattle.ax_script.specs.Words.{is_run as is_run_lem};
 ghost use Rattle.ax_script.specs.Served.{Exchanged, Took, IsTextAt, most_input};
 
-use ax_base::{Sink, Source, Steps};
-use ax_disk::Disk;
-use std::alloc::Global;
-use std::sync::ledger::Ledger;
-
 use crate::documents::Documents;
 use crate::session::serve_source;
 use crate::status::Status;
 use crate::words::is_run;
+use ax_base::{Sink, Source, Steps};
+use ax_disk::Disk;
+use std::alloc::Global;
+use std::sync::ledger::Ledger;
 
 /// How many bytes of the input are read at once, at most.
 const PIECE: usize = 65_536;
@@ -45,7 +44,7 @@ pub fn run<D: Disk, S: Source, K: Sink, L: Ledger>(
     ensures complete { is_run_lem words.now ≡ true
         → ¬ Rose (S.faults source.old) (S.faults source.new) → ¬ Rose (K.faults sink.old) (K.faults sink.new)
         → Took (S.rest source.old) (S.rest source.new) (λ taken. length taken ≤ most_input
-            → (result ≡ Status.Done) ⊎ (result ≡ Status.Memory)) }
+        → (result ≡ Status.Done) ⊎ (result ≡ Status.Memory)) }
 
     ensures source_faults { S.faults source.old ≤ S.faults source.new }
     ensures sink_faults { K.faults sink.old ≤ K.faults sink.new }

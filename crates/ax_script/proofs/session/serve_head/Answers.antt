@@ -15,7 +15,7 @@ returns-in-Ok-serve_line-clause-ok g c =
     subst (λ rest. ServesLines c.args.documents.now (c.args.pending.now.items ++ closed c.args.head.now) c.serve_line.new.documents rest (written c.args.sink.now) (written c.serve_line.new.sink))
     (sym c.clear.ensures.items)
     (serves_line c.args.documents.now c.serve_line.new.documents c.args.pending.now.items c.args.head.now (written c.args.sink.now) (written c.serve_line.new.sink) c.requires.pending c.requires.head
-      (subst (λ l. ServesWhole c.args.documents.now l c.serve_line.new.documents (written c.args.sink.now) (written c.serve_line.new.sink)) line c.in-Ok-serve_line.ensures.whole))
+    (subst (λ l. ServesWhole c.args.documents.now l c.serve_line.new.documents (written c.args.sink.now) (written c.serve_line.new.sink)) line c.in-Ok-serve_line.ensures.whole))
 
 pub returns-in-Err-clause-err : goal.returns-in-Err-clause-err
 returns-in-Err-clause-err g c =

@@ -6,10 +6,10 @@ use Rattle.ax_script.proofs.session.serve_piece.Given as goal
 
 abbrev pub invariant-lines : goal.invariant-lines
 invariant-lines g l = record {
-    part : InPiece l.fn.documents l.documents l.fn.pending.items l.pending.items l.piece l.rest (g.K.Sink.written l.fn.sink) (g.K.Sink.written l.sink);
-    plain : IsOneLine l.pending.items;
-    faults : g.K.Sink.faults l.fn.sink ≤ g.K.Sink.faults l.sink;
-  }
+  part : InPiece l.fn.documents l.documents l.fn.pending.items l.pending.items l.piece l.rest (g.K.Sink.written l.fn.sink) (g.K.Sink.written l.sink);
+  plain : IsOneLine l.pending.items;
+  faults : g.K.Sink.faults l.fn.sink ≤ g.K.Sink.faults l.sink;
+}
 
 abbrev pub decreases-lines : goal.decreases-lines
 decreases-lines g l = length l.rest

@@ -22,8 +22,8 @@ pieces-init g c =
 pub returns-then-count-eq0-clause-text : goal.returns-then-count-eq0-clause-text
 returns-then-count-eq0-clause-text g c =
     let nothing : Consumes (g.S.Source.rest c.pieces.source) (g.S.Source.rest c.read_some.new.self) []
-      = let P : ℕ → Type 0 = λ n. Consumes (g.S.Source.rest c.pieces.source) (g.S.Source.rest c.read_some.new.self) (take n c.read_some.new.buf) in
-        subst P c.if-count-eq0.true c.in-Ok.ensures.taken in
+    = let P : ℕ → Type 0 = λ n. Consumes (g.S.Source.rest c.pieces.source) (g.S.Source.rest c.read_some.new.self) (take n c.read_some.new.buf) in
+    subst P c.if-count-eq0.true c.in-Ok.ensures.taken in
     let Ends : List ℕ → Type 0 = λ last. EndsLine c.pieces.documents last c.serve_last.new.documents (g.K.Sink.written c.pieces.sink) (g.K.Sink.written c.serve_last.new.sink) in
     let Begins : List ℕ → Type 0 = λ last. BeginsLast c.pieces.documents last (g.K.Sink.written c.pieces.sink) (g.K.Sink.written c.serve_last.new.sink) in
     ends_at_end _ _ _ _ _ _ _ c.pieces.invariant.progress _ _ c.serve_last.new.documents c.serve_last.result nothing
@@ -49,10 +49,10 @@ returns-in-Err-clause-text g c =
 
 pub pieces-preserved : goal.pieces-preserved
 pieces-preserved g c = record {
-    progress = progress_goes_on _ _ _ _ _ _ _ c.pieces.invariant.progress _ _ _ (take c.in-Ok.count c.read_some.new.buf) _ c.in-Ok.count c.in-Ok.ensures.taken
+  progress = progress_goes_on _ _ _ _ _ _ _ c.pieces.invariant.progress _ _ _ (take c.in-Ok.count c.read_some.new.buf) _ c.in-Ok.count c.in-Ok.ensures.taken
       (sym c.in-Ok.ensures.bound.1)
       c.in_default-served.ensures.ok;
-    within = c.if-taken-gt-MOST_INPUT.false;
-    source_faults = omega (arith, c.pieces.invariant.source_faults, c.read_some.ensures.never_falls);
-    sink_faults = omega (arith, c.pieces.invariant.sink_faults, c.serve_piece-served.ensures.never_falls);
-  }
+  within = c.if-taken-gt-MOST_INPUT.false;
+  source_faults = omega (arith, c.pieces.invariant.source_faults, c.read_some.ensures.never_falls);
+  sink_faults = omega (arith, c.pieces.invariant.sink_faults, c.serve_piece-served.ensures.never_falls);
+}

@@ -8,11 +8,11 @@ use Rattle.ax_script.proofs.session.serve_source.Given as goal
 
 abbrev pub invariant-pieces : goal.invariant-pieces
 invariant-pieces g l = record {
-    progress : Progress (g.S.Source.rest l.fn.source) (g.S.Source.rest l.source) (g.K.Sink.written l.fn.sink) (g.K.Sink.written l.sink) fresh l.documents l.pending.items l.taken;
-    within : l.taken ≤ most_input;
-    source_faults : g.S.Source.faults l.fn.source ≤ g.S.Source.faults l.source;
-    sink_faults : g.K.Sink.faults l.fn.sink ≤ g.K.Sink.faults l.sink;
-  }
+  progress : Progress (g.S.Source.rest l.fn.source) (g.S.Source.rest l.source) (g.K.Sink.written l.fn.sink) (g.K.Sink.written l.sink) fresh l.documents l.pending.items l.taken;
+  within : l.taken ≤ most_input;
+  source_faults : g.S.Source.faults l.fn.source ≤ g.S.Source.faults l.source;
+  sink_faults : g.K.Sink.faults l.fn.sink ≤ g.K.Sink.faults l.sink;
+}
 
 abbrev pub decreases-pieces : goal.decreases-pieces
 decreases-pieces g l = most_input - l.taken
