@@ -2,4 +2,4 @@
 use Rattle.axis.proofs.main.Given as goal
 
 abbrev pub ghosts-run_here : goal.ghosts-run_here
-ghosts-run_here g a = record { name = a.blank.name; parts = a.blank.parts }
+ghosts-run_here a = record { name = a.blank.name; parts = a.blank.parts }
