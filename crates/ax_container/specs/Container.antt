@@ -1,0 +1,58 @@
+-- What the store holds: the documents in the order of their creation, each with its number, its id and
+-- its tree, and the number that the next creation takes. As in Azure Cosmos DB for NoSQL, an id names
+-- one document. Numbers begin at 1 and are never given twice.
+use Rattle.std.specs.Prelude.{◌≡◌, ℕ, ◌<◌, List, [], ◌∷◌, map, find, Bool, false, Option, Some, option_map}
+use Rattle.std.specs.List.{list_any}
+use Rattle.std.specs.Str.{bytes_eq}
+use Rattle.ax_mean.specs.declared.tree.Tree.{Tree}
+use Rattle.ax_mean.specs.Document.{document_id}
+use Rattle.ax_container.specs.declared.entry.Entry.{Entry}
+
+pub record Container : Type 0 where
+  pub entries : List Entry
+  pub next_number : ℕ
+
+-- a store that holds nothing
+abbrev pub fresh : Container
+fresh = record { entries = []; next_number = 1 }
+
+-- the entry is of the document of that id
+abbrev pub has_id : List ℕ → Entry → Bool
+has_id id entry = bytes_eq entry.id id
+
+-- a document of that id is held
+abbrev pub holds : List ℕ → Container → Bool
+holds id container = list_any (has_id id) container.entries
+
+-- the entry of that id
+abbrev pub entry_of : List ℕ → Container → Option Entry
+entry_of id container = find (has_id id) container.entries
+
+-- the tree of the document of that id
+abbrev pub tree_of : List ℕ → Container → Option Tree
+tree_of id container = option_map (λ entry. entry.tree) (entry_of id container)
+
+-- the trees of all documents, in order
+abbrev pub trees : Container → List Tree
+trees container = map (λ entry. entry.tree) container.entries
+
+-- each number is above the one before it, and the next number above all
+abbrev pub NumbersRise : ℕ → List Entry → ℕ → Type 0
+NumbersRise before [] next_number = before < next_number
+NumbersRise before (entry ∷ entries) next_number = (before < entry.number) × NumbersRise entry.number entries next_number
+
+-- no id stands twice
+abbrev pub IdsAreDistinct : List Entry → Type 0
+IdsAreDistinct [] = Unit {0}
+IdsAreDistinct (entry ∷ entries) = (list_any (has_id entry.id) entries ≡ false) × IdsAreDistinct entries
+
+-- each entry's tree is a document of its id
+abbrev pub IdsAreTheirs : List Entry → Type 0
+IdsAreTheirs [] = Unit {0}
+IdsAreTheirs (entry ∷ entries) = (document_id entry.tree ≡ Some entry.id) × IdsAreTheirs entries
+
+-- what holds of every container that writes lead to
+pub record IsSound (container : Container) : Type 0 where
+  pub numbers : NumbersRise 0 container.entries container.next_number
+  pub distinct : IdsAreDistinct container.entries
+  pub own_ids : IdsAreTheirs container.entries

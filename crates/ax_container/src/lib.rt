@@ -1,0 +1,16 @@
+//! What the store holds, and the change that each write makes to it: definitions that the log, the
+//! index, the engine and the top call cite in common, and laws about them. A program keeps pages,
+//! maps and counts; these definitions know a list of whole documents and nothing else.
+//!
+//! Stands on `ax_mean`. Its one contract: after an upsert the container has the tree under its id
+//! and every other document as before, and stays sound (`an_upsert_sets_one_document`,
+//! `an_upsert_keeps_soundness`).
+#![tactic(auto)]
+
+mod entry;
+mod laws;
+
+pub use entry::Entry;
+pub use laws::{
+    a_fresh_container_is_sound, an_upsert_keeps_soundness, an_upsert_sets_one_document,
+};

@@ -1,0 +1,16 @@
+-- The number and the word of each refusal of a script line.
+use Rattle.std.specs.Prelude.{ℕ, List, codes}
+use Rattle.ax_lines.specs.declared.refusal.Refusal.{Refusal}
+use Rattle.ax_lines.specs.declared.refusal.Refusal.TheVariants.{Command, Json, Memory, Query}
+
+abbrev pub number_of : Refusal → ℕ
+number_of Command = 2
+number_of Json = 3
+number_of Memory = 9
+number_of Query = 10
+
+abbrev pub word_of : Refusal → List ℕ
+word_of Command = codes "command"
+word_of Json = codes "json"
+word_of Memory = codes "memory"
+word_of Query = codes "query"

@@ -1,0 +1,4 @@
+pub mod Cuts
+mod Newlines
+pub mod Runs
+mod Soundness

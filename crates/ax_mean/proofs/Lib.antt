@@ -1,0 +1,5 @@
+pub mod Fitting
+pub mod OneText
+pub mod RisingNames
+pub mod SerdeLemmas
+pub mod WholeNumbers

@@ -1,0 +1,63 @@
+ghost use Rattle.std.specs.Prelude.{◌≡◌, ◌↔◌, ◌<◌, ◌≤◌, ◌⊎◌, true, false, length};
+ghost use Rattle.ax_base.specs.Faults.{Rose};
+ghost use Rattle.ax_script.specs.Words.{is_run as is_run_lem};
+ghost use Rattle.ax_script.specs.Served.{Exchanged, Took, IsTextAt, most_input};
+
+use crate::documents::Documents;
+use crate::session::serve_source;
+use crate::status::Status;
+use crate::words::is_run;
+use ax_base::{Sink, Source, Steps};
+use ax_disk::Disk;
+use std::alloc::Global;
+use std::sync::ledger::Ledger;
+
+/// How many bytes of the input are read at once, at most.
+const PIECE: usize = 65_536;
+
+/// Runs the script that the source holds over a store in memory that begins empty, and writes the
+/// reply of each line to the sink. `words` are those of the command line after the program's name.
+///
+/// The statuses and their causes: `Words` exactly where the words are not `run STORE`, and then
+/// nothing is touched; `ReadFault` and `WriteFault` only where a call on the source or on the sink
+/// failed in this run; `Long` exactly where more than 2^40 bytes were taken; `Memory` where memory ran
+/// out outside the serving of a line; else `Done`, where all input was read and served.
+pub fn run<D: Disk, S: Source, K: Sink, L: Ledger>(
+    alloc: Global,
+    words: &[String],
+    disk: &mut D,
+    source: &mut S,
+    sink: &mut K,
+    steps: &mut Steps<L>,
+) -> Status
+    ensures words { (result ≡ Status.Words) ↔ (is_run_lem words.now ≡ false) }
+    ensures untouched { result ≡ Status.Words → (source.new ≡ source.old) × (sink.new ≡ sink.old) }
+
+    // What was written is the text of a run of the lines that were taken, whole at `Done`.
+    ensures text { Exchanged (S.rest source.old) (S.rest source.new) (K.written sink.old) (K.written sink.new)
+        (IsTextAt result (S.rest source.new)) }
+
+    // Each status has its cause.
+    ensures read_fault { result ≡ Status.ReadFault → Rose (S.faults source.old) (S.faults source.new) }
+    ensures write_fault { result ≡ Status.WriteFault → Rose (K.faults sink.old) (K.faults sink.new) }
+    ensures long { Took (S.rest source.old) (S.rest source.new) (λ taken. (result ≡ Status.Long) ↔ (most_input < length taken)) }
+    ensures complete { is_run_lem words.now ≡ true
+        → ¬ Rose (S.faults source.old) (S.faults source.new) → ¬ Rose (K.faults sink.old) (K.faults sink.new)
+        → Took (S.rest source.old) (S.rest source.new) (λ taken. length taken ≤ most_input
+        → (result ≡ Status.Done) ⊎ (result ≡ Status.Memory)) }
+
+    ensures source_faults { S.faults source.old ≤ S.faults source.new }
+    ensures sink_faults { K.faults sink.old ≤ K.faults sink.new }
+
+    // The store is in memory: no call is made on the disk.
+    ensures disk { disk.new ≡ disk.old }
+{
+    if !is_run(words) {
+        return Status::Words;
+    }
+    let Ok(mut buffer) = vec![in alloc; 0u8; PIECE] else {
+        return Status::Memory;
+    };
+    let mut documents = Documents::new(alloc);
+    serve_source(alloc, &mut documents, source, sink, buffer.as_mut_slice())
+}

@@ -1,0 +1,87 @@
+ghost use Rattle.std.specs.Prelude.{◌≡◌, ◌≤◌, IfOk, IfErr, Some, None, string_bytes};
+ghost use Rattle.serde_json.specs.View.{view, items_view, members_view};
+ghost use Rattle.ax_mean.specs.Nesting.{nesting as nesting_of};
+ghost use Rattle.ax_text.specs.TreeOf.{tree_of, items_of, members_of};
+ghost use Rattle.ax_mean.specs.WellFormed.{IsWellFormed};
+ghost use Rattle.ax_text.specs.Reading.{reading, Stands, NotJson, NotWhole};
+
+use crate::fault::TextFault;
+use ax_mean::{Items, Member, Members, Text, Tree};
+use serde_json::{Map, Value};
+use std::alloc::Global;
+
+/// The tree that the bytes stand for as a JSON text. A text is judged as a whole before its numbers
+/// are, so that `[1.5,` is no JSON. Of a repeated member the last counts.
+pub fn read_tree(alloc: Global, bytes: &[u8]) -> Result<Tree, TextFault>
+    ensures tree { IfOk result (λ tree. reading bytes.now ≡ Stands tree) }
+    ensures json { result ≡ Err TextFault.Json → reading bytes.now ≡ NotJson }
+    ensures number { result ≡ Err TextFault.Number → reading bytes.now ≡ NotWhole }
+    ensures nests { IfOk result (λ tree. nesting_of tree ≤ 127) }
+    ensures well_formed { IfOk result (λ tree. IsWellFormed tree) }
+{
+    match Value::from_slice(alloc, bytes) {
+        Ok(value) => tree_from(alloc, value),
+        Err(error) => Err(if error.is_memory() {
+            TextFault::Memory
+        } else {
+            TextFault::Json
+        }),
+    }
+}
+
+#[cycle(read)]
+fn tree_from(alloc: Global, value: Value) -> Result<Tree, TextFault>
+    ensures tree { IfOk result (λ tree. tree_of (view value) ≡ Some tree) }
+    ensures json { result ≡ Err TextFault.Json → ⊥ }
+    ensures number { result ≡ Err TextFault.Number → tree_of (view value) ≡ None }
+    ensures well_formed { IfOk result (λ tree. IsWellFormed tree) }
+{
+    match value {
+        Value::Null => Ok(Tree::Null),
+        Value::Bool(value) => Ok(Tree::Truth(value)),
+        Value::Number(number) => match number.as_i64() {
+            Some(value) => Ok(Tree::Number(value)),
+            None => Err(TextFault::Number),
+        },
+        Value::String(text) => Ok(text_from(text)),
+        Value::Array(values) => Ok(Tree::List(items_from(alloc, values)?)),
+        Value::Object(entries) => Ok(Tree::Object(members_from(alloc, entries)?)),
+    }
+}
+
+fn text_from(text: String) -> Tree
+    ensures tree { result ≡ Tree.Text (string_bytes text) }
+    ensures well_formed { IsWellFormed result }
+{
+    Tree::Text(Text::from_string(text))
+}
+
+#[cycle(read)]
+fn items_from(alloc: Global, values: Vec<Value>) -> Result<Items<Tree>, TextFault>
+    ensures items { IfOk result (λ items. items_of (items_view values.items) ≡ Some items) }
+    ensures json { result ≡ Err TextFault.Json → ⊥ }
+    ensures number { result ≡ Err TextFault.Number → items_of (items_view values.items) ≡ None }
+    ensures well_formed { IfOk result (λ items. IsWellFormed (Tree.List items)) }
+{
+    let mut items = Vec::with_capacity(alloc, values.len())?;
+    for value in values {
+        items.push(tree_from(alloc, value)?)?;
+    }
+    Ok(Items::from_vec(items))
+}
+
+#[cycle(read)]
+fn members_from(alloc: Global, entries: Map<String, Value>) -> Result<Members<Tree>, TextFault>
+    ensures members { IfOk result (λ members. members_of (members_view entries.entries) ≡ Some members) }
+    ensures json { result ≡ Err TextFault.Json → ⊥ }
+    ensures number { result ≡ Err TextFault.Number → members_of (members_view entries.entries) ≡ None }
+    ensures well_formed { IfOk result (λ members. IsWellFormed (Tree.Object members)) }
+{
+    let mut members = Vec::with_capacity(alloc, entries.len())?;
+    for (name, value) in entries {
+        let name = Text::from_string(name);
+        let value = tree_from(alloc, value)?;
+        members.push(Member { name, value })?;
+    }
+    Ok(Members::from_vec(members))
+}

@@ -1,0 +1,55 @@
+//! The program `axis`: the real parts of the outside, handed to the top call.
+//!
+//! Everything that it means stands on `ax_script::run`. What is printed on standard error and the exit
+//! code are shown by a run of the program alone.
+#![tactic(auto)]
+
+ghost use Rattle.std.specs.Prelude.{◌≡◌, ◌<◌};
+
+use ax_base::{StdSink, StdSource, Steps};
+use ax_disk::DeadDisk;
+use ax_script::{Status, run};
+use std::env;
+use std::marker::Brand;
+use std::process::ExitCode;
+use std::sync::ledger::{Blank, Ledger};
+
+/// The words of the command line after the program's name; `None` where they cannot be had.
+fn words(rt: &HostRuntime) -> Option<Vec<String>> {
+    let Ok(arguments) = env::args(rt) else {
+        return None;
+    };
+    arguments.skip(1).collect(rt.alloc()).ok()
+}
+
+/// Calls `run` over standard input and output, with a counter that begins at 0.
+fn run_here<L: Ledger>(rt: &HostRuntime, words: &[String], blank: Blank) -> Status
+    requires name { blank.name ≡ L.name }
+    requires parts { blank.parts ≡ L.parts }
+    requires some { 0 < blank.parts }
+{
+    let mut disk = DeadDisk::new();
+    let mut source = StdSource::new(rt.stdin());
+    let mut sink = StdSink::new(rt.stdout());
+    let mut steps = Steps::<L>::begin(blank);
+    run(
+        rt.alloc(),
+        words,
+        &mut disk,
+        &mut source,
+        &mut sink,
+        &mut steps,
+    )
+}
+
+fn main(rt: HostRuntime) -> ExitCode {
+    let status = match words(&rt) {
+        Some(words) => run_here::<Brand>(&rt, words.as_slice(), Blank::new(1)),
+        None => Status::Words,
+    };
+    if status != Status::Done {
+        let text = status.text();
+        let _ = eprintln!(rt; "{text}");
+    }
+    ExitCode::from(status.code())
+}
