@@ -1,0 +1,6 @@
+pub mod Image
+pub mod Pending
+pub mod Moments
+pub mod Calls
+pub mod Dead
+pub mod DeadDisk
