@@ -4,3 +4,4 @@ pub mod Moments
 pub mod Calls
 pub mod Dead
 pub mod DeadDisk
+pub mod PendingLaws
