@@ -5,3 +5,6 @@ pub mod Calls
 pub mod Dead
 pub mod DeadDisk
 pub mod PendingLaws
+pub mod MomentLaws
+pub mod Replay
+pub mod ReplayLaws
