@@ -8,3 +8,4 @@ pub mod PendingLaws
 pub mod MomentLaws
 pub mod Replay
 pub mod ReplayLaws
+pub mod Lists

@@ -8,6 +8,7 @@
 mod dead;
 mod disk;
 mod extent;
+mod lists;
 
 pub use dead::DeadDisk;
 pub use disk::{Disk, DiskFailed};
