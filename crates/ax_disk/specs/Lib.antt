@@ -9,3 +9,5 @@ pub mod MomentLaws
 pub mod Replay
 pub mod ReplayLaws
 pub mod Lists
+pub mod Deeds
+pub mod CallLog

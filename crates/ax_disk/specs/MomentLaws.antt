@@ -20,14 +20,14 @@ pub elapses_join : (old mid new : History) (P : ℕ → Image → Type 0) → El
 elapses_join old mid new P first second = record {
   later = omega (arith, first.later, second.later);
   past = λ t image to.
-    let one = first.past t image to in
-    let two = second.past t image (omega (arith, first.later)) in
-    (λ left. one.0 (two.0 left), λ left. two.1 (one.1 left));
+      let one = first.past t image to in
+      let two = second.past t image (omega (arith, first.later)) in
+      (λ left. one.0 (two.0 left), λ left. two.1 (one.1 left));
   during = λ t image after to left.
-    ⊎_elim
-    (λ before. first.during t image after before ((second.past t image before).0 left))
-    (λ later. second.during t image later to left)
-    (up_to_or_after t mid.moment);
+      ⊎_elim
+      (λ before. first.during t image after before ((second.past t image before).0 left))
+      (λ later. second.during t image later to left)
+      (up_to_or_after t mid.moment);
 }
 
 -- what follows from it at each moment
@@ -75,9 +75,9 @@ joined_rises m j before after most least rises_before rises_after s t le =
     ⊎_elim
     (λ t_before. omega (arith, joined_before m before after s (omega arith), joined_before m before after t t_before, rises_before s t le))
     (λ t_after. ⊎_elim
-        (λ s_before. omega (arith, joined_before m before after s s_before, joined_after m before after t t_after, most s, least t))
-        (λ s_after. omega (arith, joined_after m before after s s_after, joined_after m before after t t_after, rises_after s t le))
-        (up_to_or_after s m))
+    (λ s_before. omega (arith, joined_before m before after s s_before, joined_after m before after t t_after, most s, least t))
+    (λ s_after. omega (arith, joined_after m before after s s_after, joined_after m before after t t_after, rises_after s t le))
+    (up_to_or_after s m))
     (up_to_or_after t m)
 
 joined_least : (m i j : ℕ) (before after : ℕ → ℕ) → i ≤ j → ((t : ℕ) → i ≤ before t) → ((t : ℕ) → j ≤ after t) → (t : ℕ) → i ≤ joined m before after t
@@ -109,13 +109,13 @@ progress_join old mid new i j k P first second =
       each = record {
         later = omega (arith, first.each.later, second.each.later);
         past = λ t image to.
-          let one = first.each.past t image to in
-          let two = second.each.past t image (omega (arith, first.each.later)) in
-          (λ left. one.0 (two.0 left), λ left. two.1 (one.1 left));
+            let one = first.each.past t image to in
+            let two = second.each.past t image (omega (arith, first.each.later)) in
+            (λ left. one.0 (two.0 left), λ left. two.1 (one.1 left));
         during = λ t image after to left.
-          ⊎_elim
-          (λ before. subst (λ (n : ℕ). P n image) (sym (joined_before m first.stage second.stage t before)) (first.each.during t image after before ((second.each.past t image before).0 left)))
-          (λ later. subst (λ (n : ℕ). P n image) (sym (joined_after m first.stage second.stage t later)) (second.each.during t image later to left))
-          (up_to_or_after t m);
+            ⊎_elim
+            (λ before. subst (λ (n : ℕ). P n image) (sym (joined_before m first.stage second.stage t before)) (first.each.during t image after before ((second.each.past t image before).0 left)))
+            (λ later. subst (λ (n : ℕ). P n image) (sym (joined_after m first.stage second.stage t later)) (second.each.during t image later to left))
+            (up_to_or_after t m);
       };
     }

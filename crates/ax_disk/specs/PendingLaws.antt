@@ -60,9 +60,9 @@ overwritten_fit list at bytes within fit new i below =
     ⊎_elim
     (λ before. subst (λ (b : ℕ). b < 256) (sym (overwritten_before list at bytes i within before)) (fit i (omega arith)))
     (λ rest. ⊎_elim
-        (λ after. subst (λ (b : ℕ). b < 256) (sym (overwritten_after list at bytes i within after)) (fit i (omega (arith, long))))
-        (λ inside. subst (λ (b : ℕ). b < 256) (sym (overwritten_inside list at bytes i within inside.0 inside.1)) (new (i - at) (omega (arith, inside.0, inside.1))))
-        rest)
+    (λ after. subst (λ (b : ℕ). b < 256) (sym (overwritten_after list at bytes i within after)) (fit i (omega (arith, long))))
+    (λ inside. subst (λ (b : ℕ). b < 256) (sym (overwritten_inside list at bytes i within inside.0 inside.1)) (new (i - at) (omega (arith, inside.0, inside.1))))
+    rest)
     (three i at (length bytes))
 
 -- What a write leaves to a read is one of what a crash may leave after it, though only the first of `size` bytes were written.
@@ -73,8 +73,8 @@ written_holds pending list at bytes size held within short fit =
       no_shorter = omega (arith, long, held.no_shorter);
       no_longer = omega (arith, long, held.no_longer);
       kept = λ i stable below untouched.
-        overwritten_outside list at bytes size i within short untouched.0
-        ∙ held.kept i stable (outside_is_below list at size (length bytes) i within short (omega (arith, long)) untouched.0) untouched.1;
+          overwritten_outside list at bytes size i within short untouched.0
+          ∙ held.kept i stable (outside_is_below list at size (length bytes) i within short (omega (arith, long)) untouched.0) untouched.1;
       fit = overwritten_fit list at bytes within held.fit fit;
     }
 

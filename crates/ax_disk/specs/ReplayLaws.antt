@@ -16,8 +16,7 @@ unsynced_after first deeds = (after_deeds (synced_state first) deeds).unsynced
 -- the images of the current moment are those that a crash now may leave
 pub history_is_current : (first : Image) (deeds : List Deed) → IsCurrent (history_of first deeds)
 history_is_current first deeds image =
-    let whole = take_all (length deeds) deeds (omega arith) in
-    (
+    let whole = take_all (length deeds) deeds (omega arith) in (
       λ left. subst (λ (d : List Deed). MayLeave (unsynced_after first d) image) whole left,
       λ may. subst (λ (d : List Deed). MayLeave (unsynced_after first d) image) (sym whole) may,
     )
@@ -31,15 +30,14 @@ deed_elapses first deeds deed P here =
     record {
       later = omega (arith, longer);
       past = λ t image to.
-        let same = take-append-le t deeds (deed ∷ []) to in
-        (
-          λ left. subst (λ (d : List Deed). MayLeave (unsynced_after first d) image) same left,
-          λ left. subst (λ (d : List Deed). MayLeave (unsynced_after first d) image) (sym same) left,
-        );
+          let same = take-append-le t deeds (deed ∷ []) to in (
+            λ left. subst (λ (d : List Deed). MayLeave (unsynced_after first d) image) same left,
+            λ left. subst (λ (d : List Deed). MayLeave (unsynced_after first d) image) (sym same) left,
+          );
       during = λ t image after to left.
-        let last : length deeds + 1 ≡ t = omega (arith, longer) in
-        let whole = take_all t (deeds ++ deed ∷ []) (omega (arith, longer)) in
-        let all = subst (λ (d : List Deed). MayLeave (unsynced_after first d) image) whole left in
-        let done = subst (λ (s : State). MayLeave s.unsynced image) (after_one_more (synced_state first) deeds deed) all in
-        subst (λ (n : ℕ). P n image) last (here image done);
+          let last : length deeds + 1 ≡ t = omega (arith, longer) in
+          let whole = take_all t (deeds ++ deed ∷ []) (omega (arith, longer)) in
+          let all = subst (λ (d : List Deed). MayLeave (unsynced_after first d) image) whole left in
+          let done = subst (λ (s : State). MayLeave s.unsynced image) (after_one_more (synced_state first) deeds deed) all in
+          subst (λ (n : ℕ). P n image) last (here image done);
     }

@@ -5,7 +5,9 @@
 //! wasn't written since is the one that a read gave then; after a sync that succeeded a crash leaves what a read gives.
 #![tactic(auto)]
 
+mod call_log;
 mod dead;
+mod deed;
 mod disk;
 mod extent;
 mod lists;
