@@ -11,3 +11,5 @@ pub mod ReplayLaws
 pub mod Lists
 pub mod Deeds
 pub mod CallLog
+pub mod Recorded
+pub mod Medium

@@ -2,6 +2,7 @@
 use Rattle.std.specs.Prelude.{ℕ, min, max, length, vec_capacity}
 use Rattle.ax_disk.specs.declared.lists.Lists.{Lists}
 use Rattle.ax_disk.specs.Image.{Image}
+use Rattle.ax_disk.specs.Pending.{AreBytes}
 
 abbrev pub image_of : Lists → Image
 image_of lists = record { root = lists.root.items; a = lists.a.items; b = lists.b.items }
@@ -13,3 +14,8 @@ least_capacity lists = min (vec_capacity lists.root) (min (vec_capacity lists.a)
 -- the length of the longest list
 abbrev pub greatest_length : Image → ℕ
 greatest_length image = max (length image.root) (max (length image.a) (length image.b))
+
+pub record IsOfBytes (image : Image) : Type 0 where
+  pub root : AreBytes image.root
+  pub a : AreBytes image.a
+  pub b : AreBytes image.b

@@ -1,5 +1,5 @@
 -- What was done to three lists since they were last known, and the history that follows from it.
-use Rattle.std.specs.Prelude.{ℕ, ◌+◌, Bool, true, false, if◌then◌else◌, List, [], ◌∷◌, length, take}
+use Rattle.std.specs.Prelude.{ℕ, ◌+◌, Bool, true, false, if◌then◌else◌, List, [], ◌∷◌, ◌++◌, length, take}
 use Rattle.ax_disk.specs.declared.extent.Extent.{Extent}
 use Rattle.ax_disk.specs.Image.{Image, list_of, with_list}
 use Rattle.ax_disk.specs.Pending.{Unsynced, MayLeave, all_settled, after_write, after_cut}
@@ -39,11 +39,30 @@ abbrev pub after_deeds : State → List Deed → State
 after_deeds state [] = state
 after_deeds state (deed ∷ deeds) = after_deeds (after_deed deed state) deeds
 
--- The history of lists that began as this image, all synced. There is a moment before the first deed, and one after each.
-abbrev pub history_of : Image → List Deed → History
-history_of first deeds = record {
-  reads = (after_deeds (synced_state first) deeds).reads;
-  unsynced = (after_deeds (synced_state first) deeds).unsynced;
-  moment = length deeds;
-  left_at = λ t image. MayLeave (after_deeds (synced_state first) (take t deeds)).unsynced image;
+-- what was done to lists that were all synced at first, the oldest deed first
+pub record Account : Type 0 where
+  pub first : Image
+  pub deeds : List Deed
+
+abbrev pub new_account : Image → Account
+new_account image = record { first = image; deeds = [] }
+
+abbrev pub with_deed : Deed → Account → Account
+with_deed deed account = record account { deeds = account.deeds ++ deed ∷ [] }
+
+-- what it has led to
+abbrev pub state_of : Account → State
+state_of account = after_deeds (synced_state account.first) account.deeds
+
+-- what it had led to after the first t deeds
+abbrev pub state_at : ℕ → Account → State
+state_at t account = after_deeds (synced_state account.first) (take t account.deeds)
+
+-- The history of an account. There is a moment before the first deed, and one after each.
+abbrev pub history_of : Account → History
+history_of account = record {
+  reads = (state_of account).reads;
+  unsynced = (state_of account).unsynced;
+  moment = length account.deeds;
+  left_at = λ t image. MayLeave (state_at t account).unsynced image;
 }

@@ -11,6 +11,7 @@ mod deed;
 mod disk;
 mod extent;
 mod lists;
+mod medium;
 
 pub use dead::DeadDisk;
 pub use disk::{Disk, DiskFailed};

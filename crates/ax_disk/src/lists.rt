@@ -2,6 +2,7 @@
 ghost use Rattle.std.specs.Prelude.{◌≡◌, ◌+◌, ◌≤◌, ◌++◌, List, length, take, drop, vec_len, vec_capacity, IfOk};
 ghost use Rattle.ax_disk.specs.Image.{list_of, with_list};
 ghost use Rattle.ax_disk.specs.Calls.{overwritten};
+ghost use Rattle.ax_disk.specs.Pending.{AreBytes};
 
 use crate::Extent;
 use std::alloc::{AllocError, Global};
@@ -14,13 +15,17 @@ pub(crate) struct Lists {
 }
 
 impl Lists {
-    ghost use Rattle.ax_disk.specs.Lists.{image_of, least_capacity, greatest_length};
+    ghost use Rattle.ax_disk.specs.Lists.{image_of, IsOfBytes, least_capacity, greatest_length};
 
-    /// The length of the longest list.
-    pub fn longest(&self) -> usize
-        ensures { result ≡ greatest_length (image_of self.now) }
+    /// The length of the longest list after so many bytes are written behind it.
+    pub fn longest_with(&self, room: usize) -> Result<usize, AllocError>
+        ensures { IfOk result (λ length. length ≡ greatest_length (image_of self.now) + room) }
     {
-        self.root.len().max(self.a.len()).max(self.b.len())
+        let longest = self.root.len().max(self.a.len()).max(self.b.len());
+        match longest.checked_add(room) {
+            Some(length) => Ok(length),
+            None => Err(AllocError),
+        }
     }
 
     /// Takes room for lists of `capacity` bytes.
@@ -39,6 +44,7 @@ impl Lists {
     pub fn copy(&self, alloc: Global, capacity: usize) -> Result<Lists, AllocError>
         requires { greatest_length (image_of self.now) ≤ capacity }
         ensures same { IfOk result (λ copy. image_of copy ≡ image_of self.now) }
+        ensures fit { IfOk result (λ copy. IsOfBytes (image_of copy)) }
         ensures room { IfOk result (λ copy. capacity ≤ least_capacity copy) }
     {
         let mut copy = Lists {
@@ -54,6 +60,7 @@ impl Lists {
     pub fn set(&mut self, other: &Lists)
         requires { greatest_length (image_of other.now) ≤ least_capacity self.old }
         ensures same { image_of self.new ≡ image_of other.now }
+        ensures fit { IsOfBytes (image_of self.new) }
         ensures room { least_capacity self.old ≤ least_capacity self.new }
     {
         set(&mut self.root, &other.root);
@@ -99,6 +106,7 @@ impl Lists {
 fn set(list: &mut Vec<u8>, bytes: &[u8])
     requires { length bytes.now ≤ vec_capacity list.old }
     ensures same { list.new.items ≡ bytes.now }
+    ensures fit { AreBytes list.new.items }
     ensures room { vec_capacity list.old ≤ vec_capacity list.new }
 {
     list.clear();
