@@ -1,2 +1,3 @@
+mod Effects
 mod Noted
 mod Recording

@@ -13,3 +13,5 @@ pub mod Deeds
 pub mod CallLog
 pub mod Recorded
 pub mod Medium
+pub mod Budget
+pub mod MemDisk

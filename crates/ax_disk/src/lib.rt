@@ -10,9 +10,14 @@ mod dead;
 mod deed;
 mod disk;
 mod extent;
+mod fate;
 mod lists;
 mod medium;
+mod mem_disk;
+mod memory;
 
 pub use dead::DeadDisk;
 pub use disk::{Disk, DiskFailed};
 pub use extent::Extent;
+pub use mem_disk::MemDisk;
+pub use memory::Memory;
