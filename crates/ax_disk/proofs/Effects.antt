@@ -27,24 +27,24 @@ module _ {T E : Type 0} where
   writes_refused ext at bytes error old new same may =
       subst (λ (a : Account). Writes {T = T} ext at bytes (Err error) (history_of old) (history_of a)) (sym same)
       (record {
-          done = tt;
-          unsynced = tt;
-          torn = after_write_allows ext (all_settled (state_of old).reads) at (length bytes) (state_of old).reads (all_settled_leaves (state_of old).unsynced (state_of old).reads may);
-          unsynced_torn = inl refl;
-          time = elapses_start (history_of old) (λ _ image. MayLeave (after_write ext at (length bytes) (history_of old).unsynced) image);
-        })
+        done = tt;
+        unsynced = tt;
+        torn = after_write_allows ext (all_settled (state_of old).reads) at (length bytes) (state_of old).reads (all_settled_leaves (state_of old).unsynced (state_of old).reads may);
+        unsynced_torn = inl refl;
+        time = elapses_start (history_of old) (λ _ image. MayLeave (after_write ext at (length bytes) (history_of old).unsynced) image);
+      })
 
   pub writes_done : (ext : Extent) (at : ℕ) (bytes : List ℕ) (value : T) (old new : Account) → new ≡ with_deed (wrote ext at (length bytes) bytes) old → Writes {E = E} ext at bytes (Ok value) (history_of old) (history_of new)
   writes_done ext at bytes value old new is =
       let deed = wrote ext at (length bytes) bytes in
       subst (λ (a : Account). Writes {E = E} ext at bytes (Ok value) (history_of old) (history_of a)) (sym is)
       (record {
-          done = ap (λ (s : State). s.reads) (step deed old);
-          unsynced = ap (λ (s : State). s.unsynced) (step deed old);
-          torn = tt;
-          unsynced_torn = tt;
-          time = deed_elapses old deed (λ _ image. MayLeave (after_write ext at (length bytes) (history_of old).unsynced) image) (λ image may. may);
-        })
+        done = ap (λ (s : State). s.reads) (step deed old);
+        unsynced = ap (λ (s : State). s.unsynced) (step deed old);
+        torn = tt;
+        unsynced_torn = tt;
+        time = deed_elapses old deed (λ _ image. MayLeave (after_write ext at (length bytes) (history_of old).unsynced) image) (λ image may. may);
+      })
 
   pub writes_failed : (ext : Extent) (at : ℕ) (bytes part : List ℕ) (error : E) (old new : Account) → new ≡ with_deed (wrote ext at (length bytes) part) old → StaysReadable old
       → at ≤ length (list_of ext (state_of old).reads) → length part ≤ length bytes → AreBytes part → Writes {T = T} ext at bytes (Err error) (history_of old) (history_of new)
@@ -53,36 +53,36 @@ module _ {T E : Type 0} where
       let reads = ap (λ (s : State). s.reads) (step deed old) in
       subst (λ (a : Account). Writes {T = T} ext at bytes (Err error) (history_of old) (history_of a)) (sym is)
       (record {
-          done = tt;
-          unsynced = tt;
-          torn = subst (λ (image : Image). MayLeave (after_write ext at (length bytes) (all_settled (state_of old).reads)) image) (sym reads)
-          (after_write_leaves ext (all_settled (state_of old).reads) (state_of old).reads at part (length bytes) (all_settled_leaves (state_of old).unsynced (state_of old).reads may) within short fit);
-          unsynced_torn = inr (ap (λ (s : State). s.unsynced) (step deed old));
-          time = deed_elapses old deed (λ _ image. MayLeave (after_write ext at (length bytes) (history_of old).unsynced) image) (λ image left. left);
-        })
+        done = tt;
+        unsynced = tt;
+        torn = subst (λ (image : Image). MayLeave (after_write ext at (length bytes) (all_settled (state_of old).reads)) image) (sym reads)
+            (after_write_leaves ext (all_settled (state_of old).reads) (state_of old).reads at part (length bytes) (all_settled_leaves (state_of old).unsynced (state_of old).reads may) within short fit);
+        unsynced_torn = inr (ap (λ (s : State). s.unsynced) (step deed old));
+        time = deed_elapses old deed (λ _ image. MayLeave (after_write ext at (length bytes) (history_of old).unsynced) image) (λ image left. left);
+      })
 
   pub cuts_refused : (ext : Extent) (len : ℕ) (error : E) (old new : Account) → new ≡ old → StaysReadable old → Cuts {T = T} ext len (Err error) (history_of old) (history_of new)
   cuts_refused ext len error old new same may =
       subst (λ (a : Account). Cuts {T = T} ext len (Err error) (history_of old) (history_of a)) (sym same)
       (record {
-          done = tt;
-          unsynced = tt;
-          torn = after_cut_allows ext (all_settled (state_of old).reads) len (state_of old).reads (all_settled_leaves (state_of old).unsynced (state_of old).reads may);
-          unsynced_torn = inl refl;
-          time = elapses_start (history_of old) (λ _ image. MayLeave (after_cut ext len (history_of old).unsynced) image);
-        })
+        done = tt;
+        unsynced = tt;
+        torn = after_cut_allows ext (all_settled (state_of old).reads) len (state_of old).reads (all_settled_leaves (state_of old).unsynced (state_of old).reads may);
+        unsynced_torn = inl refl;
+        time = elapses_start (history_of old) (λ _ image. MayLeave (after_cut ext len (history_of old).unsynced) image);
+      })
 
   pub cuts_done : (ext : Extent) (len : ℕ) (value : T) (old new : Account) → new ≡ with_deed (cut ext len true) old → Cuts {E = E} ext len (Ok value) (history_of old) (history_of new)
   cuts_done ext len value old new is =
       let deed = cut ext len true in
       subst (λ (a : Account). Cuts {E = E} ext len (Ok value) (history_of old) (history_of a)) (sym is)
       (record {
-          done = ap (λ (s : State). s.reads) (step deed old);
-          unsynced = ap (λ (s : State). s.unsynced) (step deed old);
-          torn = tt;
-          unsynced_torn = tt;
-          time = deed_elapses old deed (λ _ image. MayLeave (after_cut ext len (history_of old).unsynced) image) (λ image left. left);
-        })
+        done = ap (λ (s : State). s.reads) (step deed old);
+        unsynced = ap (λ (s : State). s.unsynced) (step deed old);
+        torn = tt;
+        unsynced_torn = tt;
+        time = deed_elapses old deed (λ _ image. MayLeave (after_cut ext len (history_of old).unsynced) image) (λ image left. left);
+      })
 
   pub cuts_failed : (ext : Extent) (len : ℕ) (error : E) (old new : Account) → new ≡ with_deed (cut ext len false) old → StaysReadable old → Cuts {T = T} ext len (Err error) (history_of old) (history_of new)
   cuts_failed ext len error old new is may =
@@ -90,13 +90,13 @@ module _ {T E : Type 0} where
       let reads = ap (λ (s : State). s.reads) (step deed old) in
       subst (λ (a : Account). Cuts {T = T} ext len (Err error) (history_of old) (history_of a)) (sym is)
       (record {
-          done = tt;
-          unsynced = tt;
-          torn = subst (λ (image : Image). MayLeave (after_cut ext len (all_settled (state_of old).reads)) image) (sym reads)
-          (after_cut_allows ext (all_settled (state_of old).reads) len (state_of old).reads (all_settled_leaves (state_of old).unsynced (state_of old).reads may));
-          unsynced_torn = inr (ap (λ (s : State). s.unsynced) (step deed old));
-          time = deed_elapses old deed (λ _ image. MayLeave (after_cut ext len (history_of old).unsynced) image) (λ image left. left);
-        })
+        done = tt;
+        unsynced = tt;
+        torn = subst (λ (image : Image). MayLeave (after_cut ext len (all_settled (state_of old).reads)) image) (sym reads)
+            (after_cut_allows ext (all_settled (state_of old).reads) len (state_of old).reads (all_settled_leaves (state_of old).unsynced (state_of old).reads may));
+        unsynced_torn = inr (ap (λ (s : State). s.unsynced) (step deed old));
+        time = deed_elapses old deed (λ _ image. MayLeave (after_cut ext len (history_of old).unsynced) image) (λ image left. left);
+      })
 
   pub syncs_failed : (error : E) (old new : Account) → new ≡ old → Syncs {T = T} (Err error) (history_of old) (history_of new)
   syncs_failed error old new same =
@@ -107,9 +107,9 @@ module _ {T E : Type 0} where
   syncs_done value old new is may =
       subst (λ (a : Account). Syncs {E = E} (Ok value) (history_of old) (history_of a)) (sym is)
       (record {
-          reads = ap (λ (s : State). s.reads) (step synced old);
-          settled = ap (λ (s : State). s.unsynced) (step synced old);
-          unsynced = tt;
-          time = deed_elapses old synced (λ _ image. MayLeave (history_of old).unsynced image)
-          (λ image left. subst (λ (i : Image). MayLeave (history_of old).unsynced i) (sym (all_settled_only (state_of old).reads image left)) may);
-        })
+        reads = ap (λ (s : State). s.reads) (step synced old);
+        settled = ap (λ (s : State). s.unsynced) (step synced old);
+        unsynced = tt;
+        time = deed_elapses old synced (λ _ image. MayLeave (history_of old).unsynced image)
+            (λ image left. subst (λ (i : Image). MayLeave (history_of old).unsynced i) (sym (all_settled_only (state_of old).reads image left)) may);
+      })

@@ -1,3 +1,4 @@
 mod Effects
+mod Filled
 mod Noted
 mod Recording

@@ -15,3 +15,4 @@ pub mod Recorded
 pub mod Medium
 pub mod Budget
 pub mod MemDisk
+pub mod ReadLaws
