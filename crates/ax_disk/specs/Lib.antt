@@ -16,3 +16,4 @@ pub mod Medium
 pub mod Budget
 pub mod MemDisk
 pub mod ReadLaws
+pub mod FuseDisk
