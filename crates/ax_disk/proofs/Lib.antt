@@ -1,4 +1,5 @@
 mod Effects
 mod Filled
+mod GatedSteps
 mod Noted
 mod Recording

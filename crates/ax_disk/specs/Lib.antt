@@ -17,3 +17,4 @@ pub mod Budget
 pub mod MemDisk
 pub mod ReadLaws
 pub mod FuseDisk
+pub mod Gated

@@ -119,3 +119,16 @@ progress_join old mid new i j k P first second =
             (up_to_or_after t m);
       };
     }
+
+-- What holds of each image of a run's moments, and of those that a crash may leave before it, holds of those that a crash may leave after it.
+pub elapses_exit : (old new : History) (P : Image → Type 0) → Elapses old new (λ _ image. P image) → IsCurrent old → IsCurrent new
+    → ((image : Image) → MayLeave old.unsynced image → P image) → (image : Image) → MayLeave new.unsynced image → P image
+elapses_exit old new P time current_old current_new at_first image may =
+    let left = (current_new image).1 may in
+    ⊎_elim
+    (λ still.
+    let same : old.moment ≡ new.moment = omega (arith, time.later) in
+    let before : old.left_at new.moment image = (time.past new.moment image still).0 left in
+    at_first image ((current_old image).0 (subst (λ (t : ℕ). old.left_at t image) (sym same) before)))
+    (λ later. time.during new.moment image later (omega arith) left)
+    (up_to_or_after new.moment old.moment)

@@ -162,3 +162,21 @@ after_write_allows ext unsynced at size image may =
 pub after_cut_allows : (ext : Extent) (unsynced : Unsynced) (len : ℕ) (image : Image) → MayLeave unsynced image → MayLeave (after_cut ext len unsynced) image
 after_cut_allows ext unsynced len image may =
     with_more ext unsynced image (shortened len (pending_of ext unsynced)) may (shortened_allows (pending_of ext unsynced) len (list_of ext image) (held_of ext unsynced image may))
+
+-- the front of a list that wasn't written is left as it was
+pub kept_front : (pending : Pending) (bytes : List ℕ) (k : ℕ) → MayHold pending bytes → k ≤ pending.least → k ≤ length pending.stable → ((i : ℕ) → i < k → IsUntouched i pending.ranges) → take k bytes ≡ take k pending.stable
+kept_front pending bytes k held least stable untouched =
+    let long = length-take k bytes in
+    ext_get_or 0 (take k bytes) (take k pending.stable) (omega (arith, long, length-take k pending.stable, held.no_shorter))
+    (λ i below.
+    let near : i < k = omega (arith, long) in
+    get_or-take k bytes i 0 near ∙ held.kept i (omega arith) (omega (arith, held.no_shorter)) (untouched i near) ∙ sym (get_or-take k pending.stable i 0 near))
+
+-- and so is the back, where the length is certain
+pub kept_back : (pending : Pending) (bytes : List ℕ) (k : ℕ) → MayHold pending bytes → pending.least ≡ length pending.stable → pending.greatest ≡ length pending.stable → ((i : ℕ) → k ≤ i → IsUntouched i pending.ranges) → drop k bytes ≡ drop k pending.stable
+kept_back pending bytes k held least greatest untouched =
+    let same : length bytes ≡ length pending.stable = omega (arith, held.no_shorter, held.no_longer) in
+    ext_get_or 0 (drop k bytes) (drop k pending.stable) (omega (arith, length-drop k bytes, length-drop k pending.stable))
+    (λ i below.
+    let near : k + i < length bytes = omega (arith, length-drop k bytes) in
+    get_or-drop k bytes i 0 ∙ held.kept (k + i) (omega arith) near (untouched (k + i) (omega arith)) ∙ sym (get_or-drop k pending.stable i 0))

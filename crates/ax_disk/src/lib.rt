@@ -6,6 +6,8 @@
 #![tactic(auto)]
 
 mod call_log;
+#[cfg(test)]
+mod client;
 mod dead;
 mod deed;
 mod disk;
