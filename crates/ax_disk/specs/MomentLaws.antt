@@ -60,6 +60,16 @@ progress_stays old new n P time = record {
   each = time;
 }
 
+-- wider bounds
+pub progress_within : (old new : History) (h i j k : ℕ) (P : ℕ → Image → Type 0) → h ≤ i → j ≤ k → Progresses old new i j P → Progresses old new h k P
+progress_within old new h i j k P lower upper run = record {
+  stage = run.stage;
+  from_first = λ t. omega (arith, run.from_first t);
+  to_last = λ t. omega (arith, run.to_last t);
+  never_falls = run.never_falls;
+  each = run.each;
+}
+
 -- a run that goes on where another has ended
 abbrev joined : ℕ → (ℕ → ℕ) → (ℕ → ℕ) → ℕ → ℕ
 joined m before after t = if nat_le t m then before t else after t
