@@ -18,8 +18,8 @@ module _ (count first second : ℕ) (h0 : History) (rest : IsAtRest count h0) wh
       let long = length-append (recovered h0.reads.a) (first ∷ []) in
       sym
       (take-append-le count (recovered h0.reads.a ++ first ∷ []) (second ∷ []) (omega (arith, rest.counts, long))
-          ∙ take-append-le count (recovered h0.reads.a) (first ∷ []) (omega (arith, rest.counts))
-          ∙ take_all count (recovered h0.reads.a) (omega (arith, rest.counts)))
+      ∙ take-append-le count (recovered h0.reads.a) (first ∷ []) (omega (arith, rest.counts))
+      ∙ take_all count (recovered h0.reads.a) (omega (arith, rest.counts)))
 
   take_one : recovered h0.reads.a ++ first ∷ [] ≡ take (count + 1) all
   take_one =
@@ -61,6 +61,6 @@ module _ (count first second : ℕ) (h0 : History) (rest : IsAtRest count h0) wh
       both_exit current0 current2 =
           elapses_exit h0 h2 Some
           (elapses_join h0 h1 h2 (λ _ image. Some image)
-            (elapses_with h0 h1 (Either h0 first) Some (λ image may. inl (first_stage image may)) one)
-            (elapses_with h1 h2 (Either h1 second) Some (λ image may. inr (second_stage image may)) two))
+          (elapses_with h0 h1 (Either h0 first) Some (λ image may. inl (first_stage image may)) one)
+          (elapses_with h1 h2 (Either h1 second) Some (λ image may. inr (second_stage image may)) two))
           current0 current2 (λ image may. inl (at_first image may))

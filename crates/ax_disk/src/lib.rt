@@ -25,3 +25,6 @@ pub use extent::Extent;
 pub use fuse_disk::FuseDisk;
 pub use mem_disk::MemDisk;
 pub use memory::Memory;
+
+#[cfg(test)]
+mod tests;
