@@ -1,9 +1,9 @@
 //! A disk in memory that obeys the model, with failures where they are asked for.
-ghost use Rattle.std.specs.Prelude.{◌≡◌, ◌+◌, ◌-◌, ◌^◌, ◌<◌, ◌≤◌, ◌↔◌, ℕ, List, Bool, true, false, [], length, min, IsTrue, IsOk, IsErr, IfOk, OnOk, if◌then◌else◌, refl};
+ghost use Rattle.std.specs.Prelude.{◌≡◌, ◌⊎◌, ◌+◌, ◌-◌, ◌/◌, ◌^◌, ◌<◌, ◌≤◌, ◌↔◌, ℕ, List, Bool, true, false, [], length, take, min, IsTrue, IsOk, IsErr, IfOk, OnOk, OnErr, if◌then◌else◌, refl};
 ghost use Rattle.ax_disk.specs.Image.{list_of};
 ghost use Rattle.ax_disk.specs.Pending.{MayLeave};
 ghost use Rattle.ax_disk.specs.Calls.{HasCause, Rose, Idles, Writes, Cuts, Syncs, bytes_from};
-ghost use Rattle.ax_disk.specs.Replay.{history_of, new_account};
+ghost use Rattle.ax_disk.specs.Replay.{wrote, cut, new_account, with_deed};
 ghost use Rattle.ax_disk.specs.Recorded.{last_synced};
 ghost use Rattle.ax_disk.specs.Medium.{turns_of, IsReady};
 ghost use Rattle.ax_disk.specs.Budget.{Budget, fails_next, fate_of, Allows, Spends};
@@ -140,7 +140,7 @@ fn fill(list: &[u8], at: u64, buf: &mut [u8])
 }
 
 impl Disk for MemDisk {
-    ghost use Rattle.ax_disk.specs.MemDisk.{disk_history, disk_faults, counted_reads, budget_of, disk_reads_may_stay, disk_is_current};
+    ghost use Rattle.ax_disk.specs.MemDisk.{disk_account, disk_history, disk_faults, counted_reads, budget_of, disk_reads_may_stay, disk_is_current};
 
     ghost faults = { λ disk. disk_faults disk };
 
@@ -209,6 +209,8 @@ impl Disk for MemDisk {
     fn write_at(&mut self, ext: Extent, at: u64, bytes: &[u8]) -> Result<(), DiskFailed>
         requires { at ≤ length (list_of ext (disk_history self.old).reads) }
         ensures lists { Writes ext at bytes.now result (disk_history self.old) (disk_history self.new) }
+        ensures half { OnErr result ((disk_account self.new ≡ disk_account self.old)
+            ⊎ (disk_account self.new ≡ with_deed (wrote ext at (length bytes.now) (take (length bytes.now / 2) bytes.now)) (disk_account self.old))) }
         ensures limit { 2 ^ 62 < at + length bytes.now → IsErr result }
         ensures unwritten { 2 ^ 62 < at + length bytes.now → Idles (disk_history self.old) (disk_history self.new) }
         ensures cause { HasCause result (disk_faults self.old) (disk_faults self.new) }
@@ -233,6 +235,7 @@ impl Disk for MemDisk {
 
     fn cut(&mut self, ext: Extent, len: u64) -> Result<(), DiskFailed>
         ensures lists { Cuts ext len result (disk_history self.old) (disk_history self.new) }
+        ensures uncut { OnErr result ((disk_account self.new ≡ disk_account self.old) ⊎ (disk_account self.new ≡ with_deed (cut ext len false) (disk_account self.old))) }
         ensures cause { HasCause result (disk_faults self.old) (disk_faults self.new) }
         ensures succeeds { Allows 0 (budget_of self.old) → IsOk result }
         ensures fails { IsTrue (fails_next (budget_of self.old)) → IsErr result }
@@ -254,6 +257,7 @@ impl Disk for MemDisk {
 
     fn sync(&mut self) -> Result<(), DiskFailed>
         ensures lists { Syncs result (disk_history self.old) (disk_history self.new) }
+        ensures unsynced { OnErr result (disk_account self.new ≡ disk_account self.old) }
         ensures cause { HasCause result (disk_faults self.old) (disk_faults self.new) }
         ensures succeeds { Allows 0 (budget_of self.old) → IsOk result }
         ensures fails { IsTrue (fails_next (budget_of self.old)) → IsErr result }
@@ -261,6 +265,7 @@ impl Disk for MemDisk {
         ensures reads { counted_reads self.new ≡ counted_reads self.old }
     {
         match self.begin(true) {
+            // Nothing is synced, so a crash may leave all that it might have left before.
             Fate::Refused | Fate::Fails => Err(raise(&mut self.faults)),
             Fate::Done => {
                 self.medium.sync();
