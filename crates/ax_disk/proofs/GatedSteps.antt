@@ -1,13 +1,12 @@
 -- What each call of an append to a gated list leaves.
-use Rattle.std.proofs.Common.{◌≡◌, ◌⊎◌, inl, inr, ⊎_elim, ℕ, zero, suc, ◌+◌, ◌*◌, ◌-◌, ◌<◌, ◌≤◌, max, Bool, true, false, ◌==◌, if◌then◌else◌, List, [], ◌∷◌, ◌++◌, length, get_or, take, drop, Result, Ok, Err, OnOk, refl, sym, ◌∙◌, ap, subst, arith, append_assoc, length-append, take-append-drop}
+use Rattle.std.proofs.Common.{◌≡◌, ◌⊎◌, inl, inr, ⊎_elim, ℕ, ◌+◌, ◌*◌, ◌≤◌, Bool, true, false, ◌==◌, if◌then◌else◌, List, [], ◌∷◌, ◌++◌, length, get_or, take, drop, Result, Ok, Err, OnOk, refl, sym, ◌∙◌, ap, subst, arith, append_assoc, length-append, take-append-drop}
 use Rattle.std.proofs.lemmas.List.{take_at, drop_at, drop_more, take_all, drop_all, append-nil}
-use Rattle.ax_disk.specs.declared.extent.Extent.{Extent}
-use Rattle.ax_disk.specs.declared.extent.Extent.TheVariants.{Root, A, B}
-use Rattle.ax_disk.specs.Image.{Image, list_of, with_list}
+use Rattle.ax_disk.specs.declared.extent.Extent.TheVariants.{A}
+use Rattle.ax_disk.specs.Image.{Image}
 use Rattle.ax_disk.specs.Pending.{MayHold, settled, written, Unsynced, MayLeave, all_settled, after_write}
-use Rattle.ax_disk.specs.PendingLaws.{kept_front, kept_back, all_settled_only}
+use Rattle.ax_disk.specs.PendingLaws.{kept_front, kept_back}
 use Rattle.ax_disk.specs.Moments.{History, Elapses}
-use Rattle.ax_disk.specs.MomentLaws.{elapses_start, elapses_join, elapses_with}
+use Rattle.ax_disk.specs.MomentLaws.{elapses_join, elapses_with}
 use Rattle.ax_disk.specs.Calls.{overwritten, Writes, Syncs}
 use Rattle.ax_disk.specs.Gated.{recovered, opened, at_rest, IsAtRest, IsBeforeOrAfter}
 

@@ -1,11 +1,11 @@
 -- One deed more in a log.
-use Rattle.std.proofs.Common.{◌≡◌, ℕ, ◌+◌, ◌≤◌, Bool, true, false, IsTrue, if◌then◌else◌, List, [], ◌∷◌, ◌++◌, length, take, drop, refl, sym, ◌∙◌, ap, arith}
+use Rattle.std.proofs.Common.{◌≡◌, ℕ, ◌+◌, Bool, true, false, IsTrue, if◌then◌else◌, List, [], ◌∷◌, ◌++◌, length, drop, refl, sym, ◌∙◌, ap, arith}
 use Rattle.std.proofs.lemmas.Bool.{false≢true}
 use Rattle.std.proofs.lemmas.List.{take-append-le, drop-append-le, length-drop, append-nil}
 use Rattle.ax_disk.specs.declared.deed.Deed.{Deed as Noted}
 use Rattle.ax_disk.specs.declared.deed.Deed.TheVariants.{Wrote, Cut, Synced}
 use Rattle.ax_disk.specs.Deeds.{written_size, deeds_of}
-use Rattle.ax_disk.specs.Replay.{Deed, wrote, cut, synced}
+use Rattle.ax_disk.specs.Replay.{Deed, cut, synced}
 
 pub written_size-append : (noted : List Noted) (deed : Noted) → written_size (noted ++ deed ∷ []) ≡ written_size noted + written_size (deed ∷ [])
 written_size-append [] deed = omega arith

@@ -1,5 +1,5 @@
 -- What each deed keeps of a medium.
-use Rattle.std.proofs.Common.{◌≡◌, ℕ, ◌+◌, ◌≤◌, min, max, Bool, true, false, if◌then◌else◌, List, [], ◌∷◌, length, take, refl, sym, ◌∙◌, ap, subst, arith}
+use Rattle.std.proofs.Common.{◌≡◌, ℕ, ◌+◌, ◌≤◌, true, false, List, [], length, take, refl, sym, ◌∙◌, ap, subst, arith}
 use Rattle.std.proofs.lemmas.List.{length-take}
 use Rattle.ax_disk.specs.declared.extent.Extent.{Extent}
 use Rattle.ax_disk.specs.declared.extent.Extent.TheVariants.{Root, A, B}
@@ -7,7 +7,7 @@ use Rattle.ax_disk.specs.Image.{Image, list_of, with_list}
 use Rattle.ax_disk.specs.Pending.{AreBytes, Unsynced, MayLeave, all_settled, after_write, after_cut}
 use Rattle.ax_disk.specs.PendingLaws.{settled_holds, all_settled_leaves, after_write_leaves, after_write_allows, after_cut_leaves, after_cut_allows, length-overwritten}
 use Rattle.ax_disk.specs.Calls.{overwritten}
-use Rattle.ax_disk.specs.Replay.{Deed, wrote, cut, synced, State, synced_state, after_deed, Account, new_account, with_deed, state_of}
+use Rattle.ax_disk.specs.Replay.{Deed, wrote, cut, synced, State, synced_state, after_deed, Account, with_deed, state_of}
 use Rattle.ax_disk.specs.ReplayLaws.{after_one_more}
 use Rattle.ax_disk.specs.Lists.{IsOfBytes, greatest_length}
 use Rattle.ax_disk.specs.Recorded.{last_synced, IsRecorded}

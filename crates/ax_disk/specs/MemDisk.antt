@@ -1,11 +1,11 @@
 -- What a disk in memory shows: what was done to it and the history of that, its counts, and what it may still do.
-use Rattle.std.specs.Prelude.{◌≡◌, ℕ}
+use Rattle.std.specs.Prelude.{ℕ}
 use Rattle.std.proofs.Common.{subst, sym}
 use Rattle.ax_disk.specs.declared.mem_disk.MemDisk.{MemDisk}
 use Rattle.ax_disk.specs.Image.{Image}
 use Rattle.ax_disk.specs.Pending.{MayLeave}
 use Rattle.ax_disk.specs.Moments.{History, IsCurrent}
-use Rattle.ax_disk.specs.Replay.{Account, history_of}
+use Rattle.ax_disk.specs.Replay.{Account}
 use Rattle.ax_disk.specs.ReplayLaws.{history_is_current}
 use Rattle.ax_disk.specs.Medium.{account_of, medium_history, room_of, turns_of}
 use Rattle.ax_disk.specs.Budget.{Budget}

@@ -1,5 +1,5 @@
 -- Laws of moments: what holds at each moment of two runs of calls, one after the other, holds at each moment of both.
-use Rattle.std.proofs.Common.{◌≡◌, ◌⊎◌, inl, inr, ⊎_elim, ℕ, ◌+◌, ◌<◌, ◌≤◌, ◌↔◌, Bool, true, false, nat_le, if◌then◌else◌, refl, sym, ◌∙◌, ap, subst, arith}
+use Rattle.std.proofs.Common.{◌≡◌, ◌⊎◌, ⊎_elim, ℕ, ◌<◌, ◌≤◌, nat_le, if◌then◌else◌, sym, subst, arith}
 use Rattle.ax_disk.specs.Image.{Image}
 use Rattle.ax_disk.specs.Pending.{MayLeave}
 use Rattle.ax_disk.specs.Moments.{History, Elapses, Progresses, IsCurrent}

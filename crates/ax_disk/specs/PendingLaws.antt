@@ -1,11 +1,11 @@
 -- Laws of what a crash may leave: a settled list is left as it is, writes and cuts only add to what may be left,
 -- and what a read gives stays among it.
-use Rattle.std.proofs.Common.{◌≡◌, ◌⊎◌, inl, inr, ⊎_elim, ℕ, ◌+◌, ◌-◌, ◌<◌, ◌≤◌, min, max, List, [], ◌∷◌, ◌++◌, length, get_or, take, drop, refl, sym, ◌∙◌, ap, subst, arith, length-append}
+use Rattle.std.proofs.Common.{◌≡◌, ◌⊎◌, inl, inr, ⊎_elim, ℕ, ◌+◌, ◌-◌, ◌<◌, ◌≤◌, max, List, ◌++◌, length, get_or, take, drop, refl, sym, ◌∙◌, ap, subst, arith, length-append}
 use Rattle.std.proofs.lemmas.List.{ext_get_or, length-take, length-drop, get_or-take, get_or-drop, get_or_append_left, get_or-append_right}
 use Rattle.ax_disk.specs.declared.extent.Extent.{Extent}
 use Rattle.ax_disk.specs.declared.extent.Extent.TheVariants.{Root, A, B}
 use Rattle.ax_disk.specs.Image.{Image, list_of, with_list}
-use Rattle.ax_disk.specs.Pending.{Range, IsOutside, IsUntouched, AreBytes, Pending, MayHold, settled, written, shortened, Unsynced, pending_of, with_pending, MayLeave, all_settled, after_write, after_cut}
+use Rattle.ax_disk.specs.Pending.{IsOutside, IsUntouched, AreBytes, Pending, MayHold, settled, written, shortened, Unsynced, pending_of, with_pending, MayLeave, all_settled, after_write, after_cut}
 use Rattle.ax_disk.specs.Calls.{overwritten}
 
 -- a crash leaves a settled list as it is

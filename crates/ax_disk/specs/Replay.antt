@@ -1,5 +1,5 @@
 -- What was done to three lists since they were last known, and the history that follows from it.
-use Rattle.std.specs.Prelude.{ℕ, ◌+◌, Bool, true, false, if◌then◌else◌, List, [], ◌∷◌, ◌++◌, length, take}
+use Rattle.std.specs.Prelude.{ℕ, Bool, if◌then◌else◌, List, [], ◌∷◌, ◌++◌, length, take}
 use Rattle.ax_disk.specs.declared.extent.Extent.{Extent}
 use Rattle.ax_disk.specs.Image.{Image, list_of, with_list}
 use Rattle.ax_disk.specs.Pending.{Unsynced, MayLeave, all_settled, after_write, after_cut}

@@ -1,4 +1,4 @@
-use Rattle.std.proofs.Common.{◌≡◌, ◌+◌, ◌*◌, ◌≤◌, length, sym, ◌∙◌, ap, arith}
+use Rattle.std.proofs.Common.{length, ◌∙◌, ap, arith}
 use Rattle.ax_disk.specs.Gated.{recovered}
 use Rattle.ax_disk.proofs.GatedSteps.{length-at_rest, write_elapses, sync_elapses, gate_within, gate_elapses, end_elapses, acknowledged}
 use Rattle.ax_disk.proofs.client.append.Goals as goal

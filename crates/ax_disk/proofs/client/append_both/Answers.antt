@@ -1,4 +1,3 @@
-use Rattle.std.proofs.Common.{◌≡◌, ◌∙◌}
 use Rattle.ax_disk.proofs.GatedRuns.{first_progress, first_exit, both_progress, both_exit}
 use Rattle.ax_disk.proofs.client.append_both.Goals as goal
 

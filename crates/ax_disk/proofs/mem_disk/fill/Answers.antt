@@ -1,6 +1,4 @@
-use Rattle.std.proofs.Common.{◌≡◌, ◌+◌, ◌-◌, ◌≤◌, ◌++◌, min, length, take, drop, refl, sym, ◌∙◌, ap, subst, arith, length-append}
-use Rattle.std.proofs.Math.ListN.{replicate}
-use Rattle.std.proofs.lemmas.List.{length-take, length-drop}
+use Rattle.std.proofs.Common.{◌≡◌, ◌-◌, min, length, take, drop, ◌∙◌, ap, arith}
 use Rattle.ax_disk.proofs.Filled.{filled_buffer}
 use Rattle.ax_disk.proofs.mem_disk.fill.Goals as goal
 

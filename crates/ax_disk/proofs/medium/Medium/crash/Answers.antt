@@ -1,4 +1,4 @@
-use Rattle.std.proofs.Common.{◌≡◌, ◌+◌, ◌≤◌, max, if◌then◌else◌, Bool, true, false, refl, sym, ◌∙◌, ap, subst, arith}
+use Rattle.std.proofs.Common.{◌≤◌, max, if◌then◌else◌, Bool, true, false, ◌∙◌, ap, subst, arith}
 use Rattle.ax_disk.specs.Image.{Image}
 use Rattle.ax_disk.specs.Lists.{image_of, IsOfBytes, greatest_length}
 use Rattle.ax_disk.proofs.Recording.{recorded_anew}

@@ -1,5 +1,4 @@
-use Rattle.std.proofs.Common.{◌≡◌, ◌+◌, ◌≤◌, ◌<◌, ◌∷◌, ◌++◌, [], length, take, true, false, refl, sym, ◌∙◌, ap, subst, arith}
-use Rattle.ax_disk.specs.Image.{Image, list_of, with_list}
+use Rattle.std.proofs.Common.{◌∷◌, ◌++◌, [], refl, ◌∙◌, ap, arith}
 use Rattle.ax_disk.specs.Lists.{image_of, greatest_length}
 use Rattle.ax_disk.specs.CallLog.{deeds_in}
 use Rattle.ax_disk.specs.Replay.{cut}

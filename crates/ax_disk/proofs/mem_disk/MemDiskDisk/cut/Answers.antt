@@ -1,4 +1,4 @@
-use Rattle.std.proofs.Common.{◌≡◌, true, false, ◌∙◌, ap}
+use Rattle.std.proofs.Common.{true, false, ◌∙◌, ap}
 use Rattle.ax_disk.specs.Replay.{cut, with_deed}
 use Rattle.ax_disk.specs.MemDisk.{disk_account, disk_reads_may_stay}
 use Rattle.ax_disk.proofs.Effects.{cuts_done, cuts_failed}

@@ -1,4 +1,4 @@
-use Rattle.std.proofs.Common.{◌≡◌, ◌∙◌, ap}
+use Rattle.std.proofs.Common.{◌∙◌, ap}
 use Rattle.ax_disk.specs.Replay.{synced, with_deed}
 use Rattle.ax_disk.specs.MemDisk.{disk_account, disk_reads_may_stay}
 use Rattle.ax_disk.proofs.Effects.{syncs_done}

@@ -1,10 +1,9 @@
-use Rattle.std.proofs.Common.{◌≡◌, ◌≤◌, ◌/◌, length, take, ◌∙◌, ap, subst, sym, arith}
+use Rattle.std.proofs.Common.{◌≤◌, ◌/◌, length, take, ◌∙◌, ap, arith}
 use Rattle.std.proofs.lemmas.List.{length-take, get_or-take, take_all}
 use Rattle.ax_disk.specs.Pending.{AreBytes}
-use Rattle.ax_disk.specs.Image.{list_of}
-use Rattle.ax_disk.specs.Replay.{Account, wrote, with_deed, history_of}
+use Rattle.ax_disk.specs.Replay.{wrote, with_deed}
 use Rattle.ax_disk.specs.MemDisk.{disk_account, disk_reads_may_stay}
-use Rattle.ax_disk.proofs.Effects.{idles_same, writes_refused, writes_done, writes_failed}
+use Rattle.ax_disk.proofs.Effects.{writes_refused, writes_done, writes_failed}
 use Rattle.ax_disk.proofs.mem_disk.MemDiskDisk.write_at.Goals as goal
 
 pub returns-in-Refused-clause-lists : goal.returns-in-Refused-clause-lists
