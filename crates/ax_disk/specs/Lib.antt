@@ -2,7 +2,8 @@ pub mod Image
 pub mod Pending
 pub mod Moments
 pub mod Calls
-pub mod Dead
+pub mod CallLaws
+pub mod ExtentLaws
 pub mod DeadDisk
 pub mod PendingLaws
 pub mod MomentLaws

@@ -78,10 +78,12 @@ impl<D: Disk> Disk for FuseDisk<D> {
     fn attach(&mut self, name: &str) -> Result<(), DiskFailed>
         ensures attached { OnOk result (D.attached (inner_of self.new) ≡ D.store_named name.now) }
         ensures detached { OnErr result (D.attached (inner_of self.new) ≡ D.attached (inner_of self.old)) }
-        ensures lists { IsTrue (D.is_honest (inner_of self.old)) → (store : List ℕ) → Idles (D.history (inner_of self.old) store) (D.history (inner_of self.new) store) }
+        ensures lists { IsTrue (D.is_honest (inner_of self.old)) → (store : List ℕ)
+            → Idles (D.history (inner_of self.old) store) (D.history (inner_of self.new) store) }
         ensures cause { HasCause result (D.faults (inner_of self.old) + refusals self.old) (D.faults (inner_of self.new) + refusals self.new) }
         ensures honest { D.is_honest (inner_of self.new) ≡ D.is_honest (inner_of self.old) }
-        ensures passed { 0 < calls_left self.old → IsErr result → Rose (D.faults (inner_of self.old)) (D.faults (inner_of self.new)) }
+        ensures passed { 0 < calls_left self.old → IsErr result
+            → Rose (D.faults (inner_of self.old)) (D.faults (inner_of self.new)) }
         ensures blown { calls_left self.old ≡ 0 → IsErr result }
         ensures alone { calls_left self.old ≡ 0 → inner_of self.new ≡ inner_of self.old }
         ensures spent { calls_left self.new ≡ calls_left self.old - 1 }
@@ -91,13 +93,16 @@ impl<D: Disk> Disk for FuseDisk<D> {
     }
 
     fn len(&mut self, ext: Extent) -> Result<u64, DiskFailed>
-        ensures length { IsTrue (D.is_honest (inner_of self.old)) → IfOk result (λ n. n ≡ length (list_of ext (D.history (inner_of self.old) (D.attached (inner_of self.old))).reads)) }
+        ensures length { IsTrue (D.is_honest (inner_of self.old))
+            → IfOk result (λ n. n ≡ length (list_of ext (D.history (inner_of self.old) (D.attached (inner_of self.old))).reads)) }
         ensures limit { IfOk result (λ n. n ≤ 2 ^ 62) }
-        ensures lists { IsTrue (D.is_honest (inner_of self.old)) → Idles (D.history (inner_of self.old) (D.attached (inner_of self.old))) (D.history (inner_of self.new) (D.attached (inner_of self.new))) }
+        ensures lists { IsTrue (D.is_honest (inner_of self.old))
+            → Idles (D.history (inner_of self.old) (D.attached (inner_of self.old))) (D.history (inner_of self.new) (D.attached (inner_of self.new))) }
         ensures attached { D.attached (inner_of self.new) ≡ D.attached (inner_of self.old) }
         ensures cause { HasCause result (D.faults (inner_of self.old) + refusals self.old) (D.faults (inner_of self.new) + refusals self.new) }
         ensures honest { D.is_honest (inner_of self.new) ≡ D.is_honest (inner_of self.old) }
-        ensures passed { 0 < calls_left self.old → IsErr result → Rose (D.faults (inner_of self.old)) (D.faults (inner_of self.new)) }
+        ensures passed { 0 < calls_left self.old → IsErr result
+            → Rose (D.faults (inner_of self.old)) (D.faults (inner_of self.new)) }
         ensures blown { calls_left self.old ≡ 0 → IsErr result }
         ensures alone { calls_left self.old ≡ 0 → inner_of self.new ≡ inner_of self.old }
         ensures spent { calls_left self.new ≡ calls_left self.old - 1 }
@@ -107,12 +112,15 @@ impl<D: Disk> Disk for FuseDisk<D> {
     }
 
     fn read(&mut self, ext: Extent, at: u64, buf: &mut [u8]) -> Result<(), DiskFailed>
-        ensures bytes { IsTrue (D.is_honest (inner_of self.old)) → OnOk result (buf.new ≡ bytes_from (list_of ext (D.history (inner_of self.old) (D.attached (inner_of self.old))).reads) at (length buf.old)) }
-        ensures lists { IsTrue (D.is_honest (inner_of self.old)) → Idles (D.history (inner_of self.old) (D.attached (inner_of self.old))) (D.history (inner_of self.new) (D.attached (inner_of self.new))) }
+        ensures bytes { IsTrue (D.is_honest (inner_of self.old))
+            → OnOk result (buf.new ≡ bytes_from (list_of ext (D.history (inner_of self.old) (D.attached (inner_of self.old))).reads) at (length buf.old)) }
+        ensures lists { IsTrue (D.is_honest (inner_of self.old))
+            → Idles (D.history (inner_of self.old) (D.attached (inner_of self.old))) (D.history (inner_of self.new) (D.attached (inner_of self.new))) }
         ensures attached { D.attached (inner_of self.new) ≡ D.attached (inner_of self.old) }
         ensures cause { HasCause result (D.faults (inner_of self.old) + refusals self.old) (D.faults (inner_of self.new) + refusals self.new) }
         ensures honest { D.is_honest (inner_of self.new) ≡ D.is_honest (inner_of self.old) }
-        ensures passed { 0 < calls_left self.old → IsErr result → Rose (D.faults (inner_of self.old)) (D.faults (inner_of self.new)) }
+        ensures passed { 0 < calls_left self.old → IsErr result
+            → Rose (D.faults (inner_of self.old)) (D.faults (inner_of self.new)) }
         ensures blown { calls_left self.old ≡ 0 → IsErr result }
         ensures alone { calls_left self.old ≡ 0 → inner_of self.new ≡ inner_of self.old }
         ensures spent { calls_left self.new ≡ calls_left self.old - 1 }
@@ -122,14 +130,18 @@ impl<D: Disk> Disk for FuseDisk<D> {
     }
 
     fn write_at(&mut self, ext: Extent, at: u64, bytes: &[u8]) -> Result<(), DiskFailed>
-        requires { IsTrue (D.is_honest (inner_of self.old)) → at ≤ length (list_of ext (D.history (inner_of self.old) (D.attached (inner_of self.old))).reads) }
-        ensures lists { IsTrue (D.is_honest (inner_of self.old)) → Writes ext at bytes.now result (D.history (inner_of self.old) (D.attached (inner_of self.old))) (D.history (inner_of self.new) (D.attached (inner_of self.new))) }
+        requires { IsTrue (D.is_honest (inner_of self.old))
+            → at ≤ length (list_of ext (D.history (inner_of self.old) (D.attached (inner_of self.old))).reads) }
+        ensures lists { IsTrue (D.is_honest (inner_of self.old))
+            → Writes ext at bytes.now result (D.history (inner_of self.old) (D.attached (inner_of self.old))) (D.history (inner_of self.new) (D.attached (inner_of self.new))) }
         ensures limit { 2 ^ 62 < at + length bytes.now → IsErr result }
-        ensures unwritten { IsTrue (D.is_honest (inner_of self.old)) → 2 ^ 62 < at + length bytes.now → Idles (D.history (inner_of self.old) (D.attached (inner_of self.old))) (D.history (inner_of self.new) (D.attached (inner_of self.new))) }
+        ensures unwritten { IsTrue (D.is_honest (inner_of self.old)) → 2 ^ 62 < at + length bytes.now
+            → Idles (D.history (inner_of self.old) (D.attached (inner_of self.old))) (D.history (inner_of self.new) (D.attached (inner_of self.new))) }
         ensures attached { D.attached (inner_of self.new) ≡ D.attached (inner_of self.old) }
         ensures cause { HasCause result (D.faults (inner_of self.old) + refusals self.old) (D.faults (inner_of self.new) + refusals self.new) }
         ensures honest { D.is_honest (inner_of self.new) ≡ D.is_honest (inner_of self.old) }
-        ensures passed { 0 < calls_left self.old → IsErr result → Rose (D.faults (inner_of self.old)) (D.faults (inner_of self.new)) }
+        ensures passed { 0 < calls_left self.old → IsErr result
+            → Rose (D.faults (inner_of self.old)) (D.faults (inner_of self.new)) }
         ensures blown { calls_left self.old ≡ 0 → IsErr result }
         ensures alone { calls_left self.old ≡ 0 → inner_of self.new ≡ inner_of self.old }
         ensures spent { calls_left self.new ≡ calls_left self.old - 1 }
@@ -139,11 +151,13 @@ impl<D: Disk> Disk for FuseDisk<D> {
     }
 
     fn cut(&mut self, ext: Extent, len: u64) -> Result<(), DiskFailed>
-        ensures lists { IsTrue (D.is_honest (inner_of self.old)) → Cuts ext len result (D.history (inner_of self.old) (D.attached (inner_of self.old))) (D.history (inner_of self.new) (D.attached (inner_of self.new))) }
+        ensures lists { IsTrue (D.is_honest (inner_of self.old))
+            → Cuts ext len result (D.history (inner_of self.old) (D.attached (inner_of self.old))) (D.history (inner_of self.new) (D.attached (inner_of self.new))) }
         ensures attached { D.attached (inner_of self.new) ≡ D.attached (inner_of self.old) }
         ensures cause { HasCause result (D.faults (inner_of self.old) + refusals self.old) (D.faults (inner_of self.new) + refusals self.new) }
         ensures honest { D.is_honest (inner_of self.new) ≡ D.is_honest (inner_of self.old) }
-        ensures passed { 0 < calls_left self.old → IsErr result → Rose (D.faults (inner_of self.old)) (D.faults (inner_of self.new)) }
+        ensures passed { 0 < calls_left self.old → IsErr result
+            → Rose (D.faults (inner_of self.old)) (D.faults (inner_of self.new)) }
         ensures blown { calls_left self.old ≡ 0 → IsErr result }
         ensures alone { calls_left self.old ≡ 0 → inner_of self.new ≡ inner_of self.old }
         ensures spent { calls_left self.new ≡ calls_left self.old - 1 }
@@ -153,11 +167,13 @@ impl<D: Disk> Disk for FuseDisk<D> {
     }
 
     fn sync(&mut self) -> Result<(), DiskFailed>
-        ensures lists { IsTrue (D.is_honest (inner_of self.old)) → Syncs result (D.history (inner_of self.old) (D.attached (inner_of self.old))) (D.history (inner_of self.new) (D.attached (inner_of self.new))) }
+        ensures lists { IsTrue (D.is_honest (inner_of self.old))
+            → Syncs result (D.history (inner_of self.old) (D.attached (inner_of self.old))) (D.history (inner_of self.new) (D.attached (inner_of self.new))) }
         ensures attached { D.attached (inner_of self.new) ≡ D.attached (inner_of self.old) }
         ensures cause { HasCause result (D.faults (inner_of self.old) + refusals self.old) (D.faults (inner_of self.new) + refusals self.new) }
         ensures honest { D.is_honest (inner_of self.new) ≡ D.is_honest (inner_of self.old) }
-        ensures passed { 0 < calls_left self.old → IsErr result → Rose (D.faults (inner_of self.old)) (D.faults (inner_of self.new)) }
+        ensures passed { 0 < calls_left self.old → IsErr result
+            → Rose (D.faults (inner_of self.old)) (D.faults (inner_of self.new)) }
         ensures blown { calls_left self.old ≡ 0 → IsErr result }
         ensures alone { calls_left self.old ≡ 0 → inner_of self.new ≡ inner_of self.old }
         ensures spent { calls_left self.new ≡ calls_left self.old - 1 }

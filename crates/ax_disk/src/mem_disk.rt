@@ -175,7 +175,8 @@ impl Disk for MemDisk {
         ensures limit { IfOk result (λ n. n ≤ 2 ^ 62) }
         ensures lists { Idles (disk_history self.old) (disk_history self.new) }
         ensures cause { HasCause result (disk_faults self.old) (disk_faults self.new) }
-        ensures succeeds { Allows 0 (budget_of self.old) → length (list_of ext (disk_history self.old).reads) ≤ 2 ^ 62 → IsOk result }
+        ensures succeeds { Allows 0 (budget_of self.old)
+            → length (list_of ext (disk_history self.old).reads) ≤ 2 ^ 62 → IsOk result }
         ensures fails { IsTrue (fails_next (budget_of self.old)) → IsErr result }
         ensures budget { Spends 0 (budget_of self.old) (budget_of self.new) }
         ensures reads { counted_reads self.new ≡ counted_reads self.old }
@@ -212,9 +213,11 @@ impl Disk for MemDisk {
         ensures half { OnErr result ((disk_account self.new ≡ disk_account self.old)
             ⊎ (disk_account self.new ≡ with_deed (wrote ext at (length bytes.now) (take (length bytes.now / 2) bytes.now)) (disk_account self.old))) }
         ensures limit { 2 ^ 62 < at + length bytes.now → IsErr result }
-        ensures unwritten { 2 ^ 62 < at + length bytes.now → Idles (disk_history self.old) (disk_history self.new) }
+        ensures unwritten { 2 ^ 62 < at + length bytes.now
+            → Idles (disk_history self.old) (disk_history self.new) }
         ensures cause { HasCause result (disk_faults self.old) (disk_faults self.new) }
-        ensures succeeds { Allows (length bytes.now) (budget_of self.old) → at + length bytes.now ≤ 2 ^ 62 → IsOk result }
+        ensures succeeds { Allows (length bytes.now) (budget_of self.old)
+            → at + length bytes.now ≤ 2 ^ 62 → IsOk result }
         ensures fails { IsTrue (fails_next (budget_of self.old)) → IsErr result }
         ensures budget { Spends (length bytes.now) (budget_of self.old) (budget_of self.new) }
         ensures reads { counted_reads self.new ≡ counted_reads self.old }
