@@ -1,8 +1,8 @@
 -- What each call of a disk does to the lists of the store that it acts on, and when it may fail.
 -- Source: as `Pending` and `Moments`; a place past the end of a list reads as 0, and a failed call may stop anywhere on its way.
-use Rattle.std.specs.Prelude.{◌≡◌, ◌⊎◌, ℕ, ◌+◌, ◌-◌, ◌^◌, ◌<◌, ◌≤◌, min, List, ◌++◌, length, take, drop, replicate, Result, IsErr, OnOk, OnErr}
+use Rattle.std.specs.Prelude.{◌≡◌, ◌⊎◌, ℕ, ◌+◌, ◌-◌, ◌^◌, ◌≤◌, min, List, ◌++◌, length, take, drop, replicate, Result, IsErr, OnOk, OnErr}
 use Rattle.ax_disk.specs.declared.extent.Extent.{Extent}
-use Rattle.ax_disk.specs.Image.{Image, list_of, with_list}
+use Rattle.ax_disk.specs.Image.{list_of, with_list}
 use Rattle.ax_disk.specs.Pending.{MayLeave, all_settled, after_write, after_cut}
 use Rattle.ax_disk.specs.Moments.{History, Elapses}
 

@@ -26,3 +26,12 @@ pub record Elapses (old new : History) (P : ℕ → Image → Type 0) : Type 0 w
 -- the images of the current moment are those that a crash now may leave
 abbrev pub IsCurrent : History → Type 0
 IsCurrent history = (image : Image) → history.left_at history.moment image ↔ MayLeave history.unsynced image
+
+-- The same, where the moments go through stages, one for each, that run from `first` to `last` and never fall.
+-- `P n` is what an image has that a crash at a moment of stage n might have left.
+pub record Progresses (old new : History) (first last : ℕ) (P : ℕ → Image → Type 0) : Type 0 where
+  pub stage : ℕ → ℕ
+  pub from_first : (t : ℕ) → first ≤ stage t
+  pub to_last : (t : ℕ) → stage t ≤ last
+  pub never_falls : (s t : ℕ) → s ≤ t → stage s ≤ stage t
+  pub each : Elapses old new (λ t image. P (stage t) image)

@@ -2,7 +2,7 @@
 -- What was done since is pending: a crash leaves any length that the list had on the way, and any bytes where it was written.
 -- Source: the guarantees that SQLite's "Atomic Commit In SQLite" (sections 2 and 3) asks of a file: writes may be lost,
 -- torn or reordered until a sync, and bytes outside a written range stay.
-use Rattle.std.specs.Prelude.{◌≡◌, ◌⊎◌, ℕ, ◌+◌, ◌<◌, ◌≤◌, min, max, All, List, [], ◌∷◌, length, slice_index}
+use Rattle.std.specs.Prelude.{◌≡◌, ◌⊎◌, ℕ, ◌+◌, ◌<◌, ◌≤◌, min, max, List, [], ◌∷◌, length, slice_index}
 use Rattle.ax_disk.specs.declared.extent.Extent.{Extent}
 use Rattle.ax_disk.specs.declared.extent.Extent.TheVariants.{Root, A, B}
 use Rattle.ax_disk.specs.Image.{Image}
@@ -19,6 +19,10 @@ IsOutside i range = (i < range.at) ⊎ (range.at + range.size ≤ i)
 abbrev pub IsUntouched : ℕ → List Range → Type 0
 IsUntouched i [] = Unit {0}
 IsUntouched i (range ∷ ranges) = IsOutside i range × IsUntouched i ranges
+
+-- each is a byte
+abbrev pub AreBytes : List ℕ → Type 0
+AreBytes bytes = (i : ℕ) → i < length bytes → slice_index bytes i < 256
 
 -- what is pending of one list
 pub record Pending : Type 0 where
@@ -37,7 +41,7 @@ pub record MayHold (pending : Pending) (bytes : List ℕ) : Type 0 where
   pub no_longer : length bytes ≤ pending.greatest
   pub kept : (i : ℕ) → i < length pending.stable → i < length bytes → IsUntouched i pending.ranges
       → slice_index bytes i ≡ slice_index pending.stable i
-  pub fit : All (λ byte. byte < 256) bytes
+  pub fit : AreBytes bytes
 
 -- after a sync that succeeded
 abbrev pub settled : List ℕ → Pending

@@ -1,7 +1,6 @@
 //! A disk on which each call fails.
 ghost use Rattle.std.specs.Prelude.{◌≡◌, ◌+◌, ◌-◌, ◌^◌, ◌≤◌, min, false, [], IsErr};
 ghost use Rattle.std.proofs.lemmas.Bool.{false≢true};
-ghost use Rattle.ax_disk.specs.Dead.{nothing_told};
 ghost use Rattle.ax_disk.specs.Calls.{HasCause};
 
 use crate::{Disk, DiskFailed, Extent};
@@ -31,7 +30,7 @@ impl DeadDisk {
 }
 
 impl Disk for DeadDisk {
-    ghost use Rattle.ax_disk.specs.DeadDisk.{dead_faults};
+    ghost use Rattle.ax_disk.specs.DeadDisk.{dead_faults, nothing_told};
 
     ghost faults = { λ disk. disk.faults };
 

@@ -35,15 +35,18 @@ pub trait Disk {
     fn attach(&mut self, name: &str) -> Result<(), DiskFailed>
         ensures attached { OnOk result (attached self.new ≡ store_named name.now) }
         ensures detached { OnErr result (attached self.new ≡ attached self.old) }
-        ensures lists { IsTrue (is_honest self.old) → (store : List ℕ) → Idles (history self.old store) (history self.new store) }
+        ensures lists { IsTrue (is_honest self.old) → (store : List ℕ)
+            → Idles (history self.old store) (history self.new store) }
         ensures cause { HasCause result (faults self.old) (faults self.new) }
         ensures honest { is_honest self.new ≡ is_honest self.old };
 
     /// The length of a list in bytes. One of more than 2^62 bytes is a failure.
     fn len(&mut self, ext: Extent) -> Result<u64, DiskFailed>
-        ensures length { IsTrue (is_honest self.old) → IfOk result (λ n. n ≡ length (list_of ext (history self.old (attached self.old)).reads)) }
+        ensures length { IsTrue (is_honest self.old)
+            → IfOk result (λ n. n ≡ length (list_of ext (history self.old (attached self.old)).reads)) }
         ensures limit { IfOk result (λ n. n ≤ 2 ^ 62) }
-        ensures lists { IsTrue (is_honest self.old) → Idles (history self.old (attached self.old)) (history self.new (attached self.old)) }
+        ensures lists { IsTrue (is_honest self.old)
+            → Idles (history self.old (attached self.old)) (history self.new (attached self.new)) }
         ensures attached { attached self.new ≡ attached self.old }
         ensures cause { HasCause result (faults self.old) (faults self.new) }
         ensures honest { is_honest self.new ≡ is_honest self.old };
@@ -51,38 +54,46 @@ pub trait Disk {
     /// Fills `buf` with the bytes at `at`. A place past the end reads as 0, which is no failure.
     /// After a failure `buf` may hold anything.
     fn read(&mut self, ext: Extent, at: u64, buf: &mut [u8]) -> Result<(), DiskFailed>
-        ensures bytes { IsTrue (is_honest self.old) → OnOk result (buf.new ≡ bytes_from (list_of ext (history self.old (attached self.old)).reads) at (length buf.old)) }
-        ensures lists { IsTrue (is_honest self.old) → Idles (history self.old (attached self.old)) (history self.new (attached self.old)) }
+        ensures bytes { IsTrue (is_honest self.old)
+            → OnOk result (buf.new ≡ bytes_from (list_of ext (history self.old (attached self.old)).reads) at (length buf.old)) }
+        ensures lists { IsTrue (is_honest self.old)
+            → Idles (history self.old (attached self.old)) (history self.new (attached self.new)) }
         ensures attached { attached self.new ≡ attached self.old }
         ensures cause { HasCause result (faults self.old) (faults self.new) }
         ensures honest { is_honest self.new ≡ is_honest self.old };
 
     /// Writes over what is there, and past the end. A write whose end would pass 2^62 fails, and writes nothing.
     fn write_at(&mut self, ext: Extent, at: u64, bytes: &[u8]) -> Result<(), DiskFailed>
-        requires { IsTrue (is_honest self.old) → at ≤ length (list_of ext (history self.old (attached self.old)).reads) }
-        ensures lists { IsTrue (is_honest self.old) → Writes ext at bytes.now result (history self.old (attached self.old)) (history self.new (attached self.old)) }
+        requires { IsTrue (is_honest self.old)
+            → at ≤ length (list_of ext (history self.old (attached self.old)).reads) }
+        ensures lists { IsTrue (is_honest self.old)
+            → Writes ext at bytes.now result (history self.old (attached self.old)) (history self.new (attached self.new)) }
         ensures limit { 2 ^ 62 < at + length bytes.now → IsErr result }
-        ensures unwritten { IsTrue (is_honest self.old) → 2 ^ 62 < at + length bytes.now → Idles (history self.old (attached self.old)) (history self.new (attached self.old)) }
+        ensures unwritten { IsTrue (is_honest self.old) → 2 ^ 62 < at + length bytes.now
+            → Idles (history self.old (attached self.old)) (history self.new (attached self.new)) }
         ensures attached { attached self.new ≡ attached self.old }
         ensures cause { HasCause result (faults self.old) (faults self.new) }
         ensures honest { is_honest self.new ≡ is_honest self.old };
 
     /// Shortens a list to `len` bytes. It does nothing to a shorter list.
     fn cut(&mut self, ext: Extent, len: u64) -> Result<(), DiskFailed>
-        ensures lists { IsTrue (is_honest self.old) → Cuts ext len result (history self.old (attached self.old)) (history self.new (attached self.old)) }
+        ensures lists { IsTrue (is_honest self.old)
+            → Cuts ext len result (history self.old (attached self.old)) (history self.new (attached self.new)) }
         ensures attached { attached self.new ≡ attached self.old }
         ensures cause { HasCause result (faults self.old) (faults self.new) }
         ensures honest { is_honest self.new ≡ is_honest self.old };
 
     /// Syncs all three lists. After it a crash leaves what a read gives.
     fn sync(&mut self) -> Result<(), DiskFailed>
-        ensures lists { IsTrue (is_honest self.old) → Syncs result (history self.old (attached self.old)) (history self.new (attached self.old)) }
+        ensures lists { IsTrue (is_honest self.old)
+            → Syncs result (history self.old (attached self.old)) (history self.new (attached self.new)) }
         ensures attached { attached self.new ≡ attached self.old }
         ensures cause { HasCause result (faults self.old) (faults self.new) }
         ensures honest { is_honest self.new ≡ is_honest self.old };
 
     /// An image as read is one of those that a crash now may leave.
-    ghost reads_may_stay: { (disk : Self) (store : List ℕ) → IsTrue (is_honest disk) → MayLeave (history disk store).unsynced (history disk store).reads };
+    ghost reads_may_stay: { (disk : Self) (store : List ℕ) → IsTrue (is_honest disk)
+        → MayLeave (history disk store).unsynced (history disk store).reads };
 
     /// The images of the current moment are those that a crash now may leave.
     ghost is_current: { (disk : Self) (store : List ℕ) → IsTrue (is_honest disk) → IsCurrent (history disk store) };

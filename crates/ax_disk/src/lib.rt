@@ -5,10 +5,26 @@
 //! wasn't written since is the one that a read gave then; after a sync that succeeded a crash leaves what a read gives.
 #![tactic(auto)]
 
+mod call_log;
+#[cfg(test)]
+mod client;
 mod dead;
+mod deed;
 mod disk;
 mod extent;
+mod fate;
+mod fuse_disk;
+mod lists;
+mod medium;
+mod mem_disk;
+mod memory;
 
 pub use dead::DeadDisk;
 pub use disk::{Disk, DiskFailed};
 pub use extent::Extent;
+pub use fuse_disk::FuseDisk;
+pub use mem_disk::MemDisk;
+pub use memory::Memory;
+
+#[cfg(test)]
+mod tests;

@@ -1,0 +1,6 @@
+mod Effects
+mod Filled
+mod GatedRuns
+mod GatedSteps
+mod Noted
+mod Recording

@@ -1,0 +1,13 @@
+use Rattle.std.proofs.Common.{true, false, ◌∙◌, ap}
+use Rattle.ax_disk.specs.Replay.{cut, with_deed}
+use Rattle.ax_disk.specs.MemDisk.{disk_account, disk_reads_may_stay}
+use Rattle.ax_disk.proofs.Effects.{cuts_done, cuts_failed}
+use Rattle.ax_disk.proofs.mem_disk.MemDiskDisk.cut.Goals as goal
+
+pub returns-in-Fails-clause-lists : goal.returns-in-Fails-clause-lists
+returns-in-Fails-clause-lists c =
+    cuts_failed c.args.ext c.args.len c.raise-in-Fails.result (disk_account c.args.self.now) _ (c.cut.ensures.account ∙ ap (with_deed (cut c.args.ext c.args.len false)) c.begin.ensures.lists) (disk_reads_may_stay c.args.self.now)
+
+pub returns-in-Done-clause-lists : goal.returns-in-Done-clause-lists
+returns-in-Done-clause-lists c =
+    cuts_done c.args.ext c.args.len (tt {0}) (disk_account c.args.self.now) _ (c.cut-in-Done.ensures.account ∙ ap (with_deed (cut c.args.ext c.args.len true)) c.begin.ensures.lists)

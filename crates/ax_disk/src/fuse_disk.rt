@@ -1,0 +1,184 @@
+//! A disk that passes so many calls on, and then fails each.
+ghost use Rattle.std.specs.Prelude.{◌≡◌, ◌+◌, ◌-◌, ◌^◌, ◌<◌, ◌≤◌, ◌↔◌, ℕ, List, length, IsTrue, IsErr, IfOk, OnOk, OnErr};
+ghost use Rattle.ax_disk.specs.Image.{list_of};
+ghost use Rattle.ax_disk.specs.Calls.{HasCause, Rose, Idles, Writes, Cuts, Syncs, bytes_from};
+
+use crate::{Disk, DiskFailed, Extent};
+
+/// Passes the first k calls on to the disk that it holds. It fails each later call, counts it, and leaves that disk alone.
+#[derive(Drop)]
+pub struct FuseDisk<D: Disk> {
+    inner: D,
+    left: u64,
+    refused: u64,
+}
+
+impl<D: Disk> FuseDisk<D> {
+    ghost use Rattle.ax_disk.specs.FuseDisk.{inner_of, calls_left, refusals};
+
+    /// A fuse that passes `k` calls on to `disk`.
+    pub fn make(disk: D, k: u64) -> FuseDisk<D>
+        ensures inner { inner_of result ≡ disk }
+        ensures left { calls_left result ≡ k }
+        ensures refusals { refusals result ≡ 0 }
+    {
+        FuseDisk {
+            inner: disk,
+            left: k,
+            refused: 0,
+        }
+    }
+
+    /// Gives the disk back.
+    pub fn into_inner(self) -> D
+        ensures { result ≡ inner_of self }
+    {
+        let FuseDisk {
+            inner,
+            left: _,
+            refused: _,
+        } = self;
+        inner
+    }
+}
+
+/// Takes one of the calls that are left, or fails and counts it.
+fn spend(left: &mut u64, refused: &mut u64) -> Result<(), DiskFailed>
+    ensures blown { IsErr result ↔ (left.old ≡ 0) }
+    ensures spent { left.new ≡ left.old - 1 }
+    ensures passed { OnOk result (refused.new ≡ refused.old) }
+    ensures rose { OnErr result (Rose refused.old refused.new) }
+    ensures never_falls { refused.old ≤ refused.new }
+{
+    if *left == 0 {
+        *refused = refused.saturating_add(1);
+        return Err(DiskFailed);
+    }
+    *left -= 1;
+    Ok(())
+}
+
+impl<D: Disk> Disk for FuseDisk<D> {
+    ghost use Rattle.ax_disk.specs.FuseDisk.{inner_of, calls_left, refusals};
+
+    ghost faults = { λ fuse. D.Disk.faults fuse.inner + fuse.refused };
+
+    ghost is_honest = { λ fuse. D.Disk.is_honest fuse.inner };
+
+    ghost store_named = { D.Disk.store_named };
+
+    ghost attached = { λ fuse. D.Disk.attached fuse.inner };
+
+    ghost history = { λ fuse. D.Disk.history fuse.inner };
+
+    ghost reads_may_stay = { λ fuse. D.Disk.reads_may_stay fuse.inner };
+
+    ghost is_current = { λ fuse. D.Disk.is_current fuse.inner };
+
+    fn attach(&mut self, name: &str) -> Result<(), DiskFailed>
+        ensures attached { OnOk result (D.attached (inner_of self.new) ≡ D.store_named name.now) }
+        ensures detached { OnErr result (D.attached (inner_of self.new) ≡ D.attached (inner_of self.old)) }
+        ensures lists { IsTrue (D.is_honest (inner_of self.old)) → (store : List ℕ)
+            → Idles (D.history (inner_of self.old) store) (D.history (inner_of self.new) store) }
+        ensures cause { HasCause result (D.faults (inner_of self.old) + refusals self.old) (D.faults (inner_of self.new) + refusals self.new) }
+        ensures honest { D.is_honest (inner_of self.new) ≡ D.is_honest (inner_of self.old) }
+        ensures passed { 0 < calls_left self.old → IsErr result
+            → Rose (D.faults (inner_of self.old)) (D.faults (inner_of self.new)) }
+        ensures blown { calls_left self.old ≡ 0 → IsErr result }
+        ensures alone { calls_left self.old ≡ 0 → inner_of self.new ≡ inner_of self.old }
+        ensures spent { calls_left self.new ≡ calls_left self.old - 1 }
+    {
+        spend(&mut self.left, &mut self.refused)?;
+        self.inner.attach(name)
+    }
+
+    fn len(&mut self, ext: Extent) -> Result<u64, DiskFailed>
+        ensures length { IsTrue (D.is_honest (inner_of self.old))
+            → IfOk result (λ n. n ≡ length (list_of ext (D.history (inner_of self.old) (D.attached (inner_of self.old))).reads)) }
+        ensures limit { IfOk result (λ n. n ≤ 2 ^ 62) }
+        ensures lists { IsTrue (D.is_honest (inner_of self.old))
+            → Idles (D.history (inner_of self.old) (D.attached (inner_of self.old))) (D.history (inner_of self.new) (D.attached (inner_of self.new))) }
+        ensures attached { D.attached (inner_of self.new) ≡ D.attached (inner_of self.old) }
+        ensures cause { HasCause result (D.faults (inner_of self.old) + refusals self.old) (D.faults (inner_of self.new) + refusals self.new) }
+        ensures honest { D.is_honest (inner_of self.new) ≡ D.is_honest (inner_of self.old) }
+        ensures passed { 0 < calls_left self.old → IsErr result
+            → Rose (D.faults (inner_of self.old)) (D.faults (inner_of self.new)) }
+        ensures blown { calls_left self.old ≡ 0 → IsErr result }
+        ensures alone { calls_left self.old ≡ 0 → inner_of self.new ≡ inner_of self.old }
+        ensures spent { calls_left self.new ≡ calls_left self.old - 1 }
+    {
+        spend(&mut self.left, &mut self.refused)?;
+        self.inner.len(ext)
+    }
+
+    fn read(&mut self, ext: Extent, at: u64, buf: &mut [u8]) -> Result<(), DiskFailed>
+        ensures bytes { IsTrue (D.is_honest (inner_of self.old))
+            → OnOk result (buf.new ≡ bytes_from (list_of ext (D.history (inner_of self.old) (D.attached (inner_of self.old))).reads) at (length buf.old)) }
+        ensures lists { IsTrue (D.is_honest (inner_of self.old))
+            → Idles (D.history (inner_of self.old) (D.attached (inner_of self.old))) (D.history (inner_of self.new) (D.attached (inner_of self.new))) }
+        ensures attached { D.attached (inner_of self.new) ≡ D.attached (inner_of self.old) }
+        ensures cause { HasCause result (D.faults (inner_of self.old) + refusals self.old) (D.faults (inner_of self.new) + refusals self.new) }
+        ensures honest { D.is_honest (inner_of self.new) ≡ D.is_honest (inner_of self.old) }
+        ensures passed { 0 < calls_left self.old → IsErr result
+            → Rose (D.faults (inner_of self.old)) (D.faults (inner_of self.new)) }
+        ensures blown { calls_left self.old ≡ 0 → IsErr result }
+        ensures alone { calls_left self.old ≡ 0 → inner_of self.new ≡ inner_of self.old }
+        ensures spent { calls_left self.new ≡ calls_left self.old - 1 }
+    {
+        spend(&mut self.left, &mut self.refused)?;
+        self.inner.read(ext, at, buf)
+    }
+
+    fn write_at(&mut self, ext: Extent, at: u64, bytes: &[u8]) -> Result<(), DiskFailed>
+        requires { IsTrue (D.is_honest (inner_of self.old))
+            → at ≤ length (list_of ext (D.history (inner_of self.old) (D.attached (inner_of self.old))).reads) }
+        ensures lists { IsTrue (D.is_honest (inner_of self.old))
+            → Writes ext at bytes.now result (D.history (inner_of self.old) (D.attached (inner_of self.old))) (D.history (inner_of self.new) (D.attached (inner_of self.new))) }
+        ensures limit { 2 ^ 62 < at + length bytes.now → IsErr result }
+        ensures unwritten { IsTrue (D.is_honest (inner_of self.old)) → 2 ^ 62 < at + length bytes.now
+            → Idles (D.history (inner_of self.old) (D.attached (inner_of self.old))) (D.history (inner_of self.new) (D.attached (inner_of self.new))) }
+        ensures attached { D.attached (inner_of self.new) ≡ D.attached (inner_of self.old) }
+        ensures cause { HasCause result (D.faults (inner_of self.old) + refusals self.old) (D.faults (inner_of self.new) + refusals self.new) }
+        ensures honest { D.is_honest (inner_of self.new) ≡ D.is_honest (inner_of self.old) }
+        ensures passed { 0 < calls_left self.old → IsErr result
+            → Rose (D.faults (inner_of self.old)) (D.faults (inner_of self.new)) }
+        ensures blown { calls_left self.old ≡ 0 → IsErr result }
+        ensures alone { calls_left self.old ≡ 0 → inner_of self.new ≡ inner_of self.old }
+        ensures spent { calls_left self.new ≡ calls_left self.old - 1 }
+    {
+        spend(&mut self.left, &mut self.refused)?;
+        self.inner.write_at(ext, at, bytes)
+    }
+
+    fn cut(&mut self, ext: Extent, len: u64) -> Result<(), DiskFailed>
+        ensures lists { IsTrue (D.is_honest (inner_of self.old))
+            → Cuts ext len result (D.history (inner_of self.old) (D.attached (inner_of self.old))) (D.history (inner_of self.new) (D.attached (inner_of self.new))) }
+        ensures attached { D.attached (inner_of self.new) ≡ D.attached (inner_of self.old) }
+        ensures cause { HasCause result (D.faults (inner_of self.old) + refusals self.old) (D.faults (inner_of self.new) + refusals self.new) }
+        ensures honest { D.is_honest (inner_of self.new) ≡ D.is_honest (inner_of self.old) }
+        ensures passed { 0 < calls_left self.old → IsErr result
+            → Rose (D.faults (inner_of self.old)) (D.faults (inner_of self.new)) }
+        ensures blown { calls_left self.old ≡ 0 → IsErr result }
+        ensures alone { calls_left self.old ≡ 0 → inner_of self.new ≡ inner_of self.old }
+        ensures spent { calls_left self.new ≡ calls_left self.old - 1 }
+    {
+        spend(&mut self.left, &mut self.refused)?;
+        self.inner.cut(ext, len)
+    }
+
+    fn sync(&mut self) -> Result<(), DiskFailed>
+        ensures lists { IsTrue (D.is_honest (inner_of self.old))
+            → Syncs result (D.history (inner_of self.old) (D.attached (inner_of self.old))) (D.history (inner_of self.new) (D.attached (inner_of self.new))) }
+        ensures attached { D.attached (inner_of self.new) ≡ D.attached (inner_of self.old) }
+        ensures cause { HasCause result (D.faults (inner_of self.old) + refusals self.old) (D.faults (inner_of self.new) + refusals self.new) }
+        ensures honest { D.is_honest (inner_of self.new) ≡ D.is_honest (inner_of self.old) }
+        ensures passed { 0 < calls_left self.old → IsErr result
+            → Rose (D.faults (inner_of self.old)) (D.faults (inner_of self.new)) }
+        ensures blown { calls_left self.old ≡ 0 → IsErr result }
+        ensures alone { calls_left self.old ≡ 0 → inner_of self.new ≡ inner_of self.old }
+        ensures spent { calls_left self.new ≡ calls_left self.old - 1 }
+    {
+        spend(&mut self.left, &mut self.refused)?;
+        self.inner.sync()
+    }
+}
