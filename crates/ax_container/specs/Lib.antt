@@ -1,2 +1,3 @@
 pub mod Container
+pub mod ContainerCode
 pub mod Upsert

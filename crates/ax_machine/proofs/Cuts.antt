@@ -1,5 +1,5 @@
 -- Bytes cut into lines: what more bytes do to the lines, that there is a cut, and that it is the one.
-use Rattle.std.proofs.Common.{◌≡◌, ℕ, List, [], ◌∷◌, ◌++◌, Bool, true, false, true≢false, ◌||◌, ◌==◌, refl, sym, ap, ◌∙◌, subst, append_assoc, append-nil, eqb-true}
+use Rattle.std.proofs.Common.{◌≡◌, ℕ, List, [], ◌∷◌, ◌++◌, Bool, true, false, true≢false, ◌||◌, ◌==◌, refl, sym, ap, ◌∙◌, append_assoc, append-nil, eqb-true}
 use Rattle.std.specs.List.{flat_map, list_any, AllByRecursion}
 use Rattle.std.proofs.lemmas.Grind.{flat_map-append}
 use Rattle.ax_machine.specs.Replies.{newline, closed}

@@ -1,5 +1,5 @@
 -- A test that holds at no place of a list fails at each element.
-use Rattle.std.proofs.Common.{◌≡◌, ℕ, zero, suc, ◌+◌, ◌<◌, ◌≤◌, List, [], ◌∷◌, take, length, get_or, Bool, true, false, ◌||◌, refl, sym, ap, ◌∙◌, arith}
+use Rattle.std.proofs.Common.{◌≡◌, ℕ, zero, suc, ◌<◌, ◌≤◌, List, [], ◌∷◌, take, length, get_or, Bool, true, false, ◌||◌, refl, ap, ◌∙◌, arith}
 use Rattle.std.specs.List.{list_any}
 
 false_if_not_true : (b : Bool) → (b ≡ true → ⊥) → b ≡ false

@@ -1,11 +1,10 @@
 -- Runs of lines, one after another.
-use Rattle.std.proofs.Common.{◌≡◌, ℕ, List, [], ◌∷◌, ◌++◌, inl, inr, refl, sym, ap, ◌∙◌, subst, append_assoc, append-nil}
-use Rattle.std.specs.List.{flat_map}
+use Rattle.std.proofs.Common.{◌≡◌, ℕ, List, [], ◌∷◌, ◌++◌, inl, refl, sym, ◌∙◌, subst, append_assoc, append-nil}
 use Rattle.std.proofs.lemmas.Grind.{flat_map-append}
 use Rattle.ax_container.specs.Container.{Container}
 use Rattle.ax_machine.specs.Step.{Reply, step}
 use Rattle.ax_machine.specs.Replies.{reply_text}
-use Rattle.ax_machine.specs.Run.{Serves, Run, replies_text, RunsTo, RunsThrough}
+use Rattle.ax_machine.specs.Run.{Serves, Run, RunsTo, RunsThrough}
 
 pub Run-append : (a b c : Container) (lines more : List (List ℕ)) (replies others : List Reply) → Run a lines replies b → Run b more others c → Run a (lines ++ more) (replies ++ others) c
 Run-append a b c [] more [] others first second = subst (λ x. Run x more others c) first second

@@ -3,7 +3,7 @@ use Rattle.std.proofs.Common.{◌≡◌, ℕ, List, Option, Some, None, Result, 
 use Rattle.ax_mean.specs.declared.tree.Tree.{Tree}
 use Rattle.ax_mean.specs.Document.{document_id}
 use Rattle.ax_container.specs.Container.{Container, IsSound}
-use Rattle.ax_container.specs.Upsert.{upserted, upserted_by}
+use Rattle.ax_container.specs.Upsert.{upserted_by}
 use Rattle.ax_container.proofs.Upserts.{upsert_keeps_soundness}
 use Rattle.ax_lines.specs.declared.line.Line.{Line}
 use Rattle.ax_lines.specs.declared.line.Line.TheVariants as line

@@ -1,6 +1,6 @@
 -- The lines of a script: its bytes are cut at each newline. What follows the last newline is a line,
 -- too, unless it is empty.
-use Rattle.std.specs.Prelude.{◌≡◌, ℕ, List, [], ◌∷◌, ◌++◌, Bool, false, ◌==◌}
+use Rattle.std.specs.Prelude.{◌≡◌, ℕ, List, [], ◌∷◌, ◌++◌, false, ◌==◌}
 use Rattle.std.specs.List.{flat_map, list_any, AllByRecursion}
 use Rattle.ax_machine.specs.Replies.{newline, closed}
 

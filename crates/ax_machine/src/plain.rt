@@ -20,13 +20,12 @@ pub struct PlainMachine {
 }
 
 impl Model for PlainMachine {
-    ghost use Rattle.std.specs.Coded.{codes};
-    ghost use Rattle.ax_mean.specs.contracts.tree.Tree as tree;
     ghost use Rattle.ax_container.specs.Container.{Container};
+    ghost use Rattle.ax_container.specs.ContainerCode.{container_code};
 
     ghost Value = { Container };
 
-    ghost coded = { Prim.hlevel (codes, tree.the_row.coded) };
+    ghost coded = { container_code };
 
     ghost view = { λ machine. record { entries = machine.entries.items; next_number = machine.next_number } };
 }

@@ -1,19 +1,17 @@
 -- How a run goes on, and how it ends, from what its parts leave.
-use Rattle.std.proofs.Common.{◌≡◌, ◌==◌, true, false, true≢false, ℕ, ◌+◌, ◌^◌, ◌<◌, ◌≤◌, ◌⊎◌, List, [], ◌∷◌, ◌++◌, length, Option, Result, Ok, Err, OnOk, OnErr, inl, inr, refl, sym, ap, ◌∙◌, subst, ◌↔◌, append_assoc, append-nil, length-append, take, drop, take-append-drop, arith}
+use Rattle.std.proofs.Common.{◌≡◌, ◌==◌, false, true≢false, ℕ, ◌+◌, ◌<◌, ◌≤◌, ◌⊎◌, List, [], ◌∷◌, ◌++◌, length, Option, Result, Ok, Err, OnOk, OnErr, inl, inr, refl, sym, ap, ◌∙◌, subst, ◌↔◌, append_assoc, append-nil, length-append, take, drop, take-append-drop, arith}
 use Rattle.std.specs.Io.KnownBytes.{Consumes, Appends, Keeps, IsAtEnd}
 use Rattle.std.proofs.KnownBytes.{Consumes-nil, Consumes-trans, Consumes-kept, Appends-nil, Appends-trans}
-use Rattle.ax_base.specs.Bytes.{AppendsFront}
 use Rattle.ax_container.specs.Container.{Container, fresh}
-use Rattle.ax_machine.specs.Step.{Reply}
-use Rattle.ax_machine.specs.Replies.{closed, reply_text, out_of_memory}
-use Rattle.ax_machine.specs.Run.{Serves, RunsTo, RunsThrough}
-use Rattle.ax_machine.specs.ScriptLines.{IsOneLine, AreLines, last_line}
+use Rattle.ax_machine.specs.Replies.{closed, reply_text}
+use Rattle.ax_machine.specs.Run.{RunsTo, RunsThrough}
+use Rattle.ax_machine.specs.ScriptLines.{IsOneLine, last_line}
 use Rattle.ax_machine.proofs.Cuts.{IsOneLine-append, AreLines-more, AreLines-none, AreLines-one, there_are_lines}
 use Rattle.ax_machine.proofs.Runs.{RunsTo-nil, RunsTo-append, RunsTo-line, runs_to_somewhere, RunsThrough-from, RunsThrough-more, RunsThrough-after, RunsThrough-line}
 use Rattle.ax_script.specs.declared.status.Status.{Status}
 use Rattle.ax_script.specs.declared.status.Status.TheVariants as status
 use Rattle.ax_script.specs.Progress.{ServesWhole, ServesFront, ServesLines, BeginsLines, EndsLine, BeginsLast, Progress}
-use Rattle.ax_script.specs.Served.{most_input, IsWholeText, IsTextOfLines, IsFrontOfText, IsTextAt, IsEnded, Exchanged, Took}
+use Rattle.ax_script.specs.Served.{most_input, IsFrontOfText, IsTextAt, IsEnded, Exchanged, Took}
 
 pub OnOk-map : {T E P Q : Type 0} (r : Result T E) → (P → Q) → OnOk r P → OnOk r Q
 OnOk-map (Ok x) f p = f p

@@ -20,15 +20,12 @@ pub struct Documents {
 }
 
 impl Model for Documents {
-    ghost use Rattle.std.specs.Prelude.{ℕ, List, refl};
-    ghost use Rattle.std.specs.Coded.{code_by, coded×, coded_list, coded_ℕ};
-    ghost use Rattle.ax_container.specs.declared.entry.Entry.{Entry};
-    ghost use Rattle.ax_container.specs.contracts.entry.Entry as entry;
     ghost use Rattle.ax_container.specs.Container.{Container};
+    ghost use Rattle.ax_container.specs.ContainerCode.{container_code};
 
     ghost Value = { Container };
 
-    ghost coded = { code_by (List Entry × ℕ) (coded× (coded_list entry.the_row.coded) coded_ℕ) (λ c. (c.entries, c.next_number)) (λ p. record { entries = p.0; next_number = p.1 }) (λ _. refl) };
+    ghost coded = { container_code };
 
     ghost use Rattle.ax_script.specs.Documents.{held, IsIndexed};
 

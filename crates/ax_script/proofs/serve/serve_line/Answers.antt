@@ -1,5 +1,5 @@
 -- Out of memory is a reply of its own, and changes nothing.
-use Rattle.std.proofs.Common.{refl, inr, OnOk, OnErr, subst}
+use Rattle.std.proofs.Common.{refl, inr, subst}
 use Rattle.std.specs.Io.KnownBytes.{Appends}
 use Rattle.ax_base.specs.Bytes.{AppendsFront}
 use Rattle.ax_machine.specs.Replies.{out_of_memory}

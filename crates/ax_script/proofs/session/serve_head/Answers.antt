@@ -1,5 +1,5 @@
 -- The line is what was pending and the head.
-use Rattle.std.proofs.Common.{◌≡◌, ◌++◌, [], ◌∙◌, sym, subst}
+use Rattle.std.proofs.Common.{◌≡◌, ◌++◌, ◌∙◌, sym, subst}
 use Rattle.ax_machine.specs.Replies.{closed}
 use Rattle.ax_script.specs.Progress.{ServesWhole, ServesFront, ServesLines}
 use Rattle.ax_script.proofs.Endings.{begins_with_nothing, serves_line, begins_line}

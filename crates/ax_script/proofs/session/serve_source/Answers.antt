@@ -1,5 +1,5 @@
 -- Each way to end, from how far the run has come.
-use Rattle.std.proofs.Common.{◌≡◌, ℕ, List, [], take, length, sym, subst, arith}
+use Rattle.std.proofs.Common.{ℕ, List, [], take, sym, subst, arith}
 use Rattle.std.specs.Io.KnownBytes.{Consumes}
 use Rattle.ax_container.specs.Container.{Container, fresh}
 use Rattle.ax_script.specs.Progress.{EndsLine, BeginsLast, Progress}

@@ -1,7 +1,6 @@
 -- What was taken so far is served, but for a pending piece without a newline.
-use Rattle.std.proofs.Common.{◌≡◌, ℕ, ◌≤◌, ◌-◌, ◌^◌, length}
+use Rattle.std.proofs.Common.{◌≤◌, ◌-◌}
 use Rattle.ax_container.specs.Container.{fresh}
-use Rattle.ax_machine.specs.ScriptLines.{IsOneLine}
 use Rattle.ax_script.specs.Served.{most_input}
 use Rattle.ax_script.specs.Progress.{Progress}
 use Rattle.ax_script.proofs.session.serve_source.Given as goal
