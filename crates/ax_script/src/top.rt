@@ -1,4 +1,4 @@
-ghost use Rattle.std.specs.Prelude.{◌≡◌, ◌↔◌, ◌<◌, ◌≤◌, ◌⊎◌, true, false, length};
+ghost use Rattle.std.specs.Prelude.{◌≡◌, ◌≢◌, ◌↔◌, ◌<◌, ◌≤◌, ◌⊎◌, true, false, length};
 ghost use Rattle.ax_base.specs.Faults.{Rose};
 ghost use Rattle.ax_script.specs.Words.{is_run as is_run_lem};
 ghost use Rattle.ax_script.specs.Served.{Exchanged, Took, IsTextAt, most_input};
@@ -55,6 +55,23 @@ pub fn run<D: Disk, S: Source, K: Sink, L: Ledger>(
     if !is_run(words) {
         return Status::Words;
     }
+    serve(alloc, source, sink)
+}
+
+/// Serves the source over a store that begins empty.
+fn serve<S: Source, K: Sink>(alloc: Global, source: &mut S, sink: &mut K) -> Status
+    ensures text { Exchanged (S.rest source.old) (S.rest source.new) (K.written sink.old) (K.written sink.new)
+        (IsTextAt result (S.rest source.new)) }
+    ensures read_fault { result ≡ Status.ReadFault → Rose (S.faults source.old) (S.faults source.new) }
+    ensures write_fault { result ≡ Status.WriteFault → Rose (K.faults sink.old) (K.faults sink.new) }
+    ensures long { Took (S.rest source.old) (S.rest source.new) (λ taken. (result ≡ Status.Long) ↔ (most_input < length taken)) }
+    ensures complete { ¬ Rose (S.faults source.old) (S.faults source.new) → ¬ Rose (K.faults sink.old) (K.faults sink.new)
+        → Took (S.rest source.old) (S.rest source.new) (λ taken. length taken ≤ most_input
+        → (result ≡ Status.Done) ⊎ (result ≡ Status.Memory)) }
+    ensures source_faults { S.faults source.old ≤ S.faults source.new }
+    ensures sink_faults { K.faults sink.old ≤ K.faults sink.new }
+    ensures not_words { result ≢ Status.Words }
+{
     let Ok(mut buffer) = vec![in alloc; 0u8; PIECE] else {
         return Status::Memory;
     };
