@@ -2,8 +2,8 @@
 use Rattle.std.proofs.Common.{◌≡◌, ℕ, ◌+◌, ◌<◌, List, [], ◌∷◌, ◌++◌, map, Bool, true, false, true≢false, cond, Option, Some, None, option_map, IfSome, find, ◌||◌, refl, sym, ap, ◌∙◌, subst, arith}
 use Rattle.std.specs.List.{list_any}
 use Rattle.std.specs.Str.{bytes_eq}
-use Rattle.ax_mean.specs.declared.tree.Tree.{Tree}
-use Rattle.ax_mean.specs.Document.{document_id}
+use Rattle.ax_tree.specs.declared.tree.Tree.{Tree}
+use Rattle.ax_tree.specs.Document.{document_id}
 use Rattle.ax_container.specs.declared.entry.Entry.{Entry}
 use Rattle.ax_container.specs.Container.{Container, has_id, holds, entry_of, tree_of, NumbersRise, IdsAreDistinct, IdsAreTheirs, IsSound}
 use Rattle.ax_container.specs.Upsert.{with_tree, replaced, created, upserted, upserted_at, upserted_by}

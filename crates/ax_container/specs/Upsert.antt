@@ -1,8 +1,8 @@
 -- What an upsert does: it replaces the tree of the document of that id, which keeps its place and its
 -- number, or else creates a document behind all others under the next number.
 use Rattle.std.specs.Prelude.{ℕ, ◌+◌, List, [], ◌∷◌, ◌++◌, map, if◌then◌else◌, Option, Some, None}
-use Rattle.ax_mean.specs.declared.tree.Tree.{Tree}
-use Rattle.ax_mean.specs.Document.{document_id}
+use Rattle.ax_tree.specs.declared.tree.Tree.{Tree}
+use Rattle.ax_tree.specs.Document.{document_id}
 use Rattle.ax_container.specs.declared.entry.Entry.{Entry}
 use Rattle.ax_container.specs.Container.{Container, has_id, holds}
 

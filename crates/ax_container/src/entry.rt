@@ -1,4 +1,4 @@
-use ax_mean::{Text, Tree};
+use ax_tree::{Text, Tree};
 
 /// A document that is held: its number, which it keeps while it is replaced, its id and its tree.
 #[derive(Debug, Drop)]

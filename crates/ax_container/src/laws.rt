@@ -1,7 +1,7 @@
 ghost use Rattle.std.specs.Prelude.{◌≡◌, ℕ, List, Some, false, if◌then◌else◌, option_map, IfSome};
 ghost use Rattle.std.specs.Str.{bytes_eq};
-ghost use Rattle.ax_mean.specs.declared.tree.Tree.{Tree};
-ghost use Rattle.ax_mean.specs.Document.{document_id};
+ghost use Rattle.ax_tree.specs.declared.tree.Tree.{Tree};
+ghost use Rattle.ax_tree.specs.Document.{document_id};
 ghost use Rattle.ax_container.specs.Container.{Container, IsSound, fresh, entry_of, tree_of};
 ghost use Rattle.ax_container.specs.Upsert.{upserted};
 

@@ -4,9 +4,9 @@
 use Rattle.std.specs.Prelude.{ℕ, ◌-◌, List, length, take, drop, slice_index, Bool, false, ◌==◌, nat_le, if◌then◌else◌, Option, Some, None, is_some, Result, Ok, Err, codes}
 use Rattle.std.specs.Option.{option_map_or}
 use Rattle.std.specs.Str.{bytes_eq}
-use Rattle.ax_mean.specs.declared.tree.Tree.{Tree}
-use Rattle.ax_mean.specs.Nesting.{nesting}
-use Rattle.ax_mean.specs.Document.{text_member, document_id}
+use Rattle.ax_tree.specs.declared.tree.Tree.{Tree}
+use Rattle.ax_tree.specs.Nesting.{nesting}
+use Rattle.ax_tree.specs.Document.{text_member, document_id}
 use Rattle.ax_text.specs.Reading.{Reading, Stands, NotJson, NotWhole, reading}
 use Rattle.ax_lines.specs.declared.line.Line.{Line}
 use Rattle.ax_lines.specs.declared.line.Line.TheVariants as line

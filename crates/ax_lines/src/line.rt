@@ -1,5 +1,5 @@
 use crate::refusal::Refusal;
-use ax_mean::Tree;
+use ax_tree::Tree;
 
 /// What a line asks for.
 #[derive(Debug, Drop)]

@@ -5,7 +5,7 @@ ghost use Rattle.ax_lines.specs.Lines as spec;
 
 use crate::line::{Line, LineFault};
 use crate::refusal::Refusal;
-use ax_mean::{Tree, id_of};
+use ax_tree::{Tree, id_of};
 use ax_text::{TextFault, nesting, read_tree};
 use std::alloc::Global;
 

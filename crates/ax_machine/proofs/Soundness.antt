@@ -1,7 +1,7 @@
 -- A step keeps what holds of every container: only an upsert changes it, and only of a document.
 use Rattle.std.proofs.Common.{◌≡◌, ℕ, List, Option, Some, None, Result, Ok, Err, refl, subst}
-use Rattle.ax_mean.specs.declared.tree.Tree.{Tree}
-use Rattle.ax_mean.specs.Document.{document_id}
+use Rattle.ax_tree.specs.declared.tree.Tree.{Tree}
+use Rattle.ax_tree.specs.Document.{document_id}
 use Rattle.ax_container.specs.Container.{Container, IsSound}
 use Rattle.ax_container.specs.Upsert.{upserted_by}
 use Rattle.ax_container.proofs.Upserts.{upsert_keeps_soundness}

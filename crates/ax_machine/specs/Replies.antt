@@ -1,8 +1,8 @@
 -- The text of a reply: lines that each end with a newline. A row is the canonical text of a tree.
 use Rattle.std.specs.Prelude.{ℕ, List, [], ◌∷◌, ◌++◌, length, decimal, codes}
 use Rattle.std.specs.List.{flat_map}
-use Rattle.ax_mean.specs.declared.tree.Tree.{Tree}
-use Rattle.ax_mean.specs.CanonicalText.{canonical_text}
+use Rattle.ax_tree.specs.declared.tree.Tree.{Tree}
+use Rattle.ax_tree.specs.CanonicalText.{canonical_text}
 use Rattle.ax_lines.specs.declared.refusal.Refusal.{Refusal}
 use Rattle.ax_lines.specs.declared.refusal.Refusal.TheVariants as refusal
 use Rattle.ax_lines.specs.Refusals.{number_of, word_of}

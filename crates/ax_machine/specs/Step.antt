@@ -1,7 +1,7 @@
 -- The step of a script line: from what the store holds and the line's bytes to what it holds then and
 -- the reply. A refused line changes nothing.
 use Rattle.std.specs.Prelude.{ℕ, List, Result, Ok, Err}
-use Rattle.ax_mean.specs.declared.tree.Tree.{Tree}
+use Rattle.ax_tree.specs.declared.tree.Tree.{Tree}
 use Rattle.ax_container.specs.Container.{Container, trees}
 use Rattle.ax_container.specs.Upsert.{upserted}
 use Rattle.ax_lines.specs.declared.line.Line.{Line}

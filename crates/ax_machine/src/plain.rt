@@ -8,7 +8,7 @@ ghost use Rattle.ax_machine.specs.Replies.{reply_text};
 use crate::replies::{ok_text, refusal_text, rows_text};
 use ax_container::Entry;
 use ax_lines::{Line, LineFault, read_line};
-use ax_mean::{Memory, Text, Tree, id_of};
+use ax_tree::{Memory, Text, Tree, id_of};
 use std::alloc::Global;
 use std::marker::Model;
 

@@ -4,7 +4,7 @@ ghost use Rattle.ax_machine.specs.Replies.{reply_text, row_text, end_text, out_o
 
 use ax_container::Entry;
 use ax_lines::Refusal;
-use ax_mean::{Memory, Tree, write_tree};
+use ax_tree::{Memory, Tree, write_tree};
 use std::alloc::Global;
 
 /// The reply to a line that is not served because memory ran out. It takes none itself.

@@ -3,8 +3,8 @@ use Rattle.std.proofs.Common.{◌≡◌, ℕ, zero, suc, ◌+◌, ◌<◌, List,
 use Rattle.std.proofs.Math.ListN.{set}
 use Rattle.std.specs.List.{list_any}
 use Rattle.std.specs.Str.{bytes_eq}
-use Rattle.ax_mean.specs.declared.tree.Tree.{Tree}
-use Rattle.ax_mean.specs.Document.{document_id}
+use Rattle.ax_tree.specs.declared.tree.Tree.{Tree}
+use Rattle.ax_tree.specs.Document.{document_id}
 use Rattle.ax_container.specs.declared.entry.Entry.{Entry}
 use Rattle.ax_container.specs.Container.{Container, has_id, holds, IdsAreDistinct}
 use Rattle.ax_container.specs.Upsert.{with_tree, replaced, created, upserted}

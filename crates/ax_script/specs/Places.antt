@@ -2,7 +2,7 @@
 -- say so that a document is found by its id (a primary key, as in Azure Cosmos DB for NoSQL) without a
 -- walk of the list.
 use Rattle.std.specs.Prelude.{ℕ, zero, suc, ◌+◌, List, [], ◌∷◌, Option, Some, None, option_map, if◌then◌else◌}
-use Rattle.ax_mean.specs.declared.tree.Tree.{Tree}
+use Rattle.ax_tree.specs.declared.tree.Tree.{Tree}
 use Rattle.ax_container.specs.declared.entry.Entry.{Entry}
 use Rattle.ax_container.specs.Container.{has_id}
 

@@ -5,7 +5,7 @@ ghost use Rattle.ax_container.specs.Upsert.{replaced, created, upserted};
 ghost use Rattle.ax_script.specs.Places.{place_of, with_tree_at};
 
 use ax_container::Entry;
-use ax_mean::{Memory, Text, Tree, id_of};
+use ax_tree::{Memory, Text, Tree, id_of};
 use std::alloc::Global;
 use std::collections::BTreeMap;
 use std::marker::Model;

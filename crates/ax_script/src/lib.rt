@@ -2,7 +2,7 @@
 //! reply per line to a sink.
 //!
 //! Stands on `ax_machine`, whose definitions say what a script means, on `ax_base` and `ax_disk` for
-//! the outside, and on `ax_lines`, `ax_container` and `ax_mean`. Its one contract stands on `run`:
+//! the outside, and on `ax_lines`, `ax_container` and `ax_tree`. Its one contract stands on `run`:
 //! what was written is the text of a run of the lines that were read, and each status has its cause.
 #![tactic(auto)]
 

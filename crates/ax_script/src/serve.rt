@@ -8,7 +8,7 @@ use crate::documents::Documents;
 use ax_base::{Failed, Sink, write_all};
 use ax_lines::{Line, LineFault, read_line};
 use ax_machine::{ok_text, out_of_memory_text, refusal_text, rows_text};
-use ax_mean::Memory;
+use ax_tree::Memory;
 use std::alloc::Global;
 
 /// The text of a line's reply, and the line's change to the documents; or out of memory, with no

@@ -3,8 +3,8 @@ use Rattle.std.proofs.Common.{◌≡◌, ℕ, ℤ, suc, List, ◌∷◌, map, ma
 use Rattle.std.specs.Option.{IfSome}
 use Rattle.serde_json.specs.Data as serde
 use Rattle.serde_json.specs.Find.{as_i64}
-use Rattle.ax_mean.specs.Nesting.{nesting, greatest}
-use Rattle.ax_mean.specs.declared.tree.Tree as tree
+use Rattle.ax_tree.specs.Nesting.{nesting, greatest}
+use Rattle.ax_tree.specs.declared.tree.Tree as tree
 use Rattle.ax_text.specs.TreeOf.{both, named, tree_of, items_of, members_of}
 use Rattle.ax_text.proofs.Levels.{deepest, nesting-Null, nesting-Truth, nesting-Number, nesting-Text, nesting-List, nesting-Object}
 

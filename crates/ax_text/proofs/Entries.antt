@@ -4,7 +4,7 @@ use Rattle.std.specs.List.Sorted.{IsStrictlySortedBy}
 use Rattle.std.specs.Map.{keys_of}
 use Rattle.std.specs.Ordering.{is_lt}
 use Rattle.serde_json.specs.declared.value.Value.{Value}
-use Rattle.ax_mean.specs.Rising.{is_rising}
+use Rattle.ax_tree.specs.Rising.{is_rising}
 
 abbrev pub Entry : Type 0
 Entry = String Global × Value

@@ -3,11 +3,11 @@ use Rattle.std.proofs.Common.{rules, ◌≡◌, ◌∙◌, refl, ap, ap₂, ℕ,
 use Rattle.std.proofs.lemmas.Str.{is_utf8-from_IsUtf8, IsUtf8-string_bytes}
 use Rattle.std.specs.List.{list_all}
 use Rattle.std.specs.Str.{is_utf8}
-use Rattle.ax_mean.specs.Names.{names, HaveRisingNames}
-use Rattle.ax_mean.specs.Rising.{is_rising}
-use Rattle.ax_mean.specs.declared.members.Member.{Member}
-use Rattle.ax_mean.specs.declared.tree.Tree as tree
-use Rattle.ax_mean.specs.WellFormed.{is_of_64_bits, is_well_formed, IsWellFormed}
+use Rattle.ax_tree.specs.Names.{names, HaveRisingNames}
+use Rattle.ax_tree.specs.Rising.{is_rising}
+use Rattle.ax_tree.specs.declared.members.Member.{Member}
+use Rattle.ax_tree.specs.declared.tree.Tree as tree
+use Rattle.ax_tree.specs.WellFormed.{is_of_64_bits, is_well_formed, IsWellFormed}
 
 -- a name beside whether the value is well formed
 abbrev judged : Member tree.Tree → Member Bool

@@ -6,10 +6,10 @@ use Rattle.std.specs.List.Sorted.{IsStrictlySortedBy}
 use Rattle.std.specs.Map.{keys_of}
 use Rattle.serde_json.specs.View.{view, items_view, members_view}
 use Rattle.serde_json.specs.declared.value.Value.{Value}
-use Rattle.ax_mean.specs.Names.{names, HaveRisingNames}
-use Rattle.ax_mean.specs.Rising.{is_rising}
-use Rattle.ax_mean.specs.declared.members.Member.{Member}
-use Rattle.ax_mean.specs.declared.tree.Tree.{Tree}
+use Rattle.ax_tree.specs.Names.{names, HaveRisingNames}
+use Rattle.ax_tree.specs.Rising.{is_rising}
+use Rattle.ax_tree.specs.declared.members.Member.{Member}
+use Rattle.ax_tree.specs.declared.tree.Tree.{Tree}
 use Rattle.ax_text.specs.TreeOf.{both, named, tree_of, items_of, members_of}
 use Rattle.ax_text.proofs.Entries.{Entry, entry_names, entry_names-rise}
 

@@ -1,8 +1,8 @@
 -- The nesting of a tree, one level at a time.
 use Rattle.std.proofs.Common.{rules, Bool, ◌≡◌, ◌∙◌, ap, ℕ, ℤ, ◌+◌, List, [], ◌∷◌, map, refl}
-use Rattle.ax_mean.specs.Nesting.{nesting, greatest}
-use Rattle.ax_mean.specs.declared.members.Member.{Member}
-use Rattle.ax_mean.specs.declared.tree.Tree as tree
+use Rattle.ax_tree.specs.Nesting.{nesting, greatest}
+use Rattle.ax_tree.specs.declared.members.Member.{Member}
+use Rattle.ax_tree.specs.declared.tree.Tree as tree
 
 -- a member, whose value is seen as its nesting
 abbrev nested : Member tree.Tree → Member ℕ

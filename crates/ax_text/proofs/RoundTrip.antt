@@ -8,25 +8,25 @@ use Rattle.serde_json.specs.Data as serde
 use Rattle.serde_json.specs.Read.{max_depth}
 use Rattle.serde_json.specs.View as view
 use Rattle.serde_json.specs.Written.{compact_text}
-use Rattle.ax_mean.specs.declared.members.Member.{Member}
-use Rattle.ax_mean.specs.declared.tree.Tree.{Tree}
-use Rattle.ax_mean.specs.declared.tree.Tree.TheOpen.{Tree-F}
-use Rattle.ax_mean.specs.declared.tree.Tree.TheViews.{roll-Tree}
-use Rattle.ax_mean.specs.declared.tree.Tree.TheFolds.{map-Tree, fold-roll-Tree, ind-Tree}
-use Rattle.ax_mean.specs.declared.tree.Tree.TheVariants.{rolls-Null, rolls-Truth, rolls-Number, rolls-Text, rolls-List, rolls-Object}
-use Rattle.ax_mean.specs.CanonicalText.{canonical_text}
-use Rattle.ax_mean.specs.Names.{names}
-use Rattle.ax_mean.specs.Nesting.{nesting}
-use Rattle.ax_mean.specs.Rising.{is_rising}
-use Rattle.ax_mean.specs.SerdeData.{data_step, data_of, data_members, member_data}
-use Rattle.ax_mean.specs.WellFormed.{well_formed_step, is_well_formed, IsWellFormed}
-use Rattle.ax_mean.proofs.SerdeLemmas.{is_written}
+use Rattle.ax_tree.specs.declared.members.Member.{Member}
+use Rattle.ax_tree.specs.declared.tree.Tree.{Tree}
+use Rattle.ax_tree.specs.declared.tree.Tree.TheOpen.{Tree-F}
+use Rattle.ax_tree.specs.declared.tree.Tree.TheViews.{roll-Tree}
+use Rattle.ax_tree.specs.declared.tree.Tree.TheFolds.{map-Tree, fold-roll-Tree, ind-Tree}
+use Rattle.ax_tree.specs.declared.tree.Tree.TheVariants.{rolls-Null, rolls-Truth, rolls-Number, rolls-Text, rolls-List, rolls-Object}
+use Rattle.ax_tree.specs.CanonicalText.{canonical_text}
+use Rattle.ax_tree.specs.Names.{names}
+use Rattle.ax_tree.specs.Nesting.{nesting}
+use Rattle.ax_tree.specs.Rising.{is_rising}
+use Rattle.ax_tree.specs.SerdeData.{data_step, data_of, data_members, member_data}
+use Rattle.ax_tree.specs.WellFormed.{well_formed_step, is_well_formed, IsWellFormed}
+use Rattle.ax_tree.proofs.SerdeLemmas.{is_written}
 use Rattle.ax_text.specs.Reading.{reading, Stands, of_tree}
 use Rattle.ax_text.specs.TreeOf.{both, named, tree_of, items_of, members_of}
 use Rattle.ax_text.proofs.DataDepth.{depth_of}
 use Rattle.ax_text.proofs.GoodData.{data_names, IsGood, AreGood, HasGoodMembers, utf8-text, read-text}
 use Rattle.ax_text.proofs.Readings.{reading-data}
-use Rattle.ax_mean.proofs.WholeNumbers.{reads_back, whole}
+use Rattle.ax_tree.proofs.WholeNumbers.{reads_back, whole}
 
 formed-roll : (x : Tree-F Tree) → is_well_formed (roll-Tree x) ≡ well_formed_step (map-Tree Tree Bool is_well_formed x)
 formed-roll = fold-roll-Tree Bool well_formed_step

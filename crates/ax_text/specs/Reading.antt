@@ -4,7 +4,7 @@ use Rattle.std.specs.Prelude.{ℕ, List, Option, Some, None, if◌then◌else◌
 use Rattle.std.specs.Str.{is_utf8}
 use Rattle.serde_json.specs.Data as serde
 use Rattle.serde_json.specs.Read.{read}
-use Rattle.ax_mean.specs.declared.tree.Tree.{Tree}
+use Rattle.ax_tree.specs.declared.tree.Tree.{Tree}
 use Rattle.ax_text.specs.TreeOf.{tree_of}
 
 pub data Reading : Type 0 where

@@ -3,8 +3,8 @@
 use Rattle.std.specs.Prelude.{ℕ, List, [], ◌∷◌, Option, Some, option_map, option_and_then}
 use Rattle.serde_json.specs.Data as serde
 use Rattle.serde_json.specs.Find.{as_i64}
-use Rattle.ax_mean.specs.declared.members.Member.{Member}
-use Rattle.ax_mean.specs.declared.tree.Tree as tree
+use Rattle.ax_tree.specs.declared.members.Member.{Member}
+use Rattle.ax_tree.specs.declared.tree.Tree as tree
 
 -- an item before the rest, where both are there
 abbrev pub both : {A : Type 0} → Option A → Option (List A) → Option (List A)

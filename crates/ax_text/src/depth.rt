@@ -1,7 +1,7 @@
 ghost use Rattle.std.specs.Prelude.{◌≡◌, ◌-◌, ◌^◌, map, min};
-ghost use Rattle.ax_mean.specs.Nesting.{nesting as nesting_of, greatest};
+ghost use Rattle.ax_tree.specs.Nesting.{nesting as nesting_of, greatest};
 
-use ax_mean::{Items, Members, Tree};
+use ax_tree::{Items, Members, Tree};
 
 /// How deep a tree nests: a scalar 0, a list or a map one more than the deepest of its children, so
 /// that an empty one nests 1; `u32::MAX` where it is more than that. Takes no memory.

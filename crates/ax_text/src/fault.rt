@@ -1,4 +1,4 @@
-use ax_mean::Memory;
+use ax_tree::Memory;
 use std::alloc::{AllocError, AllocFailed};
 
 /// Why bytes were not read as a tree.

@@ -1,9 +1,9 @@
 //! Laws of the definitions, each the contract of a function that does nothing.
 ghost use Rattle.std.specs.Prelude.{◌≡◌, ◌≤◌};
-ghost use Rattle.ax_mean.specs.declared.tree.Tree.{Tree};
-ghost use Rattle.ax_mean.specs.CanonicalText.{canonical_text};
-ghost use Rattle.ax_mean.specs.Nesting.{nesting as nesting_of};
-ghost use Rattle.ax_mean.specs.WellFormed.{IsWellFormed};
+ghost use Rattle.ax_tree.specs.declared.tree.Tree.{Tree};
+ghost use Rattle.ax_tree.specs.CanonicalText.{canonical_text};
+ghost use Rattle.ax_tree.specs.Nesting.{nesting as nesting_of};
+ghost use Rattle.ax_tree.specs.WellFormed.{IsWellFormed};
 ghost use Rattle.ax_text.specs.Reading.{reading, Stands};
 
 /// The canonical text of a well formed tree that nests at most 127 deep reads back as that tree.

@@ -1,6 +1,6 @@
 //! The reader of JSON texts: from bytes to a tree, with the two ways in which bytes are none.
 //!
-//! Stands on `serde_json`, which reads the value, and on `ax_mean`, whose trees it gives. Its one
+//! Stands on `serde_json`, which reads the value, and on `ax_tree`, whose trees it gives. Its one
 //! contract: `read_tree` answers exactly what the bytes are as a JSON text.
 #![tactic(auto)]
 

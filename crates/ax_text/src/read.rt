@@ -1,12 +1,12 @@
 ghost use Rattle.std.specs.Prelude.{◌≡◌, ◌≤◌, IfOk, IfErr, Some, None, string_bytes};
 ghost use Rattle.serde_json.specs.View.{view, items_view, members_view};
-ghost use Rattle.ax_mean.specs.Nesting.{nesting as nesting_of};
+ghost use Rattle.ax_tree.specs.Nesting.{nesting as nesting_of};
 ghost use Rattle.ax_text.specs.TreeOf.{tree_of, items_of, members_of};
-ghost use Rattle.ax_mean.specs.WellFormed.{IsWellFormed};
+ghost use Rattle.ax_tree.specs.WellFormed.{IsWellFormed};
 ghost use Rattle.ax_text.specs.Reading.{reading, Stands, NotJson, NotWhole};
 
 use crate::fault::TextFault;
-use ax_mean::{Items, Member, Members, Text, Tree};
+use ax_tree::{Items, Member, Members, Text, Tree};
 use serde_json::{Map, Value};
 use std::alloc::Global;
 

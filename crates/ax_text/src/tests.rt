@@ -1,5 +1,5 @@
 use super::*;
-use ax_mean::write_tree;
+use ax_tree::write_tree;
 use std::test::Fail;
 
 #[test]

@@ -1,7 +1,7 @@
 ghost use Rattle.std.specs.Prelude.{◌≡◌, IfOk};
 
 use crate::Documents;
-use ax_mean::{Member, Members, Memory, Text, Tree, write_tree};
+use ax_tree::{Member, Members, Memory, Text, Tree, write_tree};
 use std::alloc::Global;
 use std::test::Fail;
 

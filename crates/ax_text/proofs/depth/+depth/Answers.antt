@@ -1,6 +1,6 @@
 -- A map nests one more than the deepest of its values.
 use Rattle.std.proofs.Common.{◌≡◌, ◌∙◌, ap, ◌+◌, arith}
-use Rattle.ax_mean.specs.Nesting.{nesting}
+use Rattle.ax_tree.specs.Nesting.{nesting}
 use Rattle.ax_text.proofs.Levels.{deepest, nesting-Object}
 use Rattle.ax_text.proofs.depth.+depth.Goals as goal
 

@@ -4,10 +4,10 @@ use Rattle.std.proofs.lemmas.Str.{is_utf8-from_IsUtf8, IsUtf8-string_bytes}
 use Rattle.std.specs.Str.{is_utf8}
 use Rattle.std.specs.Vec.Iter.{into_iter_items}
 use Rattle.std.proofs.lemmas.Map.Iter.{rest_more}
-use Rattle.ax_mean.specs.declared.members.Member.{Member}
-use Rattle.ax_mean.specs.declared.tree.Tree as tree
-use Rattle.ax_mean.specs.declared.tree.Tree.{Tree}
-use Rattle.ax_mean.specs.WellFormed.{is_well_formed}
+use Rattle.ax_tree.specs.declared.members.Member.{Member}
+use Rattle.ax_tree.specs.declared.tree.Tree as tree
+use Rattle.ax_tree.specs.declared.tree.Tree.{Tree}
+use Rattle.ax_tree.specs.WellFormed.{is_well_formed}
 use Rattle.ax_text.proofs.Formed.{is_good_member, formed-List, all-more, object-formed}
 use Rattle.ax_text.proofs.Joined.{items-more, members-more, names-more, names-rise}
 use Rattle.ax_text.proofs.read.+read.Goals as goal

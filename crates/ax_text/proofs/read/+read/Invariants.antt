@@ -3,9 +3,9 @@ use Rattle.std.proofs.Common.{◌≡◌, ◌++◌, true}
 use Rattle.std.specs.List.{list_all}
 use Rattle.std.specs.Vec.Iter.{into_iter_items}
 use Rattle.serde_json.specs.View.{items_view, members_view}
-use Rattle.ax_mean.specs.Names.{names}
+use Rattle.ax_tree.specs.Names.{names}
 use Rattle.ax_text.specs.TreeOf.{items_of, members_of}
-use Rattle.ax_mean.specs.WellFormed.{is_well_formed}
+use Rattle.ax_tree.specs.WellFormed.{is_well_formed}
 use Rattle.ax_text.proofs.Entries.{entry_names}
 use Rattle.ax_text.proofs.Formed.{is_good_member}
 use Rattle.ax_text.proofs.Joined.{joined}

@@ -2,7 +2,7 @@
 use Rattle.std.proofs.Common.{◌≡◌, ◌≤◌, Some, ap, sym, ◌∙◌, true≢false}
 use Rattle.std.proofs.lemmas.Result.{IfOk-weaker}
 use Rattle.serde_json.specs.View.{view}
-use Rattle.ax_mean.specs.Nesting.{nesting}
+use Rattle.ax_tree.specs.Nesting.{nesting}
 use Rattle.ax_text.specs.Reading.{Stands, reading, of_tree}
 use Rattle.ax_text.specs.TreeOf.{tree_of}
 use Rattle.ax_text.proofs.DataDepth.{nesting_bound}

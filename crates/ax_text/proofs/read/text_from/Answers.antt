@@ -1,7 +1,7 @@
 -- The bytes of a `String` are UTF-8.
 use Rattle.std.proofs.Common.{◌∙◌, ap}
-use Rattle.ax_mean.specs.WellFormed.{is_well_formed}
-use Rattle.ax_mean.specs.declared.tree.Tree as tree
+use Rattle.ax_tree.specs.WellFormed.{is_well_formed}
+use Rattle.ax_tree.specs.declared.tree.Tree as tree
 use Rattle.ax_text.proofs.Formed.{text-formed}
 use Rattle.ax_text.proofs.read.text_from.Goals as goal
 

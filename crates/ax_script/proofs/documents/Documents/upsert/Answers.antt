@@ -1,5 +1,5 @@
 use Rattle.std.proofs.Common.{◌≡◌, Some, None, sym, ap, ◌∙◌}
-use Rattle.ax_mean.specs.Document.{document_id}
+use Rattle.ax_tree.specs.Document.{document_id}
 use Rattle.ax_script.specs.Places.{place_of}
 use Rattle.ax_script.proofs.Places.{upsert_replaces, upsert_creates, not_held}
 use Rattle.ax_script.proofs.documents.Documents.upsert.Goals as goal

@@ -1,6 +1,0 @@
--- The text determines its tokens, and those the tree.
-use Rattle.ax_mean.proofs.OneText.{one_text}
-use Rattle.ax_mean.proofs.laws.one_canonical_text.Goals as goal
-
-pub returns : goal.returns
-returns c = one_text
