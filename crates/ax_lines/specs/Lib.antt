@@ -1,3 +1,5 @@
 pub mod Answers
+pub mod Causes
 pub mod Lines
 pub mod Refusals
+pub mod ScriptLines

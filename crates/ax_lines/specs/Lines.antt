@@ -1,7 +1,7 @@
 -- What the bytes of a script line ask for, or the refusal of the line: a command word, one space, and
 -- the raw rest of the line as its argument, which may be empty. A carriage return at the end of the
--- line is dropped, and only one. The first refusal that holds is answered, in the order of the cases.
-use Rattle.std.specs.Prelude.{ℕ, ◌-◌, List, length, take, drop, slice_index, Bool, false, ◌==◌, nat_le, if◌then◌else◌, Option, Some, None, is_some, Result, Ok, Err, codes}
+-- line is dropped, and only one. For each form a table of causes says when it is refused.
+use Rattle.std.specs.Prelude.{ℕ, ◌-◌, List, [], ◌∷◌, length, take, drop, slice_index, Bool, false, not, ◌==◌, nat_lt, if◌then◌else◌, Option, Some, None, is_some, Result, Err, codes}
 use Rattle.std.specs.Option.{option_map_or}
 use Rattle.std.specs.Str.{bytes_eq}
 use Rattle.ax_tree.specs.declared.tree.Tree.{Tree}
@@ -12,6 +12,7 @@ use Rattle.ax_lines.specs.declared.line.Line.{Line}
 use Rattle.ax_lines.specs.declared.line.Line.TheVariants as line
 use Rattle.ax_lines.specs.declared.refusal.Refusal.{Refusal}
 use Rattle.ax_lines.specs.declared.refusal.Refusal.TheVariants as refusal
+use Rattle.ax_lines.specs.Causes.{Cause, unless}
 
 abbrev pub carriage_return : ℕ
 carriage_return = 13
@@ -20,23 +21,38 @@ carriage_return = 13
 abbrev pub without_return : List ℕ → List ℕ
 without_return bytes = if slice_index bytes (length bytes - 1) == carriage_return then take (length bytes - 1) bytes else bytes
 
--- what follows this word and its space at the front of a line
+-- ---- the forms of a line
+
+-- a form, with its argument
+pub data Form : Type 0 where
+  Upsert : List ℕ → Form
+  Query : List ℕ → Form
+
+-- what follows this word and its space at the beginning of a line
 abbrev pub argument : List ℕ → List ℕ → Option (List ℕ)
 argument word bytes = if bytes_eq (take (length word) bytes) word then Some (drop (length word) bytes) else None
 
--- the tree that a text is, where it nests at most 100
-abbrev pub shallow_tree : Reading → Result Tree Refusal
-shallow_tree (Stands tree) = if nat_le (nesting tree) 100 then Ok tree else Err refusal.Json
-shallow_tree NotJson = Err refusal.Json
-shallow_tree NotWhole = Err refusal.Json
+-- the form, where the argument is there, else what other forms give
+abbrev pub in_form : (List ℕ → Form) → Option (List ℕ) → Option Form → Option Form
+in_form form (Some text) other = Some (form text)
+in_form form None other = other
 
--- what a step makes of a tree, unless there was a refusal before
-abbrev pub then_ask : (Tree → Result Line Refusal) → Result Tree Refusal → Result Line Refusal
-then_ask ask (Ok tree) = ask tree
-then_ask ask (Err why) = Err why
+abbrev pub form_of : List ℕ → Option Form
+form_of command =
+    in_form Upsert (argument (codes "UPSERT ") command)
+    (in_form Query (argument (codes "QUERY ") command)
+    None)
 
-abbrev pub upsert_of : Tree → Result Line Refusal
-upsert_of tree = if is_some (document_id tree) then Ok (line.Upsert tree) else Err refusal.Json
+-- ---- the causes of refusal of each form, in their order
+
+-- the deepest that an argument may nest
+abbrev pub deepest : ℕ
+deepest = 100
+
+abbrev pub upsert_causes : Tree → List Cause
+upsert_causes tree =
+    record { applies = nat_lt deepest (nesting tree); refusal = refusal.Json } ∷
+    record { applies = not (is_some (document_id tree)); refusal = refusal.Json } ∷ []
 
 -- the one query that is served
 abbrev pub all_documents : List ℕ
@@ -45,19 +61,26 @@ all_documents = codes "SELECT * FROM c"
 abbrev pub asks_for_all : Tree → Bool
 asks_for_all body = option_map_or (λ text. bytes_eq text all_documents) (text_member (codes "query") body) false
 
-abbrev pub query_of : Tree → Result Line Refusal
-query_of body = if asks_for_all body then Ok line.Query else Err refusal.Query
+abbrev pub query_causes : Tree → List Cause
+query_causes body =
+    record { applies = nat_lt deepest (nesting body); refusal = refusal.Json } ∷
+    record { applies = not (asks_for_all body); refusal = refusal.Query } ∷ []
 
--- a line asks what its argument says, where it has that form, else what another form says
-abbrev pub in_form : (Tree → Result Line Refusal) → Option (List ℕ) → Result Line Refusal → Result Line Refusal
-in_form ask (Some text) other = then_ask ask (shallow_tree (reading text))
-in_form ask None other = other
+-- ---- what a line asks for
 
-abbrev pub command_of : List ℕ → Result Line Refusal
-command_of command =
-    in_form upsert_of (argument (codes "UPSERT ") command)
-    (in_form query_of (argument (codes "QUERY ") command)
-    (Err refusal.Command))
+-- what is asked with the tree that a text stands for; a text that stands for none is refused
+abbrev pub with_tree_of : Reading → (Tree → Result Line Refusal) → Result Line Refusal
+with_tree_of (Stands tree) ask = ask tree
+with_tree_of NotJson ask = Err refusal.Json
+with_tree_of NotWhole ask = Err refusal.Json
+
+abbrev pub line_in : Form → Result Line Refusal
+line_in (Upsert text) = with_tree_of (reading text) (λ tree. unless (upsert_causes tree) (line.Upsert tree))
+line_in (Query text) = with_tree_of (reading text) (λ body. unless (query_causes body) line.Query)
+
+abbrev pub of_form : Option Form → Result Line Refusal
+of_form (Some form) = line_in form
+of_form None = Err refusal.Command
 
 abbrev pub line_of : List ℕ → Result Line Refusal
-line_of bytes = command_of (without_return bytes)
+line_of bytes = of_form (form_of (without_return bytes))

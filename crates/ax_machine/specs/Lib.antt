@@ -1,4 +1,4 @@
-pub mod Replies
+pub mod Reply
+pub mod ReplyTexts
 pub mod Run
-pub mod ScriptLines
 pub mod Step

@@ -1,39 +1,52 @@
--- A run of script lines: each gives its step, or the container as it was and the reply that memory ran
--- out. Out of memory is the one choice that a run has.
-use Rattle.std.specs.Prelude.{◌≡◌, ℕ, List, [], ◌∷◌, ◌++◌, ◌⊎◌}
-use Rattle.std.specs.List.{flat_map}
-use Rattle.ax_container.specs.Container.{Container, fresh}
-use Rattle.ax_machine.specs.Step.{Reply, step}
-use Rattle.ax_machine.specs.Replies.{reply_text, out_of_memory}
+-- A run of script lines, as data: each line with how it was answered, by its step or for want of
+-- memory. Out of memory is the one choice that a run has, and it changes nothing. The containers, the
+-- replies and the text of a run follow from the container before it.
+use Rattle.std.specs.Prelude.{ℕ, List, [], ◌∷◌, map, take}
+use Rattle.std.specs.List.{concat}
+use Rattle.ax_container.specs.Container.{Container}
+use Rattle.ax_machine.specs.Reply.{Reply, out_of_memory}
+use Rattle.ax_machine.specs.ReplyTexts.{reply_text}
+use Rattle.ax_machine.specs.Step.{step}
 
--- a line may lead from the one container to the other with this reply
-abbrev pub Serves : Container → List ℕ → Reply → Container → Type 0
-Serves before line reply after =
-    ((after ≡ (step before line).0) × (reply ≡ (step before line).1))
-    ⊎ ((after ≡ before) × (reply ≡ out_of_memory))
+pub data Outcome : Type 0 where
+  Served : Outcome
+  OutOfMemory : Outcome
 
--- these lines may lead there with these replies, one after another
-abbrev pub Run : Container → List (List ℕ) → List Reply → Container → Type 0
-Run before [] [] after = after ≡ before
-Run before (line ∷ lines) (reply ∷ replies) after = (between : Container) × Serves before line reply between × Run between lines replies after
-Run before [] (reply ∷ replies) after = ⊥
-Run before (line ∷ lines) [] after = ⊥
+-- a line and how it was answered
+pub record Exchange : Type 0 where
+  pub line : List ℕ
+  pub outcome : Outcome
 
-abbrev pub replies_text : List Reply → List ℕ
-replies_text replies = flat_map reply_text replies
+-- the container after a line
+abbrev pub after_line : Container → List ℕ → Outcome → Container
+after_line before line Served = (step before line).0
+after_line before line OutOfMemory = before
 
--- these lines may lead there, and the texts of their replies in sequence are this text
-abbrev pub RunsTo : Container → List (List ℕ) → List ℕ → Container → Type 0
-RunsTo before lines text after = (replies : List Reply) × Run before lines replies after × (text ≡ replies_text replies)
+-- the reply to a line
+abbrev pub reply_to : Container → List ℕ → Outcome → Reply
+reply_to before line Served = (step before line).1
+reply_to before line OutOfMemory = out_of_memory
 
--- some run of these lines from there begins with this text
-abbrev pub RunsThrough : Container → List (List ℕ) → List ℕ → Type 0
-RunsThrough before lines text = (rest : List ℕ) × (after : Container) × RunsTo before lines (text ++ rest) after
+-- the lines of a run
+abbrev pub lines_of : List Exchange → List (List ℕ)
+lines_of run = map (λ exchange. exchange.line) run
 
--- this is the text of a run of these lines from a store that holds nothing
-abbrev pub IsScriptText : List (List ℕ) → List ℕ → Type 0
-IsScriptText lines text = (after : Container) × RunsTo fresh lines text after
+-- the container after a run
+abbrev pub after : Container → List Exchange → Container
+after before [] = before
+after before (exchange ∷ run) = after (after_line before exchange.line exchange.outcome) run
 
--- a run of these lines from a store that holds nothing begins with this text
-abbrev pub IsFrontOfScriptText : List (List ℕ) → List ℕ → Type 0
-IsFrontOfScriptText lines text = RunsThrough fresh lines text
+-- the container after the first so many lines of a run
+abbrev pub after_lines : ℕ → Container → List Exchange → Container
+after_lines count before run = after before (take count run)
+
+-- the texts of the replies of a run, one for each line
+abbrev pub texts : Container → List Exchange → List (List ℕ)
+texts before [] = []
+texts before (exchange ∷ run) =
+    reply_text (reply_to before exchange.line exchange.outcome)
+    ∷ texts (after_line before exchange.line exchange.outcome) run
+
+-- the text of a run
+abbrev pub text_of : Container → List Exchange → List ℕ
+text_of before run = concat (texts before run)

@@ -1,25 +1,37 @@
--- The step of a script line: from what the store holds and the line's bytes to what it holds then and
--- the reply. A refused line changes nothing.
-use Rattle.std.specs.Prelude.{ℕ, List, Result, Ok, Err}
+-- The step of a script line: from a container and the line's bytes to a container and the reply. A
+-- refused line changes nothing.
+use Rattle.std.specs.Prelude.{ℕ, List, map, Option, Some, None, Result, Ok, Err}
 use Rattle.ax_tree.specs.declared.tree.Tree.{Tree}
+use Rattle.ax_tree.specs.CanonicalText.{canonical_text}
+use Rattle.ax_tree.specs.Document.{document_id}
 use Rattle.ax_container.specs.Container.{Container, trees}
-use Rattle.ax_container.specs.Upsert.{upserted}
+use Rattle.ax_container.specs.Upsert.{WriteRefusal, Full, upserted}
 use Rattle.ax_lines.specs.declared.line.Line.{Line}
 use Rattle.ax_lines.specs.declared.line.Line.TheVariants as line
 use Rattle.ax_lines.specs.declared.refusal.Refusal.{Refusal}
+use Rattle.ax_lines.specs.declared.refusal.Refusal.TheVariants as refusal
 use Rattle.ax_lines.specs.Lines.{line_of}
+use Rattle.ax_machine.specs.Reply as reply
 
--- what a line is answered
-pub data Reply : Type 0 where
-  Done : Reply
-  Rows : List Tree → Reply
-  Refused : Refusal → Reply
+-- the refusal of a line whose write is refused
+abbrev pub refusal_of : WriteRefusal → Refusal
+refusal_of Full = refusal.Full
 
--- what a line that is read leaves, and its reply
-abbrev pub served : Container → Result Line Refusal → Container × Reply
-served container (Ok (line.Upsert tree)) = (upserted tree container, Done)
-served container (Ok line.Query) = (container, Rows (trees container))
-served container (Err why) = (container, Refused why)
+-- a write that was made, or that was refused and changed nothing
+abbrev pub written : Container → Result Container WriteRefusal → Container × reply.Reply
+written before (Ok after) = (after, reply.Ok)
+written before (Err why) = (before, reply.Refused (refusal_of why))
 
-abbrev pub step : Container → List ℕ → Container × Reply
+-- an upsert of a tree by the id that it has as a document; no line asks for one of a tree without
+abbrev pub upsert_by : Option (List ℕ) → Tree → Container → Container × reply.Reply
+upsert_by (Some id) tree container = written container (upserted id tree container)
+upsert_by None tree container = (container, reply.Refused refusal.Json)
+
+-- what a line does that is read, and its reply
+abbrev pub served : Container → Result Line Refusal → Container × reply.Reply
+served container (Ok (line.Upsert tree)) = upsert_by (document_id tree) tree container
+served container (Ok line.Query) = (container, reply.Rows (map canonical_text (trees container)) reply.End)
+served container (Err why) = (container, reply.Refused why)
+
+abbrev pub step : Container → List ℕ → Container × reply.Reply
 step container bytes = served container (line_of bytes)

@@ -1,0 +1,13 @@
+-- A source and a sink at a time: what the source has remaining and what the sink was given. One that
+-- does not tell its bytes has `None` there, and nothing is said of them.
+use Rattle.std.specs.Prelude.{ℕ, List, Option}
+use Rattle.std.specs.Io.KnownBytes.{Consumes, Appends}
+
+pub record Streams : Type 0 where
+  pub remaining : Option (List ℕ)
+  pub written : Option (List ℕ)
+
+-- from the one time to the other these bytes were taken from the source, and this text was written
+pub record Moves (old new : Streams) (taken text : List ℕ) : Type 0 where
+  pub consumed : Consumes old.remaining new.remaining taken
+  pub appended : Appends old.written new.written text
