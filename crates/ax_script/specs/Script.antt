@@ -15,8 +15,8 @@ most_input = 2 ^ 40
 
 -- the text is all that the run is answered
 pub record Answers (before : Container) (lines : List (List ℕ)) (run : List Exchange) (text : List ℕ) : Type 0 where
-  pub lines : lines_of run ≡ lines
-  pub text : text ≡ text_of before run
+  pub answered : lines_of run ≡ lines
+  pub replies : text ≡ text_of before run
 
 -- the text is a prefix of what the run is answered
 pub record BeginsToAnswer (before : Container) (lines : List (List ℕ)) (run : List Exchange) (text : List ℕ) : Type 0 where
