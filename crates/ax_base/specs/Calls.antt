@@ -1,7 +1,7 @@
 -- The calls of a source or a sink in memory, of which chosen ones fail, and what contracts see of such a part.
 -- It is this project's own; it comes from no public document.
 use Rattle.std.specs.Prelude.{ℕ, ◌<◌, ◌≤◌, ◌⊎◌, List, length, Contains}
-use Rattle.ax_base.specs.Faults.{raised}
+use Rattle.ax_faults.specs.Faults.{raised}
 
 -- how many calls were made, how many failed, and the numbers of the calls that are to fail
 pub record Calls : Type 0 where

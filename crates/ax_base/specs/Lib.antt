@@ -1,4 +1,3 @@
-pub mod Faults
 pub mod Bytes
 pub mod Calls
 pub mod Adapter

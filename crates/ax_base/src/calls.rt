@@ -1,8 +1,9 @@
 ghost use Rattle.std.specs.Prelude.{◌≡◌, ◌≤◌, ◌↔◌, Contains, OnOk, OnErr, IsErr};
-ghost use Rattle.ax_base.specs.Faults.{raised};
+ghost use Rattle.ax_faults.specs.Faults.{raised, HasCause};
 ghost use Rattle.ax_base.specs.Calls.{next_number, after_success, after_failure};
 
 use crate::Failed;
+use ax_faults::FaultCount;
 use std::marker::Model;
 
 /// The calls of a part in memory, numbered from 1, of which chosen ones fail. A call's number is
@@ -10,7 +11,7 @@ use std::marker::Model;
 #[derive(Drop)]
 pub(crate) struct CallCount {
     made: u64,
-    faults: u64,
+    faults: FaultCount,
     failing: Vec<u64>,
 }
 
@@ -29,7 +30,7 @@ impl CallCount {
     {
         CallCount {
             made: 0,
-            faults: 0,
+            faults: FaultCount::new(),
             failing,
         }
     }
@@ -39,11 +40,11 @@ impl CallCount {
         ensures fails { IsErr result ↔ Contains self.old.failing (next_number self.old) }
         ensures ok { OnOk result (self.new ≡ after_success self.old) }
         ensures err { OnErr result (self.new ≡ after_failure self.old) }
-        ensures never_falls { self.old.faults ≤ self.new.faults }
+        ensures cause { HasCause result self.old.faults self.new.faults }
     {
         self.made = self.made.saturating_add(1);
         if self.failing.contains(&self.made) {
-            self.faults = self.faults.saturating_add(1);
+            self.faults.raise();
             return Err(Failed);
         }
         Ok(())
@@ -54,7 +55,7 @@ impl CallCount {
         ensures raised { self.new ≡ record self.old { faults = raised self.old.faults } }
         ensures never_falls { self.old.faults ≤ self.new.faults }
     {
-        self.faults = self.faults.saturating_add(1);
+        self.faults.raise();
         Failed
     }
 }

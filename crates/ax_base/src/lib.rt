@@ -5,7 +5,7 @@
 //! are [`MemSource`] and [`MemSink`], which fail at chosen calls; over any reader and writer of the
 //! standard library [`StdSource`] and [`StdSink`]. [`Steps`] counts work and takes no bytes.
 //!
-//! It stands on the standard library alone. Its one contract: bytes are moved exactly, and a call
+//! It stands on `ax_faults` alone. Its one contract: bytes are moved exactly, and a call
 //! answers [`Failed`] only where the count of faults rose in that call.
 #![tactic(auto)]
 

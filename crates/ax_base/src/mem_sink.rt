@@ -2,7 +2,7 @@ ghost use Rattle.std.specs.Prelude.{◌≡◌, ◌<◌, ◌≤◌, ◌↔◌, �
 ghost use Rattle.std.specs.Io.{WritesAtMost};
 ghost use Rattle.std.specs.Io.KnownBytes.{Appends};
 ghost use Rattle.ax_base.specs.Bytes.{AppendsFront};
-ghost use Rattle.ax_base.specs.Faults.{Rose};
+ghost use Rattle.ax_faults.specs.Faults.{Rose, HasCause};
 ghost use Rattle.ax_base.specs.Calls.{after_success, after_failure, RefusesPiece};
 
 use crate::calls::CallCount;
@@ -66,8 +66,7 @@ impl Sink for MemSink {
         ensures added { IfOk result (λ n. Appends (Some self.old.written) (Some self.new.written) (take n bytes.now)) }
         ensures nothing { IfOk result (λ n. n ≡ 0 → 0 < length bytes.now → Rose self.old.calls.faults self.new.calls.faults) }
         ensures failed { OnErr result (AppendsFront (Some self.old.written) (Some self.new.written) bytes.now) }
-        ensures never_falls { self.old.calls.faults ≤ self.new.calls.faults }
-        ensures cause { OnErr result (Rose self.old.calls.faults self.new.calls.faults) }
+        ensures cause { HasCause result self.old.calls.faults self.new.calls.faults }
 
         // What this sink adds: how many bytes, and which calls fail.
         ensures count { IfOk result (λ n. n ≡ min (length bytes.now) (self.old.room - length self.old.written)) }

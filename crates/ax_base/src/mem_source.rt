@@ -1,7 +1,7 @@
 ghost use Rattle.std.specs.Prelude.{◌≡◌, ◌<◌, ◌≤◌, ◌↔◌, [], Some, Contains, IsErr, IsOk, IfOk, OnOk, OnErr, length, take, drop, min};
 ghost use Rattle.std.specs.Io.{ReadsAtMost};
 ghost use Rattle.std.specs.Io.KnownBytes.{Consumes, Keeps, IsAtEnd};
-ghost use Rattle.ax_base.specs.Faults.{Rose};
+ghost use Rattle.ax_faults.specs.Faults.{HasCause};
 ghost use Rattle.ax_base.specs.Calls.{next_number, after_success, after_failure};
 
 use crate::calls::CallCount;
@@ -52,8 +52,7 @@ impl Source for MemSource {
         ensures taken { IfOk result (λ n. Consumes (Some self.old.rest) (Some self.new.rest) (take n buf.new)) }
         ensures ended { IfOk result (λ n. n ≡ 0 → 0 < length buf.new → IsAtEnd (Some self.new.rest)) }
         ensures failed { OnErr result (Keeps (Some self.old.rest) (Some self.new.rest)) }
-        ensures never_falls { self.old.calls.faults ≤ self.new.calls.faults }
-        ensures cause { OnErr result (Rose self.old.calls.faults self.new.calls.faults) }
+        ensures cause { HasCause result self.old.calls.faults self.new.calls.faults }
 
         // What this source adds: how many bytes, and which calls fail.
         ensures count { IfOk result (λ n. n ≡ min (length self.old.rest) (length buf.old)) }

@@ -2,7 +2,7 @@ ghost use Rattle.std.specs.Prelude.{◌≡◌, ◌<◌, ◌≤◌, ℕ, List, Op
 ghost use Rattle.std.specs.Io.{WritesAtMost};
 ghost use Rattle.std.specs.Io.KnownBytes.{Appends};
 ghost use Rattle.ax_base.specs.Bytes.{AppendsFront};
-ghost use Rattle.ax_base.specs.Faults.{Rose};
+ghost use Rattle.ax_faults.specs.Faults.{Rose, HasCause};
 
 use crate::Failed;
 
@@ -25,8 +25,7 @@ pub trait Sink {
         ensures added { IfOk result (λ n. Appends (written self.old) (written self.new) (take n bytes.now)) }
         ensures nothing { IfOk result (λ n. n ≡ 0 → 0 < length bytes.now → Rose (faults self.old) (faults self.new)) }
         ensures failed { OnErr result (AppendsFront (written self.old) (written self.new) bytes.now) }
-        ensures never_falls { faults self.old ≤ faults self.new }
-        ensures cause { OnErr result (Rose (faults self.old) (faults self.new)) };
+        ensures cause { HasCause result (faults self.old) (faults self.new) };
 }
 
 /// Writes all the bytes, in as many pieces as the sink takes them.
@@ -35,8 +34,7 @@ pub trait Sink {
 pub fn write_all<K: Sink>(sink: &mut K, bytes: &[u8]) -> Result<(), Failed>
     ensures added { OnOk result (Appends (K.written sink.old) (K.written sink.new) bytes.now) }
     ensures failed { OnErr result (AppendsFront (K.written sink.old) (K.written sink.new) bytes.now) }
-    ensures never_falls { K.faults sink.old ≤ K.faults sink.new }
-    ensures cause { OnErr result (Rose (K.faults sink.old) (K.faults sink.new)) }
+    ensures cause { HasCause result (K.faults sink.old) (K.faults sink.new) }
 {
     let mut at = 0;
     while at < bytes.len() {

@@ -1,7 +1,7 @@
 ghost use Rattle.std.specs.Prelude.{◌≡◌, ◌<◌, ◌≤◌, ℕ, List, Option, length, take, IfOk, OnErr};
 ghost use Rattle.std.specs.Io.{ReadsAtMost};
 ghost use Rattle.std.specs.Io.KnownBytes.{Consumes, Keeps, IsAtEnd};
-ghost use Rattle.ax_base.specs.Faults.{Rose};
+ghost use Rattle.ax_faults.specs.Faults.{HasCause};
 
 use crate::Failed;
 
@@ -23,6 +23,5 @@ pub trait Source {
         ensures taken { IfOk result (λ n. Consumes (rest self.old) (rest self.new) (take n buf.new)) }
         ensures ended { IfOk result (λ n. n ≡ 0 → 0 < length buf.new → IsAtEnd (rest self.new)) }
         ensures failed { OnErr result (Keeps (rest self.old) (rest self.new)) }
-        ensures never_falls { faults self.old ≤ faults self.new }
-        ensures cause { OnErr result (Rose (faults self.old) (faults self.new)) };
+        ensures cause { HasCause result (faults self.old) (faults self.new) };
 }

@@ -1,6 +1,7 @@
 ghost use Rattle.std.specs.Prelude.{◌≡◌};
 
 use crate::{Failed, Sink};
+use ax_faults::FaultCount;
 use std::io::Write;
 use std::marker::Model;
 
@@ -10,7 +11,7 @@ use std::marker::Model;
 #[derive(Drop)]
 pub struct StdSink<W: Write> {
     inner: W,
-    faults: u64,
+    faults: FaultCount,
 }
 
 impl<W: Write> Model for StdSink<W> {
@@ -26,7 +27,10 @@ impl<W: Write> StdSink<W> {
     pub fn new(inner: W) -> StdSink<W>
         ensures { result ≡ record { told = W.contents inner; faults = 0 } }
     {
-        StdSink { inner, faults: 0 }
+        StdSink {
+            inner,
+            faults: FaultCount::new(),
+        }
     }
 
     /// The writer.
@@ -45,11 +49,11 @@ impl<W: Write> Sink for StdSink<W> {
 
     fn write_some(&mut self, bytes: &[u8]) -> Result<usize, Failed> {
         let Ok(count) = self.inner.write(bytes) else {
-            self.faults = self.faults.saturating_add(1);
+            self.faults.raise();
             return Err(Failed);
         };
         if self.inner.flush().is_err() || (count == 0 && !bytes.is_empty()) {
-            self.faults = self.faults.saturating_add(1);
+            self.faults.raise();
             return Err(Failed);
         }
         Ok(count)

@@ -1,6 +1,7 @@
 ghost use Rattle.std.specs.Prelude.{◌≡◌};
 
 use crate::{Failed, Source};
+use ax_faults::FaultCount;
 use std::io::Read;
 use std::marker::Model;
 
@@ -9,7 +10,7 @@ use std::marker::Model;
 #[derive(Drop)]
 pub struct StdSource<R: Read> {
     inner: R,
-    faults: u64,
+    faults: FaultCount,
 }
 
 impl<R: Read> Model for StdSource<R> {
@@ -25,7 +26,10 @@ impl<R: Read> StdSource<R> {
     pub fn new(inner: R) -> StdSource<R>
         ensures { result ≡ record { told = R.remaining inner; faults = 0 } }
     {
-        StdSource { inner, faults: 0 }
+        StdSource {
+            inner,
+            faults: FaultCount::new(),
+        }
     }
 }
 
@@ -38,7 +42,7 @@ impl<R: Read> Source for StdSource<R> {
         match self.inner.read(buf) {
             Ok(count) => Ok(count),
             Err(_) => {
-                self.faults = self.faults.saturating_add(1);
+                self.faults.raise();
                 Err(Failed)
             }
         }

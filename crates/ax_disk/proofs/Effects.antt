@@ -1,13 +1,13 @@
 -- What a deed, or none, does to the history of an account, in the words of a disk's calls.
 use Rattle.std.proofs.Common.{◌≡◌, inl, inr, ℕ, ◌≤◌, true, false, List, length, Ok, Err, refl, sym, ap, subst}
 use Rattle.ax_disk.specs.declared.extent.Extent.{Extent}
-use Rattle.ax_disk.specs.Image.{Image, list_of}
-use Rattle.ax_disk.specs.Pending.{AreBytes, MayLeave, all_settled, after_write, after_cut}
-use Rattle.ax_disk.specs.PendingLaws.{all_settled_only, all_settled_leaves, after_write_leaves, after_write_allows, after_cut_allows}
-use Rattle.ax_disk.specs.MomentLaws.{elapses_start}
-use Rattle.ax_disk.specs.Calls.{Idles, Writes, Cuts, Syncs}
-use Rattle.ax_disk.specs.Replay.{Deed, wrote, cut, synced, State, synced_state, after_deed, Account, with_deed, state_of, history_of}
-use Rattle.ax_disk.specs.ReplayLaws.{after_one_more, deed_elapses}
+use Rattle.ax_disk.specs.model.Image.{Image, list_of}
+use Rattle.ax_disk.specs.model.Pending.{AreBytes, MayLeave, all_settled, after_write, after_cut}
+use Rattle.ax_disk.specs.laws.PendingLaws.{all_settled_only, all_settled_leaves, after_write_leaves, after_write_allows, after_cut_allows}
+use Rattle.ax_disk.specs.laws.MomentLaws.{elapses_start}
+use Rattle.ax_disk.specs.model.Calls.{Idles, Writes, Cuts, Syncs}
+use Rattle.ax_disk.specs.mem_disk.Replay.{Deed, wrote, cut, synced, State, synced_state, after_deed, Account, with_deed, state_of, history_of}
+use Rattle.ax_disk.specs.mem_disk.ReplayLaws.{after_one_more, deed_elapses}
 
 -- an image as read may be left
 abbrev pub StaysReadable : Account → Type 0

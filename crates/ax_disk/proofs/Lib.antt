@@ -1,6 +1,4 @@
 mod Effects
 mod Filled
-mod GatedRuns
-mod GatedSteps
 mod Noted
 mod Recording

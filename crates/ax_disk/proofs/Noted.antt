@@ -4,8 +4,8 @@ use Rattle.std.proofs.lemmas.Bool.{false≢true}
 use Rattle.std.proofs.lemmas.List.{take-append-le, drop-append-le, length-drop, append-nil}
 use Rattle.ax_disk.specs.declared.deed.Deed.{Deed as Noted}
 use Rattle.ax_disk.specs.declared.deed.Deed.TheVariants.{Wrote, Cut, Synced}
-use Rattle.ax_disk.specs.Deeds.{written_size, deeds_of}
-use Rattle.ax_disk.specs.Replay.{Deed, cut, synced}
+use Rattle.ax_disk.specs.mem_disk.Deeds.{written_size, deeds_of}
+use Rattle.ax_disk.specs.mem_disk.Replay.{Deed, cut, synced}
 
 pub written_size-append : (noted : List Noted) (deed : Noted) → written_size (noted ++ deed ∷ []) ≡ written_size noted + written_size (deed ∷ [])
 written_size-append [] deed = omega arith

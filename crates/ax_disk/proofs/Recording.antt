@@ -3,14 +3,14 @@ use Rattle.std.proofs.Common.{◌≡◌, ℕ, ◌+◌, ◌≤◌, true, false, L
 use Rattle.std.proofs.lemmas.List.{length-take}
 use Rattle.ax_disk.specs.declared.extent.Extent.{Extent}
 use Rattle.ax_disk.specs.declared.extent.Extent.TheVariants.{Root, A, B}
-use Rattle.ax_disk.specs.Image.{Image, list_of, with_list}
-use Rattle.ax_disk.specs.Pending.{AreBytes, Unsynced, MayLeave, all_settled, after_write, after_cut}
-use Rattle.ax_disk.specs.PendingLaws.{settled_holds, all_settled_leaves, after_write_leaves, after_write_allows, after_cut_leaves, after_cut_allows, length-overwritten}
-use Rattle.ax_disk.specs.Calls.{overwritten}
-use Rattle.ax_disk.specs.Replay.{Deed, wrote, cut, synced, State, synced_state, after_deed, Account, with_deed, state_of}
-use Rattle.ax_disk.specs.ReplayLaws.{after_one_more}
-use Rattle.ax_disk.specs.Lists.{IsOfBytes, greatest_length}
-use Rattle.ax_disk.specs.Recorded.{last_synced, IsRecorded}
+use Rattle.ax_disk.specs.model.Image.{Image, list_of, with_list}
+use Rattle.ax_disk.specs.model.Pending.{AreBytes, Unsynced, MayLeave, all_settled, after_write, after_cut}
+use Rattle.ax_disk.specs.laws.PendingLaws.{settled_holds, all_settled_leaves, after_write_leaves, after_write_allows, after_cut_leaves, after_cut_allows, length-overwritten}
+use Rattle.ax_disk.specs.model.Calls.{overwritten}
+use Rattle.ax_disk.specs.mem_disk.Replay.{Deed, wrote, cut, synced, State, synced_state, after_deed, Account, with_deed, state_of}
+use Rattle.ax_disk.specs.mem_disk.ReplayLaws.{after_one_more}
+use Rattle.ax_disk.specs.mem_disk.Lists.{IsOfBytes, greatest_length}
+use Rattle.ax_disk.specs.mem_disk.Recorded.{last_synced, IsRecorded}
 
 -- at first
 recorded_new : (image : Image) → IsOfBytes image → IsRecorded (synced_state image) image image

@@ -1,9 +1,9 @@
 -- What a `DeadDisk` shows: how many calls it has failed. It tells of no list, so no clause reads what it has in the place of a history.
 use Rattle.std.specs.Prelude.{ℕ, []}
 use Rattle.ax_disk.specs.declared.dead.DeadDisk.{DeadDisk}
-use Rattle.ax_disk.specs.Image.{Image}
-use Rattle.ax_disk.specs.Pending.{all_settled}
-use Rattle.ax_disk.specs.Moments.{History}
+use Rattle.ax_disk.specs.model.Image.{Image}
+use Rattle.ax_disk.specs.model.Pending.{all_settled}
+use Rattle.ax_disk.specs.model.Moments.{History}
 
 abbrev pub dead_faults : DeadDisk → ℕ
 dead_faults disk = disk.faults

@@ -1,7 +1,7 @@
 //! What was done to the lists of a disk in memory, deed by deed, in room that was taken before.
 ghost use Rattle.std.specs.Prelude.{◌≡◌, ◌+◌, ◌-◌, ◌≤◌, ◌<◌, ◌++◌, [], ◌∷◌, length, vec_len, vec_capacity, IfOk};
-ghost use Rattle.ax_disk.specs.Deeds.{written_size, deeds_of};
-ghost use Rattle.ax_disk.specs.Replay.{wrote, cut, synced};
+ghost use Rattle.ax_disk.specs.mem_disk.Deeds.{written_size, deeds_of};
+ghost use Rattle.ax_disk.specs.mem_disk.Replay.{wrote, cut, synced};
 
 use crate::Extent;
 use crate::deed::Deed;
@@ -16,7 +16,7 @@ pub(crate) struct CallLog {
 }
 
 impl CallLog {
-    ghost use Rattle.ax_disk.specs.CallLog.{deeds_in, spare_deeds, spare_bytes};
+    ghost use Rattle.ax_disk.specs.mem_disk.CallLog.{deeds_in, spare_deeds, spare_bytes};
 
     /// An empty log with room for so many deeds, and so many bytes of writes.
     pub fn make(alloc: Global, deeds: usize, bytes: usize) -> Result<CallLog, AllocError>

@@ -1,14 +1,15 @@
 //! A disk on which each call fails.
-ghost use Rattle.std.specs.Prelude.{◌≡◌, ◌+◌, ◌-◌, ◌^◌, ◌≤◌, min, false, [], IsErr};
+ghost use Rattle.std.specs.Prelude.{◌≡◌, ◌≤◌, false, [], IsErr};
 ghost use Rattle.std.proofs.lemmas.Bool.{false≢true};
-ghost use Rattle.ax_disk.specs.Calls.{HasCause};
+ghost use Rattle.ax_faults.specs.Faults.{raised, HasCause};
 
 use crate::{Disk, DiskFailed, Extent};
+use ax_faults::FaultCount;
 
 /// A disk on which each call fails and is counted. It tells nothing of any list.
 #[derive(Debug, Drop)]
 pub struct DeadDisk {
-    faults: u64,
+    faults: FaultCount,
 }
 
 impl DeadDisk {
@@ -17,14 +18,16 @@ impl DeadDisk {
     pub fn new() -> DeadDisk
         ensures { dead_faults result ≡ 0 }
     {
-        DeadDisk { faults: 0 }
+        DeadDisk {
+            faults: FaultCount::new(),
+        }
     }
 
     fn fail(&mut self) -> DiskFailed
-        ensures counted { self.new.faults ≡ min (self.old.faults + 1) (2 ^ 64 - 1) }
+        ensures counted { self.new.faults ≡ raised self.old.faults }
         ensures never_falls { self.old.faults ≤ self.new.faults }
     {
-        self.faults = self.faults.saturating_add(1);
+        self.faults.raise();
         DiskFailed
     }
 }
@@ -49,7 +52,7 @@ impl Disk for DeadDisk {
     fn attach(&mut self, _name: &str) -> Result<(), DiskFailed>
         ensures fails { IsErr result }
         ensures cause { HasCause result (dead_faults self.old) (dead_faults self.new) }
-        ensures counted { dead_faults self.new ≡ min (dead_faults self.old + 1) (2 ^ 64 - 1) }
+        ensures counted { dead_faults self.new ≡ raised (dead_faults self.old) }
     {
         Err(self.fail())
     }
@@ -57,7 +60,7 @@ impl Disk for DeadDisk {
     fn len(&mut self, _ext: Extent) -> Result<u64, DiskFailed>
         ensures fails { IsErr result }
         ensures cause { HasCause result (dead_faults self.old) (dead_faults self.new) }
-        ensures counted { dead_faults self.new ≡ min (dead_faults self.old + 1) (2 ^ 64 - 1) }
+        ensures counted { dead_faults self.new ≡ raised (dead_faults self.old) }
     {
         Err(self.fail())
     }
@@ -65,7 +68,7 @@ impl Disk for DeadDisk {
     fn read(&mut self, _ext: Extent, _at: u64, _buf: &mut [u8]) -> Result<(), DiskFailed>
         ensures fails { IsErr result }
         ensures cause { HasCause result (dead_faults self.old) (dead_faults self.new) }
-        ensures counted { dead_faults self.new ≡ min (dead_faults self.old + 1) (2 ^ 64 - 1) }
+        ensures counted { dead_faults self.new ≡ raised (dead_faults self.old) }
     {
         Err(self.fail())
     }
@@ -73,7 +76,7 @@ impl Disk for DeadDisk {
     fn write_at(&mut self, _ext: Extent, _at: u64, _bytes: &[u8]) -> Result<(), DiskFailed>
         ensures fails { IsErr result }
         ensures cause { HasCause result (dead_faults self.old) (dead_faults self.new) }
-        ensures counted { dead_faults self.new ≡ min (dead_faults self.old + 1) (2 ^ 64 - 1) }
+        ensures counted { dead_faults self.new ≡ raised (dead_faults self.old) }
     {
         Err(self.fail())
     }
@@ -81,7 +84,7 @@ impl Disk for DeadDisk {
     fn cut(&mut self, _ext: Extent, _len: u64) -> Result<(), DiskFailed>
         ensures fails { IsErr result }
         ensures cause { HasCause result (dead_faults self.old) (dead_faults self.new) }
-        ensures counted { dead_faults self.new ≡ min (dead_faults self.old + 1) (2 ^ 64 - 1) }
+        ensures counted { dead_faults self.new ≡ raised (dead_faults self.old) }
     {
         Err(self.fail())
     }
@@ -89,7 +92,7 @@ impl Disk for DeadDisk {
     fn sync(&mut self) -> Result<(), DiskFailed>
         ensures fails { IsErr result }
         ensures cause { HasCause result (dead_faults self.old) (dead_faults self.new) }
-        ensures counted { dead_faults self.new ≡ min (dead_faults self.old + 1) (2 ^ 64 - 1) }
+        ensures counted { dead_faults self.new ≡ raised (dead_faults self.old) }
     {
         Err(self.fail())
     }

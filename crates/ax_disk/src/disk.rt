@@ -1,9 +1,10 @@
 //! A disk as a store sees it: what reads give, what a crash may leave, and how often it has failed.
 ghost use Rattle.std.specs.Prelude.{◌≡◌, ◌+◌, ◌^◌, ◌<◌, ◌≤◌, ℕ, List, Bool, length, IsTrue, IsErr, IfOk, OnOk, OnErr};
-ghost use Rattle.ax_disk.specs.Image.{list_of};
-ghost use Rattle.ax_disk.specs.Pending.{MayLeave};
-ghost use Rattle.ax_disk.specs.Moments.{History, IsCurrent};
-ghost use Rattle.ax_disk.specs.Calls.{HasCause, Idles, Writes, Cuts, Syncs, bytes_from};
+ghost use Rattle.ax_disk.specs.model.Image.{list_of};
+ghost use Rattle.ax_disk.specs.model.Pending.{MayLeave};
+ghost use Rattle.ax_disk.specs.model.Moments.{History, IsCurrent};
+ghost use Rattle.ax_faults.specs.Faults.{HasCause};
+ghost use Rattle.ax_disk.specs.model.Calls.{Idles, Writes, Cuts, Syncs, bytes_from};
 
 use crate::Extent;
 

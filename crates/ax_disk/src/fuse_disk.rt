@@ -1,16 +1,18 @@
 //! A disk that passes so many calls on, and then fails each.
 ghost use Rattle.std.specs.Prelude.{◌≡◌, ◌+◌, ◌-◌, ◌^◌, ◌<◌, ◌≤◌, ◌↔◌, ℕ, List, length, IsTrue, IsErr, IfOk, OnOk, OnErr};
-ghost use Rattle.ax_disk.specs.Image.{list_of};
-ghost use Rattle.ax_disk.specs.Calls.{HasCause, Rose, Idles, Writes, Cuts, Syncs, bytes_from};
+ghost use Rattle.ax_disk.specs.model.Image.{list_of};
+ghost use Rattle.ax_faults.specs.Faults.{Rose, HasCause};
+ghost use Rattle.ax_disk.specs.model.Calls.{Idles, Writes, Cuts, Syncs, bytes_from};
 
 use crate::{Disk, DiskFailed, Extent};
+use ax_faults::FaultCount;
 
 /// Passes the first k calls on to the disk that it holds. It fails each later call, counts it, and leaves that disk alone.
 #[derive(Drop)]
 pub struct FuseDisk<D: Disk> {
     inner: D,
     left: u64,
-    refused: u64,
+    refused: FaultCount,
 }
 
 impl<D: Disk> FuseDisk<D> {
@@ -25,7 +27,7 @@ impl<D: Disk> FuseDisk<D> {
         FuseDisk {
             inner: disk,
             left: k,
-            refused: 0,
+            refused: FaultCount::new(),
         }
     }
 
@@ -43,7 +45,7 @@ impl<D: Disk> FuseDisk<D> {
 }
 
 /// Takes one of the calls that are left, or fails and counts it.
-fn spend(left: &mut u64, refused: &mut u64) -> Result<(), DiskFailed>
+fn spend(left: &mut u64, refused: &mut FaultCount) -> Result<(), DiskFailed>
     ensures blown { IsErr result ↔ (left.old ≡ 0) }
     ensures spent { left.new ≡ left.old - 1 }
     ensures passed { OnOk result (refused.new ≡ refused.old) }
@@ -51,7 +53,7 @@ fn spend(left: &mut u64, refused: &mut u64) -> Result<(), DiskFailed>
     ensures never_falls { refused.old ≤ refused.new }
 {
     if *left == 0 {
-        *refused = refused.saturating_add(1);
+        refused.raise();
         return Err(DiskFailed);
     }
     *left -= 1;

@@ -1,8 +1,8 @@
 //! The three lists of a store in memory, in room that was taken before.
 ghost use Rattle.std.specs.Prelude.{◌≡◌, ◌+◌, ◌≤◌, ◌++◌, List, length, take, drop, vec_len, vec_capacity, IfOk};
-ghost use Rattle.ax_disk.specs.Image.{list_of, with_list};
-ghost use Rattle.ax_disk.specs.Calls.{overwritten};
-ghost use Rattle.ax_disk.specs.Pending.{AreBytes};
+ghost use Rattle.ax_disk.specs.model.Image.{list_of, with_list};
+ghost use Rattle.ax_disk.specs.model.Calls.{overwritten};
+ghost use Rattle.ax_disk.specs.model.Pending.{AreBytes};
 
 use crate::Extent;
 use std::alloc::{AllocError, Global};
@@ -15,7 +15,7 @@ pub(crate) struct Lists {
 }
 
 impl Lists {
-    ghost use Rattle.ax_disk.specs.Lists.{image_of, IsOfBytes, least_capacity, greatest_length};
+    ghost use Rattle.ax_disk.specs.mem_disk.Lists.{image_of, IsOfBytes, least_capacity, greatest_length};
 
     /// The length of the longest list after so many bytes are written behind it.
     pub fn longest_with(&self, room: usize) -> Result<usize, AllocError>

@@ -1,10 +1,10 @@
 //! What a disk in memory holds: what reads give, what the last sync left, and all that was done since it was made.
 ghost use Rattle.std.specs.Prelude.{◌≡◌, ◌+◌, ◌≤◌, ◌<◌, ◌++◌, [], ◌∷◌, ℕ, List, length, take, IfOk, if◌then◌else◌};
-ghost use Rattle.ax_disk.specs.Image.{list_of};
-ghost use Rattle.ax_disk.specs.Replay.{wrote, cut, synced, with_deed, new_account, state_of};
-ghost use Rattle.ax_disk.specs.Lists.{image_of, least_capacity, greatest_length};
-ghost use Rattle.ax_disk.specs.CallLog.{deeds_in};
-ghost use Rattle.ax_disk.specs.Recorded.{IsRecorded, HasRoom, last_synced};
+ghost use Rattle.ax_disk.specs.model.Image.{list_of};
+ghost use Rattle.ax_disk.specs.mem_disk.Replay.{wrote, cut, synced, with_deed, new_account, state_of};
+ghost use Rattle.ax_disk.specs.mem_disk.Lists.{image_of, least_capacity, greatest_length};
+ghost use Rattle.ax_disk.specs.mem_disk.CallLog.{deeds_in};
+ghost use Rattle.ax_disk.specs.mem_disk.Recorded.{IsRecorded, HasRoom, last_synced};
 
 use crate::Extent;
 use crate::call_log::CallLog;
@@ -31,7 +31,7 @@ pub(crate) struct Medium {
 }
 
 impl Medium {
-    ghost use Rattle.ax_disk.specs.Medium.{account_of, medium_history, room_of, turns_of, IsReady};
+    ghost use Rattle.ax_disk.specs.mem_disk.Medium.{account_of, medium_history, room_of, turns_of, IsReady};
 
     /// A medium with these lists, all synced, and room for so many bytes of writes and so many calls.
     pub fn make(

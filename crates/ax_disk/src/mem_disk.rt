@@ -1,17 +1,19 @@
 //! A disk in memory that obeys the model, with failures where they are asked for.
 ghost use Rattle.std.specs.Prelude.{◌≡◌, ◌⊎◌, ◌+◌, ◌-◌, ◌/◌, ◌^◌, ◌<◌, ◌≤◌, ◌↔◌, ℕ, List, Bool, true, false, [], length, take, min, IsTrue, IsOk, IsErr, IfOk, OnOk, OnErr, if◌then◌else◌, refl};
-ghost use Rattle.ax_disk.specs.Image.{list_of};
-ghost use Rattle.ax_disk.specs.Pending.{MayLeave};
-ghost use Rattle.ax_disk.specs.Calls.{HasCause, Rose, Idles, Writes, Cuts, Syncs, bytes_from};
-ghost use Rattle.ax_disk.specs.Replay.{wrote, cut, new_account, with_deed};
-ghost use Rattle.ax_disk.specs.Recorded.{last_synced};
-ghost use Rattle.ax_disk.specs.Medium.{turns_of, IsReady};
-ghost use Rattle.ax_disk.specs.Budget.{Budget, fails_next, fate_of, Allows, Spends};
+ghost use Rattle.ax_disk.specs.model.Image.{list_of};
+ghost use Rattle.ax_disk.specs.model.Pending.{MayLeave};
+ghost use Rattle.ax_faults.specs.Faults.{raised, Rose, HasCause};
+ghost use Rattle.ax_disk.specs.model.Calls.{Idles, Writes, Cuts, Syncs, bytes_from};
+ghost use Rattle.ax_disk.specs.mem_disk.Replay.{wrote, cut, new_account, with_deed};
+ghost use Rattle.ax_disk.specs.mem_disk.Recorded.{last_synced};
+ghost use Rattle.ax_disk.specs.mem_disk.Medium.{turns_of, IsReady};
+ghost use Rattle.ax_disk.specs.mem_disk.Budget.{Budget, fails_next, fate_of, Allows, Spends};
 
 use crate::fate::Fate;
 use crate::lists::Lists;
 use crate::medium::Medium;
 use crate::{Disk, DiskFailed, Extent, Memory};
+use ax_faults::FaultCount;
 use std::alloc::Global;
 
 /// The greatest length of a list in bytes.
@@ -30,13 +32,13 @@ pub struct MemDisk {
     failing: Vec<u64>,
     /// So many calls were made.
     made: u64,
-    faults: u64,
+    faults: FaultCount,
     reads: u64,
     ghost numbered: { made + turns_of medium < 2 ^ 64 },
 }
 
 impl MemDisk {
-    ghost use Rattle.ax_disk.specs.MemDisk.{disk_account, disk_history, disk_faults, counted_reads, budget_of};
+    ghost use Rattle.ax_disk.specs.mem_disk.MemDisk.{disk_account, disk_history, disk_faults, counted_reads, budget_of};
 
     /// A disk with these lists, all synced, and room for `room` bytes of writes and for `calls` calls.
     pub fn make(
@@ -58,7 +60,7 @@ impl MemDisk {
             medium: Medium::make(alloc, lists, room, calls)?,
             failing,
             made: 0,
-            faults: 0,
+            faults: FaultCount::new(),
             reads: 0,
         })
     }
@@ -121,11 +123,11 @@ impl MemDisk {
 }
 
 /// Counts a failure.
-fn raise(faults: &mut u64) -> DiskFailed
+fn raise(faults: &mut FaultCount) -> DiskFailed
     ensures rose { Rose faults.old faults.new }
     ensures never_falls { faults.old ≤ faults.new }
 {
-    *faults = faults.saturating_add(1);
+    faults.raise();
     DiskFailed
 }
 
@@ -140,7 +142,7 @@ fn fill(list: &[u8], at: u64, buf: &mut [u8])
 }
 
 impl Disk for MemDisk {
-    ghost use Rattle.ax_disk.specs.MemDisk.{disk_account, disk_history, disk_faults, counted_reads, budget_of, disk_reads_may_stay, disk_is_current};
+    ghost use Rattle.ax_disk.specs.mem_disk.MemDisk.{disk_account, disk_history, disk_faults, counted_reads, budget_of, disk_reads_may_stay, disk_is_current};
 
     ghost faults = { λ disk. disk_faults disk };
 
@@ -195,7 +197,7 @@ impl Disk for MemDisk {
         ensures succeeds { Allows 0 (budget_of self.old) → IsOk result }
         ensures fails { IsTrue (fails_next (budget_of self.old)) → IsErr result }
         ensures budget { Spends 0 (budget_of self.old) (budget_of self.new) }
-        ensures reads { counted_reads self.new ≡ min (counted_reads self.old + 1) (2 ^ 64 - 1) }
+        ensures reads { counted_reads self.new ≡ raised (counted_reads self.old) }
     {
         self.reads = self.reads.saturating_add(1);
         match self.begin(true) {

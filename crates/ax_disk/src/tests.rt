@@ -1,5 +1,4 @@
 //! What a disk in memory does, by bytes that were worked out by hand.
-use crate::client::{append, append_both};
 use crate::{DeadDisk, Disk, DiskFailed, Extent, FuseDisk, MemDisk};
 use std::process::Abort;
 use std::test::Fail;
@@ -97,91 +96,6 @@ fn calls_failures_and_crashes(rt: HostRuntime) -> Result<(), Fail> {
         assert_eq!(rt; disk.bytes(row.ext), row.list, "row {i}");
     }
     assert_eq!(rt; disk.reads(), 3);
-    Ok(())
-}
-
-/// An append of 77 to an empty list that stops after so many calls, and what a crash leaves of it that loses or keeps what is unsynced.
-#[derive(Drop)]
-struct Stop {
-    calls: u64,
-    lost: &'static [u8],
-    kept: &'static [u8],
-}
-
-#[test]
-fn an_append_stops_at_each_call(rt: HostRuntime) -> Result<(), Fail> {
-    let alloc = rt.alloc();
-    let stops = [
-        Stop {
-            calls: 0,
-            lost: &[0],
-            kept: &[0],
-        },
-        Stop {
-            calls: 1,
-            lost: &[0],
-            kept: &[0, 77, 0],
-        },
-        Stop {
-            calls: 2,
-            lost: &[0, 77, 0],
-            kept: &[0, 77, 0],
-        },
-        Stop {
-            calls: 3,
-            lost: &[0, 77, 0],
-            kept: &[1, 77, 0],
-        },
-        Stop {
-            calls: 4,
-            lost: &[1, 77, 0],
-            kept: &[1, 77, 0],
-        },
-    ];
-    for stop in &stops {
-        for keep in [false, true] {
-            let list = [0].to_vec(alloc)?;
-            let disk = MemDisk::make(
-                alloc,
-                Vec::new(alloc),
-                list,
-                Vec::new(alloc),
-                8,
-                8,
-                Vec::new(alloc),
-            )?;
-            let mut fuse = FuseDisk::make(disk, stop.calls);
-            let done = append(&mut fuse, 0, 77);
-            let mut disk = fuse.into_inner();
-            disk.crash(keep);
-            assert_eq!(rt; done.is_ok(), stop.calls == 4);
-            assert_eq!(rt;
-                disk.bytes(Extent::A),
-                if keep { stop.kept } else { stop.lost },
-                "after {} calls",
-                stop.calls
-            );
-        }
-    }
-    Ok(())
-}
-
-#[test]
-fn two_appends(rt: HostRuntime) -> Result<(), Fail> {
-    let alloc = rt.alloc();
-    let list = [0].to_vec(alloc)?;
-    let mut disk = MemDisk::make(
-        alloc,
-        Vec::new(alloc),
-        list,
-        Vec::new(alloc),
-        8,
-        8,
-        Vec::new(alloc),
-    )?;
-    append_both(&mut disk, 0, 5, 6)?;
-    disk.crash(false);
-    assert_eq!(rt; disk.bytes(Extent::A), [1, 5, 1, 6, 0].as_slice());
     Ok(())
 }
 

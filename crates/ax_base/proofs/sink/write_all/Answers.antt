@@ -12,5 +12,5 @@ pub loop-at-preserved : goal.loop-at-preserved
 loop-at-preserved g c = record {
   within = within_further c.loop-at.at c.in_ok-count.count c.args.bytes.now c.loop-at.invariant.within c.in_ok-count.ensures.bound;
   added = Appends-further _ _ _ c.loop-at.at c.in_ok-count.count c.args.bytes.now c.loop-at.invariant.added c.in_ok-count.ensures.added;
-  never_falls = omega (arith, c.write_some.ensures.never_falls);
+  never_falls = omega (arith, c.write_some.ensures.cause.never_falls);
 }

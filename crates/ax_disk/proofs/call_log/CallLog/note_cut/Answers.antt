@@ -1,6 +1,6 @@
 use Rattle.std.proofs.Common.{◌∙◌, ap, arith}
 use Rattle.ax_disk.specs.declared.deed.Deed.TheVariants.{Cut}
-use Rattle.ax_disk.specs.Deeds.{written_size, deeds_of}
+use Rattle.ax_disk.specs.mem_disk.Deeds.{written_size, deeds_of}
 use Rattle.ax_disk.proofs.Noted.{written_size-append, deeds_of-push}
 use Rattle.ax_disk.proofs.call_log.CallLog.note_cut.Goals as goal
 

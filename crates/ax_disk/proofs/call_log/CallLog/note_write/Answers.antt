@@ -1,8 +1,8 @@
 use Rattle.std.proofs.Common.{◌++◌, ◌∷◌, [], length, ◌∙◌, ap, arith, length-append}
 use Rattle.std.proofs.lemmas.List.{take_all}
 use Rattle.ax_disk.specs.declared.deed.Deed.TheVariants.{Wrote}
-use Rattle.ax_disk.specs.Deeds.{written_size, deeds_of}
-use Rattle.ax_disk.specs.Replay.{wrote}
+use Rattle.ax_disk.specs.mem_disk.Deeds.{written_size, deeds_of}
+use Rattle.ax_disk.specs.mem_disk.Replay.{wrote}
 use Rattle.ax_disk.proofs.Noted.{written_size-append, deeds_of-append, with_room}
 use Rattle.ax_disk.proofs.call_log.CallLog.note_write.Goals as goal
 

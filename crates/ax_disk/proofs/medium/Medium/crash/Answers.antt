@@ -1,6 +1,6 @@
 use Rattle.std.proofs.Common.{◌≤◌, max, if◌then◌else◌, Bool, true, false, ◌∙◌, ap, subst, arith}
-use Rattle.ax_disk.specs.Image.{Image}
-use Rattle.ax_disk.specs.Lists.{image_of, IsOfBytes, greatest_length}
+use Rattle.ax_disk.specs.model.Image.{Image}
+use Rattle.ax_disk.specs.mem_disk.Lists.{image_of, IsOfBytes, greatest_length}
 use Rattle.ax_disk.proofs.Recording.{recorded_anew}
 use Rattle.ax_disk.proofs.medium.Medium.crash.Goals as goal
 

@@ -1,8 +1,8 @@
 use Rattle.std.proofs.Common.{◌∷◌, ◌++◌, [], refl, ◌∙◌, ap, arith}
-use Rattle.ax_disk.specs.Lists.{image_of, greatest_length}
-use Rattle.ax_disk.specs.CallLog.{deeds_in}
-use Rattle.ax_disk.specs.Replay.{cut}
-use Rattle.ax_disk.specs.Medium.{account_of}
+use Rattle.ax_disk.specs.mem_disk.Lists.{image_of, greatest_length}
+use Rattle.ax_disk.specs.mem_disk.CallLog.{deeds_in}
+use Rattle.ax_disk.specs.mem_disk.Replay.{cut}
+use Rattle.ax_disk.specs.mem_disk.Medium.{account_of}
 use Rattle.ax_disk.proofs.Recording.{recorded_as, recorded_cut, recorded_no_cut, longest_after_cut}
 use Rattle.ax_disk.proofs.medium.Medium.cut.Goals as goal
 

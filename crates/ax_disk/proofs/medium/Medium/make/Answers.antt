@@ -1,5 +1,5 @@
 use Rattle.std.proofs.Common.{◌≡◌, ◌+◌, ap, subst, arith}
-use Rattle.ax_disk.specs.Lists.{image_of, IsOfBytes, greatest_length}
+use Rattle.ax_disk.specs.mem_disk.Lists.{image_of, IsOfBytes, greatest_length}
 use Rattle.ax_disk.proofs.Recording.{recorded_anew}
 use Rattle.ax_disk.proofs.medium.Medium.make.Goals as goal
 

@@ -1,6 +1,6 @@
 use Rattle.std.proofs.Common.{refl, ap, arith}
-use Rattle.ax_disk.specs.Lists.{image_of, greatest_length}
-use Rattle.ax_disk.specs.Medium.{account_of}
+use Rattle.ax_disk.specs.mem_disk.Lists.{image_of, greatest_length}
+use Rattle.ax_disk.specs.mem_disk.Medium.{account_of}
 use Rattle.ax_disk.proofs.Recording.{recorded_as, recorded_sync}
 use Rattle.ax_disk.proofs.medium.Medium.sync.Goals as goal
 

@@ -1,9 +1,9 @@
 use Rattle.std.proofs.Common.{◌≤◌, length, take, refl, ap, subst, arith}
 use Rattle.std.proofs.lemmas.List.{length-take, get_or-take}
-use Rattle.ax_disk.specs.Image.{Image, list_of}
-use Rattle.ax_disk.specs.Lists.{image_of, greatest_length}
-use Rattle.ax_disk.specs.Pending.{AreBytes}
-use Rattle.ax_disk.specs.Medium.{account_of}
+use Rattle.ax_disk.specs.model.Image.{Image, list_of}
+use Rattle.ax_disk.specs.mem_disk.Lists.{image_of, greatest_length}
+use Rattle.ax_disk.specs.model.Pending.{AreBytes}
+use Rattle.ax_disk.specs.mem_disk.Medium.{account_of}
 use Rattle.ax_disk.proofs.Recording.{recorded_as, recorded_write, longest_after_write}
 use Rattle.ax_disk.proofs.medium.Medium.write.Goals as goal
 

@@ -1,6 +1,6 @@
 use Rattle.std.proofs.Common.{true, false, ◌∙◌, ap}
-use Rattle.ax_disk.specs.Replay.{cut, with_deed}
-use Rattle.ax_disk.specs.MemDisk.{disk_account, disk_reads_may_stay}
+use Rattle.ax_disk.specs.mem_disk.Replay.{cut, with_deed}
+use Rattle.ax_disk.specs.mem_disk.MemDisk.{disk_account, disk_reads_may_stay}
 use Rattle.ax_disk.proofs.Effects.{cuts_done, cuts_failed}
 use Rattle.ax_disk.proofs.mem_disk.MemDiskDisk.cut.Goals as goal
 

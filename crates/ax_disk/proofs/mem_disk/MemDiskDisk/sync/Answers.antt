@@ -1,6 +1,6 @@
 use Rattle.std.proofs.Common.{◌∙◌, ap}
-use Rattle.ax_disk.specs.Replay.{synced, with_deed}
-use Rattle.ax_disk.specs.MemDisk.{disk_account, disk_reads_may_stay}
+use Rattle.ax_disk.specs.mem_disk.Replay.{synced, with_deed}
+use Rattle.ax_disk.specs.mem_disk.MemDisk.{disk_account, disk_reads_may_stay}
 use Rattle.ax_disk.proofs.Effects.{syncs_done}
 use Rattle.ax_disk.proofs.mem_disk.MemDiskDisk.sync.Goals as goal
 

@@ -1,8 +1,8 @@
 use Rattle.std.proofs.Common.{◌≤◌, ◌/◌, length, take, ◌∙◌, ap, arith}
 use Rattle.std.proofs.lemmas.List.{length-take, get_or-take, take_all}
-use Rattle.ax_disk.specs.Pending.{AreBytes}
-use Rattle.ax_disk.specs.Replay.{wrote, with_deed}
-use Rattle.ax_disk.specs.MemDisk.{disk_account, disk_reads_may_stay}
+use Rattle.ax_disk.specs.model.Pending.{AreBytes}
+use Rattle.ax_disk.specs.mem_disk.Replay.{wrote, with_deed}
+use Rattle.ax_disk.specs.mem_disk.MemDisk.{disk_account, disk_reads_may_stay}
 use Rattle.ax_disk.proofs.Effects.{writes_refused, writes_done, writes_failed}
 use Rattle.ax_disk.proofs.mem_disk.MemDiskDisk.write_at.Goals as goal
 

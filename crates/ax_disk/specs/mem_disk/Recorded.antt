@@ -2,11 +2,11 @@
 use Rattle.std.specs.Prelude.{◌≡◌, ℕ, ◌+◌, ◌≤◌}
 use Rattle.ax_disk.specs.declared.lists.Lists.{Lists}
 use Rattle.ax_disk.specs.declared.call_log.CallLog.{CallLog}
-use Rattle.ax_disk.specs.Image.{Image}
-use Rattle.ax_disk.specs.Pending.{Unsynced, MayLeave}
-use Rattle.ax_disk.specs.Lists.{image_of, least_capacity, greatest_length}
-use Rattle.ax_disk.specs.CallLog.{spare_deeds, spare_bytes}
-use Rattle.ax_disk.specs.Replay.{State}
+use Rattle.ax_disk.specs.model.Image.{Image}
+use Rattle.ax_disk.specs.model.Pending.{Unsynced, MayLeave}
+use Rattle.ax_disk.specs.mem_disk.Lists.{image_of, least_capacity, greatest_length}
+use Rattle.ax_disk.specs.mem_disk.CallLog.{spare_deeds, spare_bytes}
+use Rattle.ax_disk.specs.mem_disk.Replay.{State}
 
 -- what the last sync that succeeded left
 abbrev pub last_synced : Unsynced → Image

@@ -4,9 +4,9 @@ use Rattle.std.proofs.Common.{◌≡◌, ◌⊎◌, inl, inr, ⊎_elim, ℕ, ◌
 use Rattle.std.proofs.lemmas.List.{ext_get_or, length-take, length-drop, get_or-take, get_or-drop, get_or_append_left, get_or-append_right}
 use Rattle.ax_disk.specs.declared.extent.Extent.{Extent}
 use Rattle.ax_disk.specs.declared.extent.Extent.TheVariants.{Root, A, B}
-use Rattle.ax_disk.specs.Image.{Image, list_of, with_list}
-use Rattle.ax_disk.specs.Pending.{IsOutside, IsUntouched, AreBytes, Pending, MayHold, settled, written, shortened, Unsynced, pending_of, with_pending, MayLeave, all_settled, after_write, after_cut}
-use Rattle.ax_disk.specs.Calls.{overwritten}
+use Rattle.ax_disk.specs.model.Image.{Image, list_of, with_list}
+use Rattle.ax_disk.specs.model.Pending.{IsOutside, IsUntouched, AreBytes, Pending, MayHold, settled, written, shortened, Unsynced, pending_of, with_pending, MayLeave, all_settled, after_write, after_cut}
+use Rattle.ax_disk.specs.model.Calls.{overwritten}
 
 -- a crash leaves a settled list as it is
 pub settled_only : (list bytes : List ℕ) → MayHold (settled list) bytes → bytes ≡ list

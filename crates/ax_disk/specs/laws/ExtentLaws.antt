@@ -2,8 +2,8 @@
 use Rattle.std.proofs.Common.{◌≡◌, ◌≢◌, ℕ, List, refl}
 use Rattle.ax_disk.specs.declared.extent.Extent.{Extent}
 use Rattle.ax_disk.specs.declared.extent.Extent.TheVariants.{Root, A, B}
-use Rattle.ax_disk.specs.Image.{Image, list_of, with_list}
-use Rattle.ax_disk.specs.Pending.{Pending, settled, Unsynced, pending_of, with_pending, all_settled}
+use Rattle.ax_disk.specs.model.Image.{Image, list_of, with_list}
+use Rattle.ax_disk.specs.model.Pending.{Pending, settled, Unsynced, pending_of, with_pending, all_settled}
 
 pub list_of-same : (ext : Extent) (bytes : List ℕ) (image : Image) → list_of ext (with_list ext bytes image) ≡ bytes
 list_of-same Root bytes image = refl

@@ -1,8 +1,8 @@
 -- Laws of moments: what holds at each moment of two runs of calls, one after the other, holds at each moment of both.
 use Rattle.std.proofs.Common.{◌≡◌, ◌⊎◌, ⊎_elim, ℕ, ◌<◌, ◌≤◌, nat_le, if◌then◌else◌, sym, subst, arith}
-use Rattle.ax_disk.specs.Image.{Image}
-use Rattle.ax_disk.specs.Pending.{MayLeave}
-use Rattle.ax_disk.specs.Moments.{History, Elapses, Progresses, IsCurrent}
+use Rattle.ax_disk.specs.model.Image.{Image}
+use Rattle.ax_disk.specs.model.Pending.{MayLeave}
+use Rattle.ax_disk.specs.model.Moments.{History, Elapses, Progresses, IsCurrent}
 
 up_to_or_after : (t m : ℕ) → (t ≤ m) ⊎ (m < t)
 up_to_or_after t m = grind arith

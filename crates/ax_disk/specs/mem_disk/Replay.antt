@@ -1,10 +1,10 @@
 -- What was done to three lists since they were last known, and the history that follows from it.
 use Rattle.std.specs.Prelude.{ℕ, Bool, if◌then◌else◌, List, [], ◌∷◌, ◌++◌, length, take}
 use Rattle.ax_disk.specs.declared.extent.Extent.{Extent}
-use Rattle.ax_disk.specs.Image.{Image, list_of, with_list}
-use Rattle.ax_disk.specs.Pending.{Unsynced, MayLeave, all_settled, after_write, after_cut}
-use Rattle.ax_disk.specs.Moments.{History}
-use Rattle.ax_disk.specs.Calls.{overwritten}
+use Rattle.ax_disk.specs.model.Image.{Image, list_of, with_list}
+use Rattle.ax_disk.specs.model.Pending.{Unsynced, MayLeave, all_settled, after_write, after_cut}
+use Rattle.ax_disk.specs.model.Moments.{History}
+use Rattle.ax_disk.specs.model.Calls.{overwritten}
 
 -- one thing that was done
 pub data Deed : Type 0 where

@@ -1,8 +1,8 @@
 -- What a log of deeds shows: the deeds, and the room that is left.
 use Rattle.std.specs.Prelude.{ℕ, ◌-◌, List, vec_len, vec_capacity}
 use Rattle.ax_disk.specs.declared.call_log.CallLog.{CallLog}
-use Rattle.ax_disk.specs.Deeds.{deeds_of}
-use Rattle.ax_disk.specs.Replay.{Deed}
+use Rattle.ax_disk.specs.mem_disk.Deeds.{deeds_of}
+use Rattle.ax_disk.specs.mem_disk.Replay.{Deed}
 
 abbrev pub deeds_in : CallLog → List Deed
 deeds_in log = deeds_of log.deeds.items log.bytes.items

@@ -2,7 +2,7 @@
 use Rattle.std.proofs.Common.{◌≡◌, ◌⊎◌, ⊎_elim, ℕ, ◌+◌, ◌-◌, ◌<◌, ◌≤◌, List, ◌++◌, length, get_or, take, drop, sym, ◌∙◌, arith, length-append}
 use Rattle.std.proofs.Math.ListN.{replicate}
 use Rattle.std.proofs.lemmas.List.{ext_get_or, length-take, length-drop, length-replicate, get_or-take, get_or-drop, get_or-replicate, get_or_append_left, get_or-append_right, get_or_past, take-append-le}
-use Rattle.ax_disk.specs.Calls.{bytes_from}
+use Rattle.ax_disk.specs.model.Calls.{bytes_from}
 
 pub length-bytes_from : (list : List ℕ) (at size : ℕ) → length (bytes_from list at size) ≡ size
 length-bytes_from list at size =

@@ -1,8 +1,8 @@
 -- Three lists in memory: the image that they are, and the room that they have.
 use Rattle.std.specs.Prelude.{ℕ, min, max, length, vec_capacity}
 use Rattle.ax_disk.specs.declared.lists.Lists.{Lists}
-use Rattle.ax_disk.specs.Image.{Image}
-use Rattle.ax_disk.specs.Pending.{AreBytes}
+use Rattle.ax_disk.specs.model.Image.{Image}
+use Rattle.ax_disk.specs.model.Pending.{AreBytes}
 
 abbrev pub image_of : Lists → Image
 image_of lists = record { root = lists.root.items; a = lists.a.items; b = lists.b.items }

@@ -1,10 +1,10 @@
 -- What a medium shows: its history, and how much it may still take.
 use Rattle.std.specs.Prelude.{ℕ, ◌<◌}
 use Rattle.ax_disk.specs.declared.medium.Medium.{Medium}
-use Rattle.ax_disk.specs.Moments.{History}
-use Rattle.ax_disk.specs.Lists.{image_of}
-use Rattle.ax_disk.specs.CallLog.{deeds_in, spare_deeds}
-use Rattle.ax_disk.specs.Replay.{Account, history_of}
+use Rattle.ax_disk.specs.model.Moments.{History}
+use Rattle.ax_disk.specs.mem_disk.Lists.{image_of}
+use Rattle.ax_disk.specs.mem_disk.CallLog.{deeds_in, spare_deeds}
+use Rattle.ax_disk.specs.mem_disk.Replay.{Account, history_of}
 
 abbrev pub account_of : Medium → Account
 account_of medium = record { first = image_of medium.first; deeds = deeds_in medium.log }

@@ -2,7 +2,7 @@
 use Rattle.std.specs.Prelude.{ℕ, ◌+◌, List, [], ◌∷◌, take, drop}
 use Rattle.ax_disk.specs.declared.deed.Deed.{Deed as Noted}
 use Rattle.ax_disk.specs.declared.deed.Deed.TheVariants.{Wrote, Cut, Synced}
-use Rattle.ax_disk.specs.Replay.{Deed, wrote, cut, synced}
+use Rattle.ax_disk.specs.mem_disk.Replay.{Deed, wrote, cut, synced}
 
 -- how many bytes the writes have
 abbrev pub written_size : List Noted → ℕ

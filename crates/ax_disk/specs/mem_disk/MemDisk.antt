@@ -2,13 +2,13 @@
 use Rattle.std.specs.Prelude.{ℕ}
 use Rattle.std.proofs.Common.{subst, sym}
 use Rattle.ax_disk.specs.declared.mem_disk.MemDisk.{MemDisk}
-use Rattle.ax_disk.specs.Image.{Image}
-use Rattle.ax_disk.specs.Pending.{MayLeave}
-use Rattle.ax_disk.specs.Moments.{History, IsCurrent}
-use Rattle.ax_disk.specs.Replay.{Account}
-use Rattle.ax_disk.specs.ReplayLaws.{history_is_current}
-use Rattle.ax_disk.specs.Medium.{account_of, medium_history, room_of, turns_of}
-use Rattle.ax_disk.specs.Budget.{Budget}
+use Rattle.ax_disk.specs.model.Image.{Image}
+use Rattle.ax_disk.specs.model.Pending.{MayLeave}
+use Rattle.ax_disk.specs.model.Moments.{History, IsCurrent}
+use Rattle.ax_disk.specs.mem_disk.Replay.{Account}
+use Rattle.ax_disk.specs.mem_disk.ReplayLaws.{history_is_current}
+use Rattle.ax_disk.specs.mem_disk.Medium.{account_of, medium_history, room_of, turns_of}
+use Rattle.ax_disk.specs.mem_disk.Budget.{Budget}
 
 abbrev pub disk_account : MemDisk → Account
 disk_account disk = account_of disk.medium

@@ -1,19 +1,10 @@
--- What each call of a disk does to the lists of the store that it acts on, and when it may fail.
+-- What each call of a disk does to the lists of the store that it acts on.
 -- Source: as `Pending` and `Moments`; a place past the end of a list reads as 0, and a failed call may stop anywhere on its way.
-use Rattle.std.specs.Prelude.{◌≡◌, ◌⊎◌, ℕ, ◌+◌, ◌-◌, ◌^◌, ◌≤◌, min, List, ◌++◌, length, take, drop, replicate, Result, IsErr, OnOk, OnErr}
+use Rattle.std.specs.Prelude.{◌≡◌, ◌⊎◌, ℕ, ◌+◌, List, ◌++◌, length, take, drop, replicate, Result, OnOk, OnErr}
 use Rattle.ax_disk.specs.declared.extent.Extent.{Extent}
-use Rattle.ax_disk.specs.Image.{list_of, with_list}
-use Rattle.ax_disk.specs.Pending.{MayLeave, all_settled, after_write, after_cut}
-use Rattle.ax_disk.specs.Moments.{History, Elapses}
-
--- A count of faults rose. One that stands at the last value of a `u64` counts as risen.
-abbrev pub Rose : ℕ → ℕ → Type 0
-Rose before now = min (before + 1) (2 ^ 64 - 1) ≤ now
-
--- the count of faults doesn't fall, and a call fails only where it rose
-pub record HasCause {T E : Type 0} (result : Result T E) (before now : ℕ) : Type 0 where
-  pub never_falls : before ≤ now
-  pub failed : IsErr result → Rose before now
+use Rattle.ax_disk.specs.model.Image.{list_of, with_list}
+use Rattle.ax_disk.specs.model.Pending.{MayLeave, all_settled, after_write, after_cut}
+use Rattle.ax_disk.specs.model.Moments.{History, Elapses}
 
 -- `size` bytes from `at` on, with 0 past the end
 abbrev pub bytes_from : List ℕ → ℕ → ℕ → List ℕ

@@ -3,8 +3,8 @@
 -- Source: the crash condition of Chen et al., "Using Crash Hoare Logic for Certifying the FSCQ File System" (SOSP 2015),
 -- told moment by moment.
 use Rattle.std.specs.Prelude.{◌↔◌, ℕ, ◌<◌, ◌≤◌}
-use Rattle.ax_disk.specs.Image.{Image}
-use Rattle.ax_disk.specs.Pending.{Unsynced, MayLeave}
+use Rattle.ax_disk.specs.model.Image.{Image}
+use Rattle.ax_disk.specs.model.Pending.{Unsynced, MayLeave}
 
 pub record History : Type 1 where
   -- what reads give now

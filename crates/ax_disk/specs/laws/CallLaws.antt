@@ -1,11 +1,11 @@
 -- What a crash may leave after a call, in terms of what it might have left before, whether the call succeeded or failed.
 use Rattle.std.proofs.Common.{◌≡◌, ◌⊎◌, inl, inr, ⊎_elim, ℕ, List, length, Result, Ok, Err, sym, ◌∙◌, ap, subst}
 use Rattle.ax_disk.specs.declared.extent.Extent.{Extent}
-use Rattle.ax_disk.specs.Image.{Image}
-use Rattle.ax_disk.specs.Pending.{Unsynced, MayLeave, all_settled, after_write, after_cut}
-use Rattle.ax_disk.specs.PendingLaws.{all_settled_only, after_write_allows, after_cut_allows}
-use Rattle.ax_disk.specs.Moments.{History}
-use Rattle.ax_disk.specs.Calls.{Idles, Writes, Cuts, Syncs}
+use Rattle.ax_disk.specs.model.Image.{Image}
+use Rattle.ax_disk.specs.model.Pending.{Unsynced, MayLeave, all_settled, after_write, after_cut}
+use Rattle.ax_disk.specs.laws.PendingLaws.{all_settled_only, after_write_allows, after_cut_allows}
+use Rattle.ax_disk.specs.model.Moments.{History}
+use Rattle.ax_disk.specs.model.Calls.{Idles, Writes, Cuts, Syncs}
 
 -- where nothing was done it leaves what it might have left
 pub idles_leave : (old new : History) → Idles old new → (image : Image) → MayLeave new.unsynced image → MayLeave old.unsynced image

@@ -5,7 +5,7 @@
 use Rattle.std.specs.Prelude.{◌≡◌, ◌⊎◌, ℕ, ◌+◌, ◌<◌, ◌≤◌, min, max, List, [], ◌∷◌, length, slice_index}
 use Rattle.ax_disk.specs.declared.extent.Extent.{Extent}
 use Rattle.ax_disk.specs.declared.extent.Extent.TheVariants.{Root, A, B}
-use Rattle.ax_disk.specs.Image.{Image}
+use Rattle.ax_disk.specs.model.Image.{Image}
 
 -- so many places from `at` on
 pub record Range : Type 0 where

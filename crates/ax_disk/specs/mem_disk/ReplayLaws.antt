@@ -1,10 +1,10 @@
 -- What one deed more does to a history.
 use Rattle.std.proofs.Common.{◌≡◌, ℕ, ◌+◌, List, [], ◌∷◌, ◌++◌, length, refl, sym, subst, arith, length-append}
 use Rattle.std.proofs.lemmas.List.{take-append-le, take_all}
-use Rattle.ax_disk.specs.Image.{Image}
-use Rattle.ax_disk.specs.Pending.{Unsynced, MayLeave}
-use Rattle.ax_disk.specs.Moments.{Elapses, IsCurrent}
-use Rattle.ax_disk.specs.Replay.{Deed, State, synced_state, after_deed, after_deeds, Account, with_deed, state_of, history_of}
+use Rattle.ax_disk.specs.model.Image.{Image}
+use Rattle.ax_disk.specs.model.Pending.{Unsynced, MayLeave}
+use Rattle.ax_disk.specs.model.Moments.{Elapses, IsCurrent}
+use Rattle.ax_disk.specs.mem_disk.Replay.{Deed, State, synced_state, after_deed, after_deeds, Account, with_deed, state_of, history_of}
 
 pub after_one_more : (state : State) (deeds : List Deed) (deed : Deed) → after_deeds state (deeds ++ deed ∷ []) ≡ after_deed deed (after_deeds state deeds)
 after_one_more state [] deed = refl

@@ -1,0 +1,9 @@
+pub mod Replay
+pub mod ReplayLaws
+pub mod Lists
+pub mod Deeds
+pub mod CallLog
+pub mod Recorded
+pub mod Medium
+pub mod Budget
+pub mod MemDisk

@@ -1,0 +1,4 @@
+pub mod Image
+pub mod Pending
+pub mod Moments
+pub mod Calls
