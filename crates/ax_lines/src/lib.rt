@@ -1,15 +1,17 @@
-//! The lines of a script: what each asks for, and why a line is refused that asks for nothing.
+//! The lines of a script: where its bytes are split, what each line asks for, and why a line is
+//! refused that asks for nothing.
 //!
 //! Stands on `ax_text`, which reads the JSON in a line, and on `ax_tree`. Its one contract:
 //! `read_line` answers exactly what the line is, or its refusal, out of memory aside.
 #![tactic(auto)]
 
+pub mod laws;
 mod line;
 mod read;
 mod refusal;
-#[cfg(test)]
-mod tests;
+mod script_lines;
 
 pub use line::{Line, LineFault};
 pub use read::read_line;
 pub use refusal::Refusal;
+pub use script_lines::first_line;

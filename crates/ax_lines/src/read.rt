@@ -1,12 +1,14 @@
-ghost use Rattle.std.specs.Prelude.{◌≡◌, Some, option_map};
-ghost use Rattle.ax_text.specs.Reading.{reading};
-ghost use Rattle.ax_lines.specs.Answers.{Answers};
+ghost use Rattle.std.specs.Prelude.{◌≡◌, Some, Result, IfOk, IfErr, option_map};
+ghost use Rattle.ax_tree.specs.declared.tree.Tree.{Tree as TreeOf};
+ghost use Rattle.ax_text.specs.Reading.{reading, Stands};
+ghost use Rattle.ax_lines.specs.Answers.{Answers, IsRefusedBy};
+ghost use Rattle.ax_lines.specs.Causes.{unless};
 ghost use Rattle.ax_lines.specs.Lines as spec;
 
 use crate::line::{Line, LineFault};
 use crate::refusal::Refusal;
-use ax_tree::{Tree, id_of};
 use ax_text::{TextFault, nesting, read_tree};
+use ax_tree::{Tree, id_of};
 use std::alloc::Global;
 
 /// The deepest that the argument of a line may nest.
@@ -22,12 +24,10 @@ pub fn read_line(alloc: Global, line: &[u8]) -> Result<Line, LineFault>
 {
     let command = without_return(line);
     if let Some(json) = argument(command, b"UPSERT ") {
-        let tree = shallow_tree(alloc, json)?;
-        return Ok(upsert(tree)?);
+        return upsert_line(alloc, json);
     }
     if let Some(body) = argument(command, b"QUERY ") {
-        let tree = shallow_tree(alloc, body)?;
-        return Ok(query(&tree)?);
+        return query_line(alloc, body);
     }
     Err(LineFault::Refused(Refusal::Command))
 }
@@ -47,23 +47,39 @@ fn argument<'a>(command: &'a [u8], word: &[u8]) -> Option<&'a [u8]>
     command.strip_prefix(word)
 }
 
-fn shallow_tree(alloc: Global, json: &[u8]) -> Result<Tree, LineFault>
-    ensures { Answers result (spec.shallow_tree (reading json.now)) }
+fn upsert_line(alloc: Global, json: &[u8]) -> Result<Line, LineFault>
+    ensures { Answers result (spec.line_in (spec.Upsert json.now)) }
 {
-    let tree = match read_tree(alloc, json) {
-        Ok(tree) => tree,
-        Err(TextFault::Memory) => return Err(LineFault::Memory),
-        Err(_) => return Err(LineFault::Refused(Refusal::Json)),
-    };
-    if nesting(&tree) > DEEPEST {
-        return Err(LineFault::Refused(Refusal::Json));
+    let tree = tree_of(alloc, json)?;
+    Ok(upsert(tree)?)
+}
+
+fn query_line(alloc: Global, body: &[u8]) -> Result<Line, LineFault>
+    ensures { Answers result (spec.line_in (spec.Query body.now)) }
+{
+    let tree = tree_of(alloc, body)?;
+    Ok(query(&tree)?)
+}
+
+/// The tree that an argument stands for.
+fn tree_of(alloc: Global, json: &[u8]) -> Result<Tree, LineFault>
+    ensures tree { IfOk result (λ tree. reading json.now ≡ Stands tree) }
+    ensures refused { IfErr result (λ fault. (ask : TreeOf → Result Line Refusal)
+        → IsRefusedBy fault (spec.with_tree_of (reading json.now) ask)) }
+{
+    match read_tree(alloc, json) {
+        Ok(tree) => Ok(tree),
+        Err(TextFault::Memory) => Err(LineFault::Memory),
+        Err(_) => Err(LineFault::Refused(Refusal::Json)),
     }
-    Ok(tree)
 }
 
 fn upsert(tree: Tree) -> Result<Line, Refusal>
-    ensures { result ≡ spec.upsert_of tree }
+    ensures { result ≡ unless (spec.upsert_causes tree) (Line.Upsert tree) }
 {
+    if nesting(&tree) > DEEPEST {
+        return Err(Refusal::Json);
+    }
     if id_of(&tree).is_none() {
         return Err(Refusal::Json);
     }
@@ -71,8 +87,11 @@ fn upsert(tree: Tree) -> Result<Line, Refusal>
 }
 
 fn query(body: &Tree) -> Result<Line, Refusal>
-    ensures { result ≡ spec.query_of body.now }
+    ensures { result ≡ unless (spec.query_causes body.now) Line.Query }
 {
+    if nesting(body) > DEEPEST {
+        return Err(Refusal::Json);
+    }
     if asks_for_all(body) {
         Ok(Line::Query)
     } else {

@@ -13,6 +13,9 @@ pub enum Refusal {
     Memory,
     /// `err 10 query`: the query body is no map with the text member `query` that is served.
     Query,
+    /// `err 15 full`: no document can be created, since there are as many as there may be or no
+    /// number is left. No line is refused so before it meets the store.
+    Full,
 }
 
 impl Refusal {
@@ -27,6 +30,7 @@ impl Refusal {
             Refusal::Json => 3,
             Refusal::Memory => 9,
             Refusal::Query => 10,
+            Refusal::Full => 15,
         }
     }
 
@@ -39,6 +43,7 @@ impl Refusal {
             Refusal::Json => "json",
             Refusal::Memory => "memory",
             Refusal::Query => "query",
+            Refusal::Full => "full",
         }
     }
 }

@@ -1,5 +1,0 @@
-use Rattle.ax_machine.proofs.Cuts.{lines_are_one}
-use Rattle.ax_machine.proofs.laws.the_lines_are_one.Goals as goal
-
-pub returns : goal.returns
-returns c = lines_are_one
