@@ -5,4 +5,7 @@ pub mod GoodData
 pub mod Joined
 pub mod Levels
 pub mod Readings
+pub mod StringTexts
+pub mod ReadTexts
+pub mod ReadTrees
 pub mod RoundTrip

@@ -6,12 +6,11 @@
 
 mod depth;
 mod fault;
-mod laws;
+pub mod laws;
 mod read;
 
 pub use depth::nesting;
 pub use fault::TextFault;
-pub use laws::canonical_text_reads_back;
 pub use read::read_tree;
 
 #[cfg(test)]
