@@ -1,4 +1,2 @@
-pub mod Cuts
-mod Newlines
 pub mod Runs
 mod Soundness

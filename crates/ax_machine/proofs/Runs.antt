@@ -1,61 +1,57 @@
 -- Runs of lines, one after another.
-use Rattle.std.proofs.Common.{◌≡◌, ℕ, List, [], ◌∷◌, ◌++◌, inl, refl, sym, ◌∙◌, subst, append_assoc, append-nil}
-use Rattle.std.proofs.lemmas.Grind.{flat_map-append}
+use Rattle.std.proofs.Common.{◌≡◌, ℕ, List, [], ◌∷◌, ◌++◌, map, refl, sym, ap, ◌∙◌}
+use Rattle.std.proofs.Common.{append_assoc, append-nil}
+use Rattle.std.specs.List.{concat, AllByRecursion}
 use Rattle.ax_container.specs.Container.{Container}
-use Rattle.ax_machine.specs.Step.{Reply, step}
-use Rattle.ax_machine.specs.Replies.{reply_text}
-use Rattle.ax_machine.specs.Run.{Serves, Run, RunsTo, RunsThrough}
+use Rattle.ax_machine.specs.ReplyTexts.{reply_text}
+use Rattle.ax_machine.specs.Run.{Outcome, Served, Exchange, after_line, reply_to, lines_of, after, texts, text_of}
 
-pub Run-append : (a b c : Container) (lines more : List (List ℕ)) (replies others : List Reply) → Run a lines replies b → Run b more others c → Run a (lines ++ more) (replies ++ others) c
-Run-append a b c [] more [] others first second = subst (λ x. Run x more others c) first second
-Run-append a b c [] more (reply ∷ replies) others first second = absurd first
-Run-append a b c (line ∷ lines) more [] others first second = absurd first
-Run-append a b c (line ∷ lines) more (reply ∷ replies) others first second =
-    (first.0, first.1, Run-append first.0 b c lines more replies others first.2 second)
+-- ---- a run of lines that are all served
 
-pub RunsTo-append : (a b c : Container) (lines more : List (List ℕ)) (text other : List ℕ) → RunsTo a lines text b → RunsTo b more other c → RunsTo a (lines ++ more) (text ++ other) c
-RunsTo-append a b c lines more text other first second = (
-  first.0 ++ second.0,
-  Run-append a b c lines more first.0 second.0 first.1 second.1,
-  (λ i. first.2 i ++ second.2 i) ∙ sym (flat_map-append reply_text first.0 second.0),
-)
+abbrev all_served : List (List ℕ) → List Exchange
+all_served lines = map (λ line. record { line = line; outcome = Served }) lines
 
-pub RunsTo-nil : (a : Container) → RunsTo a [] [] a
-RunsTo-nil a = ([], refl, refl)
+lines-all_served : (lines : List (List ℕ)) → lines_of (all_served lines) ≡ lines
+lines-all_served [] = refl
+lines-all_served (line ∷ lines) = ap (λ l. line ∷ l) (lines-all_served lines)
 
--- the line is served, and its reply is the text
-pub RunsTo-line : (a b : Container) (line : List ℕ) (reply : Reply) → Serves a line reply b → RunsTo a (line ∷ []) (reply_text reply) b
-RunsTo-line a b line reply served = (reply ∷ [], (b, served, refl), sym (append-nil (reply_text reply)))
+served-all_served : (lines : List (List ℕ)) → AllByRecursion (λ exchange. exchange.outcome ≡ Served) (all_served lines)
+served-all_served [] = tt
+served-all_served (line ∷ lines) = (refl, served-all_served lines)
 
--- from each container each list of lines runs to somewhere
-pub runs_to_somewhere : (a : Container) (lines : List (List ℕ)) → (text : List ℕ) × (after : Container) × RunsTo a lines text after
-runs_to_somewhere a [] = ([], a, RunsTo-nil a)
-runs_to_somewhere a (line ∷ lines) =
-    let next : Container = (step a line).0 in
-    let rest = runs_to_somewhere next lines in
-    let one : RunsTo a (line ∷ []) (reply_text (step a line).1) next = RunsTo-line a next line (step a line).1 (inl (refl, refl)) in
-    (reply_text (step a line).1 ++ rest.0, rest.1, RunsTo-append a next rest.1 (line ∷ []) lines (reply_text (step a line).1) rest.0 one rest.2)
+pub there_is_a_run : (lines : List (List ℕ)) → (run : List Exchange) × (lines_of run ≡ lines)
+    × AllByRecursion (λ exchange. exchange.outcome ≡ Served) run
+there_is_a_run lines = (all_served lines, lines-all_served lines, served-all_served lines)
 
-pub RunsThrough-from : (a b : Container) (lines : List (List ℕ)) (text : List ℕ) → RunsTo a lines text b → RunsThrough a lines text
-RunsThrough-from a b lines text run = ([], b, subst (λ x. RunsTo a lines x b) (sym (append-nil text)) run)
+-- ---- a run, and then more
 
--- what begins a run of some lines begins one of more lines
-pub RunsThrough-more : (a : Container) (lines more : List (List ℕ)) (text : List ℕ) → RunsThrough a lines text → RunsThrough a (lines ++ more) text
-RunsThrough-more a lines more text run =
-    let later = runs_to_somewhere run.1 more in (
-      run.0 ++ later.0,
-      later.1,
-      subst (λ x. RunsTo a (lines ++ more) x later.1) (append_assoc text run.0 later.0) (RunsTo-append a run.1 later.1 lines more (text ++ run.0) later.0 run.2 later.2),
-    )
+pub lines_of-append : (run more : List Exchange) → lines_of (run ++ more) ≡ lines_of run ++ lines_of more
+lines_of-append [] more = refl
+lines_of-append (exchange ∷ run) more = ap (λ l. exchange.line ∷ l) (lines_of-append run more)
 
--- a run of some lines, and then the beginning of a run of more
-pub RunsThrough-after : (a b : Container) (lines more : List (List ℕ)) (text other : List ℕ) → RunsTo a lines text b → RunsThrough b more other → RunsThrough a (lines ++ more) (text ++ other)
-RunsThrough-after a b lines more text other first second = (
-  second.0,
-  second.1,
-  subst (λ x. RunsTo a (lines ++ more) x second.1) (sym (append_assoc text other second.0)) (RunsTo-append a b second.1 lines more text (other ++ second.0) first second.2),
-)
+pub after-append : (before : Container) (run more : List Exchange)
+    → after before (run ++ more) ≡ after (after before run) more
+after-append before [] more = refl
+after-append before (exchange ∷ run) more =
+    after-append (after_line before exchange.line exchange.outcome) run more
 
--- a line is served, and some of the text of its reply is there
-pub RunsThrough-line : (a b : Container) (line : List ℕ) (reply : Reply) (front rest : List ℕ) → Serves a line reply b → reply_text reply ≡ front ++ rest → RunsThrough a (line ∷ []) front
-RunsThrough-line a b line reply front rest served cut = (rest, b, subst (λ x. RunsTo a (line ∷ []) x b) cut (RunsTo-line a b line reply served))
+pub texts-append : (before : Container) (run more : List Exchange)
+    → texts before (run ++ more) ≡ texts before run ++ texts (after before run) more
+texts-append before [] more = refl
+texts-append before (exchange ∷ run) more =
+    ap (λ l. reply_text (reply_to before exchange.line exchange.outcome) ∷ l)
+    (texts-append (after_line before exchange.line exchange.outcome) run more)
+
+concat-append : (a b : List (List ℕ)) → concat (a ++ b) ≡ concat a ++ concat b
+concat-append [] b = refl
+concat-append (text ∷ a) b = ap (λ l. text ++ l) (concat-append a b) ∙ sym (append_assoc text (concat a) (concat b))
+
+pub text_of-append : (before : Container) (run more : List Exchange)
+    → text_of before (run ++ more) ≡ text_of before run ++ text_of (after before run) more
+text_of-append before run more =
+    ap concat (texts-append before run more) ∙ concat-append (texts before run) (texts (after before run) more)
+
+-- the text of one line is its reply
+pub text_of-one : (before : Container) (line : List ℕ) (outcome : Outcome)
+    → text_of before (record { line = line; outcome = outcome } ∷ []) ≡ reply_text (reply_to before line outcome)
+text_of-one before line outcome = append-nil (reply_text (reply_to before line outcome))

@@ -1,26 +1,33 @@
-ghost use Rattle.std.specs.Prelude.{◌≡◌, ℕ, List};
+//! Laws of the definitions, each the contract of a function that does nothing.
+ghost use Rattle.std.specs.Prelude.{◌≡◌, ◌++◌, ℕ, List};
+ghost use Rattle.std.specs.List.{AllByRecursion};
 ghost use Rattle.ax_container.specs.Container.{Container, IsSound};
 ghost use Rattle.ax_machine.specs.Step.{step};
-ghost use Rattle.ax_machine.specs.Run.{RunsTo};
-ghost use Rattle.ax_machine.specs.ScriptLines.{AreLines};
+ghost use Rattle.ax_machine.specs.Run.{Exchange, Served, lines_of, after, texts, text_of};
 
-/// Any bytes are some lines and a last piece.
-pub fn there_are_lines()
-    ensures { (bytes : List ℕ) → (lines : List (List ℕ)) × (last : List ℕ) × AreLines bytes lines last }
-{}
-
-/// No bytes are cut into lines in two ways.
-pub fn the_lines_are_one()
-    ensures { (bytes : List ℕ) (lines others : List (List ℕ)) (last rest : List ℕ)
-        → AreLines bytes lines last → AreLines bytes others rest → (lines ≡ others) × (last ≡ rest) }
-{}
-
-/// From any container any lines run to somewhere: no script is stuck.
+/// Any lines have a run in which each of them is served: from no container is a script stuck.
 pub fn there_is_a_run()
-    ensures { (before : Container) (lines : List (List ℕ)) → (text : List ℕ) × (after : Container) × RunsTo before lines text after }
+    ensures { (lines : List (List ℕ)) → (run : List Exchange) × (lines_of run ≡ lines)
+        × AllByRecursion (λ exchange. exchange.outcome ≡ Served) run }
+{}
+
+/// A run and then another is the run of both: it goes on from the container that the first leaves.
+pub fn runs_join()
+    ensures lines { (run more : List Exchange) → lines_of (run ++ more) ≡ lines_of run ++ lines_of more }
+    ensures after { (before : Container) (run more : List Exchange)
+        → after before (run ++ more) ≡ after (after before run) more }
+    ensures texts { (before : Container) (run more : List Exchange)
+        → texts before (run ++ more) ≡ texts before run ++ texts (after before run) more }
+    ensures text { (before : Container) (run more : List Exchange)
+        → text_of before (run ++ more) ≡ text_of before run ++ text_of (after before run) more }
 {}
 
 /// A step keeps what holds of every container.
 pub fn a_step_keeps_soundness()
-    ensures { (container : Container) (line : List ℕ) → IsSound container → IsSound (step container line).0 }
+    ensures { (before : Container) (line : List ℕ) → IsSound before → IsSound (step before line).0 }
+{}
+
+/// So does a run, however its lines are answered.
+pub fn a_run_keeps_soundness()
+    ensures { (before : Container) (run : List Exchange) → IsSound before → IsSound (after before run) }
 {}
