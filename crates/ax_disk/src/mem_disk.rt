@@ -4,14 +4,14 @@ ghost use Rattle.ax_disk.specs.model.Image.{list_of};
 ghost use Rattle.ax_disk.specs.model.Pending.{MayLeave};
 ghost use Rattle.ax_faults.specs.Faults.{raised, Rose, HasCause};
 ghost use Rattle.ax_disk.specs.model.Calls.{Idles, Writes, Cuts, Syncs, bytes_from};
-ghost use Rattle.ax_disk.specs.mem_disk.Replay.{wrote, cut, new_account, with_deed};
-ghost use Rattle.ax_disk.specs.mem_disk.Recorded.{last_synced};
-ghost use Rattle.ax_disk.specs.mem_disk.Medium.{turns_of, IsReady};
-ghost use Rattle.ax_disk.specs.mem_disk.Budget.{Budget, fails_next, fate_of, Allows, Spends};
+ghost use Rattle.ax_disk.specs.mem_disk.OperationLog.{wrote, cut, new_log, with_operation};
+ghost use Rattle.ax_disk.specs.mem_disk.ListsMatch.{last_synced};
+ghost use Rattle.ax_disk.specs.mem_disk.LoggedLists.{calls_remaining_of, IsReady};
+ghost use Rattle.ax_disk.specs.mem_disk.Budget.{Budget, fails_next, outcome_of, Allows, Spends};
 
-use crate::fate::Fate;
+use crate::outcome::Outcome;
 use crate::lists::Lists;
-use crate::medium::Medium;
+use crate::logged_lists::LoggedLists;
 use crate::{Disk, DiskFailed, Extent, Memory};
 use ax_faults::FaultCount;
 use std::alloc::Global;
@@ -28,17 +28,17 @@ const MOST_BYTES: u64 = 1 << 62;
 /// No call fails otherwise, but one that would pass 2^62 bytes.
 #[derive(Drop)]
 pub struct MemDisk {
-    medium: Medium,
+    lists: LoggedLists,
     failing: Vec<u64>,
     /// So many calls were made.
     made: u64,
     faults: FaultCount,
     reads: u64,
-    ghost numbered: { made + turns_of medium < 2 ^ 64 },
+    ghost numbered: { made + calls_remaining_of lists < 2 ^ 64 },
 }
 
 impl MemDisk {
-    ghost use Rattle.ax_disk.specs.mem_disk.MemDisk.{disk_account, disk_history, disk_faults, counted_reads, budget_of};
+    ghost use Rattle.ax_disk.specs.mem_disk.MemDisk.{operation_log, disk_history, disk_faults, counted_reads, budget_of};
 
     /// A disk with these lists, all synced, and room for `room` bytes of writes and for `calls` calls.
     pub fn make(
@@ -50,14 +50,14 @@ impl MemDisk {
         calls: usize,
         failing: Vec<u64>,
     ) -> Result<MemDisk, Memory>
-        ensures lists { IfOk result (λ disk. disk_account disk ≡ new_account (record { root = root.items; a = a.items; b = b.items })) }
-        ensures budget { IfOk result (λ disk. budget_of disk ≡ record { turns = calls; room = room; made = 0; failing = failing.items }) }
+        ensures lists { IfOk result (λ disk. operation_log disk ≡ new_log (record { root = root.items; a = a.items; b = b.items })) }
+        ensures budget { IfOk result (λ disk. budget_of disk ≡ record { calls_remaining = calls; room = room; made = 0; failing = failing.items }) }
         ensures reads { IfOk result (λ disk. counted_reads disk ≡ 0) }
         ensures faults { IfOk result (λ disk. disk_faults disk ≡ 0) }
     {
         let lists = Lists { root, a, b };
         Ok(MemDisk {
-            medium: Medium::make(alloc, lists, room, calls)?,
+            lists: LoggedLists::make(alloc, lists, room, calls)?,
             failing,
             made: 0,
             faults: FaultCount::new(),
@@ -69,7 +69,7 @@ impl MemDisk {
     pub fn bytes(&self, ext: Extent) -> &[u8]
         ensures { result.now ≡ list_of ext (disk_history self.now).reads }
     {
-        self.medium.list(ext)
+        self.lists.list(ext)
     }
 
     /// How many calls of `read` were made, up to the last value of a `u64`.
@@ -82,42 +82,42 @@ impl MemDisk {
     /// Crashes, and comes back. With `keep` the lists are then what reads gave, else what the last sync that succeeded left, or what the
     /// disk was made with where none has succeeded. Nothing is then unsynced, and a new clock begins. It is no call, and takes no room.
     pub fn crash(&mut self, keep: bool)
-        ensures lists { disk_account self.new ≡ new_account (if keep then (disk_history self.old).reads else last_synced (disk_history self.old).unsynced) }
+        ensures lists { operation_log self.new ≡ new_log (if keep then (disk_history self.old).reads else last_synced (disk_history self.old).unsynced) }
         ensures left { MayLeave (disk_history self.old).unsynced (disk_history self.new).reads }
         ensures budget { budget_of self.new ≡ budget_of self.old }
         ensures reads { counted_reads self.new ≡ counted_reads self.old }
         ensures faults { disk_faults self.new ≡ disk_faults self.old }
     {
-        self.medium.crash(keep);
+        self.lists.crash(keep);
     }
 
     /// Whether a write of so many bytes has room.
     fn fits(&self, at: u64, size: usize) -> bool
         ensures { IsTrue result ↔ ((size ≤ (budget_of self.now).room) × (at + size ≤ 2 ^ 62)) }
     {
-        size <= self.medium.room() && at <= MOST_BYTES && size as u64 <= MOST_BYTES - at
+        size <= self.lists.room() && at <= MOST_BYTES && size as u64 <= MOST_BYTES - at
     }
 
-    /// Takes the call's turn and number, and tells what becomes of it, where it has room or not.
-    fn begin(&mut self, fits: bool) -> Fate
-        ensures fate { result ≡ fate_of fits (budget_of self.old) }
+    /// Takes the call's call and number, and tells what becomes of it, where it has room or not.
+    fn begin(&mut self, fits: bool) -> Outcome
+        ensures outcome { result ≡ outcome_of fits (budget_of self.old) }
         ensures budget { Spends 0 (budget_of self.old) (budget_of self.new) }
-        ensures ready { 0 < (budget_of self.old).turns → IsReady self.new.medium }
-        ensures lists { disk_account self.new ≡ disk_account self.old }
+        ensures ready { 0 < (budget_of self.old).calls_remaining → IsReady self.new.lists }
+        ensures lists { operation_log self.new ≡ operation_log self.old }
         ensures reads { counted_reads self.new ≡ counted_reads self.old }
         ensures faults { disk_faults self.new ≡ disk_faults self.old }
     {
-        if self.medium.turns() == 0 {
-            return Fate::Refused;
+        if self.lists.calls_remaining() == 0 {
+            return Outcome::Refused;
         }
-        self.medium.take_turn();
+        self.lists.take_call();
         self.made += 1;
         if !fits {
-            Fate::Refused
+            Outcome::Refused
         } else if self.failing.contains(&self.made) {
-            Fate::Fails
+            Outcome::Fails
         } else {
-            Fate::Done
+            Outcome::Done
         }
     }
 }
@@ -142,7 +142,7 @@ fn fill(list: &[u8], at: u64, buf: &mut [u8])
 }
 
 impl Disk for MemDisk {
-    ghost use Rattle.ax_disk.specs.mem_disk.MemDisk.{disk_account, disk_history, disk_faults, counted_reads, budget_of, disk_reads_may_stay, disk_is_current};
+    ghost use Rattle.ax_disk.specs.mem_disk.MemDisk.{operation_log, disk_history, disk_faults, counted_reads, budget_of, disk_reads_may_stay, disk_is_current};
 
     ghost faults = { λ disk. disk_faults disk };
 
@@ -167,8 +167,8 @@ impl Disk for MemDisk {
         ensures reads { counted_reads self.new ≡ counted_reads self.old }
     {
         match self.begin(true) {
-            Fate::Refused | Fate::Fails => Err(raise(&mut self.faults)),
-            Fate::Done => Ok(()),
+            Outcome::Refused | Outcome::Fails => Err(raise(&mut self.faults)),
+            Outcome::Done => Ok(()),
         }
     }
 
@@ -183,10 +183,10 @@ impl Disk for MemDisk {
         ensures budget { Spends 0 (budget_of self.old) (budget_of self.new) }
         ensures reads { counted_reads self.new ≡ counted_reads self.old }
     {
-        let length = self.medium.list(ext).len() as u64;
+        let length = self.lists.list(ext).len() as u64;
         match self.begin(length <= MOST_BYTES) {
-            Fate::Refused | Fate::Fails => Err(raise(&mut self.faults)),
-            Fate::Done => Ok(length),
+            Outcome::Refused | Outcome::Fails => Err(raise(&mut self.faults)),
+            Outcome::Done => Ok(length),
         }
     }
 
@@ -201,9 +201,9 @@ impl Disk for MemDisk {
     {
         self.reads = self.reads.saturating_add(1);
         match self.begin(true) {
-            Fate::Refused | Fate::Fails => Err(raise(&mut self.faults)),
-            Fate::Done => {
-                fill(self.medium.list(ext), at, buf);
+            Outcome::Refused | Outcome::Fails => Err(raise(&mut self.faults)),
+            Outcome::Done => {
+                fill(self.lists.list(ext), at, buf);
                 Ok(())
             }
         }
@@ -212,8 +212,8 @@ impl Disk for MemDisk {
     fn write_at(&mut self, ext: Extent, at: u64, bytes: &[u8]) -> Result<(), DiskFailed>
         requires { at ≤ length (list_of ext (disk_history self.old).reads) }
         ensures lists { Writes ext at bytes.now result (disk_history self.old) (disk_history self.new) }
-        ensures half { OnErr result ((disk_account self.new ≡ disk_account self.old)
-            ⊎ (disk_account self.new ≡ with_deed (wrote ext at (length bytes.now) (take (length bytes.now / 2) bytes.now)) (disk_account self.old))) }
+        ensures half { OnErr result ((operation_log self.new ≡ operation_log self.old)
+            ⊎ (operation_log self.new ≡ with_operation (wrote ext at (length bytes.now) (take (length bytes.now / 2) bytes.now)) (operation_log self.old))) }
         ensures limit { 2 ^ 62 < at + length bytes.now → IsErr result }
         ensures unwritten { 2 ^ 62 < at + length bytes.now
             → Idles (disk_history self.old) (disk_history self.new) }
@@ -226,13 +226,13 @@ impl Disk for MemDisk {
     {
         let fits = self.fits(at, bytes.len());
         match self.begin(fits) {
-            Fate::Refused => Err(raise(&mut self.faults)),
-            Fate::Fails => {
-                self.medium.write(ext, at as usize, bytes, bytes.len() / 2);
+            Outcome::Refused => Err(raise(&mut self.faults)),
+            Outcome::Fails => {
+                self.lists.write(ext, at as usize, bytes, bytes.len() / 2);
                 Err(raise(&mut self.faults))
             }
-            Fate::Done => {
-                self.medium.write(ext, at as usize, bytes, bytes.len());
+            Outcome::Done => {
+                self.lists.write(ext, at as usize, bytes, bytes.len());
                 Ok(())
             }
         }
@@ -240,7 +240,7 @@ impl Disk for MemDisk {
 
     fn cut(&mut self, ext: Extent, len: u64) -> Result<(), DiskFailed>
         ensures lists { Cuts ext len result (disk_history self.old) (disk_history self.new) }
-        ensures uncut { OnErr result ((disk_account self.new ≡ disk_account self.old) ⊎ (disk_account self.new ≡ with_deed (cut ext len false) (disk_account self.old))) }
+        ensures uncut { OnErr result ((operation_log self.new ≡ operation_log self.old) ⊎ (operation_log self.new ≡ with_operation (cut ext len false) (operation_log self.old))) }
         ensures cause { HasCause result (disk_faults self.old) (disk_faults self.new) }
         ensures succeeds { Allows 0 (budget_of self.old) → IsOk result }
         ensures fails { IsTrue (fails_next (budget_of self.old)) → IsErr result }
@@ -248,13 +248,13 @@ impl Disk for MemDisk {
         ensures reads { counted_reads self.new ≡ counted_reads self.old }
     {
         match self.begin(true) {
-            Fate::Refused => Err(raise(&mut self.faults)),
-            Fate::Fails => {
-                self.medium.cut(ext, len as usize, false);
+            Outcome::Refused => Err(raise(&mut self.faults)),
+            Outcome::Fails => {
+                self.lists.cut(ext, len as usize, false);
                 Err(raise(&mut self.faults))
             }
-            Fate::Done => {
-                self.medium.cut(ext, len as usize, true);
+            Outcome::Done => {
+                self.lists.cut(ext, len as usize, true);
                 Ok(())
             }
         }
@@ -262,7 +262,7 @@ impl Disk for MemDisk {
 
     fn sync(&mut self) -> Result<(), DiskFailed>
         ensures lists { Syncs result (disk_history self.old) (disk_history self.new) }
-        ensures unsynced { OnErr result (disk_account self.new ≡ disk_account self.old) }
+        ensures unsynced { OnErr result (operation_log self.new ≡ operation_log self.old) }
         ensures cause { HasCause result (disk_faults self.old) (disk_faults self.new) }
         ensures succeeds { Allows 0 (budget_of self.old) → IsOk result }
         ensures fails { IsTrue (fails_next (budget_of self.old)) → IsErr result }
@@ -271,9 +271,9 @@ impl Disk for MemDisk {
     {
         match self.begin(true) {
             // Nothing is synced, so a crash may leave all that it might have left before.
-            Fate::Refused | Fate::Fails => Err(raise(&mut self.faults)),
-            Fate::Done => {
-                self.medium.sync();
+            Outcome::Refused | Outcome::Fails => Err(raise(&mut self.faults)),
+            Outcome::Done => {
+                self.lists.sync();
                 Ok(())
             }
         }
