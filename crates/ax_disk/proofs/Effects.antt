@@ -1,9 +1,9 @@
 -- What a operation, or none, does to the history of an log, in the words of a disk's calls.
-use Rattle.std.proofs.Common.{◌≡◌, inl, inr, ℕ, ◌≤◌, true, false, List, length, Ok, Err, refl, sym, ap, subst}
+use Rattle.std.proofs.Common.{◌≡◌, inl, inr, ℕ, ◌≤◌, Bool, true, false, if◌then◌else◌, List, length, take, Ok, Err, refl, sym, ap, subst}
 use Rattle.ax_disk.specs.declared.extent.Extent.{Extent}
-use Rattle.ax_disk.specs.model.Image.{Image, list_of}
+use Rattle.ax_disk.specs.model.Image.{Image, list_of, with_list}
 use Rattle.ax_disk.specs.model.Pending.{AreBytes, MayLeave, all_settled, after_write, after_cut}
-use Rattle.ax_disk.specs.laws.PendingLaws.{all_settled_only, all_settled_leaves, after_write_leaves, after_write_allows, after_cut_allows}
+use Rattle.ax_disk.specs.laws.PendingLaws.{all_settled_only, all_settled_leaves, after_write_leaves, after_write_allows, after_cut_leaves, after_cut_allows}
 use Rattle.ax_disk.specs.laws.MomentLaws.{elapses_start}
 use Rattle.ax_disk.specs.model.Calls.{Idles, Writes, Cuts, Syncs}
 use Rattle.ax_disk.specs.mem_disk.OperationLog.{Operation, wrote, cut, synced, State, synced_state, after_operation, OperationLog, with_operation, state_of, history_of}
@@ -20,6 +20,12 @@ pub idles_same : (old new : OperationLog) → new ≡ old → Idles (history_of 
 idles_same old new same =
     subst (λ (a : OperationLog). Idles (history_of old) (history_of a)) (sym same)
     (record { reads = refl; unsynced = refl; time = elapses_start (history_of old) (λ _ image. MayLeave (history_of old).unsynced image) })
+
+-- a cut that failed leaves what it may, whether reads tell it or not
+cut_or_not : (ext : Extent) (len : ℕ) (done : Bool) (state : State) → MayLeave state.unsynced state.reads
+    → MayLeave (after_cut ext len (all_settled state.reads)) (if done then with_list ext (take len (list_of ext state.reads)) state.reads else state.reads)
+cut_or_not ext len true state may = after_cut_leaves ext (all_settled state.reads) state.reads len (all_settled_leaves state.unsynced state.reads may)
+cut_or_not ext len false state may = after_cut_allows ext (all_settled state.reads) len state.reads (all_settled_leaves state.unsynced state.reads may)
 
 module _ {T E : Type 0} where
   pub writes_refused : (ext : Extent) (at : ℕ) (bytes : List ℕ) (error : E) (old new : OperationLog) → new ≡ old → StaysReadable old → Writes {T = T} ext at bytes (Err error) (history_of old) (history_of new)
@@ -83,16 +89,15 @@ module _ {T E : Type 0} where
         time = operation_elapses old operation (λ _ image. MayLeave (after_cut ext len (history_of old).unsynced) image) (λ image left. left);
       })
 
-  pub cuts_failed : (ext : Extent) (len : ℕ) (error : E) (old new : OperationLog) → new ≡ with_operation (cut ext len false) old → StaysReadable old → Cuts {T = T} ext len (Err error) (history_of old) (history_of new)
-  cuts_failed ext len error old new is may =
-      let operation = cut ext len false in
+  pub cuts_failed : (ext : Extent) (len : ℕ) (done : Bool) (error : E) (old new : OperationLog) → new ≡ with_operation (cut ext len done) old → StaysReadable old → Cuts {T = T} ext len (Err error) (history_of old) (history_of new)
+  cuts_failed ext len done error old new is may =
+      let operation = cut ext len done in
       let reads = ap (λ (s : State). s.reads) (step operation old) in
       subst (λ (a : OperationLog). Cuts {T = T} ext len (Err error) (history_of old) (history_of a)) (sym is)
       (record {
         done = tt;
         unsynced = tt;
-        torn = subst (λ (image : Image). MayLeave (after_cut ext len (all_settled (state_of old).reads)) image) (sym reads)
-            (after_cut_allows ext (all_settled (state_of old).reads) len (state_of old).reads (all_settled_leaves (state_of old).unsynced (state_of old).reads may));
+        torn = subst (λ (image : Image). MayLeave (after_cut ext len (all_settled (state_of old).reads)) image) (sym reads) (cut_or_not ext len done (state_of old) may);
         unsynced_torn = inr (ap (λ (s : State). s.unsynced) (step operation old));
         time = operation_elapses old operation (λ _ image. MayLeave (after_cut ext len (history_of old).unsynced) image) (λ image left. left);
       })

@@ -5,5 +5,5 @@ pub mod OperationHeads
 pub mod OperationList
 pub mod ListsMatch
 pub mod LoggedLists
-pub mod Budget
+pub mod CallBudget
 pub mod MemDisk

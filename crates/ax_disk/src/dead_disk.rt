@@ -1,7 +1,7 @@
 //! A disk on which each call fails.
-ghost use Rattle.std.specs.Prelude.{◌≡◌, ◌≤◌, false, [], IsErr};
+ghost use Rattle.std.specs.Prelude.{◌≡◌, ◌≤◌, false, [], Some, IsErr};
 ghost use Rattle.std.proofs.lemmas.Bool.{false≢true};
-ghost use Rattle.ax_faults.specs.Faults.{raised, HasCause};
+ghost use Rattle.ax_faults.specs.Faults.{raised, HasCause, CountsOnce};
 
 use crate::{Disk, DiskFailed, Extent};
 use ax_faults::FaultCount;
@@ -45,6 +45,8 @@ impl Disk for DeadDisk {
 
     ghost history = { λ _ _. nothing_told };
 
+    ghost remaining = { λ _. Some 0 };
+
     ghost reads_may_stay = { λ _ _ honest. absurd (false≢true honest) };
 
     ghost is_current = { λ _ _ honest. absurd (false≢true honest) };
@@ -52,7 +54,7 @@ impl Disk for DeadDisk {
     fn attach(&mut self, _name: &str) -> Result<(), DiskFailed>
         ensures fails { IsErr result }
         ensures cause { HasCause result (dead_faults self.old) (dead_faults self.new) }
-        ensures counted { dead_faults self.new ≡ raised (dead_faults self.old) }
+        ensures counts { CountsOnce result (dead_faults self.old) (dead_faults self.new) }
     {
         Err(self.fail())
     }
@@ -60,7 +62,7 @@ impl Disk for DeadDisk {
     fn len(&mut self, _ext: Extent) -> Result<u64, DiskFailed>
         ensures fails { IsErr result }
         ensures cause { HasCause result (dead_faults self.old) (dead_faults self.new) }
-        ensures counted { dead_faults self.new ≡ raised (dead_faults self.old) }
+        ensures counts { CountsOnce result (dead_faults self.old) (dead_faults self.new) }
     {
         Err(self.fail())
     }
@@ -68,7 +70,7 @@ impl Disk for DeadDisk {
     fn read(&mut self, _ext: Extent, _at: u64, _buf: &mut [u8]) -> Result<(), DiskFailed>
         ensures fails { IsErr result }
         ensures cause { HasCause result (dead_faults self.old) (dead_faults self.new) }
-        ensures counted { dead_faults self.new ≡ raised (dead_faults self.old) }
+        ensures counts { CountsOnce result (dead_faults self.old) (dead_faults self.new) }
     {
         Err(self.fail())
     }
@@ -76,7 +78,7 @@ impl Disk for DeadDisk {
     fn write_at(&mut self, _ext: Extent, _at: u64, _bytes: &[u8]) -> Result<(), DiskFailed>
         ensures fails { IsErr result }
         ensures cause { HasCause result (dead_faults self.old) (dead_faults self.new) }
-        ensures counted { dead_faults self.new ≡ raised (dead_faults self.old) }
+        ensures counts { CountsOnce result (dead_faults self.old) (dead_faults self.new) }
     {
         Err(self.fail())
     }
@@ -84,7 +86,7 @@ impl Disk for DeadDisk {
     fn cut(&mut self, _ext: Extent, _len: u64) -> Result<(), DiskFailed>
         ensures fails { IsErr result }
         ensures cause { HasCause result (dead_faults self.old) (dead_faults self.new) }
-        ensures counted { dead_faults self.new ≡ raised (dead_faults self.old) }
+        ensures counts { CountsOnce result (dead_faults self.old) (dead_faults self.new) }
     {
         Err(self.fail())
     }
@@ -92,7 +94,7 @@ impl Disk for DeadDisk {
     fn sync(&mut self) -> Result<(), DiskFailed>
         ensures fails { IsErr result }
         ensures cause { HasCause result (dead_faults self.old) (dead_faults self.new) }
-        ensures counted { dead_faults self.new ≡ raised (dead_faults self.old) }
+        ensures counts { CountsOnce result (dead_faults self.old) (dead_faults self.new) }
     {
         Err(self.fail())
     }

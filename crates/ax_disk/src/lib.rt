@@ -5,6 +5,7 @@
 //! wasn't written since is the one that a read gave then; after a sync that succeeded a crash leaves what a read gives.
 #![tactic(auto)]
 
+mod call_budget;
 mod operation_list;
 mod dead_disk;
 mod operation_head;

@@ -1,14 +1,17 @@
-//! What a disk in memory holds: what reads give, what the last sync left, and all that was done since it was made.
-ghost use Rattle.std.specs.Prelude.{◌≡◌, ◌+◌, ◌≤◌, ◌<◌, ◌++◌, [], ◌∷◌, ℕ, List, length, take, IfOk, if◌then◌else◌};
+//! The lists of a disk in memory with the log of what was done to them: what reads give, what the last
+//! sync left, and each operation since the lists were made or crashed.
+ghost use Rattle.std.specs.Prelude.{◌≡◌, ◌+◌, ◌≤◌, ◌<◌, ◌++◌, [], ◌∷◌, ℕ, List, true, false, length, take, Ok, Err, IfOk, if◌then◌else◌};
+ghost use Rattle.ax_disk.specs.declared.disk.DiskFailed.{DiskFailed};
 ghost use Rattle.ax_disk.specs.model.Image.{list_of};
+ghost use Rattle.ax_disk.specs.model.Calls.{Writes, Cuts, Syncs};
 ghost use Rattle.ax_disk.specs.mem_disk.OperationLog.{wrote, cut, synced, with_operation, new_log, state_of};
 ghost use Rattle.ax_disk.specs.mem_disk.Lists.{image_of, least_capacity, greatest_length};
 ghost use Rattle.ax_disk.specs.mem_disk.OperationList.{operations_in};
 ghost use Rattle.ax_disk.specs.mem_disk.ListsMatch.{ListsMatch, HasRoom, last_synced};
 
 use crate::Extent;
-use crate::operation_list::OperationList;
 use crate::lists::Lists;
+use crate::operation_list::OperationList;
 use std::alloc::{AllocError, Global};
 
 #[derive(Drop)]
@@ -24,25 +27,23 @@ pub(crate) struct LoggedLists {
     limit: usize,
     /// So many bytes may still be written.
     room: usize,
-    /// So many calls may still be made.
-    calls_remaining: usize,
     ghost matching: { ListsMatch (state_of (record { first = image_of first; operations = operations_in operations })) (image_of current) (image_of stable) },
-    ghost has_room: { HasRoom first current stable operations limit room calls_remaining },
+    ghost has_room: { HasRoom first current stable operations limit room },
 }
 
 impl LoggedLists {
-    ghost use Rattle.ax_disk.specs.mem_disk.LoggedLists.{log_of, lists_history, room_of, calls_remaining_of, IsReady};
+    ghost use Rattle.ax_disk.specs.mem_disk.LoggedLists.{log_of, lists_history, room_of, operation_room_of};
 
-    /// A logged with these lists, all synced, and room for so many bytes of writes and so many calls.
+    /// These lists, all synced, with room for so many bytes of writes and so many operations.
     pub fn make(
         alloc: Global,
         lists: Lists,
         room: usize,
-        calls_remaining: usize,
+        operations: usize,
     ) -> Result<LoggedLists, AllocError>
         ensures log { IfOk result (λ logged. log_of logged ≡ new_log (image_of lists)) }
         ensures room { IfOk result (λ logged. room_of logged ≡ room) }
-        ensures calls_remaining { IfOk result (λ logged. calls_remaining_of logged ≡ calls_remaining) }
+        ensures operations { IfOk result (λ logged. operations ≤ operation_room_of logged) }
     {
         let limit = lists.longest_with(room)?;
         let stable = lists.copy(alloc, limit)?;
@@ -53,10 +54,9 @@ impl LoggedLists {
             current,
             stable,
             first,
-            operations: OperationList::make(alloc, calls_remaining, room)?,
+            operations: OperationList::make(alloc, operations, room)?,
             limit,
             room,
-            calls_remaining,
         })
     }
 
@@ -66,12 +66,6 @@ impl LoggedLists {
         self.room
     }
 
-    pub fn calls_remaining(&self) -> usize
-        ensures { result ≡ calls_remaining_of self.now }
-    {
-        self.calls_remaining
-    }
-
     /// What reads give of a list.
     pub fn list(&self, ext: Extent) -> &[u8]
         ensures { result.now ≡ list_of ext (lists_history self.now).reads }
@@ -79,25 +73,19 @@ impl LoggedLists {
         self.current.list(ext)
     }
 
-    /// Takes a call's call. There is then room to note what it does.
-    pub fn take_call(&mut self)
-        requires { 0 < calls_remaining_of self.old }
-        ensures log { log_of self.new ≡ log_of self.old }
-        ensures calls_remaining { calls_remaining_of self.new + 1 ≡ calls_remaining_of self.old }
-        ensures ready { IsReady self.new }
-        ensures room { room_of self.new ≡ room_of self.old }
-    {
-        self.calls_remaining -= 1;
-    }
-
-    /// A write of these bytes, of which the first `done` come to be read.
+    /// A write of these bytes, of which the first `done` come to be read: one that succeeds where it
+    /// is all of them, or else one that fails.
     pub fn write(&mut self, ext: Extent, at: usize, bytes: &[u8], done: usize)
-        requires ready { IsReady self.old }
-        requires place { at ≤ length (list_of ext (lists_history self.old).reads) }
+        requires operations { 0 < operation_room_of self.old }
+        requires offset { at ≤ length (list_of ext (lists_history self.old).reads) }
         requires room { length bytes.now ≤ room_of self.old }
         requires done { done ≤ length bytes.now }
         ensures log { log_of self.new ≡ with_operation (wrote ext at (length bytes.now) (take done bytes.now)) (log_of self.old) }
-        ensures calls_remaining { calls_remaining_of self.new ≡ calls_remaining_of self.old }
+        ensures succeeded { done ≡ length bytes.now
+            → Writes {E = DiskFailed} ext at bytes.now (Ok (tt {0})) (lists_history self.old) (lists_history self.new) }
+        ensures failed { (error : DiskFailed)
+            → Writes {T = Unit {0}} ext at bytes.now (Err error) (lists_history self.old) (lists_history self.new) }
+        ensures operations { operation_room_of self.old ≤ operation_room_of self.new + 1 }
         ensures room { room_of self.new + length bytes.now ≡ room_of self.old }
     {
         let part = &bytes[..done];
@@ -106,11 +94,15 @@ impl LoggedLists {
         self.room -= bytes.len();
     }
 
-    /// A cut, that comes to be read where it is done.
+    /// A cut that comes to be read where it is done, or else one that fails.
     pub fn cut(&mut self, ext: Extent, len: usize, done: bool)
-        requires { IsReady self.old }
+        requires { 0 < operation_room_of self.old }
         ensures log { log_of self.new ≡ with_operation (cut ext len done) (log_of self.old) }
-        ensures calls_remaining { calls_remaining_of self.new ≡ calls_remaining_of self.old }
+        ensures succeeded { done ≡ true
+            → Cuts {E = DiskFailed} ext len (Ok (tt {0})) (lists_history self.old) (lists_history self.new) }
+        ensures failed { (error : DiskFailed)
+            → Cuts {T = Unit {0}} ext len (Err error) (lists_history self.old) (lists_history self.new) }
+        ensures operations { operation_room_of self.old ≤ operation_room_of self.new + 1 }
         ensures room { room_of self.new ≡ room_of self.old }
     {
         self.operations.add_cut(ext, len, done);
@@ -120,19 +112,21 @@ impl LoggedLists {
     }
 
     pub fn sync(&mut self)
-        requires { IsReady self.old }
+        requires { 0 < operation_room_of self.old }
         ensures log { log_of self.new ≡ with_operation synced (log_of self.old) }
-        ensures calls_remaining { calls_remaining_of self.new ≡ calls_remaining_of self.old }
+        ensures succeeded { Syncs {E = DiskFailed} (Ok (tt {0})) (lists_history self.old) (lists_history self.new) }
+        ensures operations { operation_room_of self.old ≤ operation_room_of self.new + 1 }
         ensures room { room_of self.new ≡ room_of self.old }
     {
         self.operations.add_sync();
         self.stable.set(&self.current);
     }
 
-    /// Leaves what reads give or what the last sync left, all of it synced, and nothing of what was done before.
+    /// Leaves what reads give or what the last sync left, all of it synced, and nothing of what was
+    /// done before.
     pub fn crash(&mut self, keep: bool)
         ensures log { log_of self.new ≡ new_log (if keep then (lists_history self.old).reads else last_synced (lists_history self.old).unsynced) }
-        ensures calls_remaining { calls_remaining_of self.new ≡ calls_remaining_of self.old }
+        ensures operations { operation_room_of self.old ≤ operation_room_of self.new }
         ensures room { room_of self.new ≡ room_of self.old }
     {
         self.operations.clear();

@@ -28,6 +28,5 @@ invariant_of-self-clause-has_room c =
       stable_room = omega (arith, m.has_room.stable_room, c.settle.ensures.stable_room);
       current_length = omega (arith, m.has_room.current_length, m.has_room.stable_length, chosen, current);
       stable_length = omega (arith, m.has_room.current_length, m.has_room.stable_length, chosen, stable);
-      operations = omega (arith, m.has_room.operations, c.clear.ensures.operations);
       bytes = omega (arith, m.has_room.bytes, c.clear.ensures.bytes);
     }

@@ -20,6 +20,5 @@ invariant_of-result-clause-has_room c =
       stable_room = c.in_ok-stable.ensures.room;
       current_length = omega arith;
       stable_length = omega arith;
-      operations = c.in_ok-make.ensures.operations;
       bytes = c.in_ok-make.ensures.bytes;
     }
