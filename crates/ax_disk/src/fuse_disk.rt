@@ -86,8 +86,6 @@ impl<D: Disk> Disk for FuseDisk<D> {
             → Idles (D.history (inner_of self.old) store) (D.history (inner_of self.new) store) }
         ensures cause { HasCause result (D.faults (inner_of self.old) + refusals_of self.old) (D.faults (inner_of self.new) + refusals_of self.new) }
         ensures honest { D.is_honest (inner_of self.new) ≡ D.is_honest (inner_of self.old) }
-        ensures spent { calls_remaining_of self.new ≡ calls_remaining_of self.old - 1 }
-        ensures stopped { calls_remaining_of self.old ≡ 0 → IsErr result }
 
         // What a fuse adds.
         ensures passes { PassesOn D.faults D.remaining result self.old self.new }
@@ -105,8 +103,6 @@ impl<D: Disk> Disk for FuseDisk<D> {
         ensures attached { D.attached (inner_of self.new) ≡ D.attached (inner_of self.old) }
         ensures cause { HasCause result (D.faults (inner_of self.old) + refusals_of self.old) (D.faults (inner_of self.new) + refusals_of self.new) }
         ensures honest { D.is_honest (inner_of self.new) ≡ D.is_honest (inner_of self.old) }
-        ensures spent { calls_remaining_of self.new ≡ calls_remaining_of self.old - 1 }
-        ensures stopped { calls_remaining_of self.old ≡ 0 → IsErr result }
 
         // What a fuse adds.
         ensures passes { PassesOn D.faults D.remaining result self.old self.new }
@@ -123,8 +119,6 @@ impl<D: Disk> Disk for FuseDisk<D> {
         ensures attached { D.attached (inner_of self.new) ≡ D.attached (inner_of self.old) }
         ensures cause { HasCause result (D.faults (inner_of self.old) + refusals_of self.old) (D.faults (inner_of self.new) + refusals_of self.new) }
         ensures honest { D.is_honest (inner_of self.new) ≡ D.is_honest (inner_of self.old) }
-        ensures spent { calls_remaining_of self.new ≡ calls_remaining_of self.old - 1 }
-        ensures stopped { calls_remaining_of self.old ≡ 0 → IsErr result }
 
         // What a fuse adds.
         ensures passes { PassesOn D.faults D.remaining result self.old self.new }
@@ -142,8 +136,6 @@ impl<D: Disk> Disk for FuseDisk<D> {
         ensures attached { D.attached (inner_of self.new) ≡ D.attached (inner_of self.old) }
         ensures cause { HasCause result (D.faults (inner_of self.old) + refusals_of self.old) (D.faults (inner_of self.new) + refusals_of self.new) }
         ensures honest { D.is_honest (inner_of self.new) ≡ D.is_honest (inner_of self.old) }
-        ensures spent { calls_remaining_of self.new ≡ calls_remaining_of self.old - 1 }
-        ensures stopped { calls_remaining_of self.old ≡ 0 → IsErr result }
 
         // What a fuse adds.
         ensures passes { PassesOn D.faults D.remaining result self.old self.new }
@@ -158,8 +150,6 @@ impl<D: Disk> Disk for FuseDisk<D> {
         ensures attached { D.attached (inner_of self.new) ≡ D.attached (inner_of self.old) }
         ensures cause { HasCause result (D.faults (inner_of self.old) + refusals_of self.old) (D.faults (inner_of self.new) + refusals_of self.new) }
         ensures honest { D.is_honest (inner_of self.new) ≡ D.is_honest (inner_of self.old) }
-        ensures spent { calls_remaining_of self.new ≡ calls_remaining_of self.old - 1 }
-        ensures stopped { calls_remaining_of self.old ≡ 0 → IsErr result }
 
         // What a fuse adds.
         ensures passes { PassesOn D.faults D.remaining result self.old self.new }
@@ -174,8 +164,6 @@ impl<D: Disk> Disk for FuseDisk<D> {
         ensures attached { D.attached (inner_of self.new) ≡ D.attached (inner_of self.old) }
         ensures cause { HasCause result (D.faults (inner_of self.old) + refusals_of self.old) (D.faults (inner_of self.new) + refusals_of self.new) }
         ensures honest { D.is_honest (inner_of self.new) ≡ D.is_honest (inner_of self.old) }
-        ensures spent { calls_remaining_of self.new ≡ calls_remaining_of self.old - 1 }
-        ensures stopped { calls_remaining_of self.old ≡ 0 → IsErr result }
 
         // What a fuse adds.
         ensures passes { PassesOn D.faults D.remaining result self.old self.new }

@@ -225,7 +225,8 @@ impl Disk for MemDisk {
             Outcome::Refused => Err(raise(&mut self.faults)),
             Outcome::Fails => {
                 self.lists.write(ext, at as usize, bytes, bytes.len() / 2);
-                Err(raise(&mut self.faults))
+                self.faults.raise();
+                Err(DiskFailed)
             }
             Outcome::Done => {
                 self.lists.write(ext, at as usize, bytes, bytes.len());
@@ -252,7 +253,8 @@ impl Disk for MemDisk {
             Outcome::Refused => Err(raise(&mut self.faults)),
             Outcome::Fails => {
                 self.lists.cut(ext, len as usize, false);
-                Err(raise(&mut self.faults))
+                self.faults.raise();
+                Err(DiskFailed)
             }
             Outcome::Done => {
                 self.lists.cut(ext, len as usize, true);

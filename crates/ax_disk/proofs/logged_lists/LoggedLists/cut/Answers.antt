@@ -57,10 +57,10 @@ pub returns-then-done-clause-failed : goal.returns-then-done-clause-failed
 returns-then-done-clause-failed c =
     let m = c.args.self.now in
     let added = ap (λ operations. record { first = image_of m.first; operations = operations }) c.add_cut.ensures.added in
-    λ error. cuts_failed c.args.ext c.args.len c.args.done error (log_of m) _ added (reads_may_stay m)
+    cuts_failed c.args.ext c.args.len c.args.done (record {}) (log_of m) _ added (reads_may_stay m)
 
 pub returns-else-done-clause-failed : goal.returns-else-done-clause-failed
 returns-else-done-clause-failed c =
     let m = c.args.self.now in
     let added = ap (λ operations. record { first = image_of m.first; operations = operations }) c.add_cut.ensures.added in
-    λ error. cuts_failed c.args.ext c.args.len c.args.done error (log_of m) _ added (reads_may_stay m)
+    cuts_failed c.args.ext c.args.len c.args.done (record {}) (log_of m) _ added (reads_may_stay m)

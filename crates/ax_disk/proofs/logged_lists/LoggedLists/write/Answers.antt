@@ -40,15 +40,17 @@ pub returns-clause-succeeded : goal.returns-clause-succeeded
 returns-clause-succeeded c =
     let m = c.args.self.now in
     let bytes = c.args.bytes.now in
+    λ whole.
+    let all = take_all c.args.done bytes (omega (arith, whole)) in
     let added = ap (λ operations. record { first = image_of m.first; operations = operations }) c.add_write.ensures.added in
-    λ whole. writes_done c.args.ext c.args.at bytes (tt {0}) (log_of m) _ (added ∙ ap (λ part. with_operation (wrote c.args.ext c.args.at (length bytes) part) (log_of m)) (take_all c.args.done bytes (omega (arith, whole))))
+    writes_done c.args.ext c.args.at bytes (tt {0}) (log_of m) _ (added ∙ ap (λ part. with_operation (wrote c.args.ext c.args.at (length bytes) part) (log_of m)) all)
 
 pub returns-clause-failed : goal.returns-clause-failed
 returns-clause-failed c =
     let m = c.args.self.now in
     let bytes = c.args.bytes.now in
     let part = take c.args.done bytes in
-    let added = ap (λ operations. record { first = image_of m.first; operations = operations }) c.add_write.ensures.added in
     let short : length part ≤ length bytes = omega (arith, length-take c.args.done bytes) in
     let fit : AreBytes part = λ i below. omega (arith, get_or-take c.args.done bytes i 0 (omega (arith, length-take c.args.done bytes)), c.type_inv.bytes i) in
-    λ error. writes_failed c.args.ext c.args.at bytes part error (log_of m) _ added (reads_may_stay m) c.requires.offset short fit
+    let added = ap (λ operations. record { first = image_of m.first; operations = operations }) c.add_write.ensures.added in
+    writes_failed c.args.ext c.args.at bytes part (record {}) (log_of m) _ added (reads_may_stay m) c.requires.offset short fit
