@@ -1,7 +1,7 @@
 ghost use Rattle.std.specs.Prelude.{◌≡◌, ◌<◌, IfOk, OnErr, length, take};
 ghost use Rattle.std.specs.Io.{WritesAtMost};
 ghost use Rattle.std.specs.Io.KnownBytes.{Appends};
-ghost use Rattle.ax_base.specs.Bytes.{AppendsFront};
+ghost use Rattle.ax_base.specs.Bytes.{AppendsPrefix};
 ghost use Rattle.ax_faults.specs.Faults.{Rose, HasCause, CountsOnce};
 
 use crate::{Failed, Sink};
@@ -55,7 +55,7 @@ impl<W: Write> Sink for StdSink<W> {
         ensures bound { WritesAtMost result bytes.now }
         ensures added { IfOk result (λ n. Appends self.old.told self.new.told (take n bytes.now)) }
         ensures nothing { IfOk result (λ n. n ≡ 0 → 0 < length bytes.now → Rose self.old.faults self.new.faults) }
-        ensures failed { OnErr result (AppendsFront self.old.told self.new.told bytes.now) }
+        ensures failed { OnErr result (AppendsPrefix self.old.told self.new.told bytes.now) }
         ensures cause { HasCause result self.old.faults self.new.faults }
 
         // What this sink adds.

@@ -1,4 +1,4 @@
--- What a `DeadDisk` shows: how many calls it has failed. It tells of no list, so no clause reads what it has in the place of a history.
+-- What a `DeadDisk` shows: how many calls it has failed. It tells of no list, so no clause reads what it has instead of a history.
 use Rattle.std.specs.Prelude.{ℕ, []}
 use Rattle.ax_disk.specs.declared.dead_disk.DeadDisk.{DeadDisk}
 use Rattle.ax_disk.specs.model.Image.{Image}

@@ -4,7 +4,7 @@ use Rattle.ax_faults.specs.Faults.{raised, HasCause}
 use Rattle.ax_disk.specs.declared.fuse_disk.FuseDisk.{FuseDisk}
 use Rattle.ax_disk.specs.CallLimit.{one_call_less}
 
--- the disk that it holds
+-- the disk beneath it
 abbrev pub inner_of : {D : Type 0} → FuseDisk D → D
 inner_of fuse = fuse.inner
 
@@ -16,8 +16,8 @@ calls_remaining_of fuse = fuse.calls_remaining
 abbrev pub refusals_of : {D : Type 0} → FuseDisk D → ℕ
 refusals_of fuse = fuse.refusals
 
--- Where a call remains, the disk that it holds answers one call, which fails only by that disk's own count of faults `faults`, and
--- the fuse refuses nothing. Where none remains, the fuse fails the call, counts it, and leaves that disk alone.
+-- Where a call remains, the disk beneath answers one call, which fails only by that disk's own count of faults, and the fuse refuses
+-- nothing. Where none remains, the fuse fails the call, counts it, and leaves the disk beneath as it was.
 pub record PassesOn {D T E : Type 0} (faults : D → ℕ) (remaining : D → Option ℕ) (result : Result T E) (old new : FuseDisk D) : Type 0 where
   pub spent : calls_remaining_of new ≡ calls_remaining_of old - 1
   pub cause : 0 < calls_remaining_of old → HasCause result (faults (inner_of old)) (faults (inner_of new))

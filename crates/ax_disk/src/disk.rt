@@ -60,7 +60,7 @@ pub trait Disk {
         ensures spent { remaining self.new ≡ one_call_less (remaining self.old) }
         ensures stopped { remaining self.old ≡ Some 0 → IsErr result };
 
-    /// Fills `buf` with the bytes at `at`. A place past the end reads as 0, which is no failure.
+    /// Fills `buf` with the bytes at `at`. An offset past the end reads as 0, which is no failure.
     /// After a failure `buf` may hold anything.
     fn read(&mut self, ext: Extent, at: u64, buf: &mut [u8]) -> Result<(), DiskFailed>
         ensures bytes { IsTrue (is_honest self.old)

@@ -7,8 +7,8 @@ ghost use Rattle.ax_disk.specs.model.Calls.{Idles, Writes, Cuts, Syncs, bytes_fr
 use crate::{Disk, DiskFailed, Extent};
 use ax_faults::FaultCount;
 
-/// Passes the first k calls on to the disk that it holds, each as one call. It fails each later call, counts it, and leaves that disk
-/// alone.
+/// Passes the first k calls on to the disk beneath it, each as one call. It fails each later call,
+/// counts it, and leaves that disk as it is.
 #[derive(Drop)]
 pub struct FuseDisk<D: Disk> {
     inner: D,

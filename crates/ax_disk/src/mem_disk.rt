@@ -20,7 +20,7 @@ use std::alloc::Global;
 /// The greatest length of a list in bytes.
 const MOST_BYTES: u64 = 1 << 62;
 
-/// A disk in memory. It holds the lists of a single store, whatever name is attached.
+/// A disk in memory. It has the lists of a single store, whatever name is attached.
 ///
 /// It takes room for so many written bytes and so many calls when it is made, and no memory later. A
 /// call past that room fails and does nothing. Calls are numbered from 1, those that fail too, and a
@@ -39,7 +39,7 @@ pub struct MemDisk {
 }
 
 impl MemDisk {
-    ghost use Rattle.ax_disk.specs.mem_disk.MemDisk.{operation_log, disk_history, disk_faults, counted_reads, call_budget, disk_room, HasPlaceFor};
+    ghost use Rattle.ax_disk.specs.mem_disk.MemDisk.{operation_log, disk_history, disk_faults, counted_reads, call_budget, disk_room, HasRoomFor};
 
     /// A disk with these lists, all synced, and room for `room` bytes of writes and for `calls` calls.
     pub fn make(
@@ -101,15 +101,6 @@ impl MemDisk {
     }
 }
 
-/// Counts a failure.
-fn raise(faults: &mut FaultCount) -> DiskFailed
-    ensures raised { faults.new ≡ raised faults.old }
-    ensures never_falls { faults.old ≤ faults.new }
-{
-    faults.raise();
-    DiskFailed
-}
-
 /// Fills `buf` with the bytes of a list from an offset on, and 0 past its end.
 fn fill(list: &[u8], at: u64, buf: &mut [u8])
     ensures { buf.new ≡ bytes_from list.now at (length buf.old) }
@@ -121,7 +112,7 @@ fn fill(list: &[u8], at: u64, buf: &mut [u8])
 }
 
 impl Disk for MemDisk {
-    ghost use Rattle.ax_disk.specs.mem_disk.MemDisk.{operation_log, disk_history, disk_faults, counted_reads, call_budget, disk_room, HasPlaceFor, LacksPlaceFor, disk_reads_may_stay, disk_is_current};
+    ghost use Rattle.ax_disk.specs.mem_disk.MemDisk.{operation_log, disk_history, disk_faults, counted_reads, call_budget, disk_room, HasRoomFor, LacksRoomFor, disk_reads_may_stay, disk_is_current};
 
     ghost faults = { λ disk. disk_faults disk };
 
@@ -150,7 +141,10 @@ impl Disk for MemDisk {
         ensures reads { counted_reads self.new ≡ counted_reads self.old }
     {
         match self.calls.next(true) {
-            Outcome::Refused | Outcome::Fails => Err(raise(&mut self.faults)),
+            Outcome::Refused | Outcome::Fails => {
+                self.faults.raise();
+                Err(DiskFailed)
+            }
             Outcome::Done => Ok(()),
         }
     }
@@ -170,7 +164,10 @@ impl Disk for MemDisk {
     {
         let length = self.lists.list(ext).len() as u64;
         match self.calls.next(length <= MOST_BYTES) {
-            Outcome::Refused | Outcome::Fails => Err(raise(&mut self.faults)),
+            Outcome::Refused | Outcome::Fails => {
+                self.faults.raise();
+                Err(DiskFailed)
+            }
             Outcome::Done => Ok(length),
         }
     }
@@ -189,7 +186,10 @@ impl Disk for MemDisk {
     {
         self.reads = self.reads.saturating_add(1);
         match self.calls.next(true) {
-            Outcome::Refused | Outcome::Fails => Err(raise(&mut self.faults)),
+            Outcome::Refused | Outcome::Fails => {
+                self.faults.raise();
+                Err(DiskFailed)
+            }
             Outcome::Done => {
                 fill(self.lists.list(ext), at, buf);
                 Ok(())
@@ -204,25 +204,28 @@ impl Disk for MemDisk {
         ensures cause { HasCause result (disk_faults self.old) (disk_faults self.new) }
         ensures counts { CountsOnce result (disk_faults self.old) (disk_faults self.new) }
         ensures succeeds { IsOk result
-            ↔ (HasPlaceFor at (length bytes.now) self.old × (fails_next (call_budget self.old) ≡ false)) }
+            ↔ (HasRoomFor at (length bytes.now) self.old × (fails_next (call_budget self.old) ≡ false)) }
 
         // One that has room and is numbered to fail writes the first half of its bytes.
-        ensures half { IsErr result → HasPlaceFor at (length bytes.now) self.old
+        ensures half { IsErr result → HasRoomFor at (length bytes.now) self.old
             → operation_log self.new ≡ with_operation (wrote ext at (length bytes.now) (take (length bytes.now / 2) bytes.now)) (operation_log self.old) }
-        ensures refused { LacksPlaceFor at (length bytes.now) self.old
+        ensures refused { LacksRoomFor at (length bytes.now) self.old
             → operation_log self.new ≡ operation_log self.old }
 
         // One that has room takes it, also where it fails.
-        ensures room { HasPlaceFor at (length bytes.now) self.old
+        ensures room { HasRoomFor at (length bytes.now) self.old
             → disk_room self.new + length bytes.now ≡ disk_room self.old }
-        ensures no_room { LacksPlaceFor at (length bytes.now) self.old
+        ensures no_room { LacksRoomFor at (length bytes.now) self.old
             → disk_room self.new ≡ disk_room self.old }
         ensures calls { call_budget self.new ≡ after_call (call_budget self.old) }
         ensures reads { counted_reads self.new ≡ counted_reads self.old }
     {
         let fits = self.fits(at, bytes.len());
         match self.calls.next(fits) {
-            Outcome::Refused => Err(raise(&mut self.faults)),
+            Outcome::Refused => {
+                self.faults.raise();
+                Err(DiskFailed)
+            }
             Outcome::Fails => {
                 self.lists.write(ext, at as usize, bytes, bytes.len() / 2);
                 self.faults.raise();
@@ -250,7 +253,10 @@ impl Disk for MemDisk {
         ensures reads { counted_reads self.new ≡ counted_reads self.old }
     {
         match self.calls.next(true) {
-            Outcome::Refused => Err(raise(&mut self.faults)),
+            Outcome::Refused => {
+                self.faults.raise();
+                Err(DiskFailed)
+            }
             Outcome::Fails => {
                 self.lists.cut(ext, len as usize, false);
                 self.faults.raise();
@@ -275,7 +281,10 @@ impl Disk for MemDisk {
     {
         match self.calls.next(true) {
             // Nothing is synced, so a crash may leave all that it might have left before.
-            Outcome::Refused | Outcome::Fails => Err(raise(&mut self.faults)),
+            Outcome::Refused | Outcome::Fails => {
+                self.faults.raise();
+                Err(DiskFailed)
+            }
             Outcome::Done => {
                 self.lists.sync();
                 Ok(())

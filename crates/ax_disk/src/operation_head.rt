@@ -1,7 +1,7 @@
-//! One thing that was done to the lists of a disk in memory.
+//! One operation on the lists of a disk in memory, without the bytes of its write.
 use crate::Extent;
 
-/// The bytes of writes are kept beside, those of one write after those of the last.
+/// The bytes of writes stand beside, those of one write after those of the last.
 #[derive(Clone, Copy)]
 pub(crate) enum OperationHead {
     /// A write of `size` bytes, of which the first `done` came to be read.

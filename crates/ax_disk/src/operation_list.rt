@@ -1,4 +1,4 @@
-//! What was done to the lists of a disk in memory, operation by operation, in room that was taken before.
+//! What was done to the lists of a disk in memory, operation by operation, in room taken before.
 ghost use Rattle.std.specs.Prelude.{◌≡◌, ◌+◌, ◌-◌, ◌≤◌, ◌<◌, ◌++◌, [], ◌∷◌, length, vec_len, vec_capacity, IfOk};
 ghost use Rattle.ax_disk.specs.mem_disk.OperationHeads.{written_size, operations_of};
 ghost use Rattle.ax_disk.specs.mem_disk.OperationLog.{wrote, cut, synced};
@@ -39,7 +39,7 @@ impl OperationList {
         self.bytes.clear();
     }
 
-    /// Notes a write of `size` bytes, of which those in `bytes` came to be read.
+    /// Adds a write of `size` bytes, of which those in `bytes` came to be read.
     pub fn add_write(&mut self, ext: Extent, at: usize, size: usize, bytes: &[u8])
         requires operations { 0 < spare_operations self.old }
         requires bytes { length bytes.now ≤ spare_bytes self.old }
@@ -58,7 +58,7 @@ impl OperationList {
         prove!(taken.is_ok());
     }
 
-    /// Notes a cut to `len` bytes, and whether it came to be read.
+    /// Adds a cut to `len` bytes, and whether it came to be read.
     pub fn add_cut(&mut self, ext: Extent, len: usize, done: bool)
         requires { 0 < spare_operations self.old }
         ensures added { operations_in self.new ≡ operations_in self.old ++ cut ext len done ∷ [] }

@@ -1,8 +1,8 @@
-//! What becomes of a call on a disk in memory.
+//! How a call on a disk in memory goes.
 
 #[derive(Clone, Copy)]
 pub(crate) enum Outcome {
-    /// There is no room for it, and nothing is done.
+    /// No call remains, or no room for it, and nothing is done.
     Refused,
     /// It is numbered to fail.
     Fails,

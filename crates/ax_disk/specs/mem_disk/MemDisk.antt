@@ -28,14 +28,14 @@ abbrev pub disk_room : MemDisk → ℕ
 disk_room disk = room_of disk.lists
 
 -- A call remains, there is room for a write of so many bytes, and its end doesn't pass 2^62.
-pub record HasPlaceFor (at size : ℕ) (disk : MemDisk) : Type 0 where
+pub record HasRoomFor (at size : ℕ) (disk : MemDisk) : Type 0 where
   pub call : 0 < (call_budget disk).remaining
   pub room : size ≤ disk_room disk
   pub end : at + size ≤ 2 ^ 62
 
 -- one of these is wanting
-abbrev pub LacksPlaceFor : ℕ → ℕ → MemDisk → Type 0
-LacksPlaceFor at size disk = ((call_budget disk).remaining ≡ 0) ⊎ (disk_room disk < size) ⊎ (2 ^ 62 < at + size)
+abbrev pub LacksRoomFor : ℕ → ℕ → MemDisk → Type 0
+LacksRoomFor at size disk = ((call_budget disk).remaining ≡ 0) ⊎ (disk_room disk < size) ⊎ (2 ^ 62 < at + size)
 
 -- an image as read is one of those that a crash now may leave
 pub disk_reads_may_stay : (disk : MemDisk) → MayLeave (disk_history disk).unsynced (disk_history disk).reads

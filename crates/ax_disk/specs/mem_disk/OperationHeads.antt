@@ -1,4 +1,4 @@
--- The operations that a log notes, with the bytes of its writes kept beside it, one write after another.
+-- The operations whose heads stand in one list and the bytes of whose writes in another, one write after another.
 use Rattle.std.specs.Prelude.{ℕ, ◌+◌, List, [], ◌∷◌, take, drop}
 use Rattle.ax_disk.specs.declared.operation_head.OperationHead.{OperationHead}
 use Rattle.ax_disk.specs.declared.operation_head.OperationHead.TheVariants.{Wrote, Cut, Synced}

@@ -1,4 +1,4 @@
--- What a log of operations shows: the operations, and the room that is left.
+-- What a list of operations shows: the operations, and the room for more.
 use Rattle.std.specs.Prelude.{ℕ, ◌-◌, List, vec_len, vec_capacity}
 use Rattle.ax_disk.specs.declared.operation_list.OperationList.{OperationList}
 use Rattle.ax_disk.specs.mem_disk.OperationHeads.{operations_of}

@@ -6,9 +6,9 @@ use Rattle.ax_disk.specs.model.Pending.{Unsynced, MayLeave, all_settled, after_w
 use Rattle.ax_disk.specs.model.Moments.{History}
 use Rattle.ax_disk.specs.model.Calls.{overwritten}
 
--- one thing that was done
+-- a write, a cut or a sync that was done, also one that failed
 pub data Operation : Type 0 where
-  -- a write of so many bytes at a place, of which these came to be read
+  -- a write of so many bytes at an offset, of which these came to be read
   wrote : Extent → ℕ → ℕ → List ℕ → Operation
   -- a cut to a length, and whether it came to be read
   cut : Extent → ℕ → Bool → Operation
@@ -58,7 +58,7 @@ state_of log = after_operations (synced_state log.first) log.operations
 abbrev pub state_at : ℕ → OperationLog → State
 state_at t log = after_operations (synced_state log.first) (take t log.operations)
 
--- The history of an log. There is a moment before the first operation, and one after each.
+-- The history of a log. There is a moment before the first operation, and one after each.
 abbrev pub history_of : OperationLog → History
 history_of log = record {
   reads = (state_of log).reads;

@@ -1,6 +1,6 @@
 ghost use Rattle.std.specs.Prelude.{◌≡◌, ◌≤◌, ◌↔◌, Contains, OnOk, OnErr, IsErr};
 ghost use Rattle.ax_faults.specs.Faults.{raised, HasCause};
-ghost use Rattle.ax_base.specs.Calls.{next_number, after_success, after_failure};
+ghost use Rattle.ax_base.specs.Calls.{next_call, after_success, after_failure};
 
 use crate::Failed;
 use ax_faults::FaultCount;
@@ -37,7 +37,7 @@ impl CallCount {
 
     /// Counts a call, which fails where it is one of those that are to fail.
     pub(crate) fn next(&mut self) -> Result<(), Failed>
-        ensures fails { IsErr result ↔ Contains self.old.failing (next_number self.old) }
+        ensures fails { IsErr result ↔ Contains self.old.failing (next_call self.old) }
         ensures ok { OnOk result (self.new ≡ after_success self.old) }
         ensures err { OnErr result (self.new ≡ after_failure self.old) }
         ensures cause { HasCause result self.old.faults self.new.faults }
