@@ -1,0 +1,59 @@
+ghost use Rattle.std.specs.Prelude.{◌≡◌, ◌==◌, IfOk};
+ghost use Rattle.std.specs.Str.{bytes_eq};
+ghost use Rattle.ax_container.specs.Container.{has_id};
+ghost use Rattle.ax_container.specs.Upsert.{with_tree};
+
+use ax_tree::{Memory, Text, Tree};
+use std::alloc::Global;
+use std::marker::Model;
+
+/// One document, which contracts see as an entry of a container.
+#[derive(Drop)]
+pub struct PlainDocument {
+    number: u32,
+    id: Text,
+    tree: Tree,
+}
+
+impl Model for PlainDocument {
+    ghost use Rattle.ax_container.specs.Container.{Entry};
+    ghost use Rattle.ax_container.specs.ContainerCode.{entry_code};
+
+    ghost Value = { Entry };
+
+    ghost coded = { entry_code };
+
+    ghost view = { λ document. record { number = document.number; id = document.id; tree = document.tree } };
+}
+
+impl PlainDocument {
+    pub fn new(number: u32, id: Text, tree: Tree) -> PlainDocument
+        ensures { result ≡ record { number = number; id = id; tree = tree } }
+    {
+        PlainDocument { number, id, tree }
+    }
+
+    pub fn tree(&self) -> &Tree
+        ensures { result.now ≡ self.now.tree }
+    {
+        &self.tree
+    }
+
+    pub fn has_id(&self, id: &Text) -> bool
+        ensures { result ≡ has_id id.now self.now }
+    {
+        self.id.as_str() == id.as_str()
+    }
+
+    /// The document, or where it is of that id the document with the tree.
+    pub fn with_tree(&self, alloc: Global, id: &Text, tree: &Tree) -> Result<PlainDocument, Memory>
+        ensures { IfOk result (λ after. after ≡ with_tree id.now tree.now self.now) }
+    {
+        let tree = if self.has_id(id) { tree } else { &self.tree };
+        Ok(PlainDocument {
+            number: self.number,
+            id: self.id.copy(alloc)?,
+            tree: tree.copy(alloc)?,
+        })
+    }
+}

@@ -1,0 +1,115 @@
+ghost use Rattle.std.specs.Prelude.{◌≡◌, map, IfOk, OnOk, OnErr};
+ghost use Rattle.std.specs.List.{list_any};
+ghost use Rattle.ax_tree.specs.Document.{document_id};
+ghost use Rattle.ax_container.specs.Container.{has_id};
+ghost use Rattle.ax_container.specs.Upsert.{with_tree};
+ghost use Rattle.ax_machine.specs.Step.{step, upsert_by};
+ghost use Rattle.ax_machine.specs.ReplyTexts.{reply_text};
+
+use crate::plain_document::PlainDocument;
+use crate::reply_lines::{ok_line, refusal_line, rows_lines};
+use ax_lines::{Line, LineFault, Refusal, read_line};
+use ax_tree::{Memory, Text, Tree, id_of};
+use std::alloc::Global;
+use std::marker::Model;
+
+/// The most documents that a store holds.
+const MOST_DOCUMENTS: usize = 1_048_576;
+
+/// The greatest next number: no document takes it.
+const LAST_NUMBER: u32 = 4_294_967_295;
+
+/// A store that is a list of whole documents, copied at each write: slow, and easy to believe.
+#[derive(Drop)]
+pub struct PlainMachine {
+    documents: Vec<PlainDocument>,
+    next_number: u32,
+}
+
+impl Model for PlainMachine {
+    ghost use Rattle.ax_container.specs.Container.{Container};
+    ghost use Rattle.ax_container.specs.ContainerCode.{container_code};
+
+    ghost Value = { Container };
+
+    ghost coded = { container_code };
+
+    ghost view = { λ machine. record { entries = machine.documents.items; next_number = machine.next_number } };
+}
+
+impl PlainMachine {
+    ghost use Rattle.ax_container.specs.Container.{fresh};
+
+    /// A store of no documents.
+    pub fn new(alloc: Global) -> PlainMachine
+        ensures { result ≡ fresh }
+    {
+        PlainMachine {
+            documents: Vec::new(alloc),
+            next_number: 1,
+        }
+    }
+
+    /// Serves one line, and answers the text of its reply. The line comes without its newline.
+    pub fn answer(&mut self, alloc: Global, line: &[u8]) -> Result<Vec<u8>, Memory>
+        ensures reply { IfOk result (λ text. text.items ≡ reply_text (step self.old line.now).1) }
+        ensures after { OnOk result (self.new ≡ (step self.old line.now).0) }
+        ensures err { OnErr result (self.new ≡ self.old) }
+    {
+        match read_line(alloc, line) {
+            Ok(Line::Upsert(tree)) => self.upsert(alloc, tree),
+            Ok(Line::Query) => rows_lines(alloc, self.documents.as_slice()),
+            Err(LineFault::Refused(refusal)) => refusal_line(alloc, refusal),
+            Err(LineFault::Memory) => Err(Memory),
+        }
+    }
+
+    fn upsert(&mut self, alloc: Global, tree: Tree) -> Result<Vec<u8>, Memory>
+        ensures reply { IfOk result (λ text. text.items ≡ reply_text (upsert_by (document_id tree) tree self.old).1) }
+        ensures after { OnOk result (self.new ≡ (upsert_by (document_id tree) tree self.old).0) }
+        ensures err { OnErr result (self.new ≡ self.old) }
+    {
+        let Some(id) = id_of(&tree) else {
+            return refusal_line(alloc, Refusal::Json);
+        };
+        let text = ok_line(alloc)?;
+        if contains(self.documents.as_slice(), id) {
+            self.documents = replaced(alloc, self.documents.as_slice(), id, &tree)?;
+            return Ok(text);
+        }
+        if self.documents.len() >= MOST_DOCUMENTS || self.next_number >= LAST_NUMBER {
+            return refusal_line(alloc, Refusal::Full);
+        }
+        let id = id.copy(alloc)?;
+        let document = PlainDocument::new(self.next_number, id, tree);
+        self.documents.push(document)?;
+        self.next_number += 1;
+        Ok(text)
+    }
+}
+
+fn contains(documents: &[PlainDocument], id: &Text) -> bool
+    ensures { result ≡ list_any (has_id id.now) documents.now }
+{
+    for document in documents {
+        if document.has_id(id) {
+            return true;
+        }
+    }
+    false
+}
+
+fn replaced(
+    alloc: Global,
+    documents: &[PlainDocument],
+    id: &Text,
+    tree: &Tree,
+) -> Result<Vec<PlainDocument>, Memory>
+    ensures { IfOk result (λ after. after.items ≡ map (with_tree id.now tree.now) documents.now) }
+{
+    let mut after = Vec::with_capacity(alloc, documents.len())?;
+    for document in documents {
+        after.push(document.with_tree(alloc, id, tree)?)?;
+    }
+    Ok(after)
+}
