@@ -2,6 +2,7 @@ ghost use Rattle.std.specs.Prelude.{◌≡◌, Some, Result, IfOk, IfErr, option
 ghost use Rattle.ax_tree.specs.declared.tree.Tree.{Tree as TreeOf};
 ghost use Rattle.ax_text.specs.Reading.{reading, Stands};
 ghost use Rattle.ax_lines.specs.Answers.{Answers, IsRefusedBy};
+ghost use Rattle.ax_lines.specs.Asked.{AsksForDocument};
 ghost use Rattle.ax_lines.specs.Causes.{unless};
 ghost use Rattle.ax_lines.specs.Lines as spec;
 
@@ -20,7 +21,8 @@ const ALL_DOCUMENTS: &str = "SELECT * FROM c";
 /// What a line asks for, or its first refusal. The line comes without its newline, and before a
 /// carriage return at its end is dropped.
 pub fn read_line(alloc: Global, line: &[u8]) -> Result<Line, LineFault>
-    ensures { Answers result (spec.line_of line.now) }
+    ensures answers { Answers result (spec.line_of line.now) }
+    ensures document { IfOk result AsksForDocument }
 {
     let command = without_return(line);
     if let Some(json) = argument(command, b"UPSERT ") {
@@ -48,14 +50,16 @@ fn argument<'a>(command: &'a [u8], word: &[u8]) -> Option<&'a [u8]>
 }
 
 fn upsert_line(alloc: Global, json: &[u8]) -> Result<Line, LineFault>
-    ensures { Answers result (spec.line_in (spec.Upsert json.now)) }
+    ensures answers { Answers result (spec.line_in (spec.Upsert json.now)) }
+    ensures document { IfOk result AsksForDocument }
 {
     let tree = tree_of(alloc, json)?;
     Ok(upsert(tree)?)
 }
 
 fn query_line(alloc: Global, body: &[u8]) -> Result<Line, LineFault>
-    ensures { Answers result (spec.line_in (spec.Query body.now)) }
+    ensures answers { Answers result (spec.line_in (spec.Query body.now)) }
+    ensures document { IfOk result AsksForDocument }
 {
     let tree = tree_of(alloc, body)?;
     Ok(query(&tree)?)
@@ -75,7 +79,8 @@ fn tree_of(alloc: Global, json: &[u8]) -> Result<Tree, LineFault>
 }
 
 fn upsert(tree: Tree) -> Result<Line, Refusal>
-    ensures { result ≡ unless (spec.upsert_causes tree) (Line.Upsert tree) }
+    ensures answers { result ≡ unless (spec.upsert_causes tree) (Line.Upsert tree) }
+    ensures document { IfOk result AsksForDocument }
 {
     if nesting(&tree) > DEEPEST {
         return Err(Refusal::Json);
@@ -87,7 +92,8 @@ fn upsert(tree: Tree) -> Result<Line, Refusal>
 }
 
 fn query(body: &Tree) -> Result<Line, Refusal>
-    ensures { result ≡ unless (spec.query_causes body.now) Line.Query }
+    ensures answers { result ≡ unless (spec.query_causes body.now) Line.Query }
+    ensures document { IfOk result AsksForDocument }
 {
     if nesting(body) > DEEPEST {
         return Err(Refusal::Json);
