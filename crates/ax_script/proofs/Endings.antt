@@ -1,287 +1,196 @@
--- How a run goes on, and how it ends, from what its parts leave.
-use Rattle.std.proofs.Common.{◌≡◌, ◌==◌, false, true≢false, ℕ, ◌+◌, ◌<◌, ◌≤◌, ◌⊎◌, List, [], ◌∷◌, ◌++◌, length, Option, Result, Ok, Err, OnOk, OnErr, inl, inr, refl, sym, ap, ◌∙◌, subst, ◌↔◌, append_assoc, append-nil, length-append, take, drop, take-append-drop, arith}
-use Rattle.std.specs.Io.KnownBytes.{Consumes, Appends, Keeps, IsAtEnd}
+-- How a run goes on from piece to piece, and how it ends.
+use Rattle.std.proofs.Common.{◌≡◌, ℕ, ◌+◌, ◌<◌, ◌≤◌, ◌⊎◌, ◌↔◌, List, [], ◌++◌, length, Option, inl, inr, refl, sym, subst, append-nil, length-append, arith}
+use Rattle.std.specs.Io.KnownBytes.{Consumes, Keeps, IsAtEnd}
 use Rattle.std.proofs.KnownBytes.{Consumes-nil, Consumes-trans, Consumes-kept, Appends-nil, Appends-trans}
-use Rattle.ax_container.specs.Container.{Container, fresh}
-use Rattle.ax_machine.specs.Replies.{closed, reply_text}
-use Rattle.ax_machine.specs.Run.{RunsTo, RunsThrough}
-use Rattle.ax_machine.specs.ScriptLines.{IsOneLine, last_line}
-use Rattle.ax_machine.proofs.Cuts.{IsOneLine-append, AreLines-more, AreLines-none, AreLines-one, there_are_lines}
-use Rattle.ax_machine.proofs.Runs.{RunsTo-nil, RunsTo-append, RunsTo-line, runs_to_somewhere, RunsThrough-from, RunsThrough-more, RunsThrough-after, RunsThrough-line}
+use Rattle.ax_container.specs.Container.{Container}
+use Rattle.ax_lines.specs.ScriptLines.{last_line}
+use Rattle.ax_lines.proofs.Splits.{AreLines-more, AreLines-none, there_are_lines}
 use Rattle.ax_script.specs.declared.status.Status.{Status}
 use Rattle.ax_script.specs.declared.status.Status.TheVariants as status
-use Rattle.ax_script.specs.Progress.{ServesWhole, ServesFront, ServesLines, BeginsLines, EndsLine, BeginsLast, Progress}
-use Rattle.ax_script.specs.Served.{most_input, IsFrontOfText, IsTextAt, IsEnded, Exchanged, Took}
+use Rattle.ax_script.specs.Progress.{ServesLines, BeginsLines, ServesLast, BeginsLast, Progress}
+use Rattle.ax_script.specs.Script.{most_input, BeginsToAnswer, IsTextAt, Runs}
+use Rattle.ax_script.specs.Streams.{Streams, Moves}
+use Rattle.ax_script.proofs.Answering.{Answers-nil, Answers-append, BeginsToAnswer-append, stands-append, BeginsToAnswer-all, begins_more}
 
-pub OnOk-map : {T E P Q : Type 0} (r : Result T E) → (P → Q) → OnOk r P → OnOk r Q
-OnOk-map (Ok x) f p = f p
-OnOk-map (Err e) f p = tt
+-- the streams, of which the source or the sink has gone on
+abbrev pub streams : Option (List ℕ) → Option (List ℕ) → Streams
+streams remaining written = record { remaining = remaining; written = written }
 
-pub OnErr-map : {T E P Q : Type 0} (r : Result T E) → (P → Q) → OnErr r P → OnErr r Q
-OnErr-map (Ok x) f p = tt
-OnErr-map (Err e) f p = f p
+-- no status but `Long` is answered where no more was taken than one run takes
+not_long : (ended : Status) (taken : List ℕ) → length taken ≤ most_input → (ended ≡ status.Long → ⊥)
+    → (ended ≡ status.Long) ↔ (most_input < length taken)
+not_long ended taken within other = ((λ e. absurd (other e)), (λ more. absurd (omega (arith, more, within))))
 
--- ---- lines
+-- ---- the run begins
 
--- no line was served, and nothing was written
-pub begins_with_nothing : (before : Container) (bytes : List ℕ) (held : Option (List ℕ)) → BeginsLines before bytes held held
-begins_with_nothing before bytes held =
-    let cut = there_are_lines bytes in
-    let run = runs_to_somewhere before cut.0 in
-    (cut.0, cut.1, [], cut.2, (run.0, run.1, run.2), Appends-nil held)
-
--- a line in two pieces was served
-pub serves_line : (before after : Container) (pending head : List ℕ) (held holds : Option (List ℕ)) → IsOneLine pending → IsOneLine head
-    → ServesWhole before (pending ++ head) after held holds → ServesLines before (pending ++ closed head) after [] held holds
-serves_line before after pending head held holds p q served =
-    ((pending ++ head) ∷ [], reply_text served.0, AreLines-one pending head p q, RunsTo-line before after (pending ++ head) served.0 served.1, served.2)
-
--- a line was served, and its reply is begun
-front_of_reply : (before after : Container) (line : List ℕ) (held holds : Option (List ℕ)) → ServesFront before line after held holds
-    → (text : List ℕ) × RunsThrough before (line ∷ []) text × Appends held holds text
-front_of_reply before after line held holds (reply, served, (count, within, added)) =
-    (take count (reply_text reply), RunsThrough-line before after line reply (take count (reply_text reply)) (drop count (reply_text reply)) served (sym (take-append-drop count (reply_text reply))), added)
-
-pub begins_line : (before after : Container) (pending head : List ℕ) (held holds : Option (List ℕ)) → IsOneLine pending → IsOneLine head
-    → ServesFront before (pending ++ head) after held holds → BeginsLines before (pending ++ closed head) held holds
-begins_line before after pending head held holds p q served =
-    let front = front_of_reply before after (pending ++ head) held holds served in
-    ((pending ++ head) ∷ [], [], front.0, AreLines-one pending head p q, front.1, front.2)
-
--- nothing was taken
-pub serves_nothing : (before : Container) (pending : List ℕ) (held : Option (List ℕ)) → IsOneLine pending → ServesLines before pending before pending held held
-serves_nothing before pending held plain = ([], [], AreLines-none pending plain, RunsTo-nil before, Appends-nil held)
-
--- some lines were served, and then more
-pub serves_more : (a b c : Container) (bytes piece pending rest : List ℕ) (held between holds : Option (List ℕ))
-    → ServesLines a bytes b pending held between → ServesLines b (pending ++ piece) c rest between holds → ServesLines a (bytes ++ piece) c rest held holds
-serves_more a b c bytes piece pending rest held between holds (lines, text, cut, run, added) (more, other, later, then_run, then_added) = (
-  lines ++ more,
-  text ++ other,
-  AreLines-more bytes piece lines more pending rest cut later,
-  RunsTo-append a b c lines more text other run then_run,
-  Appends-trans held between holds text other added then_added,
-)
-
-pub begins_more : (a b : Container) (bytes piece pending : List ℕ) (held between holds : Option (List ℕ))
-    → ServesLines a bytes b pending held between → BeginsLines b (pending ++ piece) between holds → BeginsLines a (bytes ++ piece) held holds
-begins_more a b bytes piece pending held between holds (lines, text, cut, run, added) (more, rest, other, later, then_run, then_added) = (
-  lines ++ more,
-  rest,
-  text ++ other,
-  AreLines-more bytes piece lines more pending rest cut later,
-  RunsThrough-after a b lines more text other run then_run,
-  Appends-trans held between holds text other added then_added,
-)
-
--- what begins with some of the bytes begins with all
-pub begins_longer : (a : Container) (bytes piece : List ℕ) (held holds : Option (List ℕ)) → BeginsLines a bytes held holds → BeginsLines a (bytes ++ piece) held holds
-begins_longer a bytes piece held holds (lines, last, text, cut, run, added) =
-    let later = there_are_lines (last ++ piece) in
-    (lines ++ later.0, later.1, text, AreLines-more bytes piece lines later.0 last later.1 cut later.2, RunsThrough-more a lines later.0 text run, added)
-
--- ---- a piece: done of it is served, and rest is to do
-
--- the part of a piece that is served, and what it left
-pub record InPiece (before now : Container) (first pending piece rest : List ℕ) (held holds : Option (List ℕ)) : Type 0 where
-  pub done : List ℕ
-  pub whole : piece ≡ done ++ rest
-  pub served : ServesLines before (first ++ done) now pending held holds
-
-pub piece_begins : (before : Container) (first piece : List ℕ) (held : Option (List ℕ)) → IsOneLine first → InPiece before before first first piece piece held held
-piece_begins before first piece held plain = record {
-  done = [];
-  whole = refl;
-  served = subst (λ bytes. ServesLines before bytes before first held held) (sym (append-nil first)) (serves_nothing before first held plain);
-}
-
-module _ (before now : Container) (first pending piece rest : List ℕ) (held holds : Option (List ℕ)) (p : InPiece before now first pending piece rest held holds) where
-  regrouped : (first ++ p.done) ++ rest ≡ first ++ piece
-  regrouped = append_assoc first p.done rest ∙ ap (λ l. first ++ l) (sym p.whole)
-
-  pub piece_goes_on : (after : Container) (head tail pending' : List ℕ) (holds' : Option (List ℕ)) → rest ≡ closed head ++ tail
-      → ServesLines now (pending ++ closed head) after pending' holds holds' → InPiece before after first pending' piece tail held holds'
-  piece_goes_on after head tail pending' holds' cut more = record {
-    done = p.done ++ closed head;
-    whole = p.whole ∙ ap (λ l. p.done ++ l) cut ∙ sym (append_assoc p.done (closed head) tail);
-    served = subst (λ bytes. ServesLines before bytes after pending' held holds') (append_assoc first p.done (closed head))
-        (serves_more before now after (first ++ p.done) (closed head) pending pending' held holds holds' p.served more);
-  }
-
-  pub piece_fails : (head tail : List ℕ) (holds' : Option (List ℕ)) → rest ≡ closed head ++ tail
-      → BeginsLines now (pending ++ closed head) holds holds' → BeginsLines before (first ++ piece) held holds'
-  piece_fails head tail holds' cut begun =
-      subst (λ bytes. BeginsLines before bytes held holds')
-      (append_assoc (first ++ p.done) (closed head) tail ∙ ap (λ l. (first ++ p.done) ++ l) (sym cut) ∙ regrouped)
-      (begins_longer before ((first ++ p.done) ++ closed head) tail held holds' (begins_more before now (first ++ p.done) (closed head) pending held holds holds' p.served begun))
-
-  -- no newline is left
-  pub piece_ends : IsOneLine pending → IsOneLine rest → ServesLines before (first ++ piece) now (pending ++ rest) held holds
-  piece_ends plain plain_rest =
-      subst (λ bytes. ServesLines before bytes now (pending ++ rest) held holds) regrouped
-      (serves_more before now now (first ++ p.done) rest pending (pending ++ rest) held holds holds p.served
-      (serves_nothing now (pending ++ rest) holds (IsOneLine-append pending rest plain plain_rest)))
-
-  pub piece_breaks_off : BeginsLines before (first ++ piece) held holds
-  piece_breaks_off =
-      subst (λ bytes. BeginsLines before bytes held holds) regrouped
-      (begins_more before now (first ++ p.done) rest pending held holds holds p.served (begins_with_nothing now (pending ++ rest) holds))
-
--- ---- the last piece
-
-last_line-some : (last : List ℕ) → false ≡ (length last == 0) → last_line last ≡ last ∷ []
-last_line-some [] e = absurd (true≢false (sym e))
-last_line-some (byte ∷ bytes) e = refl
-
-pub ends_line : (before after : Container) (last : List ℕ) (held holds : Option (List ℕ)) → false ≡ (length last == 0)
-    → ServesWhole before last after held holds → EndsLine before last after held holds
-ends_line before after last held holds some (reply, served, added) =
-    (reply_text reply, subst (λ l. RunsTo before l (reply_text reply) after) (sym (last_line-some last some)) (RunsTo-line before after last reply served), added)
-
-pub begins_last : (before after : Container) (last : List ℕ) (held holds : Option (List ℕ)) → false ≡ (length last == 0)
-    → ServesFront before last after held holds → BeginsLast before last held holds
-begins_last before after last held holds some served =
-    let front = front_of_reply before after last held holds served in
-    (front.0, subst (λ l. RunsThrough before l front.0) (sym (last_line-some last some)) front.1, front.2)
-
--- ---- the whole run
-
-pub progress_begins : (had held : Option (List ℕ)) → Progress had had held held fresh fresh [] 0
-progress_begins had held = record {
-  bytes = [];
-  text = [];
+pub progress_begins : (before : Container) (old : Streams) → Progress before old old before [] 0
+progress_begins before old = record {
+  taken = [];
   lines = [];
-  taken = Consumes-nil had;
-  added = Appends-nil held;
-  cut = AreLines-none [] refl;
-  run = RunsTo-nil fresh;
+  run = [];
+  text = [];
+  moves = record { consumed = Consumes-nil old.remaining; appended = Appends-nil old.written };
+  split = AreLines-none [] refl;
+  answers = Answers-nil before;
+  stands = refl;
   counted = refl;
 }
 
-module _ (had left held holds : Option (List ℕ)) (now : Container) (pending : List ℕ) (count : ℕ) (p : Progress had left held holds fresh now pending count) where
+-- nothing was taken, and nothing was written
+pub runs_nothing : (before : Container) (old : Streams) → Runs before status.Memory old old
+runs_nothing before old = record {
+  taken = [];
+  lines = [];
+  last = [];
+  run = [];
+  text = [];
+  moves = record { consumed = Consumes-nil old.remaining; appended = Appends-nil old.written };
+  split = AreLines-none [] refl;
+  is_text = inl (BeginsToAnswer-all before [] [] [] (Answers-nil before));
+  long = not_long status.Memory [] (omega arith) (λ e. cc);
+}
+
+pub runs_no_script : (before : Container) (old : Streams) → Runs before status.Words old old
+runs_no_script before old = record {
+  taken = [];
+  lines = [];
+  last = [];
+  run = [];
+  text = [];
+  moves = record { consumed = Consumes-nil old.remaining; appended = Appends-nil old.written };
+  split = AreLines-none [] refl;
+  is_text = (refl, refl);
+  long = not_long status.Words [] (omega arith) (λ e. cc);
+}
+
+module _ (before : Container) (old new : Streams) (now : Container) (pending : List ℕ) (count : ℕ) (p : Progress before old new now pending count) where
   -- a piece was read and served
-  pub progress_goes_on : (left' holds' : Option (List ℕ)) (after : Container) (piece rest : List ℕ) (n : ℕ) → Consumes left left' piece → length piece ≡ n
-      → ServesLines now (pending ++ piece) after rest holds holds' → Progress had left' held holds' fresh after rest (count + n)
-  progress_goes_on left' holds' after piece rest n consumed size (more, other, later, run, added) = record {
-    bytes = p.bytes ++ piece;
-    text = p.text ++ other;
-    lines = p.lines ++ more;
-    taken = Consumes-trans had left left' p.bytes piece p.taken consumed;
-    added = Appends-trans held holds holds' p.text other p.added added;
-    cut = AreLines-more p.bytes piece p.lines more pending rest p.cut later;
-    run = RunsTo-append fresh now after p.lines more p.text other p.run run;
-    counted = length-append p.bytes piece ∙ (λ i. p.counted i + size i);
+  pub progress_goes_on : (remaining written : Option (List ℕ)) (later : Container) (piece rest : List ℕ) (n : ℕ) → Consumes new.remaining remaining piece
+      → length piece ≡ n → ServesLines now (pending ++ piece) later rest new.written written
+      → Progress before old (streams remaining written) later rest (count + n)
+  progress_goes_on remaining written later piece rest n consumed size more = record {
+    taken = p.taken ++ piece;
+    lines = p.lines ++ more.lines;
+    run = p.run ++ more.run;
+    text = p.text ++ more.text;
+    moves = record {
+      consumed = Consumes-trans old.remaining new.remaining remaining p.taken piece p.moves.consumed consumed;
+      appended = Appends-trans old.written new.written written p.text more.text p.moves.appended more.appended;
+    };
+    split = AreLines-more p.taken piece p.lines more.lines pending rest p.split more.split;
+    answers = Answers-append before now p.lines more.lines p.run more.run p.text more.text p.answers p.stands more.answers;
+    stands = stands-append before now later p.run more.run p.stands more.stands;
+    counted = omega (arith, length-append p.taken piece, p.counted, size);
   }
 
-  not_long : count ≤ most_input → (ended : Status) → (ended ≡ status.Long → ⊥) → (ended ≡ status.Long) ↔ (most_input < length p.bytes)
-  not_long within ended other = ((λ e. absurd (other e)), (λ more. absurd (omega (arith, more, within, p.counted))))
-
   -- a read failed
-  pub ends_by_read_fault : (left' : Option (List ℕ)) → Keeps left left' → count ≤ most_input → Exchanged had left' held holds (IsEnded status.ReadFault left')
-  ends_by_read_fault left' kept within = (
-    p.bytes,
-    p.text,
-    Consumes-kept had left left' p.bytes p.taken kept,
-    p.added,
-    ((p.lines, pending, p.cut, (now, p.run)), not_long within status.ReadFault (λ e. cc)),
-  )
+  pub ends_by_read_fault : (remaining : Option (List ℕ)) → Keeps new.remaining remaining → count ≤ most_input
+      → Runs before status.ReadFault old (streams remaining new.written)
+  ends_by_read_fault remaining kept within = record {
+    taken = p.taken;
+    lines = p.lines;
+    last = pending;
+    run = p.run;
+    text = p.text;
+    moves = record { consumed = Consumes-kept old.remaining new.remaining remaining p.taken p.moves.consumed kept; appended = p.moves.appended };
+    split = p.split;
+    is_text = p.answers;
+    long = not_long status.ReadFault p.taken (omega (arith, within, p.counted)) (λ e. cc);
+  }
 
-  -- more was taken than one run reads
-  pub ends_long : (left' : Option (List ℕ)) (piece : List ℕ) (n : ℕ) → Consumes left left' piece → length piece ≡ n → most_input < count + n
-      → Exchanged had left' held holds (IsEnded status.Long left')
-  ends_long left' piece n consumed size more =
-      let later = there_are_lines (pending ++ piece) in (
-        p.bytes ++ piece,
-        p.text,
-        Consumes-trans had left left' p.bytes piece p.taken consumed,
-        p.added,
-        (
-          (
-            p.lines ++ later.0,
-            later.1,
-            AreLines-more p.bytes piece p.lines later.0 pending later.1 p.cut later.2,
-            inl (RunsThrough-more fresh p.lines later.0 p.text (RunsThrough-from fresh now p.lines p.text p.run)),
-          ),
-          ((λ _. omega (arith, more, size, p.counted, length-append p.bytes piece)), (λ _. refl)),
-        ),
-      )
-
-  front_in_piece : (left' holds' : Option (List ℕ)) (piece : List ℕ) → Consumes left left' piece → BeginsLines now (pending ++ piece) holds holds'
-      → (taken text : List ℕ) × Consumes had left' taken × Appends held holds' text × (length taken ≡ count + length piece) × IsFrontOfText left' taken text
-  front_in_piece left' holds' piece consumed (more, last, other, later, run, added) = (
-    p.bytes ++ piece,
-    p.text ++ other,
-    Consumes-trans had left left' p.bytes piece p.taken consumed,
-    Appends-trans held holds holds' p.text other p.added added,
-    length-append p.bytes piece ∙ (λ i. p.counted i + length piece),
-    (p.lines ++ more, last, AreLines-more p.bytes piece p.lines more pending last p.cut later, inl (RunsThrough-after fresh now p.lines more p.text other p.run run)),
-  )
+  -- more was taken than one run takes
+  pub ends_long : (remaining : Option (List ℕ)) (piece : List ℕ) (n : ℕ) → Consumes new.remaining remaining piece → length piece ≡ n
+      → most_input < count + n → Runs before status.Long old (streams remaining new.written)
+  ends_long remaining piece n consumed size more =
+      let later = there_are_lines (pending ++ piece) in
+      let longer = begins_more before p.lines later.0 p.run p.text (BeginsToAnswer-all before p.lines p.run p.text p.answers) in
+      record {
+        taken = p.taken ++ piece;
+        lines = p.lines ++ later.0;
+        last = later.1;
+        run = longer.0;
+        text = p.text;
+        moves = record { consumed = Consumes-trans old.remaining new.remaining remaining p.taken piece p.moves.consumed consumed; appended = p.moves.appended };
+        split = AreLines-more p.taken piece p.lines later.0 pending later.1 p.split later.2;
+        is_text = inl longer.1;
+        long = ((λ _. omega (arith, more, size, p.counted, length-append p.taken piece)), (λ _. refl));
+      }
 
   -- the serving of a piece broke off
-  pub ends_in_piece : (left' holds' : Option (List ℕ)) (piece : List ℕ) (n : ℕ) (ended : Status) → Consumes left left' piece → length piece ≡ n → count + n ≤ most_input
-      → BeginsLines now (pending ++ piece) holds holds' → (ended ≡ status.WriteFault) ⊎ (ended ≡ status.Memory) → Exchanged had left' held holds' (IsEnded ended left')
-  ends_in_piece left' holds' piece n ended consumed size within begun (inl is) =
-      let front = front_in_piece left' holds' piece consumed begun in
-      let P : Status → Type 0 = λ s. Exchanged had left' held holds' (IsEnded s left') in
-      subst P (sym is) (front.0, front.1, front.2, front.3, (front.5, ((λ e. cc), (λ more. absurd (omega (arith, more, front.4, size, within))))))
-  ends_in_piece left' holds' piece n ended consumed size within begun (inr is) =
-      let front = front_in_piece left' holds' piece consumed begun in
-      let P : Status → Type 0 = λ s. Exchanged had left' held holds' (IsEnded s left') in
-      subst P (sym is) (front.0, front.1, front.2, front.3, (front.5, ((λ e. cc), (λ more. absurd (omega (arith, more, front.4, size, within))))))
+  record_of_break : (remaining written : Option (List ℕ)) (piece : List ℕ) (n : ℕ) (ended : Status) → Consumes new.remaining remaining piece → length piece ≡ n
+      → count + n ≤ most_input → (begun : BeginsLines now (pending ++ piece) new.written written)
+      → (BeginsToAnswer before (p.lines ++ begun.lines) (p.run ++ begun.run) (p.text ++ begun.text)
+      → IsTextAt ended before remaining (p.lines ++ begun.lines) begun.last (p.run ++ begun.run) (p.text ++ begun.text))
+      → (ended ≡ status.Long → ⊥) → Runs before ended old (streams remaining written)
+  record_of_break remaining written piece n ended consumed size within begun is_text other = record {
+    taken = p.taken ++ piece;
+    lines = p.lines ++ begun.lines;
+    last = begun.last;
+    run = p.run ++ begun.run;
+    text = p.text ++ begun.text;
+    moves = record {
+      consumed = Consumes-trans old.remaining new.remaining remaining p.taken piece p.moves.consumed consumed;
+      appended = Appends-trans old.written new.written written p.text begun.text p.moves.appended begun.appended;
+    };
+    split = AreLines-more p.taken piece p.lines begun.lines pending begun.last p.split begun.split;
+    is_text = is_text (BeginsToAnswer-append before now p.lines begun.lines p.run begun.run p.text begun.text p.answers p.stands begun.answers);
+    long = not_long ended (p.taken ++ piece) (omega (arith, within, size, p.counted, length-append p.taken piece)) other;
+  }
 
-  all_taken : (left' : Option (List ℕ)) → Consumes left left' [] → Consumes had left' p.bytes
-  all_taken left' consumed = subst (Consumes had left') (append-nil p.bytes) (Consumes-trans had left left' p.bytes [] p.taken consumed)
+  pub ends_in_piece : (remaining written : Option (List ℕ)) (piece : List ℕ) (n : ℕ) (ended : Status) → Consumes new.remaining remaining piece → length piece ≡ n
+      → count + n ≤ most_input → BeginsLines now (pending ++ piece) new.written written
+      → (ended ≡ status.WriteFault) ⊎ (ended ≡ status.Memory) → Runs before ended old (streams remaining written)
+  ends_in_piece remaining written piece n ended consumed size within begun (inl is) =
+      let P : Status → Type 0 = λ s. Runs before s old (streams remaining written) in
+      subst P (sym is) (record_of_break remaining written piece n status.WriteFault consumed size within begun (λ b. inl b) (λ e. cc))
+  ends_in_piece remaining written piece n ended consumed size within begun (inr is) =
+      let P : Status → Type 0 = λ s. Runs before s old (streams remaining written) in
+      subst P (sym is) (record_of_break remaining written piece n status.Memory consumed size within begun (λ b. inl b) (λ e. cc))
+
+  all_taken : (remaining : Option (List ℕ)) → Consumes new.remaining remaining [] → Consumes old.remaining remaining p.taken
+  all_taken remaining consumed = subst (Consumes old.remaining remaining) (append-nil p.taken) (Consumes-trans old.remaining new.remaining remaining p.taken [] p.moves.consumed consumed)
 
   -- the source has ended, and the last piece was served
-  pub ends_at_end : (left' holds' : Option (List ℕ)) (after : Container) (ended : Status) → Consumes left left' [] → IsAtEnd left' → count ≤ most_input
-      → (ended ≡ status.Done → EndsLine now pending after holds holds') → (ended ≡ status.WriteFault → BeginsLast now pending holds holds')
-      → (ended ≡ status.Done) ⊎ (ended ≡ status.WriteFault) → Exchanged had left' held holds' (IsEnded ended left')
-  ends_at_end left' holds' after ended consumed at_end within whole front (inl is) =
+  pub ends_at_end : (remaining written : Option (List ℕ)) (ended : Status) → Consumes new.remaining remaining [] → IsAtEnd remaining → count ≤ most_input
+      → (ended ≡ status.Done → ServesLast now pending new.written written) → (ended ≡ status.WriteFault → BeginsLast now pending new.written written)
+      → (ended ≡ status.Done) ⊎ (ended ≡ status.WriteFault) → Runs before ended old (streams remaining written)
+  ends_at_end remaining written ended consumed at_end within whole prefix (inl is) =
       let last = whole is in
-      let P : Status → Type 0 = λ s. Exchanged had left' held holds' (IsEnded s left') in
-      subst P (sym is) (
-        p.bytes,
-        p.text ++ last.0,
-        all_taken left' consumed,
-        Appends-trans held holds holds' p.text last.0 p.added last.2,
-        (
-          (at_end, (p.lines, pending, p.cut, (after, RunsTo-append fresh now after p.lines (last_line pending) p.text last.0 p.run last.1))),
-          not_long within status.Done (λ e. cc),
-        ),
-      )
-  ends_at_end left' holds' after ended consumed at_end within whole front (inr is) =
-      let last = front is in
-      let P : Status → Type 0 = λ s. Exchanged had left' held holds' (IsEnded s left') in
-      subst P (sym is) (
-        p.bytes,
-        p.text ++ last.0,
-        all_taken left' consumed,
-        Appends-trans held holds holds' p.text last.0 p.added last.2,
-        (
-          (p.lines, pending, p.cut, inr (at_end, RunsThrough-after fresh now p.lines (last_line pending) p.text last.0 p.run last.1)),
-          not_long within status.WriteFault (λ e. cc),
-        ),
-      )
+      let P : Status → Type 0 = λ s. Runs before s old (streams remaining written) in
+      subst P (sym is) (record {
+        taken = p.taken;
+        lines = p.lines;
+        last = pending;
+        run = p.run ++ last.run;
+        text = p.text ++ last.text;
+        moves = record { consumed = all_taken remaining consumed; appended = Appends-trans old.written new.written written p.text last.text p.moves.appended last.appended };
+        split = p.split;
+        is_text = (at_end, Answers-append before now p.lines (last_line pending) p.run last.run p.text last.text p.answers p.stands last.answers);
+        long = not_long status.Done p.taken (omega (arith, within, p.counted)) (λ e. cc);
+      })
+  ends_at_end remaining written ended consumed at_end within whole prefix (inr is) =
+      let last = prefix is in
+      let P : Status → Type 0 = λ s. Runs before s old (streams remaining written) in
+      subst P (sym is) (record {
+        taken = p.taken;
+        lines = p.lines;
+        last = pending;
+        run = p.run ++ last.run;
+        text = p.text ++ last.text;
+        moves = record { consumed = all_taken remaining consumed; appended = Appends-trans old.written new.written written p.text last.text p.moves.appended last.appended };
+        split = p.split;
+        is_text = inr (at_end, BeginsToAnswer-append before now p.lines (last_line pending) p.run last.run p.text last.text p.answers p.stands last.answers);
+        long = not_long status.WriteFault p.taken (omega (arith, within, p.counted)) (λ e. cc);
+      })
 
--- ---- the top call
+-- ---- the statuses of a run whose source and sink did not fail
 
-pub text_of_nothing : (had held : Option (List ℕ)) → Exchanged had had held held (IsTextAt status.Memory had)
-text_of_nothing had held =
-    ([], [], Consumes-nil had, Appends-nil held, ([], [], AreLines-none [] refl, inl (RunsThrough-from fresh fresh [] [] (RunsTo-nil fresh))))
-
-pub text_of_end : (had left held holds : Option (List ℕ)) (ended : Status) → Exchanged had left held holds (IsEnded ended left) → Exchanged had left held holds (IsTextAt ended left)
-text_of_end had left held holds ended (taken, text, consumed, added, is) = (taken, text, consumed, added, is.0)
-
-pub long_of_end : (had left held holds : Option (List ℕ)) (ended : Status) → Exchanged had left held holds (IsEnded ended left)
-    → Took had left (λ taken. (ended ≡ status.Long) ↔ (most_input < length taken))
-long_of_end had left held holds ended (taken, text, consumed, added, is) = (taken, consumed, is.1)
-
-pub complete_of_end : (had left : Option (List ℕ)) (SourceRose SinkRose : Type 0) (ended : Status) → (ended ≡ status.ReadFault → SourceRose) → (ended ≡ status.WriteFault → SinkRose)
-    → (ended ≡ status.Words → ⊥) → Took had left (λ taken. (ended ≡ status.Long) ↔ (most_input < length taken)) → (SourceRose → ⊥) → (SinkRose → ⊥)
-    → Took had left (λ taken. length taken ≤ most_input → (ended ≡ status.Done) ⊎ (ended ≡ status.Memory))
-complete_of_end had left R K status.Done read write words (taken, consumed, long) no_read no_write = (taken, consumed, (λ _. inl refl))
-complete_of_end had left R K status.Words read write words (taken, consumed, long) no_read no_write = absurd (words refl)
-complete_of_end had left R K status.ReadFault read write words (taken, consumed, long) no_read no_write = absurd (no_read (read refl))
-complete_of_end had left R K status.WriteFault read write words (taken, consumed, long) no_read no_write = absurd (no_write (write refl))
-complete_of_end had left R K status.Memory read write words (taken, consumed, long) no_read no_write = (taken, consumed, (λ _. inr refl))
-complete_of_end had left R K status.Long read write words (taken, consumed, long) no_read no_write = (taken, consumed, (λ few. absurd (omega (arith, few, long.0 refl))))
+pub complete_of : (SourceRose SinkRose : Type 0) (ended : Status) → (ended ≡ status.ReadFault → SourceRose) → (ended ≡ status.WriteFault → SinkRose)
+    → (ended ≡ status.Words → ⊥) → (SourceRose → ⊥) → (SinkRose → ⊥)
+    → (ended ≡ status.Done) ⊎ (ended ≡ status.Memory) ⊎ (ended ≡ status.Long)
+complete_of R K status.Done read write words no_read no_write = inl refl
+complete_of R K status.Words read write words no_read no_write = absurd (words refl)
+complete_of R K status.ReadFault read write words no_read no_write = absurd (no_read (read refl))
+complete_of R K status.WriteFault read write words no_read no_write = absurd (no_write (write refl))
+complete_of R K status.Memory read write words no_read no_write = inr (inl refl)
+complete_of R K status.Long read write words no_read no_write = inr (inr refl)

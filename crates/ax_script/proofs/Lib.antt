@@ -1,2 +1,5 @@
+mod Answering
 mod Endings
-mod Places
+mod Outcomes
+mod Positions
+mod ServedLines

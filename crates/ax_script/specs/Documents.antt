@@ -3,13 +3,13 @@
 use Rattle.std.specs.Prelude.{◌≡◌, ℕ, List}
 use Rattle.std.specs.BTreeMap.{get_by_text}
 use Rattle.ax_container.specs.Container.{Container, IdsAreDistinct}
-use Rattle.ax_script.specs.Places.{place_of}
+use Rattle.ax_script.specs.Positions.{position_of}
 use Rattle.ax_script.specs.declared.documents.Documents.TheInside.{Inside}
 
-abbrev pub held : Inside → Container
-held documents = record { entries = documents.entries.items; next_number = documents.next_number }
+abbrev pub container_in : Inside → Container
+container_in documents = record { entries = documents.documents.items; next_number = documents.next_number }
 
--- at every id the map has the place of the entry that has it, and no id stands twice
-pub record IsIndexed (documents : Inside) : Type 0 where
-  pub places : (id : List ℕ) → get_by_text documents.places id ≡ place_of id documents.entries.items
-  pub distinct : IdsAreDistinct documents.entries.items
+-- at every id the map has the position of the entry that has it, and no id stands twice
+pub record IsIndexed (inside : Inside) : Type 0 where
+  pub positions : (id : List ℕ) → get_by_text inside.positions id ≡ position_of id inside.documents.items
+  pub distinct : IdsAreDistinct inside.documents.items

@@ -1,6 +1,7 @@
+pub mod CommandLine
 pub mod Documents
-pub mod Places
+pub mod Positions
 pub mod Progress
-pub mod Served
+pub mod Script
 pub mod Statuses
-pub mod Words
+pub mod Streams

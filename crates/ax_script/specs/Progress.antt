@@ -1,46 +1,67 @@
 -- How far a run has come, for the private parts of the top call.
 use Rattle.std.specs.Prelude.{◌≡◌, ℕ, List, length, Option}
-use Rattle.std.specs.Io.KnownBytes.{Consumes, Appends}
-use Rattle.ax_base.specs.Bytes.{AppendsFront}
+use Rattle.std.specs.Io.KnownBytes.{Appends}
+use Rattle.ax_base.specs.Bytes.{AppendsPrefix}
 use Rattle.ax_container.specs.Container.{Container}
-use Rattle.ax_machine.specs.Step.{Reply}
-use Rattle.ax_machine.specs.Replies.{reply_text}
-use Rattle.ax_machine.specs.Run.{Serves, RunsTo, RunsThrough}
-use Rattle.ax_machine.specs.ScriptLines.{AreLines, last_line}
+use Rattle.ax_lines.specs.ScriptLines.{AreLines, last_line}
+use Rattle.ax_machine.specs.ReplyTexts.{reply_text}
+use Rattle.ax_machine.specs.Run.{Outcome, Exchange, after_line, reply_to, after}
+use Rattle.ax_script.specs.Script.{Answers, BeginsToAnswer}
+use Rattle.ax_script.specs.Streams.{Streams, Moves}
 
--- the line was served, and the sink holds its reply
-abbrev pub ServesWhole : Container → List ℕ → Container → Option (List ℕ) → Option (List ℕ) → Type 0
-ServesWhole before line after held holds = (reply : Reply) × Serves before line reply after × Appends held holds (reply_text reply)
+-- the line was answered, and its reply was written
+pub record Serves (before : Container) (line : List ℕ) (now : Container) (old new : Option (List ℕ)) : Type 0 where
+  pub outcome : Outcome
+  pub made : now ≡ after_line before line outcome
+  pub replied : Appends old new (reply_text (reply_to before line outcome))
 
--- the line was served, and the sink holds some front of its reply
-abbrev pub ServesFront : Container → List ℕ → Container → Option (List ℕ) → Option (List ℕ) → Type 0
-ServesFront before line after held holds = (reply : Reply) × Serves before line reply after × AppendsFront held holds (reply_text reply)
+-- the line was answered, and a prefix of its reply was written
+pub record BeginsToServe (before : Container) (line : List ℕ) (old new : Option (List ℕ)) : Type 0 where
+  pub outcome : Outcome
+  pub replied : AppendsPrefix old new (reply_text (reply_to before line outcome))
 
--- the lines among the bytes were served, the last piece of them is pending, and the sink holds the replies
-abbrev pub ServesLines : Container → List ℕ → Container → List ℕ → Option (List ℕ) → Option (List ℕ) → Type 0
-ServesLines before bytes after pending held holds =
-    (lines : List (List ℕ)) × (text : List ℕ) × AreLines bytes lines pending × RunsTo before lines text after × Appends held holds text
-
--- the sink holds the beginning of what the lines among the bytes are answered
-abbrev pub BeginsLines : Container → List ℕ → Option (List ℕ) → Option (List ℕ) → Type 0
-BeginsLines before bytes held holds =
-    (lines : List (List ℕ)) × (last : List ℕ) × (text : List ℕ) × AreLines bytes lines last × RunsThrough before lines text × Appends held holds text
-
--- the last piece was served, if it is a line, and the sink holds the reply
-abbrev pub EndsLine : Container → List ℕ → Container → Option (List ℕ) → Option (List ℕ) → Type 0
-EndsLine before last after held holds = (text : List ℕ) × RunsTo before (last_line last) text after × Appends held holds text
-
--- the sink holds the beginning of what the last piece is answered
-abbrev pub BeginsLast : Container → List ℕ → Option (List ℕ) → Option (List ℕ) → Type 0
-BeginsLast before last held holds = (text : List ℕ) × RunsThrough before (last_line last) text × Appends held holds text
-
--- some bytes were taken, cut into lines and a pending piece, and the sink holds the replies to the lines
-pub record Progress (had left held holds : Option (List ℕ)) (before after : Container) (pending : List ℕ) (count : ℕ) : Type 0 where
-  pub bytes : List ℕ
-  pub text : List ℕ
+-- the lines among the bytes were served, and the last piece of the bytes is pending
+pub record ServesLines (before : Container) (bytes : List ℕ) (now : Container) (pending : List ℕ) (old new : Option (List ℕ)) : Type 0 where
   pub lines : List (List ℕ)
-  pub taken : Consumes had left bytes
-  pub added : Appends held holds text
-  pub cut : AreLines bytes lines pending
-  pub run : RunsTo before lines text after
-  pub counted : length bytes ≡ count
+  pub run : List Exchange
+  pub text : List ℕ
+  pub split : AreLines bytes lines pending
+  pub answers : Answers before lines run text
+  pub stands : now ≡ after before run
+  pub appended : Appends old new text
+
+-- a prefix was written of what the lines among the bytes are answered
+pub record BeginsLines (before : Container) (bytes : List ℕ) (old new : Option (List ℕ)) : Type 0 where
+  pub lines : List (List ℕ)
+  pub last : List ℕ
+  pub run : List Exchange
+  pub text : List ℕ
+  pub split : AreLines bytes lines last
+  pub answers : BeginsToAnswer before lines run text
+  pub appended : Appends old new text
+
+-- the last piece was served, if it is a line, and its reply was written
+pub record ServesLast (before : Container) (last : List ℕ) (old new : Option (List ℕ)) : Type 0 where
+  pub run : List Exchange
+  pub text : List ℕ
+  pub answers : Answers before (last_line last) run text
+  pub appended : Appends old new text
+
+-- a prefix was written of what the last piece is answered
+pub record BeginsLast (before : Container) (last : List ℕ) (old new : Option (List ℕ)) : Type 0 where
+  pub run : List Exchange
+  pub text : List ℕ
+  pub answers : BeginsToAnswer before (last_line last) run text
+  pub appended : Appends old new text
+
+-- so many bytes were taken, the lines among them were served, and the last piece of them is pending
+pub record Progress (before : Container) (old new : Streams) (now : Container) (pending : List ℕ) (count : ℕ) : Type 0 where
+  pub taken : List ℕ
+  pub lines : List (List ℕ)
+  pub run : List Exchange
+  pub text : List ℕ
+  pub moves : Moves old new taken text
+  pub split : AreLines taken lines pending
+  pub answers : Answers before lines run text
+  pub stands : now ≡ after before run
+  pub counted : length taken ≡ count

@@ -6,16 +6,17 @@
 //! what was written is the text of a run of the lines that were read, and each status has its cause.
 #![tactic(auto)]
 
+mod command_line;
+mod document;
 mod documents;
-mod serve;
-mod session;
+mod reply_lines;
+mod script_lines;
+mod script_run;
+mod serving;
 mod status;
-#[cfg(test)]
-mod tests;
-mod top;
-mod words;
 
-pub use documents::Documents;
-pub use serve::serve_line;
+pub use document::Document;
+pub use documents::{Documents, UpsertFault};
+pub use script_run::run;
+pub use serving::serve_line;
 pub use status::Status;
-pub use top::run;

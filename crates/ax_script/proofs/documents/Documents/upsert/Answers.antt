@@ -1,25 +1,37 @@
-use Rattle.std.proofs.Common.{◌≡◌, Some, None, sym, ap, ◌∙◌}
-use Rattle.ax_tree.specs.Document.{document_id}
-use Rattle.ax_script.specs.Places.{place_of}
-use Rattle.ax_script.proofs.Places.{upsert_replaces, upsert_creates, not_held}
+use Rattle.std.proofs.Common.{◌≡◌, List, ℕ, Ok, Some, None, sym, ap, ◌∙◌}
+use Rattle.ax_container.specs.Upsert.{creation}
+use Rattle.ax_script.specs.Positions.{position_of}
+use Rattle.ax_script.proofs.Outcomes.{OnOk-map}
+use Rattle.ax_script.proofs.Positions.{upsert_replaces, upsert_creates, not_contained, one_id}
 use Rattle.ax_script.proofs.documents.Documents.upsert.Goals as goal
 
-pub create-requires : goal.create-requires
-create-requires c =
+pub upsert_new-requires : goal.upsert_new-requires
+upsert_new-requires c =
     let same : c.in_ok-id-in-None.id ≡ c.as_str.result.now = c.in_ok-id-in-None.ensures ∙ sym c.as_str.ensures in
-    let at : place_of c.in_ok-id-in-None.id c.args.self.now.entries ≡ None = ap (λ id. place_of id c.args.self.now.entries) same ∙ sym c.in-None.ensures.place in
-    not_held c.in_ok-id-in-None.id c.args.self.now at
+    not_contained c.in_ok-id-in-None.id c.args.self.now
+    (ap (λ id. position_of id c.args.self.now.entries) same ∙ sym c.in-None.ensures.position)
 
-pub returns-in-Some-place-clause-ok : goal.returns-in-Some-place-clause-ok
-returns-in-Some-place-clause-ok c =
-    let doc : document_id c.args.tree ≡ Some c.in-Some.id.now = sym c.in-Some.ensures in
-    let at : place_of c.in-Some.id.now c.args.self.now.entries ≡ Some c.in-Some-place.place =
-    ap (λ id. place_of id c.args.self.now.entries) (sym c.as_str.ensures) ∙ sym c.in-Some-place.ensures.place in
-    c.replace.ensures c.in-Some.id.now at ∙ sym (upsert_replaces c.in-Some.id.now c.args.tree c.args.self.now c.in-Some-place.place doc at)
+pub returns-in-Some-position-clause-ok : goal.returns-in-Some-position-clause-ok
+returns-in-Some-position-clause-ok c = λ id doc.
+    let same : c.in-Some.id.now ≡ id = one_id c.args.tree c.in-Some.id.now id c.in-Some.ensures doc in
+    let at : position_of id c.args.self.now.entries ≡ Some c.in-Some-position.position =
+    ap (λ i. position_of i c.args.self.now.entries) (sym same ∙ sym c.as_str.ensures) ∙ sym c.in-Some-position.ensures.position in
+    upsert_replaces id c.args.tree c.args.self.now c.in-Some-position.position at ∙ ap Ok (sym (c.replace.ensures id at))
 
 pub returns-in_ok-id-in-None-clause-ok : goal.returns-in_ok-id-in-None-clause-ok
-returns-in_ok-id-in-None-clause-ok c =
-    let doc : document_id c.args.tree ≡ Some c.in_ok-id-in-None.id = sym c.in-Some.ensures ∙ ap Some (sym c.in_ok-id-in-None.ensures) in
-    let same : c.in_ok-id-in-None.id ≡ c.as_str.result.now = c.in_ok-id-in-None.ensures ∙ sym c.as_str.ensures in
-    let at : place_of c.in_ok-id-in-None.id c.args.self.now.entries ≡ None = ap (λ id. place_of id c.args.self.now.entries) same ∙ sym c.in-None.ensures.place in
-    rw (upsert_creates c.in_ok-id-in-None.id c.args.tree c.args.self.now doc at) c.create.ensures.ok
+returns-in_ok-id-in-None-clause-ok c = λ id doc.
+    let same : c.in-Some.id.now ≡ id = one_id c.args.tree c.in-Some.id.now id c.in-Some.ensures doc in
+    let copied : c.in_ok-id-in-None.id ≡ id = c.in_ok-id-in-None.ensures ∙ same in
+    let at : position_of id c.args.self.now.entries ≡ None =
+    ap (λ i. position_of i c.args.self.now.entries) (sym same ∙ sym c.as_str.ensures) ∙ sym c.in-None.ensures.position in
+    OnOk-map c.upsert_new.result
+    (λ made. upsert_creates id c.args.tree c.args.self.now at ∙ (λ i. creation (sym copied i) c.args.tree c.args.self.now) ∙ made)
+    c.upsert_new.ensures.ok
+
+pub returns-in_ok-id-in-None-clause-full : goal.returns-in_ok-id-in-None-clause-full
+returns-in_ok-id-in-None-clause-full c = λ id doc refused.
+    let same : c.in-Some.id.now ≡ id = one_id c.args.tree c.in-Some.id.now id c.in-Some.ensures doc in
+    let copied : c.in_ok-id-in-None.id ≡ id = c.in_ok-id-in-None.ensures ∙ same in
+    let at : position_of id c.args.self.now.entries ≡ None =
+    ap (λ i. position_of i c.args.self.now.entries) (sym same ∙ sym c.as_str.ensures) ∙ sym c.in-None.ensures.position in
+    upsert_creates id c.args.tree c.args.self.now at ∙ (λ i. creation (sym copied i) c.args.tree c.args.self.now) ∙ c.upsert_new.ensures.full refused

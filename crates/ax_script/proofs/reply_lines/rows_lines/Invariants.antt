@@ -1,0 +1,11 @@
+-- The rows so far and those that are left make the whole.
+use Rattle.std.proofs.Common.{◌≡◌, ◌++◌, map, drop}
+use Rattle.std.specs.List.{flat_map}
+use Rattle.ax_tree.specs.CanonicalText.{canonical_text}
+use Rattle.ax_machine.specs.ReplyTexts.{row_text}
+use Rattle.ax_script.proofs.reply_lines.rows_lines.Given as goal
+
+abbrev pub invariant-loop-document : goal.invariant-loop-document
+invariant-loop-document l =
+    l.text.items ++ flat_map row_text (map canonical_text (map (λ entry. entry.tree) (drop l.document-index l.documents)))
+    ≡ flat_map row_text (map canonical_text (map (λ entry. entry.tree) l.documents))

@@ -1,5 +1,0 @@
--- The ledger is that of the blank.
-use Rattle.ax_script.proofs.tests.script.output_of.Given as goal
-
-abbrev pub ghosts-run_counted : goal.ghosts-run_counted
-ghosts-run_counted a = record { name = a.blank.name; parts = a.blank.parts }

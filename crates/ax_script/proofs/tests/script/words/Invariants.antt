@@ -1,5 +1,0 @@
--- The ledger is that of the blank.
-use Rattle.ax_script.proofs.tests.script.words.Given as goal
-
-abbrev pub ghosts-run_counted : goal.ghosts-run_counted
-ghosts-run_counted g a = record { name = a.blank.name; parts = a.blank.parts }
