@@ -16,7 +16,7 @@ use Rattle.serde_json.specs.Read.{of_json, of_items, of_members, max_depth, read
 use Rattle.serde_json.specs.Written.{outline, items_outline, members_outline, compact_text, items_text, members_text, comma_if}
 use Rattle.serde_json.proofs.Texts.{print-outline}
 use Rattle.ax_tree.specs.Rising.{is_rising}
-use Rattle.ax_tree.proofs.RisingNames.{AreBefore, is_before_Greater, rising_before}
+use Rattle.ax_text.proofs.RisingNames.{AreBefore, is_before_Greater, rising_before}
 use Rattle.ax_tree.proofs.WholeNumbers.{ReadsBack}
 
 abbrev pub data_names : serde.Members → List (List ℕ)

@@ -10,13 +10,13 @@ use Rattle.ax_tree.specs.declared.tree.Tree.TheViews.{roll-Tree}
 use Rattle.ax_tree.specs.declared.tree.Tree.TheFolds.{map-Tree, fold-roll-Tree, ind-Tree}
 use Rattle.ax_tree.specs.Names.{names}
 use Rattle.ax_tree.specs.Rising.{is_rising}
-use Rattle.ax_tree.specs.WellFormed.{numbers_step, numbers_fit, NumbersFit, well_formed_step, is_well_formed, IsWellFormed}
+use Rattle.ax_tree.specs.WellFormed.{numbers_level, numbers_fit, NumbersFit, well_formed_level, is_well_formed, IsWellFormed}
 
-formed-roll : (x : Tree-F Tree) → is_well_formed (roll-Tree x) ≡ well_formed_step (map-Tree Tree Bool is_well_formed x)
-formed-roll = fold-roll-Tree Bool well_formed_step
+formed-roll : (x : Tree-F Tree) → is_well_formed (roll-Tree x) ≡ well_formed_level (map-Tree Tree Bool is_well_formed x)
+formed-roll = fold-roll-Tree Bool well_formed_level
 
-numbers-roll : (x : Tree-F Tree) → numbers_fit (roll-Tree x) ≡ numbers_step (map-Tree Tree Bool numbers_fit x)
-numbers-roll = fold-roll-Tree Bool numbers_step
+numbers-roll : (x : Tree-F Tree) → numbers_fit (roll-Tree x) ≡ numbers_level (map-Tree Tree Bool numbers_fit x)
+numbers-roll = fold-roll-Tree Bool numbers_level
 
 abbrev IsKept : Tree → Type 0
 IsKept t = IsWellFormed t → NumbersFit t
@@ -48,7 +48,7 @@ members_fit (m ∷ ms) h =
     let q = and_parts (is_utf8 m.name) (is_well_formed m.value.0) p.0 in
     ap₂ (λ a b. a && b) (m.value.1 q.1) (members_fit ms p.1)
 
-level : (y : Tree-F Kept) → let x = map-Tree Kept Tree tree_of y in well_formed_step (map-Tree Tree Bool is_well_formed x) ≡ true → numbers_step (map-Tree Tree Bool numbers_fit x) ≡ true
+level : (y : Tree-F Kept) → let x = map-Tree Kept Tree tree_of y in well_formed_level (map-Tree Tree Bool is_well_formed x) ≡ true → numbers_level (map-Tree Tree Bool numbers_fit x) ≡ true
 level Tree-F.Null h = refl
 level (Tree-F.Truth b) h = refl
 level (Tree-F.Number z) h = h

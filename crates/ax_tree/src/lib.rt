@@ -24,4 +24,4 @@ pub use members::{Member, Members};
 pub use memory::Memory;
 pub use text::Text;
 pub use tree::Tree;
-pub use write::write_tree;
+pub use write::{append_tree, write_tree};
