@@ -35,12 +35,12 @@ data-roll : (x : Tree-F Tree) → data_of (roll-Tree x) ≡ data_level (map-Tree
 data-roll = fold-roll-Tree serde.Data data_level
 
 -- the data is good, and it is the data of the tree
-pub record IsHeld (d : serde.Data) (t : Tree) : Type 0 where
+pub record IsDataOf (d : serde.Data) (t : Tree) : Type 0 where
   pub good : IsGood d
   pub tree : tree_of d ≡ Some t
 
 abbrev IsKept : Tree → Type 0
-IsKept t = IsWellFormed t → IsHeld (data_of t) t
+IsKept t = IsWellFormed t → IsDataOf (data_of t) t
 
 abbrev Kept : Type 0
 Kept = (t : Tree) × IsKept t
@@ -82,7 +82,7 @@ members_kept (m ∷ ms) h =
     ap₂ (λ t l. both (named m.name t) l) (m.value.1 q.1).tree (members_kept ms p.1)
 
 level : (y : Tree-F Kept) → let x = map-Tree Kept Tree tree_in y in well_formed_level (map-Tree Tree Bool is_well_formed x) ≡ true
-    → IsHeld (data_level (map-Tree Tree serde.Data data_of x)) (roll-Tree x)
+    → IsDataOf (data_level (map-Tree Tree serde.Data data_of x)) (roll-Tree x)
 level Tree-F.Null h = record { good = tt; tree = ap Some (sym rolls-Null) }
 level (Tree-F.Truth b) h = record { good = tt; tree = ap Some (sym (rolls-Truth b)) }
 level (Tree-F.Number z) h = record { good = reads_back z h; tree = ap (option_map _) (whole z h) ∙ ap Some (sym (rolls-Number z)) }
@@ -96,16 +96,16 @@ level (Tree-F.Object ms) h =
     }
 
 roll_kept : (y : Tree-F Kept) → IsKept (roll-Tree (map-Tree Kept Tree tree_in y))
-roll_kept y = let x = map-Tree Kept Tree tree_in y in λ h. subst (λ d. IsHeld d (roll-Tree x)) (sym (data-roll x)) (level y (sym (formed-roll x) ∙ h))
+roll_kept y = let x = map-Tree Kept Tree tree_in y in λ h. subst (λ d. IsDataOf d (roll-Tree x)) (sym (data-roll x)) (level y (sym (formed-roll x) ∙ h))
 
-pub is_kept : (t : Tree) → IsWellFormed t → IsHeld (data_of t) t
+pub is_kept : (t : Tree) → IsWellFormed t → IsDataOf (data_of t) t
 is_kept = ind-Tree IsKept (λ x y is. subst (λ z. IsKept (roll-Tree z)) is (roll_kept y))
 
 pub text-stands : (t : Tree) → IsWellFormed t → nesting t ≤ 127 → reading (canonical_text t) ≡ Stands t
 text-stands t h shallow =
-    let held : IsHeld (data_of t) t = is_kept t h in
-    let same : nesting t ≡ serde.depth (data_of t) = depth_of (data_of t) t held.tree in
+    let is : IsDataOf (data_of t) t = is_kept t h in
+    let same : nesting t ≡ serde.depth (data_of t) = depth_of (data_of t) t is.tree in
     let within : serde.depth (data_of t) ≤ max_depth = omega arith in
     ap reading (sym (compact_text-data_of t))
-    ∙ reading-data (compact_text (data_of t)) (data_of t) (utf8-text (data_of t) held.good) (read-text (data_of t) held.good within)
-    ∙ ap of_tree held.tree
+    ∙ reading-data (compact_text (data_of t)) (data_of t) (utf8-text (data_of t) is.good) (read-text (data_of t) is.good within)
+    ∙ ap of_tree is.tree

@@ -34,14 +34,14 @@ member_of m = record { name = m.name; value = tree_of m.value }
 abbrev judged : Member Tree → Member Bool
 judged m = record { name = m.name; value = is_well_formed m.value }
 
-abbrev counted : Member Tree → Member Bool
-counted m = record { name = m.name; value = numbers_fit m.value }
+abbrev fitting : Member Tree → Member Bool
+fitting m = record { name = m.name; value = numbers_fit m.value }
 
 items_fit : (es : List Kept) → list_all (λ item. item) (map is_well_formed (map tree_of es)) ≡ true → list_all (λ item. item) (map numbers_fit (map tree_of es)) ≡ true
 items_fit [] h = refl
 items_fit (e ∷ es) h = let p = and_parts (is_well_formed e.0) _ h in ap₂ (λ a b. a && b) (e.1 p.0) (items_fit es p.1)
 
-members_fit : (ms : List (Member Kept)) → list_all (λ m. is_utf8 m.name && m.value) (map judged (map member_of ms)) ≡ true → list_all (λ m. m.value) (map counted (map member_of ms)) ≡ true
+members_fit : (ms : List (Member Kept)) → list_all (λ m. is_utf8 m.name && m.value) (map judged (map member_of ms)) ≡ true → list_all (λ m. m.value) (map fitting (map member_of ms)) ≡ true
 members_fit [] h = refl
 members_fit (m ∷ ms) h =
     let p = and_parts (is_utf8 m.name && is_well_formed m.value.0) _ h in

@@ -4,7 +4,7 @@ ghost use Rattle.ax_tree.specs.SerdeData.{tree_tokens, items_tokens, members_tok
 
 use crate::items::Items;
 use crate::members::Members;
-use crate::memory::Memory;
+use crate::out_of_memory::Memory;
 use crate::tree::Tree;
 use json::Writer;
 use std::alloc::Global;

@@ -2,7 +2,7 @@
 use Rattle.std.proofs.Common.{◌≡◌, ◌∙◌, ap, ◌+◌, arith}
 use Rattle.ax_tree.specs.Nesting.{nesting}
 use Rattle.ax_text.proofs.Levels.{deepest, nesting-Object}
-use Rattle.ax_text.proofs.depth.+depth.Goals as goal
+use Rattle.ax_text.proofs.tree_nesting.+nesting.Goals as goal
 
 pub nesting-returns-in-Object : goal.nesting-returns-in-Object
 nesting-returns-in-Object t c =
