@@ -6,6 +6,7 @@ use ax_tree::{Items, Members, Tree};
 /// How deep a tree nests: a scalar 0, a list or a map one more than the deepest of its children, so
 /// that an empty one nests 1; `u32::MAX` where it is more than that. Takes no memory.
 #[cycle(nesting)]
+#[tactic(auto, using(crate::proofs::Levels::nesting_object))]
 pub fn nesting(tree: &Tree) -> u32
     ensures { result ≡ min (nesting_of tree.now) (2 ^ 32 - 1) }
 {
