@@ -6,7 +6,7 @@ use Rattle.serde_json.specs.Find.{as_i64}
 use Rattle.ax_tree.specs.Nesting.{nesting, greatest}
 use Rattle.ax_tree.specs.declared.tree.Tree as tree
 use Rattle.ax_text.specs.TreeOf.{both, named, tree_of, items_of, members_of}
-use Rattle.ax_text.proofs.Levels.{deepest, nesting-Null, nesting-Truth, nesting-Number, nesting-Text, nesting-List, nesting-Object}
+use Rattle.ax_text.proofs.Levels.{deepest, nesting-Null, nesting-Truth, nesting-Number, nesting-Text, nesting-List, nesting_object}
 
 -- what holds of each, holds of both
 pub of_both : {A : Type 0} (first : Option A) (rest : Option (List A)) (P : A → Type 0) (Q R : List A → Type 0)
@@ -30,7 +30,7 @@ mutual
   tree_depth (serde.number n) = number_depth (as_i64 n)
   tree_depth (serde.string s) = nesting-Text s
   tree_depth (serde.array ds) = of_map (items_of ds) tree.List (λ ts. greatest (map nesting ts) ≡ serde.items_depth ds) (λ t. nesting t ≡ suc (serde.items_depth ds)) (λ ts e. nesting-List ts ∙ add-one _ ∙ ap suc e) (items_depth ds)
-  tree_depth (serde.object ms) = of_map (members_of ms) tree.Object (λ l. deepest l ≡ serde.members_depth ms) (λ t. nesting t ≡ suc (serde.members_depth ms)) (λ l e. nesting-Object l ∙ add-one _ ∙ ap suc e) (members_depth ms)
+  tree_depth (serde.object ms) = of_map (members_of ms) tree.Object (λ l. deepest l ≡ serde.members_depth ms) (λ t. nesting t ≡ suc (serde.members_depth ms)) (λ l e. nesting_object l ∙ add-one _ ∙ ap suc e) (members_depth ms)
 
   items_depth : (ds : serde.Items) → IfSome (items_of ds) (λ ts. greatest (map nesting ts) ≡ serde.items_depth ds)
   items_depth serde.no_items = refl

@@ -16,7 +16,7 @@ use Rattle.serde_json.specs.Read.{of_json, of_items, of_members, max_depth, read
 use Rattle.serde_json.specs.Written.{outline, items_outline, members_outline, compact_text, items_text, members_text, comma_if}
 use Rattle.serde_json.proofs.Texts.{print-outline}
 use Rattle.ax_tree.specs.Rising.{is_rising}
-use Rattle.ax_tree.proofs.RisingNames.{AreBefore, is_before_Greater, rising_before}
+use Rattle.ax_text.proofs.RisingNames.{AreBefore, is_before_Greater, rising_before}
 use Rattle.ax_tree.proofs.WholeNumbers.{ReadsBack}
 
 abbrev pub data_names : serde.Members → List (List ℕ)
@@ -50,17 +50,17 @@ after-none : (ms : serde.Members) → after ms serde.no_members ≡ ms
 after-none serde.no_members = refl
 after-none (serde.member k d ms) = ap (serde.member k d) (after-none ms)
 
-after-more : (front : serde.Members) (k : List ℕ) (d : serde.Data) (ms : serde.Members) → after (after front (serde.member k d serde.no_members)) ms ≡ after front (serde.member k d ms)
+after-more : (prefix : serde.Members) (k : List ℕ) (d : serde.Data) (ms : serde.Members) → after (after prefix (serde.member k d serde.no_members)) ms ≡ after prefix (serde.member k d ms)
 after-more serde.no_members k d ms = refl
-after-more (serde.member l e front) k d ms = ap (serde.member l e) (after-more front k d ms)
+after-more (serde.member l e prefix) k d ms = ap (serde.member l e) (after-more prefix k d ms)
 
-names-more : (front : serde.Members) (k : List ℕ) (d : serde.Data) (names : List (List ℕ)) → data_names (after front (serde.member k d serde.no_members)) ++ names ≡ data_names front ++ k ∷ names
+names-more : (prefix : serde.Members) (k : List ℕ) (d : serde.Data) (names : List (List ℕ)) → data_names (after prefix (serde.member k d serde.no_members)) ++ names ≡ data_names prefix ++ k ∷ names
 names-more serde.no_members k d names = refl
-names-more (serde.member l e front) k d names = ap (λ l'. l ∷ l') (names-more front k d names)
+names-more (serde.member l e prefix) k d names = ap (λ l'. l ∷ l') (names-more prefix k d names)
 
-put-end : (front : serde.Members) (k : List ℕ) (d : serde.Data) → AreBefore (data_names front) k → serde.put k d front ≡ after front (serde.member k d serde.no_members)
+put-end : (prefix : serde.Members) (k : List ℕ) (d : serde.Data) → AreBefore (data_names prefix) k → serde.put k d prefix ≡ after prefix (serde.member k d serde.no_members)
 put-end serde.no_members k d before = refl
-put-end (serde.member l e front) k d before = rw (is_before_Greater l k before.0) (ap (serde.member l e) (put-end front k d before.1))
+put-end (serde.member l e prefix) k d before = rw (is_before_Greater l k before.0) (ap (serde.member l e) (put-end prefix k d before.1))
 
 mutual
   of_json-outline : (d : serde.Data) → IsGood d → of_json (outline d) ≡ Some d

@@ -52,6 +52,6 @@ names-more all done entries rest k v m listed first name =
     ∙ listed
 
 -- with all entries read, the names are the map's
-pub names-rise : (done : List (Member Tree)) (left all : List Entry) → names done ++ entry_names left ≡ entry_names all → left ≡ [] → IsStrictlySortedBy string_cmp (keys_of all) → HaveRisingNames done
-names-rise done left all listed none_left sorted =
-    ap is_rising (sym (append-nil (names done)) ∙ ap (λ l. names done ++ entry_names l) (sym none_left) ∙ listed) ∙ entry_names-rise all sorted
+pub names-rise : (done : List (Member Tree)) (remaining all : List Entry) → names done ++ entry_names remaining ≡ entry_names all → remaining ≡ [] → IsStrictlySortedBy string_cmp (keys_of all) → HaveRisingNames done
+names-rise done remaining all listed none_remain sorted =
+    ap is_rising (sym (append-nil (names done)) ∙ ap (λ l. names done ++ entry_names l) (sym none_remain) ∙ listed) ∙ entry_names-rise all sorted

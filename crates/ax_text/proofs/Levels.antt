@@ -34,5 +34,5 @@ values-nested : (l : List (Member tree.Tree)) → map (λ m. m.value) (map neste
 values-nested [] = refl
 values-nested (m ∷ ms) = ap (λ ns. nesting m.value ∷ ns) (values-nested ms)
 
-pub nesting-Object : (l : List (Member tree.Tree)) → nesting (tree.Object l) ≡ deepest l + 1
-nesting-Object l = nesting-nested l ∙ ap (λ ns. greatest ns + 1) (values-nested l)
+pub nesting_object : (l : List (Member tree.Tree)) → nesting (tree.Object l) ≡ deepest l + 1
+nesting_object l = nesting-nested l ∙ ap (λ ns. greatest ns + 1) (values-nested l)

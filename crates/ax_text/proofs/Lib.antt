@@ -4,8 +4,9 @@ pub mod Formed
 pub mod GoodData
 pub mod Joined
 pub mod Levels
-pub mod Readings
-pub mod StringTexts
 pub mod ReadTexts
 pub mod ReadTrees
+pub mod Readings
+pub mod RisingNames
 pub mod RoundTrip
+pub mod StringTexts

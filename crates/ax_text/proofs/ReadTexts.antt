@@ -99,13 +99,13 @@ byte_text in_string space x xs k utf8 h = h in_string
 byte_text in_string other x xs k utf8 h = h in_string
 byte_text in_escape c x xs k utf8 h = h in_string
 
-lexemes_text : (xs front : List ℕ) (m : Mode) → IsUtf8 (front ++ xs) → AreTextLexemes (lex m xs)
+lexemes_text : (xs prefix : List ℕ) (m : Mode) → IsUtf8 (prefix ++ xs) → AreTextLexemes (lex m xs)
 unfolding lex
-lexemes_text [] front m utf8 = tt
-lexemes_text (x ∷ xs) front m utf8 =
+lexemes_text [] prefix m utf8 = tt
+lexemes_text (x ∷ xs) prefix m utf8 =
     byte_text m (class x) x xs (λ n. lex n xs)
-    (λ e. let is : x ≡ 34 = is_quote x e in rest_utf8 front xs x (omega arith) utf8)
-    (λ n. lexemes_text xs (front ++ x ∷ []) n (subst IsUtf8 (sym (append_assoc front (x ∷ []) xs)) utf8))
+    (λ e. let is : x ≡ 34 = is_quote x e in rest_utf8 prefix xs x (omega arith) utf8)
+    (λ n. lexemes_text xs (prefix ++ x ∷ []) n (subst IsUtf8 (sym (append_assoc prefix (x ∷ []) xs)) utf8))
 
 allowed : (b : Bool) (t : Token) (k : Place → List Token) (next : Place) → IsText t → AreTexts (k next)
     → AreTexts (if_allowed b t k next)

@@ -164,7 +164,7 @@ mutual
   read_members (json.member k j ms) found h is =
       of_some IsRead RisingRead (λ d. of_members ms (serde.put k d found)) (of_json j)
       (λ d good. read_members ms (serde.put k d found) h.2
-        (rising_put k d found is.0, read_put k d found h.0 good is.1)) (read_json j h.1)
+      (rising_put k d found is.0, read_put k d found h.0 good is.1)) (read_json j h.1)
 
 -- ---- the trees of such data
 
@@ -207,7 +207,7 @@ mutual
       of_both (named k (tree_of d)) (members_of ms) (IsGoodMember k) (AreGoodMembers ms) (AreGoodMembers (serde.member k d ms))
       (λ m l p q. record { good = λ i. p.good i && q.good i; same = λ i. p.same i ∷ q.same i })
       (of_map (tree_of d) (λ t. record { name = k; value = t }) IsWellFormed (IsGoodMember k)
-        (λ t formed. record { good = λ i. is_utf8-from_IsUtf8 k h.0 i && formed i; same = refl }) (tree_formed d h.1))
+      (λ t formed. record { good = λ i. is_utf8-from_IsUtf8 k h.0 i && formed i; same = refl }) (tree_formed d h.1))
       (members_formed ms h.2)
 
 -- ---- readings

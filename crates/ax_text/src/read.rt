@@ -5,7 +5,7 @@ ghost use Rattle.ax_text.specs.TreeOf.{tree_of, items_of, members_of};
 ghost use Rattle.ax_tree.specs.WellFormed.{IsWellFormed};
 ghost use Rattle.ax_text.specs.Reading.{reading, Stands, NotJson, NotWhole};
 
-use crate::fault::TextFault;
+use crate::text_fault::TextFault;
 use ax_tree::{Items, Member, Members, Text, Tree};
 use serde_json::{Map, Value};
 use std::alloc::Global;

@@ -13,7 +13,6 @@ use Rattle.serde_json.specs.Find.{as_i64}
 use Rattle.serde_json.specs.Read.{number_of}
 use Rattle.serde_json.specs.View as view
 use Rattle.serde_json.specs.Written.{outline, items_outline, members_outline}
-use Rattle.serde_json.proofs.Texts.{print-outline}
 use Rattle.ax_tree.specs.declared.members.Member.{Member}
 use Rattle.ax_tree.specs.declared.tree.Tree as tree
 use Rattle.ax_tree.specs.declared.tree.Tree.{Tree}
@@ -22,9 +21,9 @@ use Rattle.ax_tree.specs.declared.tree.Tree.TheViews.{roll-Tree}
 use Rattle.ax_tree.specs.declared.tree.Tree.TheFolds.{map-Tree, fold-roll-Tree, ind-Tree}
 use Rattle.ax_tree.specs.declared.tree.Tree.TheVariants.{rolls-Null, rolls-Truth, rolls-Number, rolls-Text, rolls-List, rolls-Object}
 use Rattle.ax_tree.specs.CanonicalText.{canonical_text}
-use Rattle.ax_tree.specs.SerdeData.{data_step, data_of, data_members, member_data}
-use Rattle.ax_tree.specs.WellFormed.{numbers_step, numbers_fit, NumbersFit}
-use Rattle.ax_tree.proofs.SerdeLemmas.{is_written}
+use Rattle.ax_tree.specs.SerdeData.{data_level, data_of, data_members, member_data}
+use Rattle.ax_tree.specs.WellFormed.{numbers_level, numbers_fit, NumbersFit}
+use Rattle.ax_tree.proofs.SerdeLemmas.{printed_text}
 use Rattle.ax_tree.proofs.WholeNumbers.{reads_back, whole}
 
 -- the tree that JSON shows, with each item and each member where it stands
@@ -50,11 +49,11 @@ record IsShown (j : json.Json) (t : Tree) : Type 0 where
   found : tree_in j ≡ Some t
   numbers : shape.HasNumbers j
 
-numbers-roll : (x : Tree-F Tree) → numbers_fit (roll-Tree x) ≡ numbers_step (map-Tree Tree Bool numbers_fit x)
-numbers-roll = fold-roll-Tree Bool numbers_step
+numbers-roll : (x : Tree-F Tree) → numbers_fit (roll-Tree x) ≡ numbers_level (map-Tree Tree Bool numbers_fit x)
+numbers-roll = fold-roll-Tree Bool numbers_level
 
-data-roll : (x : Tree-F Tree) → data_of (roll-Tree x) ≡ data_step (map-Tree Tree serde.Data data_of x)
-data-roll = fold-roll-Tree serde.Data data_step
+data-roll : (x : Tree-F Tree) → data_of (roll-Tree x) ≡ data_level (map-Tree Tree serde.Data data_of x)
+data-roll = fold-roll-Tree serde.Data data_level
 
 abbrev IsKept : Tree → Type 0
 IsKept t = NumbersFit t → IsShown (outline (data_of t)) t
@@ -98,8 +97,8 @@ members_numbers : (ms : List (Member Kept)) → list_all (λ m. m.value) (map ju
 members_numbers [] h = tt
 members_numbers (m ∷ ms) h = let p = and_parts (numbers_fit m.value.0) _ h in ((m.value.1 p.0).numbers, members_numbers ms p.1)
 
-level : (y : Tree-F Kept) → let x = map-Tree Kept Tree tree_of y in numbers_step (map-Tree Tree Bool numbers_fit x) ≡ true
-    → IsShown (outline (data_step (map-Tree Tree serde.Data data_of x))) (roll-Tree x)
+level : (y : Tree-F Kept) → let x = map-Tree Kept Tree tree_of y in numbers_level (map-Tree Tree Bool numbers_fit x) ≡ true
+    → IsShown (outline (data_level (map-Tree Tree serde.Data data_of x))) (roll-Tree x)
 level Tree-F.Null h = record { found = ap Some (sym rolls-Null); numbers = tt }
 level (Tree-F.Truth b) h = record { found = ap Some (sym (rolls-Truth b)); numbers = tt }
 level (Tree-F.Number z) h =
@@ -121,7 +120,7 @@ is_shown = ind-Tree IsKept (λ x y is. subst (λ z. IsKept (roll-Tree z)) is (ro
 tokens-text : (t : Tree) → NumbersFit t → tokens (canonical_text t) ≡ shape.json_tokens (outline (data_of t))
 tokens-text t h =
     let j = outline (data_of t) in
-    ap tokens (sym (print-outline (data_of t) ∙ (is_written t).text)) ∙ tokens-print (shape.json_tokens j) (ArePrintable-json_tokens j (is_shown t h).numbers)
+    ap tokens (sym (printed_text t)) ∙ tokens-print (shape.json_tokens j) (ArePrintable-json_tokens j (is_shown t h).numbers)
 
 -- the tokens determine the JSON
 json_of_tokens : (i j : json.Json) → shape.json_tokens i ≡ shape.json_tokens j → Some i ≡ Some j

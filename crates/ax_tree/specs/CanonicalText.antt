@@ -28,13 +28,13 @@ abbrev pub member_text : Member (List ℕ) → List ℕ
 member_text m = quoted m.name ++ colon ∷ m.value
 
 -- one level of a tree, whose children are seen as their texts
-abbrev pub text_step : Tree-F (List ℕ) → List ℕ
-text_step Tree-F.Null = codes "null"
-text_step (Tree-F.Truth value) = truth_text value
-text_step (Tree-F.Number value) = signed_decimal value
-text_step (Tree-F.Text value) = quoted value
-text_step (Tree-F.List items) = in_brackets 91 93 items
-text_step (Tree-F.Object members) = in_brackets 123 125 (map member_text members)
+abbrev pub text_level : Tree-F (List ℕ) → List ℕ
+text_level Tree-F.Null = codes "null"
+text_level (Tree-F.Truth value) = truth_text value
+text_level (Tree-F.Number value) = signed_decimal value
+text_level (Tree-F.Text value) = quoted value
+text_level (Tree-F.List items) = in_brackets 91 93 items
+text_level (Tree-F.Object members) = in_brackets 123 125 (map member_text members)
 
 abbrev pub canonical_text : Tree → List ℕ
-canonical_text = fold-Tree (List ℕ) text_step
+canonical_text = fold-Tree (List ℕ) text_level

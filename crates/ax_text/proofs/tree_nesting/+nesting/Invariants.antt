@@ -1,7 +1,7 @@
 -- The deepest so far and the deepest of the rest make the deepest of all.
 use Rattle.std.proofs.Common.{◌≡◌, ◌-◌, ◌^◌, map, drop, min, max}
 use Rattle.ax_tree.specs.Nesting.{nesting, greatest}
-use Rattle.ax_text.proofs.depth.+depth.Given as goal
+use Rattle.ax_text.proofs.tree_nesting.+nesting.Given as goal
 
 abbrev pub invariant-deepest_item-loop-item : goal.invariant-deepest_item-loop-item
 invariant-deepest_item-loop-item l =

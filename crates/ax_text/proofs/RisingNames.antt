@@ -33,10 +33,10 @@ abbrev pub AreBefore : List (List ℕ) → List ℕ → Type 0
 AreBefore [] k = Unit {0}
 AreBefore (name ∷ rest) k = (is_before name k ≡ true) × AreBefore rest k
 
--- where names rise, those in front are before each later one
-pub rising_before : (front : List (List ℕ)) (k : List ℕ) (rest : List (List ℕ)) → is_rising (front ++ k ∷ rest) ≡ true → AreBefore front k
+-- where names rise, those in prefix are before each later one
+pub rising_before : (prefix : List (List ℕ)) (k : List ℕ) (rest : List (List ℕ)) → is_rising (prefix ++ k ∷ rest) ≡ true → AreBefore prefix k
 rising_before [] k rest e = tt
 rising_before (a ∷ []) k rest e = (and_first _ _ e, tt)
-rising_before (a ∷ b ∷ front) k rest e =
-    let later : AreBefore (b ∷ front) k = rising_before (b ∷ front) k rest (and_second _ _ e) in
+rising_before (a ∷ b ∷ prefix) k rest e =
+    let later : AreBefore (b ∷ prefix) k = rising_before (b ∷ prefix) k rest (and_second _ _ e) in
     (is_before_trans a b k (and_first _ _ e) later.0, later)
