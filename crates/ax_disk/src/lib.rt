@@ -6,17 +6,17 @@
 #![tactic(auto)]
 
 mod call_budget;
-mod operation_list;
 mod dead_disk;
-mod operation_head;
 mod disk;
 mod extent;
-mod outcome;
 mod fuse_disk;
 mod lists;
 mod logged_lists;
 mod mem_disk;
+mod operation_head;
+mod operation_list;
 mod out_of_memory;
+mod outcome;
 
 pub use dead_disk::DeadDisk;
 pub use disk::{Disk, DiskFailed};

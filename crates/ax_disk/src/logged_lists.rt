@@ -83,8 +83,7 @@ impl LoggedLists {
         ensures log { log_of self.new ≡ with_operation (wrote ext at (length bytes.now) (take done bytes.now)) (log_of self.old) }
         ensures succeeded { done ≡ length bytes.now
             → Writes {E = DiskFailed} ext at bytes.now (Ok (tt {0})) (lists_history self.old) (lists_history self.new) }
-        ensures failed {
-            Writes {T = Unit {0}} {E = DiskFailed} ext at bytes.now (Err (record {})) (lists_history self.old) (lists_history self.new) }
+        ensures failed { Writes {T = Unit {0}} {E = DiskFailed} ext at bytes.now (Err (record {})) (lists_history self.old) (lists_history self.new) }
         ensures operations { operation_room_of self.old ≤ operation_room_of self.new + 1 }
         ensures room { room_of self.new + length bytes.now ≡ room_of self.old }
     {
@@ -100,8 +99,7 @@ impl LoggedLists {
         ensures log { log_of self.new ≡ with_operation (cut ext len done) (log_of self.old) }
         ensures succeeded { done ≡ true
             → Cuts {E = DiskFailed} ext len (Ok (tt {0})) (lists_history self.old) (lists_history self.new) }
-        ensures failed {
-            Cuts {T = Unit {0}} {E = DiskFailed} ext len (Err (record {})) (lists_history self.old) (lists_history self.new) }
+        ensures failed { Cuts {T = Unit {0}} {E = DiskFailed} ext len (Err (record {})) (lists_history self.old) (lists_history self.new) }
         ensures operations { operation_room_of self.old ≤ operation_room_of self.new + 1 }
         ensures room { room_of self.new ≡ room_of self.old }
     {

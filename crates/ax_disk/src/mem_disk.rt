@@ -80,6 +80,13 @@ impl MemDisk {
         self.reads
     }
 
+    /// How many calls have failed, up to the last value of a `u64`.
+    pub fn fault_count(&self) -> u64
+        ensures { result ≡ disk_faults self.now }
+    {
+        self.faults.count()
+    }
+
     /// Crashes, and comes back. With `keep` the lists are then what reads gave, else what the last sync that succeeded left, or what the
     /// disk was made with where none has succeeded. Nothing is then unsynced, and a new clock begins. It is no call, and takes no room.
     pub fn crash(&mut self, keep: bool)

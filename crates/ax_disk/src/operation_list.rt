@@ -65,7 +65,8 @@ impl OperationList {
         ensures operations { spare_operations self.old ≤ spare_operations self.new + 1 }
         ensures bytes { spare_bytes self.old ≤ spare_bytes self.new }
     {
-        self.operations.push_reserved(OperationHead::Cut { ext, len, done });
+        self.operations
+            .push_reserved(OperationHead::Cut { ext, len, done });
     }
 
     pub fn add_sync(&mut self)
