@@ -2,10 +2,10 @@
 use Rattle.std.proofs.Common.{◌≡◌, ℕ, zero, suc, ◌<◌, ◌≤◌, List, [], ◌∷◌, ◌++◌, length, take, drop, refl, sym, ap, subst, ◌∙◌, length-append, arith}
 use Rattle.std.specs.Prelude.{Result, Ok, Err, OnOk, OnErr}
 use Rattle.std.specs.Int.{w32, to_le_bytes, from_le_bytes}
-use Rattle.std.proofs.lemmas.List.{take_at, drop_at, append-nil}
+use Rattle.std.proofs.lemmas.List.{take_at, drop_at, append-nil, append_assoc}
 use Rattle.std.proofs.lemmas.List.Concat.{flat_map-append}
 use Rattle.std.proofs.lemmas.Nat.{from_le_bytes-to_le_bytes_4}
-use Rattle.ax_frame.specs.Part.{PartValue, part_bytes, parts_bytes, Fits, AllFit, IsPartsText}
+use Rattle.ax_frame.specs.Part.{PartValue, part_bytes, parts_bytes, Fits, AllFit, IsPartsText, BeginsWithPart, NoPart}
 use Rattle.ax_frame.specs.View.{front_of, parts_within, parts_in, Holds}
 
 -- the front of a text is the part whose spelling stands there
@@ -89,18 +89,18 @@ pub record GivesFirst (bytes : List ℕ) (p : PartValue) (rest : List ℕ) : Typ
   pub holds : Holds rest
   pub are : parts_in bytes ≡ p ∷ parts_in rest
 
-pub first_given : (bytes : List ℕ) (p : PartValue) (rest : List ℕ) → Holds bytes → Fits p → bytes ≡ part_bytes p ++ rest → GivesFirst bytes p rest
-first_given bytes p rest holds fit e =
-    let s = split_list (parts_in bytes) p rest (fit_of bytes holds) fit (sym (spelled_of bytes holds) ∙ e) in
+pub first_given : (bytes : List ℕ) (p : PartValue) (rest : List ℕ) → Holds bytes → BeginsWithPart bytes p rest → GivesFirst bytes p rest
+first_given bytes p rest holds first =
+    let s = split_list (parts_in bytes) p rest (fit_of bytes holds) first.fit (sym (spelled_of bytes holds) ∙ first.spelled) in
     let seen = seen_as rest s.0 s.2 s.3 in
     record { holds = seen.holds; are = s.1 ∙ ap (λ (ps : List PartValue). p ∷ ps) (sym seen.are) }
 
 -- where no part stands at the front, none is left
-nothing_in : (bytes : List ℕ) (ps : List PartValue) → AllFit ps → bytes ≡ parts_bytes ps → ((p : PartValue) (rest : List ℕ) → Fits p → bytes ≡ part_bytes p ++ rest → ⊥) → ps ≡ []
+nothing_in : (bytes : List ℕ) (ps : List PartValue) → AllFit ps → bytes ≡ parts_bytes ps → NoPart bytes → ps ≡ []
 nothing_in bytes [] all e none = refl
-nothing_in bytes (p ∷ ps) all e none = absurd (none p (parts_bytes ps) all.0 e)
+nothing_in bytes (p ∷ ps) all e none = absurd (none p (parts_bytes ps) (record { fit = all.0; spelled = e }))
 
-pub none_left : (bytes : List ℕ) → Holds bytes → ((p : PartValue) (rest : List ℕ) → Fits p → bytes ≡ part_bytes p ++ rest → ⊥) → parts_in bytes ≡ []
+pub none_left : (bytes : List ℕ) → Holds bytes → NoPart bytes → parts_in bytes ≡ []
 none_left bytes holds none = nothing_in bytes (parts_in bytes) (fit_of bytes holds) (spelled_of bytes holds) none
 
 -- a text without a byte holds no part, and one that holds no part has no byte
@@ -116,20 +116,47 @@ seen_empty bytes holds none = ap length (spelled_of bytes holds ∙ ap parts_byt
 pub text_seen : (bytes : List ℕ) → IsPartsText bytes → Holds bytes
 text_seen bytes is = (seen_as bytes is.parts is.fit is.spelled).holds
 
-pub text_more : (bytes : List ℕ) (p : PartValue) (rest : List ℕ) → Fits p → bytes ≡ part_bytes p ++ rest → IsPartsText rest → IsPartsText bytes
-text_more bytes p rest fit e is =
-    record { parts = p ∷ is.parts; fit = (fit, is.fit); spelled = e ∙ ap (λ (text : List ℕ). part_bytes p ++ text) is.spelled }
+pub text_more : (bytes : List ℕ) (p : PartValue) (rest : List ℕ) → BeginsWithPart bytes p rest → IsPartsText rest → IsPartsText bytes
+text_more bytes p rest first is = record {
+  parts = p ∷ is.parts;
+  fit = (first.fit, is.fit);
+  spelled = first.spelled ∙ ap (λ (text : List ℕ). part_bytes p ++ text) is.spelled;
+}
 
-pub text_less : (bytes : List ℕ) (p : PartValue) (rest : List ℕ) → Fits p → bytes ≡ part_bytes p ++ rest → IsPartsText bytes → IsPartsText rest
-text_less bytes p rest fit e is =
-    let s = split_list is.parts p rest is.fit fit (sym is.spelled ∙ e) in
+pub text_less : (bytes : List ℕ) (p : PartValue) (rest : List ℕ) → BeginsWithPart bytes p rest → IsPartsText bytes → IsPartsText rest
+text_less bytes p rest first is =
+    let s = split_list is.parts p rest is.fit first.fit (sym is.spelled ∙ first.spelled) in
     record { parts = s.0; fit = s.2; spelled = s.3 }
 
-pub text_none : (bytes : List ℕ) → 0 < length bytes → ((p : PartValue) (rest : List ℕ) → Fits p → bytes ≡ part_bytes p ++ rest → ⊥) → IsPartsText bytes → ⊥
+pub text_none : (bytes : List ℕ) → 0 < length bytes → NoPart bytes → IsPartsText bytes → ⊥
 text_none bytes long none is =
     let nothing : is.parts ≡ [] = nothing_in bytes is.parts is.fit is.spelled none in
     let empty : bytes ≡ [] = is.spelled ∙ ap parts_bytes nothing in
     omega (arith, ap length empty)
+
+-- after some parts the bytes are parts exactly where what follows them is
+pub text_after : (ps : List PartValue) (bytes rest : List ℕ) → AllFit ps → bytes ≡ parts_bytes ps ++ rest → (IsPartsText bytes → IsPartsText rest) × (IsPartsText rest → IsPartsText bytes)
+text_after [] bytes rest fit e = (λ is. subst IsPartsText e is, λ is. subst IsPartsText (sym e) is)
+text_after (p ∷ ps) bytes rest fit e =
+    let first : BeginsWithPart bytes p (parts_bytes ps ++ rest) =
+    record { fit = fit.0; spelled = e ∙ append_assoc (part_bytes p) (parts_bytes ps) rest } in
+    let later = text_after ps (parts_bytes ps ++ rest) rest fit.1 refl in (
+      λ is. later.0 (text_less bytes p (parts_bytes ps ++ rest) first is),
+      λ is. text_more bytes p (parts_bytes ps ++ rest) first (later.1 is),
+    )
+
+-- where parts are followed by bytes that no part begins, those are the parts and the bytes
+pub one_end : (ps qs : List PartValue) (x y : List ℕ) → AllFit ps → AllFit qs → NoPart x → NoPart y → parts_bytes ps ++ x ≡ parts_bytes qs ++ y → (ps ≡ qs) × (x ≡ y)
+one_end [] [] x y fp fq nx ny e = (refl, e)
+one_end [] (q ∷ qs) x y fp fq nx ny e =
+    absurd (nx q (parts_bytes qs ++ y) (record { fit = fq.0; spelled = e ∙ append_assoc (part_bytes q) (parts_bytes qs) y }))
+one_end (p ∷ ps) [] x y fp fq nx ny e =
+    absurd (ny p (parts_bytes ps ++ x) (record { fit = fp.0; spelled = sym e ∙ append_assoc (part_bytes p) (parts_bytes ps) x }))
+one_end (p ∷ ps) (q ∷ qs) x y fp fq nx ny e =
+    let first = one_part p q (parts_bytes ps ++ x) (parts_bytes qs ++ y) fp.0 fq.0
+    (sym (append_assoc (part_bytes p) (parts_bytes ps) x) ∙ e ∙ append_assoc (part_bytes q) (parts_bytes qs) y) in
+    let later = one_end ps qs x y fp.1 fq.1 nx ny first.1 in
+    (ap (λ (r : PartValue). r ∷ ps) first.0 ∙ ap (λ (rs : List PartValue). q ∷ rs) later.0, later.1)
 
 -- what a call that appends a part, or changes nothing, leaves
 pub record Added {E : Type 0} (r : Result (Unit {0}) E) (old new : List ℕ) (p : PartValue) : Type 0 where

@@ -42,6 +42,15 @@ pub record IsPartsText (bytes : List ℕ) : Type 0 where
   pub fit : AllFit parts
   pub spelled : bytes ≡ parts_bytes parts
 
+-- a part stands at the beginning of the bytes, and the rest follows it
+pub record BeginsWithPart (bytes : List ℕ) (p : PartValue) (rest : List ℕ) : Type 0 where
+  pub fit : Fits p
+  pub spelled : bytes ≡ part_bytes p ++ rest
+
+-- no part stands there, whichever and whatever follows
+abbrev pub NoPart : List ℕ → Type 0
+NoPart bytes = (p : PartValue) (rest : List ℕ) → BeginsWithPart bytes p rest → ⊥
+
 -- nine bytes are the head of a part: they say this kind, key and length, whether or not so long a payload is allowed
 pub record IsPartHead (bytes : List ℕ) (head : PartHead) : Type 0 where
   pub spelled : bytes ≡ head_bytes head.kind head.key head.len

@@ -16,7 +16,7 @@ mod slot;
 
 pub use frame::{FrameHead, FrameParts, NotFrame, frame_head, read_frame, write_frame};
 pub use memory::Memory;
-pub use part::{MOST_PAYLOAD, Part, PartHead, part_head};
+pub use part::{MOST_PAYLOAD, Part, PartHead, part_head, split_part};
 pub use parts_text::PartsText;
 pub use slot::{RootSlot, read_slot, write_slot};
 

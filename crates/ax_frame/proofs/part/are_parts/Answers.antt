@@ -11,6 +11,6 @@ returns-in_default-clause-no c is =
 pub loop-rest-preserved : goal.loop-rest-preserved
 loop-rest-preserved c =
     let p = part_value c.in-Some.field-0-0 in (
-      λ is. c.loop-rest.invariant.0 (text_more c.loop-rest.rest.now p c.in-Some.after.now c.in-Some.ensures.found.0 c.in-Some.ensures.found.1 is),
-      λ is. text_less c.loop-rest.rest.now p c.in-Some.after.now c.in-Some.ensures.found.0 c.in-Some.ensures.found.1 (c.loop-rest.invariant.1 is),
+      λ is. c.loop-rest.invariant.0 (text_more c.loop-rest.rest.now p c.in-Some.after.now c.in-Some.ensures.found is),
+      λ is. text_less c.loop-rest.rest.now p c.in-Some.after.now c.in-Some.ensures.found (c.loop-rest.invariant.1 is),
     )

@@ -9,7 +9,7 @@ returns-in_err-part c =
     rw c.from_residual.ensures (nothing, nothing)
 
 pub invariant_of-self : goal.invariant_of-self
-invariant_of-self c = (first_given c.self.inside.text.now (part_value c.in_ok-part.part) c.in_ok-part.rest.now c.self.invariant c.in_ok-part.ensures.found.0 c.in_ok-part.ensures.found.1).holds
+invariant_of-self c = (first_given c.self.inside.text.now (part_value c.in_ok-part.part) c.in_ok-part.rest.now c.self.invariant c.in_ok-part.ensures.found).holds
 
 pub returns : goal.returns
-returns c = sym c.self.view_is ∙ (first_given c.self.inside.text.now (part_value c.in_ok-part.part) c.in_ok-part.rest.now c.self.invariant c.in_ok-part.ensures.found.0 c.in_ok-part.ensures.found.1).are
+returns c = sym c.self.view_is ∙ (first_given c.self.inside.text.now (part_value c.in_ok-part.part) c.in_ok-part.rest.now c.self.invariant c.in_ok-part.ensures.found).are
