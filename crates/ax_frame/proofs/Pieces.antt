@@ -1,13 +1,13 @@
--- A frame read in pieces is the frame.
+-- A log frame read in pieces is the log frame; heads, and what is no log frame.
 use Rattle.std.proofs.Common.{◌≡◌, ℕ, ◌^◌, ◌<◌, ◌≤◌, List, [], ◌∷◌, ◌++◌, length, take, drop, refl, sym, ap, subst, ◌∙◌, length-append, arith}
 use Rattle.std.specs.Prelude.{◌≢◌, slice_index}
 use Rattle.std.specs.Int.{w64, from_le_bytes}
 use Rattle.std.proofs.lemmas.Nat.{from_le_bytes-to_le_bytes_8}
 use Rattle.std.proofs.lemmas.List.{take_at, drop_at, take-append-drop, length-take-le}
-use Rattle.ax_frame.specs.declared.frame.FrameHead.{FrameHead}
-use Rattle.ax_frame.specs.declared.frame.FrameHead.TheVariants.{Closed, Frame, Bad}
-use Rattle.ax_frame.specs.Part.{PartValue, head_bytes, parts_bytes, AllFit, IsPartsText}
-use Rattle.ax_frame.specs.Frame.{open_head, open_frame, frame_bytes, Begins, NoFrame, IsFrameHead}
+use Rattle.ax_frame.specs.declared.log_frame.FrameHead.{FrameHead}
+use Rattle.ax_frame.specs.declared.log_frame.FrameHead.TheVariants.{Closed, Frame, Bad}
+use Rattle.ax_frame.specs.Part.{PartValue, head_bytes, parts_bytes, AllFit, AreParts}
+use Rattle.ax_frame.specs.LogFrame.{open_head, open_frame, frame_bytes, BeginsWithFrame, NoFrame, IsFrameHead}
 use Rattle.ax_frame.specs.Pieces.{PartsInPieces, FrameInPieces}
 use Rattle.ax_frame.proofs.Frames.{body_found, parts_take_bytes}
 
@@ -16,33 +16,33 @@ use Rattle.ax_frame.proofs.Frames.{body_found, parts_take_bytes}
 pub parts_in_pieces : (ps : List PartValue) → AllFit ps → PartsInPieces (parts_bytes ps) ps
 parts_in_pieces [] fit = refl
 parts_in_pieces (p ∷ ps) fit =
-    let front : take (length p.payload) (p.payload ++ parts_bytes ps) ≡ p.payload = take_at p.payload (parts_bytes ps) (length p.payload) refl in
+    let payload_is : take (length p.payload) (p.payload ++ parts_bytes ps) ≡ p.payload = take_at p.payload (parts_bytes ps) (length p.payload) refl in
     let behind : drop (length p.payload) (p.payload ++ parts_bytes ps) ≡ parts_bytes ps = drop_at p.payload (parts_bytes ps) (length p.payload) refl in (
       record { spelled = refl; key_fits = fit.0.key_fits; len_fits = omega (arith, fit.0.payload_fits) },
       fit.0.payload_fits,
-      front,
-      subst (λ (text : List ℕ). PartsInPieces text ps) (sym behind) (parts_in_pieces ps fit.1),
+      payload_is,
+      subst (λ (bytes : List ℕ). PartsInPieces bytes ps) (sym behind) (parts_in_pieces ps fit.1),
     )
 
-pub parts_from_pieces : (text : List ℕ) (ps : List PartValue) → PartsInPieces text ps → AllFit ps × (text ≡ parts_bytes ps)
-parts_from_pieces text [] e = (tt, e)
-parts_from_pieces text (p ∷ ps) (head, short, payload, others) =
-    let more = parts_from_pieces (drop (length p.payload) (drop 9 text)) ps others in
-    let behind : drop 9 text ≡ p.payload ++ parts_bytes ps =
-    sym (take-append-drop (length p.payload) (drop 9 text)) ∙ rw (payload, more.1) refl in
-    let whole : text ≡ head_bytes p.kind p.key (length p.payload) ++ (p.payload ++ parts_bytes ps) =
-    sym (take-append-drop 9 text) ∙ rw (head.spelled, behind) refl in
+pub parts_from_pieces : (bytes : List ℕ) (ps : List PartValue) → PartsInPieces bytes ps → AllFit ps × (bytes ≡ parts_bytes ps)
+parts_from_pieces bytes [] e = (tt, e)
+parts_from_pieces bytes (p ∷ ps) (head, short, payload, others) =
+    let more = parts_from_pieces (drop (length p.payload) (drop 9 bytes)) ps others in
+    let behind : drop 9 bytes ≡ p.payload ++ parts_bytes ps =
+    sym (take-append-drop (length p.payload) (drop 9 bytes)) ∙ rw (payload, more.1) refl in
+    let whole : bytes ≡ head_bytes p.kind p.key (length p.payload) ++ (p.payload ++ parts_bytes ps) =
+    sym (take-append-drop 9 bytes) ∙ rw (head.spelled, behind) refl in
     ((record { key_fits = head.key_fits; payload_fits = short }, more.0), whole)
 
-pub parts_and_pieces : (text : List ℕ) (ps : List PartValue) → (PartsInPieces text ps → AllFit ps × (text ≡ parts_bytes ps)) × (AllFit ps × (text ≡ parts_bytes ps) → PartsInPieces text ps)
-parts_and_pieces text ps = (
-  parts_from_pieces text ps,
+pub parts_and_pieces : (bytes : List ℕ) (ps : List PartValue) → (PartsInPieces bytes ps → AllFit ps × (bytes ≡ parts_bytes ps)) × (AllFit ps × (bytes ≡ parts_bytes ps) → PartsInPieces bytes ps)
+parts_and_pieces bytes ps = (
+  parts_from_pieces bytes ps,
   λ is. subst (λ (t : List ℕ). PartsInPieces t ps) (sym is.1) (parts_in_pieces ps is.0),
 )
 
 -- ---- frames
 
-pub frame_in_pieces : (bytes : List ℕ) (ps : List PartValue) (rest : List ℕ) → Begins bytes ps rest → FrameInPieces bytes ps rest
+pub frame_in_pieces : (bytes : List ℕ) (ps : List PartValue) (rest : List ℕ) → BeginsWithFrame bytes ps rest → FrameInPieces bytes ps rest
 frame_in_pieces bytes ps rest begins =
     let body = parts_bytes ps in
     let after : drop 9 bytes ≡ body ++ rest = ap (drop 9) begins.spelled in
@@ -58,7 +58,7 @@ frame_in_pieces bytes ps rest begins =
 some_from_length : (ps : List PartValue) → 0 < length (parts_bytes ps) → ps ≡ [] → ⊥
 some_from_length ps long e = omega (arith, ap (λ (qs : List PartValue). length (parts_bytes qs)) e)
 
-pub frame_from_pieces : (bytes : List ℕ) (ps : List PartValue) (rest : List ℕ) → FrameInPieces bytes ps rest → Begins bytes ps rest
+pub frame_from_pieces : (bytes : List ℕ) (ps : List PartValue) (rest : List ℕ) → FrameInPieces bytes ps rest → BeginsWithFrame bytes ps rest
 frame_from_pieces bytes ps rest pieces =
     let after = drop 9 bytes in
     let spelled = parts_from_pieces (take pieces.len after) ps pieces.parts in
@@ -120,7 +120,7 @@ no_frame_past bytes len head past ps rest begins =
     let same = span_is bytes len ps rest head pieces in
     omega (arith, pieces.enough, same)
 
-pub no_frame_parts : (bytes : List ℕ) (len : ℕ) → IsFrameHead (take 9 bytes) (Frame len) → (IsPartsText (take len (drop 9 bytes)) → ⊥) → NoFrame bytes
+pub no_frame_parts : (bytes : List ℕ) (len : ℕ) → IsFrameHead (take 9 bytes) (Frame len) → (AreParts (take len (drop 9 bytes)) → ⊥) → NoFrame bytes
 no_frame_parts bytes len head none ps rest begins =
     let pieces = frame_in_pieces bytes ps rest begins in
     let same = span_is bytes len ps rest head pieces in
@@ -128,7 +128,7 @@ no_frame_parts bytes len head none ps rest begins =
     none (record { parts = ps; fit = parts.0; spelled = ap (λ (n : ℕ). take n (drop 9 bytes)) (sym same) ∙ parts.1 })
 
 -- an open head, as many bytes as it says, and these are parts: a frame
-pub frame_by_head : (bytes : List ℕ) (len : ℕ) → IsFrameHead (take 9 bytes) (Frame len) → len ≤ length (drop 9 bytes) → (is : IsPartsText (take len (drop 9 bytes))) → Begins bytes is.parts (drop len (drop 9 bytes))
+pub frame_by_head : (bytes : List ℕ) (len : ℕ) → IsFrameHead (take 9 bytes) (Frame len) → len ≤ length (drop 9 bytes) → (is : AreParts (take len (drop 9 bytes))) → BeginsWithFrame bytes is.parts (drop len (drop 9 bytes))
 frame_by_head bytes len head enough is =
     frame_from_pieces bytes is.parts (drop len (drop 9 bytes))
     (record { len = len; head = head; enough = enough; parts = (parts_and_pieces (take len (drop 9 bytes)) is.parts).1 (is.fit, is.spelled); follows = refl })

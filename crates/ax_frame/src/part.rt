@@ -1,7 +1,7 @@
 //! Parts: a kind, a key and a payload of at most 65,536 bytes.
 
 ghost use Rattle.std.specs.Prelude.{◌≡◌, ℕ, List, IfSome, IfNone, IsSomeAnd, IsTrue};
-ghost use Rattle.ax_frame.specs.Part.{PartValue, IsPartHead, IsPartsText, BeginsWithPart, NoPart, part_value, head_bytes};
+ghost use Rattle.ax_frame.specs.Part.{PartValue, IsPartHead, AreParts, BeginsWithPart, NoPart, part_value, head_bytes};
 ghost use Rattle.ax_frame.specs.declared.part.PartHead.{PartHead};
 
 /// The most bytes that a payload may have.
@@ -62,8 +62,8 @@ pub fn split_part(bytes: &[u8]) -> Option<(Part<'_>, &[u8])>
         → IsSomeAnd result (λ x. (part_value x.0 ≡ p) × (x.1.now ≡ rest)) }
     ensures none { IfNone result (NoPart bytes.now) }
 {
-    let (front, rest) = bytes.split_first_chunk::<9>()?;
-    let PartHead { kind, key, len } = part_head(front);
+    let (head, rest) = bytes.split_first_chunk::<9>()?;
+    let PartHead { kind, key, len } = part_head(head);
     let len = len as usize;
     if len > MOST_PAYLOAD || len > rest.len() {
         return None;
@@ -74,8 +74,8 @@ pub fn split_part(bytes: &[u8]) -> Option<(Part<'_>, &[u8])>
 
 /// Whether the bytes are parts, one after another, to the last byte.
 pub(crate) fn are_parts(bytes: &[u8]) -> bool
-    ensures yes { IsTrue result → IsPartsText bytes.now }
-    ensures no { IsPartsText bytes.now → IsTrue result }
+    ensures yes { IsTrue result → AreParts bytes.now }
+    ensures no { AreParts bytes.now → IsTrue result }
 {
     let mut rest = bytes;
     while !rest.is_empty() {
