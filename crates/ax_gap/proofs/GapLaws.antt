@@ -5,9 +5,9 @@ use Rattle.std.proofs.lemmas.List.Elements.{All-same, All-drop}
 use Rattle.std.proofs.lemmas.Bool.{lt-ltb, ltb-true}
 use Rattle.ax_gap.specs.Varint.{varint}
 use Rattle.ax_gap.specs.Gaps.{gaps, gaps_from, AreGaps, IsGapList, IsRisingList}
-use Rattle.ax_gap.specs.Reading.{front, before, body}
+use Rattle.ax_gap.specs.Reading.{first_varint, before, first_gaps}
 use Rattle.ax_gap.proofs.Rising.{RisesFrom, rises, rising_list}
-use Rattle.ax_gap.proofs.VarintLaws.{grammar_spells, spells_grammar, front_again, front_takes, found, length-varint}
+use Rattle.ax_gap.proofs.VarintLaws.{grammar_spells, spells_grammar, first_varint_again, first_varint_takes, found, length-varint}
 
 -- ---- what is written
 
@@ -63,16 +63,16 @@ spells_list_grammar list h =
 abbrev pub given : List ℕ → List ℕ → Option (List ℕ × List ℕ)
 given list rest = Some (list, rest)
 
-pub body_again : (list : List ℕ) (least : ℕ) (rest : List ℕ) → RisesFrom least list → body least (length list) (gaps_from least list ++ rest) ≡ given list rest
-unfolding gaps_from body
-body_again [] least rest h = refl
-body_again (n ∷ list) least rest h =
+pub first_gaps_again : (list : List ℕ) (least : ℕ) (rest : List ℕ) → RisesFrom least list → first_gaps least (length list) (gaps_from least list ++ rest) ≡ given list rest
+unfolding gaps_from first_gaps
+first_gaps_again [] least rest h = refl
+first_gaps_again (n ∷ list) least rest h =
     let split : varint (n - least) ++ gaps_from (n + 1) list ++ rest ≡ varint (n - least) ++ (gaps_from (n + 1) list ++ rest) =
     append_assoc (varint (n - least)) (gaps_from (n + 1) list) rest
     in
     let number : least + (n - least) ≡ n = omega (arith, h.0) in
     let small : nat_lt n 4294967296 ≡ true = lt-ltb n 4294967296 h.1 in
-    rw (split, front_again (n - least) (gaps_from (n + 1) list ++ rest), number, small, body_again list (n + 1) rest h.2) refl
+    rw (split, first_varint_again (n - least) (gaps_from (n + 1) list ++ rest), number, small, first_gaps_again list (n + 1) rest h.2) refl
 
 -- ---- what is read is spelled so
 
@@ -111,7 +111,7 @@ all_after bytes gap after all e =
     ap (λ bs. drop (length (varint gap)) bs) e ∙ drop_at (varint gap) after (length (varint gap)) refl
     in All-same (λ b. b < 256) after (drop (length (varint gap)) bytes) (sym k) (All-drop (λ b. b < 256) (length (varint gap)) bytes all)
 
--- `list` is read from `bytes` as `count` numbers, and `rest` is left
+-- `list` is read from `bytes` as `count` numbers, and `rest` follows
 pub record IsReadAs (least count : ℕ) (bytes list rest : List ℕ) : Type 0 where
   pub spelled : bytes ≡ gaps_from least list ++ rest
   pub rises : RisesFrom least list
@@ -133,28 +133,28 @@ read_more least count gap bytes after ns list rest first small is later =
       counted = sym (ap length is) ∙ omega (arith, later.counted);
     }
 
-pub body_takes : (count least : ℕ) (bytes list rest : List ℕ) → All (λ b. b < 256) bytes → body least count bytes ≡ given list rest → IsReadAs least count bytes list rest
-unfolding gaps_from body
-body_takes zero least bytes list rest all e =
+pub first_gaps_takes : (count least : ℕ) (bytes list rest : List ℕ) → All (λ b. b < 256) bytes → first_gaps least count bytes ≡ given list rest → IsReadAs least count bytes list rest
+unfolding gaps_from first_gaps
+first_gaps_takes zero least bytes list rest all e =
     let none : [] ≡ list = same_list [] list bytes rest e in
-    let left : bytes ≡ rest = same_end [] list bytes rest e in
-    record { spelled = rw (← none) left; rises = rw (← none) tt; counted = rw (← none) refl }
-body_takes (suc count) least bytes list rest all e =
-    let (gap, after, first, more) = gap_found (front bytes) _ list rest e in
+    let same : bytes ≡ rest = same_end [] list bytes rest e in
+    record { spelled = rw (← none) same; rises = rw (← none) tt; counted = rw (← none) refl }
+first_gaps_takes (suc count) least bytes list rest all e =
+    let (gap, after, first, more) = gap_found (first_varint bytes) _ list rest e in
     let chosen = chosen_found (nat_lt (least + gap) 4294967296) _ list rest more in
     let (ns, later, is) = before_found (least + gap) _ list rest chosen.1 in
-    let split : bytes ≡ varint gap ++ after = front_takes bytes gap after all first in
+    let split : bytes ≡ varint gap ++ after = first_varint_takes bytes gap after all first in
     read_more least count gap bytes after ns list rest split (ltb-true (least + gap) 4294967296 chosen.0) is
-    (body_takes count (least + gap + 1) after ns rest (all_after bytes gap after all split) later)
+    (first_gaps_takes count (least + gap + 1) after ns rest (all_after bytes gap after all split) later)
 
-pub body_counts : (count least : ℕ) (bytes list rest : List ℕ) → body least count bytes ≡ given list rest → length list ≡ count
-unfolding body
-body_counts zero least bytes list rest e = ap length (sym (same_list [] list bytes rest e))
-body_counts (suc count) least bytes list rest e =
-    let (gap, after, first, more) = gap_found (front bytes) _ list rest e in
+pub first_gaps_counts : (count least : ℕ) (bytes list rest : List ℕ) → first_gaps least count bytes ≡ given list rest → length list ≡ count
+unfolding first_gaps
+first_gaps_counts zero least bytes list rest e = ap length (sym (same_list [] list bytes rest e))
+first_gaps_counts (suc count) least bytes list rest e =
+    let (gap, after, first, more) = gap_found (first_varint bytes) _ list rest e in
     let chosen = chosen_found (nat_lt (least + gap) 4294967296) _ list rest more in
     let (ns, later, is) = before_found (least + gap) _ list rest chosen.1 in
-    sym (ap length is) ∙ ap suc (body_counts count (least + gap + 1) after ns rest later)
+    sym (ap length is) ∙ ap suc (first_gaps_counts count (least + gap + 1) after ns rest later)
 
 -- each number takes a byte at least
 pub length-gaps_from : (list : List ℕ) (least : ℕ) → length list ≤ length (gaps_from least list)

@@ -1,11 +1,11 @@
-//! Gap lists: writing one, and finding the one at the front of some bytes.
+//! Writing gap lists.
 
 ghost use Rattle.std.specs.Prelude.{◌≡◌, ℕ, ◌++◌, List, length, take, OnOk, OnErr};
 ghost use Rattle.std.specs.List.Sorted.{IsStrictlyIncreasing};
 ghost use Rattle.ax_gap.specs.Gaps.{gaps, gaps_from};
 ghost use Rattle.ax_gap.specs.Varint.{varint};
 
-use crate::memory::Memory;
+use crate::out_of_memory::Memory;
 use crate::varint::push_varint;
 
 /// Writes the gap list of the numbers at the end.
@@ -26,7 +26,7 @@ pub fn put_gaps(out: &mut Vec<u8>, list: &[u32]) -> Result<(), Memory>
 fn push_list(out: &mut Vec<u8>, list: &[u32]) -> Result<(), Memory>
     requires { IsStrictlyIncreasing list.now }
     ensures ok { OnOk result (out.new.items ≡ out.old.items ++ gaps list.now) }
-    ensures front { take (length out.old.items) out.new.items ≡ out.old.items }
+    ensures prefix { take (length out.old.items) out.new.items ≡ out.old.items }
 {
     out.reserve(list.len())?;
     push_varint(out, list.len() as u64)?;
@@ -37,7 +37,7 @@ fn push_list(out: &mut Vec<u8>, list: &[u32]) -> Result<(), Memory>
 fn push_gaps(out: &mut Vec<u8>, list: &[u32]) -> Result<(), Memory>
     requires { IsStrictlyIncreasing list.now }
     ensures ok { OnOk result (out.new.items ≡ out.old.items ++ gaps_from 0 list.now) }
-    ensures front { take (length out.old.items) out.new.items ≡ out.old.items }
+    ensures prefix { take (length out.old.items) out.new.items ≡ out.old.items }
 {
     let mut least = 0u64;
     for &n in list {
@@ -52,7 +52,7 @@ fn push_gaps(out: &mut Vec<u8>, list: &[u32]) -> Result<(), Memory>
 #[inline]
 fn push_gap(out: &mut Vec<u8>, gap: u64) -> Result<(), Memory>
     ensures ok { OnOk result (out.new.items ≡ out.old.items ++ varint gap) }
-    ensures front { take (length out.old.items) out.new.items ≡ out.old.items }
+    ensures prefix { take (length out.old.items) out.new.items ≡ out.old.items }
 {
     if gap < 128 {
         out.push(gap as u8)?;

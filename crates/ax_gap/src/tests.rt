@@ -6,7 +6,7 @@ use std::test::Fail;
 
 // A gap list with something before it and after it.
 #[test]
-fn worked_gap_lists(rt: HostRuntime) -> Result<(), Fail> {
+fn worked_gap_lists_are_written_and_read(rt: HostRuntime) -> Result<(), Fail> {
     let rows: [(&[u32], &[u8]); 8] = [
         (&[], &[0]),
         (&[3, 4, 10, 300], &[4, 3, 0, 5, 0xA1, 2]),
@@ -38,7 +38,7 @@ fn worked_gap_lists(rt: HostRuntime) -> Result<(), Fail> {
 }
 
 #[test]
-fn refused_gap_lists(rt: HostRuntime) {
+fn bytes_outside_the_grammar_are_no_gap_list(rt: HostRuntime) {
     let rows: [&[u8]; 12] = [
         &[],
         // A count that does not end, and one in a longer form.
@@ -63,7 +63,7 @@ fn refused_gap_lists(rt: HostRuntime) {
 }
 
 #[test]
-fn worked_varints(rt: HostRuntime) -> Result<(), Fail> {
+fn worked_varints_are_written_and_read(rt: HostRuntime) -> Result<(), Fail> {
     let rows: [(u32, &[u8]); 7] = [
         (0, &[0]),
         (127, &[0x7F]),
@@ -88,7 +88,7 @@ fn worked_varints(rt: HostRuntime) -> Result<(), Fail> {
 }
 
 #[test]
-fn worked_sets(rt: HostRuntime) -> Result<(), Fail> {
+fn lists_are_met_joined_and_parted(rt: HostRuntime) -> Result<(), Fail> {
     let rows: [(&[u32], &[u32], &[u32], &[u32], &[u32]); 6] = [
         (&[], &[], &[], &[], &[]),
         (&[1, 2], &[], &[], &[1, 2], &[1, 2]),
@@ -114,7 +114,7 @@ fn worked_sets(rt: HostRuntime) -> Result<(), Fail> {
 }
 
 #[test]
-fn random_round_trips(rt: HostRuntime) -> Result<(), Fail> {
+fn written_lists_are_read_again(rt: HostRuntime) -> Result<(), Fail> {
     let mut state = 88172645463325252u64;
     for _ in 0..200 {
         let mut list = Vec::new(rt.alloc());

@@ -1,6 +1,6 @@
 use Rattle.std.proofs.Common.{◌≡◌, ◌++◌, length, arith, ap, ◌∙◌, sym}
 use Rattle.ax_gap.specs.Gaps.{gaps, gaps_from}
-use Rattle.ax_gap.specs.Reading.{body}
+use Rattle.ax_gap.specs.Reading.{first_gaps}
 use Rattle.ax_gap.specs.Cursor.{numbers_of}
 use Rattle.ax_gap.proofs.VarintLaws.{same_number, same_after}
 use Rattle.ax_gap.proofs.GapLaws.{given}
@@ -24,30 +24,30 @@ returns-in_err-end-clause-only c list rest up e =
     let whole : IsWhole c.args.bytes.now list rest = whole_again c.args.bytes.now list rest up e in
     let count : c.in_ok-count.count ≡ length list = same_number _ _ _ _ (c.in_ok-count.ensures ∙ whole.count) in
     let after : c.in_ok-count.rest.now ≡ gaps_from 0 list ++ rest = same_after _ _ _ _ (c.in_ok-count.ensures ∙ whole.count) in
-    let reads : body 0 c.in_ok-count.count c.in_ok-count.rest.now ≡ given list rest = rw (count, after) whole.reads in
-    absurd (none_or_end (body 0 c.in_ok-count.count c.in_ok-count.rest.now) list rest reads c.in_err-end.ensures)
+    let reads : first_gaps 0 c.in_ok-count.count c.in_ok-count.rest.now ≡ given list rest = rw (count, after) whole.reads in
+    absurd (none_or_end (first_gaps 0 c.in_ok-count.count c.in_ok-count.rest.now) list rest reads c.in_err-end.ensures)
 
 pub overflow_sub-result : goal.overflow_sub-result
 overflow_sub-result c =
-    let taken : IsTaken c.args.bytes.now (numbers_of (body 0 c.in_ok-count.count c.in_ok-count.rest.now)) c.in_ok-end.end.now =
+    let taken : IsTaken c.args.bytes.now (numbers_of (first_gaps 0 c.in_ok-count.count c.in_ok-count.rest.now)) c.in_ok-end.end.now =
     whole_takes _ _ _ _ (λ i. omega (arith, c.type_inv.bytes i)) c.in_ok-count.ensures c.in_ok-end.ensures
     in omega (arith, taken.length)
 
 pub returns-clause-found : goal.returns-clause-found
 returns-clause-found c =
-    let taken : IsTaken c.args.bytes.now (numbers_of (body 0 c.in_ok-count.count c.in_ok-count.rest.now)) c.in_ok-end.end.now =
+    let taken : IsTaken c.args.bytes.now (numbers_of (first_gaps 0 c.in_ok-count.count c.in_ok-count.rest.now)) c.in_ok-end.end.now =
     whole_takes _ _ _ _ (λ i. omega (arith, c.type_inv.bytes i)) c.in_ok-count.ensures c.in_ok-end.ensures
-    in taken.whole ∙ ap (λ bs. gaps (numbers_of (body 0 c.in_ok-count.count c.in_ok-count.rest.now)) ++ bs) (sym taken.drops)
+    in taken.whole ∙ ap (λ bs. gaps (numbers_of (first_gaps 0 c.in_ok-count.count c.in_ok-count.rest.now)) ++ bs) (sym taken.drops)
 
 pub returns-clause-rising : goal.returns-clause-rising
 returns-clause-rising c =
-    let taken : IsTaken c.args.bytes.now (numbers_of (body 0 c.in_ok-count.count c.in_ok-count.rest.now)) c.in_ok-end.end.now =
+    let taken : IsTaken c.args.bytes.now (numbers_of (first_gaps 0 c.in_ok-count.count c.in_ok-count.rest.now)) c.in_ok-end.end.now =
     whole_takes _ _ _ _ (λ i. omega (arith, c.type_inv.bytes i)) c.in_ok-count.ensures c.in_ok-end.ensures
     in taken.rising
 
 pub returns-clause-used : goal.returns-clause-used
 returns-clause-used c =
-    let taken : IsTaken c.args.bytes.now (numbers_of (body 0 c.in_ok-count.count c.in_ok-count.rest.now)) c.in_ok-end.end.now =
+    let taken : IsTaken c.args.bytes.now (numbers_of (first_gaps 0 c.in_ok-count.count c.in_ok-count.rest.now)) c.in_ok-end.end.now =
     whole_takes _ _ _ _ (λ i. omega (arith, c.type_inv.bytes i)) c.in_ok-count.ensures c.in_ok-end.ensures
     in omega (arith, taken.length)
 
@@ -56,6 +56,6 @@ returns-clause-only c list rest up e =
     let whole : IsWhole c.args.bytes.now list rest = whole_again c.args.bytes.now list rest up e in
     let count : c.in_ok-count.count ≡ length list = same_number _ _ _ _ (c.in_ok-count.ensures ∙ whole.count) in
     let after : c.in_ok-count.rest.now ≡ gaps_from 0 list ++ rest = same_after _ _ _ _ (c.in_ok-count.ensures ∙ whole.count) in
-    let reads : body 0 c.in_ok-count.count c.in_ok-count.rest.now ≡ given list rest = rw (count, after) whole.reads in
-    let numbers : numbers_of (body 0 c.in_ok-count.count c.in_ok-count.rest.now) ≡ list = ap numbers_of reads in
+    let reads : first_gaps 0 c.in_ok-count.count c.in_ok-count.rest.now ≡ given list rest = rw (count, after) whole.reads in
+    let numbers : numbers_of (first_gaps 0 c.in_ok-count.count c.in_ok-count.rest.now) ≡ list = ap numbers_of reads in
     (numbers, returns-clause-used c ∙ ap (λ l. length (gaps l)) numbers)

@@ -10,7 +10,7 @@ use Rattle.ax_gap.proofs.gaps.push_gaps.Goals as goal
 pub loop-n-init : goal.loop-n-init
 loop-n-init c = record {
   written = refl;
-  front = take_all _ c.args.out.now.items (omega arith);
+  prefix = take_all _ c.args.out.now.items (omega arith);
   rises = rises c.args.list.now (record { rising = c.requires; numbers = All-from_get_or (λ n. n < 4294967296) c.args.list.now 0 (λ i _. omega (arith, c.type_inv.list i)) });
 }
 
@@ -22,7 +22,7 @@ loop-n-preserved c =
           ∙ append_assoc c.loop-n.out.items _ _
           ∙ ap (λ bs. c.loop-n.out.items ++ bs) (sym (gaps_from-more c.args.list.now c.loop-n.n-index c.loop-n.least _ (omega arith) refl))
           ∙ c.loop-n.invariant.written;
-      front = rw c.in_ok-push_gap.ensures.ok (take-more_written c.args.out.now.items c.loop-n.out.items _ c.loop-n.invariant.front);
+      prefix = rw c.in_ok-push_gap.ensures.ok (take-more_written c.args.out.now.items c.loop-n.out.items _ c.loop-n.invariant.prefix);
       rises = up.2;
     }
 

@@ -5,7 +5,7 @@ use Rattle.ax_gap.proofs.gaps.push_gaps.Given as goal
 
 pub record IsUnderWay (old out list : List ℕ) (least index : ℕ) : Type 0 where
   pub written : out ++ gaps_from least (drop index list) ≡ old ++ gaps_from 0 list
-  pub front : take (length old) out ≡ old
+  pub prefix : take (length old) out ≡ old
   pub rises : RisesFrom least (drop index list)
 
 abbrev pub invariant-loop-n : goal.invariant-loop-n
