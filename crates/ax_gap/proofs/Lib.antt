@@ -5,3 +5,4 @@ pub mod GapLaws
 pub mod Rising
 pub mod VarintLaws
 pub mod Long
+pub mod Gathering

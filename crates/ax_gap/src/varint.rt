@@ -56,19 +56,24 @@ pub(crate) fn push_varint(out: &mut Vec<u8>, number: u64) -> Result<(), Memory>
 }
 
 /// Takes the first varint off, where its number is at most `MOST`: the number, and the bytes after it.
+///
+/// One byte or two are read without a branch on which it is, since in a mixture of both it could not be guessed.
 #[inline]
 pub(crate) fn split_varint(bytes: &[u8]) -> Option<(u64, &[u8])>
     ensures { option_map (λ found. (found.0, found.1.now)) result ≡ at_most (2 ^ 32) (first_varint bytes.now) }
 {
-    if bytes.is_empty() {
-        return None;
+    if bytes.len() < 2 {
+        return split_longer(bytes);
     }
-    let byte = bytes[0];
-    if byte < 128 {
-        Some((byte as u64, &bytes[1..]))
-    } else {
-        split_longer(bytes)
+    let first = bytes[0] as u64;
+    let more = first / 128;
+    // What the second byte adds to the number is 128 times this. It is above 126 where that byte does not end the varint,
+    // or is 0 and should not be there.
+    let above = more * bytes[1].wrapping_sub(1) as u64;
+    if above > 126 {
+        return split_longer(bytes);
     }
+    Some((first + 128 * above, &bytes[1 + more as usize..]))
 }
 
 /// The same, for a varint of any length.
