@@ -17,6 +17,13 @@ abbrev pub at_most : ℕ → Option (ℕ × List ℕ) → Option (ℕ × List �
 at_most most None = None
 at_most most (Some found) = if nat_le found.0 most then Some found else None
 
+-- the number whose gap comes first, where none below `least` may stand, and the bytes after the gap
+abbrev pub first_number : ℕ → List ℕ → Option (ℕ × List ℕ)
+first_number least bytes =
+    option_and_then
+    (λ gap. if nat_lt (least + gap.0) (2 ^ 32) then Some (least + gap.0, gap.1) else None)
+    (first_varint bytes)
+
 -- a number before those that were read
 abbrev pub before : ℕ → Option (List ℕ × List ℕ) → Option (List ℕ × List ℕ)
 before n None = None
@@ -26,6 +33,4 @@ before n (Some found) = Some (n ∷ found.0, found.1)
 unfoldable pub first_gaps : ℕ → ℕ → List ℕ → Option (List ℕ × List ℕ)
 first_gaps least zero bytes = Some ([], bytes)
 first_gaps least (suc count) bytes =
-    option_and_then
-    (λ gap. if nat_lt (least + gap.0) (2 ^ 32) then before (least + gap.0) (first_gaps (least + gap.0 + 1) count gap.1) else None)
-    (first_varint bytes)
+    option_and_then (λ found. before found.0 (first_gaps (found.0 + 1) count found.1)) (first_number least bytes)

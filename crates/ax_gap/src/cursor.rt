@@ -1,9 +1,10 @@
 //! Reading gap lists: the one with which bytes begin is checked whole, and then given number by number.
 
-ghost use Rattle.std.specs.Prelude.{◌≡◌, ℕ, ◌++◌, ◌≤◌, List, length, drop, slice_get, IfSome, IsSomeAnd};
+ghost use Rattle.std.specs.Prelude.{◌≡◌, ℕ, ◌++◌, ◌≤◌, ◌^◌, List, Some, length, drop, slice_get, IsSome, IfSome, IsSomeAnd};
 ghost use Rattle.std.specs.Option.{option_map};
 ghost use Rattle.ax_gap.specs.Gaps.{IsRisingList, gaps};
-ghost use Rattle.ax_gap.specs.Reading.{first_gaps};
+ghost use Rattle.ax_gap.specs.Reading.{first_gaps, first_number};
+ghost use Rattle.ax_gap.specs.Cursor.{numbers_of};
 
 use crate::varint::split_varint;
 use std::marker::Model;
@@ -49,8 +50,7 @@ impl<'a> GapCursor<'a> {
         if self.count == 0 {
             return None;
         }
-        let (gap, rest) = split_varint(self.bytes)?;
-        let number = self.least + gap;
+        let (number, rest) = split_number(self.bytes, self.least)?;
         self.bytes = rest;
         self.count -= 1;
         self.least = number + 1;
@@ -85,18 +85,32 @@ pub fn read_gaps(bytes: &[u8]) -> Option<GapCursor<'_>>
     ensures only { (list rest : List ℕ) → IsRisingList list → bytes.now ≡ gaps list ++ rest
         → IsSomeAnd result (λ cursor. (cursor.numbers ≡ list) × (cursor.used ≡ length (gaps list))) }
 {
-    let (count, rest) = split_varint(bytes)?;
-    if count > rest.len() as u64 {
+    let (count, first, after) = split_list(bytes)?;
+    Some(GapCursor {
+        bytes: first,
+        count,
+        least: 0,
+        used: bytes.len() - after.len(),
+    })
+}
+
+/// The count of the gap list with which the bytes begin, the bytes from its first gap on, and those after its last.
+/// `None` exactly where they begin with none.
+fn split_list(bytes: &[u8]) -> Option<(usize, &[u8], &[u8])>
+    ensures found { IfSome result (λ x.
+        bytes.now ≡ gaps (numbers_of (first_gaps 0 x.0 x.1.now)) ++ x.2.now) }
+    ensures rising { IfSome result (λ x. IsRisingList (numbers_of (first_gaps 0 x.0 x.1.now))) }
+    ensures reads { IfSome result (λ x. IsSome (first_gaps 0 x.0 x.1.now)) }
+    ensures only { (list rest : List ℕ) → IsRisingList list → bytes.now ≡ gaps list ++ rest
+        → IsSomeAnd result (λ x. first_gaps 0 x.0 x.1.now ≡ Some (list, rest)) }
+{
+    let (count, first) = split_varint(bytes)?;
+    if count > first.len() as u64 {
         return None;
     }
     let count = count as usize;
-    let end = skip_gaps(rest, count)?;
-    Some(GapCursor {
-        bytes: rest,
-        count,
-        least: 0,
-        used: bytes.len() - end.len(),
-    })
+    let after = skip_gaps(first, count)?;
+    Some((count, first, after))
 }
 
 /// The bytes after so many gaps. `None` where they are not there, or go above 2^32 - 1.
@@ -107,14 +121,26 @@ fn skip_gaps(bytes: &[u8], count: usize) -> Option<&[u8]>
     let mut least = 0u64;
     let mut many = count;
     while many > 0 {
-        let (gap, after) = split_varint(remaining)?;
-        let number = least + gap;
-        if number >= END {
-            return None;
-        }
+        let (number, after) = split_number(remaining, least)?;
         remaining = after;
         least = number + 1;
         many -= 1;
     }
     Some(remaining)
+}
+
+/// The number whose gap comes first, where none below `least` may stand, and the bytes after the gap. `None` exactly
+/// where no gap comes first, or that of a number above 2^32 - 1.
+#[inline]
+#[tactic(auto, using(crate::proofs::CursorLaws::number_past, crate::proofs::CursorLaws::number_high, crate::proofs::CursorLaws::number_found))]
+fn split_number(bytes: &[u8], least: u64) -> Option<(u64, &[u8])>
+    requires { least ≤ 2 ^ 32 }
+    ensures { option_map (λ found. (found.0, found.1.now)) result ≡ first_number least bytes.now }
+{
+    let (gap, rest) = split_varint(bytes)?;
+    let number = least + gap;
+    if number >= END {
+        return None;
+    }
+    Some((number, rest))
 }
