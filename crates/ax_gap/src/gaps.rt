@@ -23,6 +23,7 @@ pub fn put_gaps(out: &mut Vec<u8>, list: &[u32]) -> Result<(), Memory>
 }
 
 /// Writes the gap list of the numbers at the end. An error may leave some of its bytes there.
+#[tactic(auto, using(std::proofs::lemmas::List::append_assoc), unfolding(crate::specs::Gaps::gaps))]
 fn push_list(out: &mut Vec<u8>, list: &[u32]) -> Result<(), Memory>
     requires { IsStrictlyIncreasing list.now }
     ensures ok { OnOk result (out.new.items ≡ out.old.items ++ gaps list.now) }

@@ -1,6 +1,6 @@
 //! Laws of the formats: what holds of the definitions themselves, whichever call reads or writes.
 
-ghost use Rattle.std.specs.Prelude.{◌≡◌, ◌↔◌, ◌++◌, ℕ, List, Contains};
+ghost use Rattle.std.specs.Prelude.{◌≡◌, ◌↔◌, ◌++◌, ◌+◌, ◌*◌, ◌^◌, ◌<◌, ◌≤◌, ℕ, List, length, Contains};
 ghost use Rattle.ax_gap.specs.Gaps.{IsGapList, IsRisingList, gaps};
 ghost use Rattle.ax_gap.specs.Varint.{IsVarint, varint};
 
@@ -25,6 +25,12 @@ pub fn varint_has_one_form()
 pub fn gap_list_has_one_form()
     ensures { (s t x y a b : List ℕ) → IsGapList s a → IsGapList t b → s ++ x ≡ t ++ y
         → (a ≡ b) × (s ≡ t) × (x ≡ y) }
+{}
+
+/// A varint of a number below 2^32 takes at most five bytes, and a gap list at most five for its count and each number.
+pub fn lengths_are_bounded()
+    ensures number { (n : ℕ) → n < 2 ^ 32 → length (varint n) ≤ 5 }
+    ensures list { (list : List ℕ) → IsRisingList list → length (gaps list) ≤ 5 + 5 * length list }
 {}
 
 /// Two rising lists with the same members are the same list: so `meet`, `join` and `without` have one answer each.
