@@ -1,0 +1,4 @@
+pub mod Root
+pub mod Area
+pub mod Image
+pub mod laws

@@ -1,0 +1,12 @@
+//! What bytes on a disk are as a store, below any meaning of its documents: which root slot counts,
+//! which log frames an area has, and what an image of the three lists is. The log, the store and the
+//! checker cite these words.
+//!
+//! It stands on `ax_frame`, whose slots and frames it puts together, and on `ax_disk` for images. Its
+//! one contract: an image is fresh, live with one list of log frames, of a later version, or damaged
+//! at one place, and never two of these.
+#![tactic(auto)]
+
+mod root;
+
+pub use root::{RootChoice, choose};
