@@ -1,0 +1,11 @@
+pub mod Lexing
+pub mod Meanings
+pub mod Numbers
+pub mod Options
+pub mod Pieces
+pub mod SpanLaws
+pub mod Texts
+pub mod TokenLaws
+pub mod Utf8
+pub mod Values
+pub mod Words

@@ -1,0 +1,9 @@
+pub mod Bytes
+pub mod Inside
+pub mod Keywords
+pub mod Lexeme
+pub mod Lexemes
+pub mod Reading
+pub mod Spans
+pub mod Symbols
+pub mod Tokens
