@@ -2,9 +2,9 @@
 use Rattle.std.proofs.Common.{◌≡◌, ℕ, zero, suc, ◌<◌, List, [], ◌∷◌, ◌++◌, length, get_or, take, drop, refl, sym, ap, ◌∙◌, arith}
 use Rattle.std.specs.Int.{w16, w64, to_le_bytes, from_le_bytes}
 use Rattle.std.proofs.lemmas.Nat.{le_bytes_2, le_bytes_8, from_le_bytes-to_le_bytes_2, from_le_bytes-to_le_bytes_8}
-use Rattle.ax_frame.specs.declared.slot.RootSlot.{RootSlot}
-use Rattle.ax_frame.specs.declared.slot.RootSlot.TheVariants.{Closed, Live, Bad}
-use Rattle.ax_frame.specs.Slot.{mark, slot_bytes, IsOpenSlot, IsSlot}
+use Rattle.ax_frame.specs.declared.root_slot.RootSlot.{RootSlot}
+use Rattle.ax_frame.specs.declared.root_slot.RootSlot.TheVariants.{Closed, Live, Bad}
+use Rattle.ax_frame.specs.RootSlot.{mark, slot_bytes, IsOpenSlot, IsSlot}
 
 -- ---- what is read is spelled so
 
@@ -50,7 +50,7 @@ slot_read b version generation len fits gate v-is g-is mark-is =
     ∙ ap (λ (t : List ℕ). 1 ∷ to_le_bytes w16 version ++ get_or b 3 0 ∷ t ++ m) (sym g-again)
     ∙ ap (λ (t : List ℕ). 1 ∷ to_le_bytes w16 version ++ get_or b 3 0 ∷ to_le_bytes w64 generation ++ t) mark-is
 
--- ---- one slot for each text
+-- ---- one slot for each list of bytes
 
 -- what the bytes of an open slot name
 names_of : List ℕ → RootSlot

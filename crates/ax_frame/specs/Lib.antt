@@ -1,5 +1,5 @@
-pub mod Slot
+pub mod RootSlot
 pub mod Part
-pub mod Frame
+pub mod LogFrame
 pub mod View
 pub mod Pieces

@@ -28,7 +28,7 @@ part_bytes p = head_bytes p.kind p.key (length p.payload) ++ p.payload
 abbrev pub parts_bytes : List PartValue → List ℕ
 parts_bytes ps = flat_map part_bytes ps
 
--- What has a spelling. That kind and payload are bytes needs no saying: they stand in the text as they are.
+-- What has a spelling. That kind and payload are bytes needs no saying: they stand in the spelling as they are.
 pub record Fits (p : PartValue) : Type 0 where
   pub key_fits : p.key < 2 ^ 32
   pub payload_fits : length p.payload ≤ 65536
@@ -37,10 +37,19 @@ abbrev pub AllFit : List PartValue → Type 0
 AllFit ps = AllByRecursion Fits ps
 
 -- the bytes are nothing but parts
-pub record IsPartsText (bytes : List ℕ) : Type 0 where
+pub record AreParts (bytes : List ℕ) : Type 0 where
   pub parts : List PartValue
   pub fit : AllFit parts
   pub spelled : bytes ≡ parts_bytes parts
+
+-- the bytes begin with this part, and the rest follows it
+pub record BeginsWithPart (bytes : List ℕ) (p : PartValue) (rest : List ℕ) : Type 0 where
+  pub fit : Fits p
+  pub spelled : bytes ≡ part_bytes p ++ rest
+
+-- the bytes begin with no part, whichever it is and whatever follows
+abbrev pub NoPart : List ℕ → Type 0
+NoPart bytes = (p : PartValue) (rest : List ℕ) → BeginsWithPart bytes p rest → ⊥
 
 -- nine bytes are the head of a part: they say this kind, key and length, whether or not so long a payload is allowed
 pub record IsPartHead (bytes : List ℕ) (head : PartHead) : Type 0 where

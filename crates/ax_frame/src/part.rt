@@ -1,7 +1,7 @@
 //! Parts: a kind, a key and a payload of at most 65,536 bytes.
 
-ghost use Rattle.std.specs.Prelude.{◌≡◌, ◌≤◌, ℕ, List, ◌++◌, length, IfSome, IfNone, IsTrue};
-ghost use Rattle.ax_frame.specs.Part.{PartValue, IsPartHead, IsPartsText, Fits, part_value, part_bytes, head_bytes};
+ghost use Rattle.std.specs.Prelude.{◌≡◌, ℕ, List, IfSome, IfNone, IsSomeAnd, IsTrue};
+ghost use Rattle.ax_frame.specs.Part.{PartValue, IsPartHead, AreParts, BeginsWithPart, NoPart, part_value, head_bytes};
 ghost use Rattle.ax_frame.specs.declared.part.PartHead.{PartHead};
 
 /// The most bytes that a payload may have.
@@ -51,14 +51,19 @@ pub(crate) fn head_of(kind: u8, key: u32, len: u32) -> [u8; 9]
     [kind, k0, k1, k2, k3, l0, l1, l2, l3]
 }
 
-/// The part at the front of the bytes, and what follows it. `None` exactly where no part stands there.
-pub(crate) fn split_part(bytes: &[u8]) -> Option<(Part<'_>, &[u8])>
-    ensures found { IfSome result (λ x. Fits (part_value x.0)
-        × (bytes.now ≡ part_bytes (part_value x.0) ++ x.1.now)) }
-    ensures none { IfNone result ((p : PartValue) (rest : List ℕ) → Fits p → bytes.now ≡ part_bytes p ++ rest → ⊥) }
+/// The part at the beginning of the bytes, and the bytes after it. `None` exactly where no part stands there: fewer than
+/// nine bytes, a length above 65,536, or one that runs past the end.
+///
+/// A layer that goes from part to part by this call knows of each the offset at which it stands, and of bytes that are
+/// not parts the offset of the first that is none.
+pub fn split_part(bytes: &[u8]) -> Option<(Part<'_>, &[u8])>
+    ensures found { IfSome result (λ x. BeginsWithPart bytes.now (part_value x.0) x.1.now) }
+    ensures only { (p : PartValue) (rest : List ℕ) → BeginsWithPart bytes.now p rest
+        → IsSomeAnd result (λ x. (part_value x.0 ≡ p) × (x.1.now ≡ rest)) }
+    ensures none { IfNone result (NoPart bytes.now) }
 {
-    let (front, rest) = bytes.split_first_chunk::<9>()?;
-    let PartHead { kind, key, len } = part_head(front);
+    let (head, rest) = bytes.split_first_chunk::<9>()?;
+    let PartHead { kind, key, len } = part_head(head);
     let len = len as usize;
     if len > MOST_PAYLOAD || len > rest.len() {
         return None;
@@ -69,8 +74,8 @@ pub(crate) fn split_part(bytes: &[u8]) -> Option<(Part<'_>, &[u8])>
 
 /// Whether the bytes are parts, one after another, to the last byte.
 pub(crate) fn are_parts(bytes: &[u8]) -> bool
-    ensures yes { IsTrue result → IsPartsText bytes.now }
-    ensures no { IsPartsText bytes.now → IsTrue result }
+    ensures yes { IsTrue result → AreParts bytes.now }
+    ensures no { AreParts bytes.now → IsTrue result }
 {
     let mut rest = bytes;
     while !rest.is_empty() {

@@ -5,7 +5,7 @@ use std::alloc::Global;
 use std::process::Abort;
 use std::test::*;
 
-/// The open slot of a fresh store: version 1, area 1, generation 1.
+/// The open root slot of a fresh store: version 1, area 1, generation 1.
 const OPEN_SLOT: [u8; 16] = [
     0x01, 0x01, 0x00, 0x01, 0x01, 0x00, 0x00, 0x00, 0x00, 0x00, 0x00, 0x00, 0x41, 0x58, 0x44, 0x42,
 ];
@@ -23,7 +23,7 @@ const AREA: [u8; 64] = [
     0x00, // a closed gate
 ];
 
-/// The parts of that frame.
+/// The parts of that log frame.
 fn parts_of_area() -> [Part<'static>; 3] {
     [
         Part {
@@ -44,15 +44,15 @@ fn parts_of_area() -> [Part<'static>; 3] {
     ]
 }
 
-/// The frame of the parts, its own gate open.
+/// The log frame of the parts, its own gate open.
 fn frame_of(rt: &impl Abort, alloc: Global, parts: &[Part<'_>]) -> Result<Vec<u8>, Memory> {
-    let mut text = PartsText::begin(alloc);
+    let mut list = PartsText::begin(alloc);
     for part in parts {
         assert!(rt; part.payload.len() <= MOST_PAYLOAD);
-        text.add(*part)?;
+        list.add(*part)?;
     }
-    assert!(rt; !text.is_empty());
-    let mut frame = write_frame(alloc, &text)?;
+    assert!(rt; !list.is_empty());
+    let mut frame = write_frame(alloc, &list)?;
     frame.insert(0, 1)?;
     Ok(frame)
 }
@@ -61,7 +61,7 @@ fn frame_of(rt: &impl Abort, alloc: Global, parts: &[Part<'_>]) -> Result<Vec<u8
 fn assert_reads(rt: &impl Abort, bytes: &[u8], parts: &[Part<'_>]) {
     let mut given = read_frame(bytes).ok().expect(rt, "a frame stands there");
     for part in parts {
-        let next = given.next().expect(rt, "a part is left");
+        let next = given.next().expect(rt, "a part remains");
         assert_eq!(rt; next.kind, part.kind);
         assert_eq!(rt; next.key, part.key);
         assert_eq!(rt; next.payload, part.payload);
@@ -70,7 +70,7 @@ fn assert_reads(rt: &impl Abort, bytes: &[u8], parts: &[Part<'_>]) {
 }
 
 #[test]
-fn slots_are_read(rt: HostRuntime) {
+fn a_changed_byte_closes_a_root_slot_renames_it_or_is_refused(rt: HostRuntime) {
     let live = |version, area, generation| RootSlot::Live {
         version,
         area,
@@ -102,7 +102,7 @@ fn slots_are_read(rt: HostRuntime) {
 }
 
 #[test]
-fn the_worked_area(rt: HostRuntime) -> Result<(), Fail> {
+fn the_worked_area_is_written_and_read_whole_and_in_pieces(rt: HostRuntime) -> Result<(), Fail> {
     let parts = parts_of_area();
     assert_reads(&rt, &AREA, &parts);
     assert_reads(&rt, &AREA[..63], &parts);
@@ -111,7 +111,10 @@ fn the_worked_area(rt: HostRuntime) -> Result<(), Fail> {
         AREA.as_slice()
     );
     assert_eq!(rt;
-        read_frame(&AREA).ok().expect(&rt, "a frame").bytes_left(),
+        read_frame(&AREA)
+            .ok()
+            .expect(&rt, "a frame")
+            .remaining_len(),
         54
     );
     let (head, mut rest) = AREA.split_first_chunk::<9>().expect(&rt, "nine bytes");
@@ -137,7 +140,7 @@ fn the_worked_area(rt: HostRuntime) -> Result<(), Fail> {
 }
 
 #[test]
-fn what_is_no_frame(rt: HostRuntime) {
+fn a_changed_byte_makes_no_frame(rt: HostRuntime) {
     let rows = [
         (0, 1, true, "as it is"),
         (9, 0xFF, true, "a kind that no layer knows"),
@@ -170,7 +173,7 @@ fn what_is_no_frame(rt: HostRuntime) {
 }
 
 #[test]
-fn the_longest_payload(rt: HostRuntime) -> Result<(), Fail> {
+fn a_payload_has_at_most_65536_bytes(rt: HostRuntime) -> Result<(), Fail> {
     for (payload, is_frame) in [(65_536u32, true), (65_537, false)] {
         let mut bytes = Vec::from_slice(rt.alloc(), &[1])?;
         bytes.extend_from_slice(&(u64::from(payload) + 9).to_le_bytes())?;
@@ -178,7 +181,24 @@ fn the_longest_payload(rt: HostRuntime) -> Result<(), Fail> {
         bytes.extend_from_slice(&payload.to_le_bytes())?;
         bytes.resize(9 + 9 + 65_537, 0)?;
         assert_eq!(rt; read_frame(&bytes).is_ok(), is_frame, "{payload}");
+        assert_eq!(rt; split_part(&bytes[9..]).is_some(), is_frame, "{payload}");
     }
+    Ok(())
+}
+
+#[test]
+fn the_longest_payloads_are_written_and_read_again(rt: HostRuntime) -> Result<(), Fail> {
+    let mut payload = Vec::new(rt.alloc());
+    payload.resize(MOST_PAYLOAD, 0xA5)?;
+    let part = |kind, key| Part {
+        kind,
+        key,
+        payload: &payload,
+    };
+    let parts = [part(3, 1), part(7, u32::MAX), part(0, 0)];
+    let bytes = frame_of(&rt, rt.alloc(), &parts)?;
+    assert_eq!(rt; bytes.len(), 9 + 3 * (9 + 65_536) + 1);
+    assert_reads(&rt, &bytes, &parts);
     Ok(())
 }
 

@@ -5,7 +5,7 @@ use Rattle.ax_frame.proofs.parts_text.PartsText.is_empty.Goals as goal
 
 pub returns : goal.returns
 returns c =
-    let text = c.self.inside.text in (
-      λ yes. sym c.self.view_is ∙ empty_seen text.items c.self.invariant (sym text.ok.0 ∙ eqb-true text.len 0 (sym c.is_empty.ensures ∙ yes)),
-      λ none. c.is_empty.ensures ∙ eq-eqb text.len 0 (text.ok.0 ∙ seen_empty text.items c.self.invariant (c.self.view_is ∙ none)),
+    let bytes = c.self.inside.bytes in (
+      λ yes. sym c.self.view_is ∙ empty_seen bytes.items c.self.invariant (sym bytes.ok.0 ∙ eqb-true bytes.len 0 (sym c.is_empty.ensures ∙ yes)),
+      λ none. c.is_empty.ensures ∙ eq-eqb bytes.len 0 (bytes.ok.0 ∙ seen_empty bytes.items c.self.invariant (c.self.view_is ∙ none)),
     )

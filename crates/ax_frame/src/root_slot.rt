@@ -1,7 +1,7 @@
 //! Root slots: sixteen bytes that name the area of frames that counts.
 
 ghost use Rattle.std.specs.Prelude.{◌≡◌, ◌≤◌, ◌⊎◌};
-ghost use Rattle.ax_frame.specs.Slot.{IsSlot, slot_bytes};
+ghost use Rattle.ax_frame.specs.RootSlot.{IsSlot, slot_bytes};
 
 /// What sixteen bytes of the root are as a slot.
 #[derive(Clone, Copy, Debug, PartialEq, Eq)]

@@ -1,16 +1,16 @@
-//! Frames: an open gate, a length of at least 1, and that many bytes of parts.
+//! Log frames: an open gate, a length of at least 1, and that many bytes of parts.
 
 ghost use Rattle.std.specs.Prelude.{◌≡◌, ◌≢◌, ◌<◌, ◌^◌, ℕ, List, [], ◌∷◌, ◌++◌, length, IfOk, IsOkAnd, OnErr, IfSome, IfNone, MatchOption};
 ghost use Rattle.ax_frame.specs.Part.{PartValue, part_value, parts_bytes, AllFit};
-ghost use Rattle.ax_frame.specs.Frame.{open_frame, frame_bytes, CanFrame, Begins, NoFrame, IsFrameHead};
+ghost use Rattle.ax_frame.specs.LogFrame.{open_frame, frame_bytes, CanFrame, BeginsWithFrame, NoFrame, IsFrameHead};
 
-use crate::memory::Memory;
+use crate::out_of_memory::Memory;
 use crate::part::{Part, are_parts, split_part};
 use crate::parts_text::PartsText;
 use std::alloc::Global;
 use std::marker::Model;
 
-/// No open frame stands at the front of the bytes.
+/// The bytes do not begin with an open frame.
 #[derive(Clone, Copy, Debug, PartialEq, Eq)]
 pub struct NotFrame;
 
@@ -46,19 +46,20 @@ pub fn frame_head(bytes: &[u8; 9]) -> FrameHead
 /// The parts of a frame that are not yet given, first to last. Contracts see the list.
 #[derive(Drop)]
 pub struct FrameParts<'a> {
-    text: &'a [u8],
+    // The spelling of the parts.
+    bytes: &'a [u8],
 }
 
 impl<'a> Model for FrameParts<'a> {
     ghost use Rattle.std.specs.Prelude.{List};
     ghost use Rattle.ax_frame.specs.Part.{PartValue};
-    ghost use Rattle.ax_frame.specs.View.{parts_in, Holds};
+    ghost use Rattle.ax_frame.specs.View.{parts_in, Spells};
 
     ghost Value = { List PartValue };
 
-    ghost view = { λ p. parts_in p.text.now };
+    ghost view = { λ p. parts_in p.bytes.now };
 
-    ghost invariant = { λ p. Holds p.text.now };
+    ghost invariant = { λ p. Spells p.bytes.now };
 }
 
 impl<'a> FrameParts<'a> {
@@ -68,21 +69,21 @@ impl<'a> FrameParts<'a> {
             ((self.old ≡ []) × (self.new ≡ []))
             (λ p. self.old ≡ part_value p ∷ self.new) }
     {
-        let (part, rest) = split_part(self.text)?;
-        self.text = rest;
+        let (part, rest) = split_part(self.bytes)?;
+        self.bytes = rest;
         Some(part)
     }
 
-    /// How many bytes the parts that are left take. Before the first `next` that is what the frame's head says, and
-    /// the frame ends nine bytes later: `frame_bytes` of the list has nine bytes before those of its parts.
-    pub fn bytes_left(&self) -> usize
+    /// How many bytes the remaining parts take. Before the first `next` that is what the frame's head says, and the frame
+    /// ends nine bytes later: `frame_bytes` of the list has nine bytes before those of its parts.
+    pub fn remaining_len(&self) -> usize
         ensures { result ≡ length (parts_bytes self.now) }
     {
-        self.text.len()
+        self.bytes.len()
     }
 }
 
-/// The bytes of parts in the open frame at the front. `None` exactly where no open frame of at least one byte stands
+/// The bytes that the open frame at the beginning spans. `None` exactly where no open frame of at least one byte stands
 /// there whole.
 fn frame_body(bytes: &[u8]) -> Option<&[u8]>
     ensures fits { IfSome result (λ body. (0 < length body.now) × (length body.now < 2 ^ 64)) }
@@ -90,30 +91,30 @@ fn frame_body(bytes: &[u8]) -> Option<&[u8]>
     ensures none { IfNone result ((body rest : List ℕ) → 0 < length body → length body < 2 ^ 64
         → bytes.now ≡ open_frame body ++ rest → ⊥) }
 {
-    let (front, rest) = bytes.split_first_chunk::<9>()?;
-    match frame_head(front) {
+    let (head, rest) = bytes.split_first_chunk::<9>()?;
+    match frame_head(head) {
         FrameHead::Frame { len } if len <= rest.len() as u64 => Some(&rest[..len as usize]),
         _ => None,
     }
 }
 
-/// The parts of the open frame at the front of the bytes, whatever follows it. It takes no memory.
+/// The parts of the open frame with which the bytes begin, whatever follows it. It takes no memory.
 ///
-/// `NotFrame` exactly where no open frame stands there: the gate is not 1, the length is 0 or runs past the end of the
-/// bytes, or what it spans is not one well-formed part after another.
+/// `NotFrame` exactly where they begin with none: the gate is not 1, the length is 0 or runs past the end of the bytes,
+/// or what it spans is not one well-formed part after another.
 pub fn read_frame(bytes: &[u8]) -> Result<FrameParts<'_>, NotFrame>
-    ensures found { IfOk result (λ ps. (rest : List ℕ) × Begins bytes.now ps rest) }
-    ensures only { (ps : List PartValue) (rest : List ℕ) → Begins bytes.now ps rest
+    ensures found { IfOk result (λ ps. (rest : List ℕ) × BeginsWithFrame bytes.now ps rest) }
+    ensures only { (ps : List PartValue) (rest : List ℕ) → BeginsWithFrame bytes.now ps rest
         → IsOkAnd result (λ found. found ≡ ps) }
     ensures none { OnErr result (NoFrame bytes.now) }
 {
-    let Some(text) = frame_body(bytes) else {
+    let Some(body) = frame_body(bytes) else {
         return Err(NotFrame);
     };
-    if !are_parts(text) {
+    if !are_parts(body) {
         return Err(NotFrame);
     }
-    Ok(FrameParts { text })
+    Ok(FrameParts { bytes: body })
 }
 
 /// The frame of these parts without its own gate: length, parts, and the closed gate that follows.
@@ -121,13 +122,13 @@ pub fn read_frame(bytes: &[u8]) -> Result<FrameParts<'_>, NotFrame>
 /// The gate is written apart, as the last step of a commit. `Memory` where there is no room for the bytes.
 pub fn write_frame(alloc: Global, parts: &PartsText) -> Result<Vec<u8>, Memory>
     requires { parts.now ≢ [] }
-    ensures spelled { IfOk result (λ text. 1 ∷ text.items ≡ frame_bytes parts.now ++ 0 ∷ []) }
+    ensures spelled { IfOk result (λ bytes. 1 ∷ bytes.items ≡ frame_bytes parts.now ++ 0 ∷ []) }
     ensures can { CanFrame parts.now }
 {
-    let text = parts.text();
-    let mut out = Vec::with_capacity(alloc, text.len() + 9)?;
-    out.extend_from_slice(&(text.len() as u64).to_le_bytes())?;
-    out.extend_from_slice(text)?;
+    let body = parts.bytes();
+    let mut out = Vec::with_capacity(alloc, body.len() + 9)?;
+    out.extend_from_slice(&(body.len() as u64).to_le_bytes())?;
+    out.extend_from_slice(body)?;
     out.push(0)?;
     Ok(out)
 }

@@ -1,8 +1,8 @@
 use Rattle.std.proofs.Common.{rules, ◌≡◌, ◌∷◌, [], get_or, arith}
-use Rattle.ax_frame.specs.declared.slot.RootSlot.TheVariants.{Live}
-use Rattle.ax_frame.specs.Slot.{mark}
+use Rattle.ax_frame.specs.declared.root_slot.RootSlot.TheVariants.{Live}
+use Rattle.ax_frame.specs.RootSlot.{mark}
 use Rattle.ax_frame.proofs.Slots.{slot_read, one_slot}
-use Rattle.ax_frame.proofs.slot.read_slot.Goals as goal
+use Rattle.ax_frame.proofs.root_slot.read_slot.Goals as goal
 
 pub returns-clause-is : goal.returns-clause-is
 returns-clause-is c =

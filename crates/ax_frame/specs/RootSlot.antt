@@ -2,8 +2,8 @@
 -- From the store's own file format (docs/FORMAT.md, "Root slots"); no other document has it.
 use Rattle.std.specs.Prelude.{◌≡◌, ◌≢◌, ℕ, ◌<◌, ◌≤◌, ◌^◌, ◌⊎◌, List, [], ◌∷◌, ◌++◌, slice_index}
 use Rattle.std.specs.Int.{w16, w64, to_le_bytes}
-use Rattle.ax_frame.specs.declared.slot.RootSlot.{RootSlot}
-use Rattle.ax_frame.specs.declared.slot.RootSlot.TheVariants.{Closed, Live, Bad}
+use Rattle.ax_frame.specs.declared.root_slot.RootSlot.{RootSlot}
+use Rattle.ax_frame.specs.declared.root_slot.RootSlot.TheVariants.{Closed, Live, Bad}
 
 -- the bytes at the end of a whole slot: AXDB
 abbrev pub mark : List ℕ
