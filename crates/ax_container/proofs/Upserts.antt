@@ -1,12 +1,13 @@
 -- What an upsert does to the entries, and what it keeps.
-use Rattle.std.proofs.Common.{◌≡◌, ℕ, ◌+◌, ◌<◌, List, [], ◌∷◌, ◌++◌, map, Bool, true, false, true≢false, cond, Option, Some, None, option_map, IfSome, find, ◌||◌, refl, sym, ap, ◌∙◌, subst, arith}
-use Rattle.std.specs.List.{list_any}
+use Rattle.std.proofs.Common.{◌≡◌, ℕ, ◌+◌, ◌<◌, ◌≤◌, List, [], ◌∷◌, ◌++◌, length, map, Bool, true, false, true≢false, cond, Option, Some, None, option_map, IfSome, Result, Ok, Err, find, ◌||◌, refl, sym, ap, ◌∙◌, subst, arith, length-append}
+use Rattle.std.proofs.lemmas.Bool.{leb-false}
+use Rattle.std.proofs.lemmas.List.{length-map}
+use Rattle.std.specs.List.{list_any, AllByRecursion}
+use Rattle.std.specs.Prelude.{nat_le}
 use Rattle.std.specs.Str.{bytes_eq}
 use Rattle.ax_tree.specs.declared.tree.Tree.{Tree}
-use Rattle.ax_tree.specs.Document.{document_id}
-use Rattle.ax_container.specs.declared.entry.Entry.{Entry}
-use Rattle.ax_container.specs.Container.{Container, has_id, holds, entry_of, tree_of, NumbersRise, IdsAreDistinct, IdsAreTheirs, IsSound}
-use Rattle.ax_container.specs.Upsert.{with_tree, replaced, created, upserted, upserted_at, upserted_by}
+use Rattle.ax_container.specs.Container.{Entry, Container, most_documents, last_number, has_id, contains, entry_of, tree_of, NumbersRise, IdsAreDistinct, IsStored, IsSound}
+use Rattle.ax_container.specs.Upsert.{WriteRefusal, Full, with_tree, replaced, created, is_full, creation, upserted}
 use Rattle.ax_container.proofs.Ids.{same_from_eq, bytes_eq-self, bytes_eq-false_sym, bytes_eq-other}
 
 -- a replaced entry keeps its number and its id
@@ -31,14 +32,19 @@ distinct_replaced id tree [] h = h
 distinct_replaced id tree (e ∷ es) h =
     (ap (λ x. list_any (has_id x) (map (with_tree id tree) es)) (id-with_tree id tree e) ∙ any_replaced e.id id tree es ∙ h.0, distinct_replaced id tree es h.1)
 
-own_id_with_tree : (id : List ℕ) (tree : Tree) (e : Entry) (b : Bool) → has_id id e ≡ b → document_id tree ≡ Some id → document_id e.tree ≡ Some e.id
-    → let after : Entry = cond b (record { number = e.number; id = e.id; tree = tree }) e in document_id after.tree ≡ Some after.id
-own_id_with_tree id tree e true same doc own = doc ∙ ap Some (sym (same_from_eq e.id id same))
-own_id_with_tree id tree e false same doc own = own
+-- each tree stays a document of its entry's id
+stored_with_tree : (id : List ℕ) (tree : Tree) (e : Entry) (b : Bool) → has_id id e ≡ b
+    → ((own : List ℕ) → own ≡ id → IsStored (record { number = e.number; id = own; tree = tree })) → IsStored e
+    → IsStored (cond b (record { number = e.number; id = e.id; tree = tree }) e)
+stored_with_tree id tree e true same new old = new e.id (same_from_eq e.id id same)
+stored_with_tree id tree e false same new old = old
 
-own_replaced : (id : List ℕ) (tree : Tree) (es : List Entry) → document_id tree ≡ Some id → IdsAreTheirs es → IdsAreTheirs (map (with_tree id tree) es)
-own_replaced id tree [] doc h = h
-own_replaced id tree (e ∷ es) doc h = (own_id_with_tree id tree e (has_id id e) refl doc h.0, own_replaced id tree es doc h.1)
+stored_replaced : (id : List ℕ) (tree : Tree) (es : List Entry)
+    → ((number : ℕ) (own : List ℕ) → own ≡ id → IsStored (record { number = number; id = own; tree = tree }))
+    → AllByRecursion IsStored es → AllByRecursion IsStored (map (with_tree id tree) es)
+stored_replaced id tree [] new h = h
+stored_replaced id tree (e ∷ es) new h =
+    (stored_with_tree id tree e (has_id id e) refl (new e.number) h.0, stored_replaced id tree es new h.1)
 
 -- a created entry stands behind all others
 numbers_created : (new : Entry) (es : List Entry) (before : ℕ) → NumbersRise before es new.number → NumbersRise before (es ++ new ∷ []) (new.number + 1)
@@ -61,30 +67,76 @@ distinct_created new (e ∷ es) none h =
     let parts = or_none (has_id new.id e) (list_any (has_id new.id) es) none in
     (any_created e.id new es h.0 (bytes_eq-false_sym e.id new.id parts.0), distinct_created new es parts.1 h.1)
 
-own_created : (new : Entry) (es : List Entry) → document_id new.tree ≡ Some new.id → IdsAreTheirs es → IdsAreTheirs (es ++ new ∷ [])
-own_created new [] own h = (own, tt)
-own_created new (e ∷ es) own h = (h.0, own_created new es own h.1)
+stored_created : (new : Entry) (es : List Entry) → IsStored new → AllByRecursion IsStored es
+    → AllByRecursion IsStored (es ++ new ∷ [])
+stored_created new [] stored h = (stored, tt)
+stored_created new (e ∷ es) stored h = (h.0, stored_created new es stored h.1)
 
--- the container that an upsert leaves, by whether the id is held
-sound_upserted : (id : List ℕ) (tree : Tree) (c : Container) (b : Bool) → holds id c ≡ b → document_id tree ≡ Some id → IsSound c
-    → IsSound (cond b (replaced id tree c) (created id tree c))
-sound_upserted id tree c true held doc h = record {
+sound_replaced : (id : List ℕ) (tree : Tree) (c : Container)
+    → ((number : ℕ) (own : List ℕ) → own ≡ id → IsStored (record { number = number; id = own; tree = tree }))
+    → IsSound c → IsSound (replaced id tree c)
+sound_replaced id tree c new h = record {
   numbers = numbers_replaced id tree c.entries 0 c.next_number h.numbers;
+  last = h.last;
+  few = subst (λ n. n ≤ most_documents) (sym (length-map c.entries (with_tree id tree))) h.few;
   distinct = distinct_replaced id tree c.entries h.distinct;
-  own_ids = own_replaced id tree c.entries doc h.own_ids;
-}
-sound_upserted id tree c false held doc h = let new : Entry = record { number = c.next_number; id = id; tree = tree } in record {
-  numbers = numbers_created new c.entries 0 h.numbers;
-  distinct = distinct_created new c.entries held h.distinct;
-  own_ids = own_created new c.entries doc h.own_ids;
+  stored = stored_replaced id tree c.entries new h.stored;
 }
 
--- an upsert of a document, by its id
-pub upserted-document : (id : List ℕ) (tree : Tree) (c : Container) → document_id tree ≡ Some id → upserted tree c ≡ upserted_at id tree c
-upserted-document id tree c doc = ap (λ o. upserted_by o tree c) doc
+-- a container that is not full has room for one more
+room : (c : Container) → is_full c ≡ false → (length c.entries < most_documents) × (c.next_number < last_number)
+room c e =
+    let parts = or_none (nat_le most_documents (length c.entries)) (nat_le last_number c.next_number) e in
+    (leb-false most_documents (length c.entries) parts.0, leb-false last_number c.next_number parts.1)
 
-pub upsert_keeps_soundness : (c : Container) (tree : Tree) (id : List ℕ) → document_id tree ≡ Some id → IsSound c → IsSound (upserted tree c)
-upsert_keeps_soundness c tree id doc h = subst IsSound (sym (upserted-document id tree c doc)) (sound_upserted id tree c (holds id c) refl doc h)
+few_created : (new : Entry) (es : List Entry) → length es < most_documents → length (es ++ new ∷ []) ≤ most_documents
+few_created new es few = omega (arith, length-append es (new ∷ []))
+
+sound_created : (id : List ℕ) (tree : Tree) (c : Container) → contains id c ≡ false → is_full c ≡ false
+    → IsStored (record { number = c.next_number; id = id; tree = tree }) → IsSound c → IsSound (created id tree c)
+sound_created id tree c absent space stored h =
+    let new : Entry = record { number = c.next_number; id = id; tree = tree } in
+    let left : (length c.entries < most_documents) × (c.next_number < last_number) = room c space in
+    record {
+      numbers = numbers_created new c.entries 0 h.numbers;
+      last = let below : c.next_number < last_number = left.1 in omega arith;
+      few = few_created new c.entries left.0;
+      distinct = distinct_created new c.entries absent h.distinct;
+      stored = stored_created new c.entries stored h.stored;
+    }
+
+-- what a write that is not refused leads to is one container
+abbrev done : Container → Result Container WriteRefusal
+done container = Ok container
+
+done_same : (a b : Container) → done a ≡ done b → a ≡ b
+done_same a b e = cc
+
+-- ---- the ways of an upsert that is not refused: the document is replaced, or created where there is room
+
+pub upsert_cases : (id : List ℕ) (tree : Tree) (c after : Container) (P : Container → Type 0)
+    → (contains id c ≡ true → P (replaced id tree c))
+    → (contains id c ≡ false → is_full c ≡ false → P (created id tree c))
+    → upserted id tree c ≡ Ok after → P after
+upsert_cases id tree c after P replaces creates = by_place (contains id c) refl
+  where
+    by_room : (full : Bool) → is_full c ≡ full → contains id c ≡ false
+        → cond full (Err Full) (Ok (created id tree c)) ≡ Ok after → P after
+    by_room true full absent e = absurd (cc)
+    by_room false space absent e = subst P (done_same _ _ e) (creates absent space)
+
+    by_place : (there : Bool) → contains id c ≡ there
+        → cond there (Ok (replaced id tree c)) (creation id tree c) ≡ Ok after → P after
+    by_place true there e = subst P (done_same _ _ e) (replaces there)
+    by_place false absent e = by_room (is_full c) refl absent e
+
+pub upsert_keeps_soundness : (before after : Container) (id : List ℕ) (tree : Tree)
+    → ((number : ℕ) (own : List ℕ) → own ≡ id → IsStored (record { number = number; id = own; tree = tree }))
+    → IsSound before → upserted id tree before ≡ Ok after → IsSound after
+upsert_keeps_soundness before after id tree new h =
+    upsert_cases id tree before after IsSound
+    (λ there. sound_replaced id tree before new h)
+    (λ absent space. sound_created id tree before absent space (new before.next_number id refl) h)
 
 -- ---- the entry of an id
 
@@ -151,16 +203,16 @@ find_created-same id new (e ∷ es) none own =
     let parts = or_none (has_id id e) (list_any (has_id id) es) none in
     found_later id e (es ++ new ∷ []) parts.0 ∙ find_created-same id new es parts.1 own
 
--- some entry is found where one is held
+-- some entry is found where the container has one
 some_first : (id : List ℕ) (e : Entry) (es : List Entry) (b : Bool) → has_id id e ≡ b
     → (has_id id e ≡ false → (a : Entry) × (find (has_id id) es ≡ Some a)) → (a : Entry) × (find (has_id id) (e ∷ es) ≡ Some a)
 some_first id e es true own later = (e, found_first id e es own)
 some_first id e es false differs later = ((later differs).0, found_later id e es differs ∙ (later differs).1)
 
 find_some : (id : List ℕ) (es : List Entry) → list_any (has_id id) es ≡ true → (e : Entry) × (find (has_id id) es ≡ Some e)
-find_some id [] held = absurd (true≢false (sym held))
-find_some id (e ∷ es) held = some_first id e es (has_id id e) refl
-    (λ differs. find_some id es (sym (ap (λ b. b || list_any (has_id id) es) differs) ∙ held))
+find_some id [] there = absurd (true≢false (sym there))
+find_some id (e ∷ es) there = some_first id e es (has_id id e) refl
+    (λ differs. find_some id es (sym (ap (λ b. b || list_any (has_id id) es) differs) ∙ there))
 
 -- what an upsert leaves under the id, under another, and of the number
 pub record SetsOne (id : List ℕ) (tree : Tree) (before after : Container) : Type 0 where
@@ -173,17 +225,23 @@ number_kept : (o after : Option Entry) (tree : Tree) → after ≡ option_map (�
 number_kept None after tree e = tt
 number_kept (Some entry) after tree e = ap (option_map (λ a. a.number)) e
 
-sets_one : (id : List ℕ) (tree : Tree) (c : Container) (b : Bool) → holds id c ≡ b → SetsOne id tree c (cond b (replaced id tree c) (created id tree c))
-sets_one id tree c true held = let found = find_some id c.entries held in record {
-  one = ap (option_map (λ a. a.tree)) (find_replaced-same id tree c.entries ∙ ap (option_map (λ a. record { number = a.number; id = a.id; tree = tree })) found.1);
-  number = number_kept (entry_of id c) (entry_of id (replaced id tree c)) tree (find_replaced-same id tree c.entries);
-  others = λ other differs. find_replaced-other id other tree c.entries differs;
-}
-sets_one id tree c false held = let new : Entry = record { number = c.next_number; id = id; tree = tree } in record {
-  one = ap (option_map (λ a. a.tree)) (find_created-same id new c.entries held (bytes_eq-self id));
-  number = let P : Option Entry → Type 0 = λ o. IfSome o (λ e. option_map (λ a. a.number) (entry_of id (created id tree c)) ≡ Some e.number) in subst P (sym (find_none id c.entries held)) tt;
-  others = λ other differs. find_created-other other new c.entries differs;
-}
+pub upsert_sets_one : (before after : Container) (id : List ℕ) (tree : Tree) → upserted id tree before ≡ Ok after
+    → SetsOne id tree before after
+upsert_sets_one before after id tree = upsert_cases id tree before after (SetsOne id tree before) replaces creates
+  where
+    new : Entry
+    new = record { number = before.next_number; id = id; tree = tree }
 
-pub upsert_sets_one : (c : Container) (tree : Tree) (id : List ℕ) → document_id tree ≡ Some id → SetsOne id tree c (upserted tree c)
-upsert_sets_one c tree id doc = subst (SetsOne id tree c) (sym (upserted-document id tree c doc)) (sets_one id tree c (holds id c) refl)
+    replaces : contains id before ≡ true → SetsOne id tree before (replaced id tree before)
+    replaces there = let found = find_some id before.entries there in record {
+      one = ap (option_map (λ a. a.tree)) (find_replaced-same id tree before.entries ∙ ap (option_map (λ a. record { number = a.number; id = a.id; tree = tree })) found.1);
+      number = number_kept (entry_of id before) (entry_of id (replaced id tree before)) tree (find_replaced-same id tree before.entries);
+      others = λ other differs. find_replaced-other id other tree before.entries differs;
+    }
+
+    creates : contains id before ≡ false → is_full before ≡ false → SetsOne id tree before (created id tree before)
+    creates absent space = record {
+      one = ap (option_map (λ a. a.tree)) (find_created-same id new before.entries absent (bytes_eq-self id));
+      number = let P : Option Entry → Type 0 = λ o. IfSome o (λ e. option_map (λ a. a.number) (entry_of id (created id tree before)) ≡ Some e.number) in subst P (sym (find_none id before.entries absent)) tt;
+      others = λ other differs. find_created-other other new before.entries differs;
+    }

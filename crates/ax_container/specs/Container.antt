@@ -1,28 +1,43 @@
 -- What the store holds: the documents in the order of their creation, each with its number, its id and
 -- its tree, and the number that the next creation takes. As in Azure Cosmos DB for NoSQL, an id names
 -- one document. Numbers begin at 1 and are never given twice.
-use Rattle.std.specs.Prelude.{◌≡◌, ℕ, ◌<◌, List, [], ◌∷◌, map, find, Bool, false, Option, Some, option_map}
-use Rattle.std.specs.List.{list_any}
+use Rattle.std.specs.Prelude.{◌≡◌, ℕ, ◌<◌, ◌≤◌, List, [], ◌∷◌, length, map, find, Bool, false, Option, Some, option_map}
+use Rattle.std.specs.List.{list_any, AllByRecursion}
 use Rattle.std.specs.Str.{bytes_eq}
 use Rattle.ax_tree.specs.declared.tree.Tree.{Tree}
 use Rattle.ax_tree.specs.Document.{document_id}
-use Rattle.ax_container.specs.declared.entry.Entry.{Entry}
+use Rattle.ax_tree.specs.Nesting.{nesting}
+use Rattle.ax_tree.specs.WellFormed.{IsWellFormed}
+
+-- one document that a container has
+pub record Entry : Type 0 where
+  pub number : ℕ
+  pub id : List ℕ
+  pub tree : Tree
 
 pub record Container : Type 0 where
   pub entries : List Entry
   pub next_number : ℕ
 
--- a store that holds nothing
+-- a container of no documents
 abbrev pub fresh : Container
 fresh = record { entries = []; next_number = 1 }
+
+-- the most documents that a container has
+abbrev pub most_documents : ℕ
+most_documents = 1048576
+
+-- the greatest next number: no document takes it
+abbrev pub last_number : ℕ
+last_number = 4294967295
 
 -- the entry is of the document of that id
 abbrev pub has_id : List ℕ → Entry → Bool
 has_id id entry = bytes_eq entry.id id
 
--- a document of that id is held
-abbrev pub holds : List ℕ → Container → Bool
-holds id container = list_any (has_id id) container.entries
+-- the container has a document of that id
+abbrev pub contains : List ℕ → Container → Bool
+contains id container = list_any (has_id id) container.entries
 
 -- the entry of that id
 abbrev pub entry_of : List ℕ → Container → Option Entry
@@ -46,13 +61,16 @@ abbrev pub IdsAreDistinct : List Entry → Type 0
 IdsAreDistinct [] = Unit {0}
 IdsAreDistinct (entry ∷ entries) = (list_any (has_id entry.id) entries ≡ false) × IdsAreDistinct entries
 
--- each entry's tree is a document of its id
-abbrev pub IdsAreTheirs : List Entry → Type 0
-IdsAreTheirs [] = Unit {0}
-IdsAreTheirs (entry ∷ entries) = (document_id entry.tree ≡ Some entry.id) × IdsAreTheirs entries
+-- the tree of an entry is a document of its id, which a text can stand for
+pub record IsStored (entry : Entry) : Type 0 where
+  pub own_id : document_id entry.tree ≡ Some entry.id
+  pub well_formed : IsWellFormed entry.tree
+  pub shallow : nesting entry.tree ≤ 127
 
 -- what holds of every container that writes lead to
 pub record IsSound (container : Container) : Type 0 where
   pub numbers : NumbersRise 0 container.entries container.next_number
+  pub last : container.next_number ≤ last_number
+  pub few : length container.entries ≤ most_documents
   pub distinct : IdsAreDistinct container.entries
-  pub own_ids : IdsAreTheirs container.entries
+  pub stored : AllByRecursion IsStored container.entries

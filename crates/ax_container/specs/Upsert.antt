@@ -1,10 +1,13 @@
--- What an upsert does: it replaces the tree of the document of that id, which keeps its place and its
--- number, or else creates a document behind all others under the next number.
-use Rattle.std.specs.Prelude.{ℕ, ◌+◌, List, [], ◌∷◌, ◌++◌, map, if◌then◌else◌, Option, Some, None}
+-- What an upsert of a document does: it replaces the tree of the document of that id, which keeps its
+-- position and its number, or else creates a document behind all others under the next number. A
+-- creation is refused where the container is full, and a write that is refused changes nothing.
+use Rattle.std.specs.Prelude.{ℕ, ◌+◌, List, [], ◌∷◌, ◌++◌, length, map, Bool, ◌||◌, nat_le, if◌then◌else◌, Result, Ok, Err}
 use Rattle.ax_tree.specs.declared.tree.Tree.{Tree}
-use Rattle.ax_tree.specs.Document.{document_id}
-use Rattle.ax_container.specs.declared.entry.Entry.{Entry}
-use Rattle.ax_container.specs.Container.{Container, has_id, holds}
+use Rattle.ax_container.specs.Container.{Entry, Container, most_documents, last_number, has_id, contains}
+
+-- why a write is refused
+pub data WriteRefusal : Type 0 where
+  Full : WriteRefusal
 
 -- the entry with the tree, where it is of the document of that id
 abbrev pub with_tree : List ℕ → Tree → Entry → Entry
@@ -19,13 +22,14 @@ created id tree container = record {
   next_number = container.next_number + 1;
 }
 
-abbrev pub upserted_at : List ℕ → Tree → Container → Container
-upserted_at id tree container = if holds id container then replaced id tree container else created id tree container
+-- no document can be created: there are as many as there may be, or no number is left
+abbrev pub is_full : Container → Bool
+is_full container = nat_le most_documents (length container.entries) || nat_le last_number container.next_number
 
-abbrev pub upserted_by : Option (List ℕ) → Tree → Container → Container
-upserted_by (Some id) tree container = upserted_at id tree container
-upserted_by None tree container = container
+-- after the creation of a document whose id the container does not have
+abbrev pub creation : List ℕ → Tree → Container → Result Container WriteRefusal
+creation id tree container = if is_full container then Err Full else Ok (created id tree container)
 
--- after an upsert of the document; a tree that is no document changes nothing
-abbrev pub upserted : Tree → Container → Container
-upserted tree container = upserted_by (document_id tree) tree container
+-- after an upsert of the document of that id, or why it is refused
+abbrev pub upserted : List ℕ → Tree → Container → Result Container WriteRefusal
+upserted id tree container = if contains id container then Ok (replaced id tree container) else creation id tree container

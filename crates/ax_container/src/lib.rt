@@ -7,10 +7,4 @@
 //! `an_upsert_keeps_soundness`).
 #![tactic(auto)]
 
-mod entry;
-mod laws;
-
-pub use entry::Entry;
-pub use laws::{
-    a_fresh_container_is_sound, an_upsert_keeps_soundness, an_upsert_sets_one_document,
-};
+pub mod laws;
