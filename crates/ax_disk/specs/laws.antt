@@ -3,3 +3,7 @@ pub mod MomentLaws
 pub mod ExtentLaws
 pub mod CallLaws
 pub mod ReadLaws
+pub mod TornLaws
+pub mod WriteLaws
+pub mod StaysLaws
+pub mod StageLaws

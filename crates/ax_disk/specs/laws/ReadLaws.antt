@@ -1,5 +1,5 @@
 -- Laws of what a read gives.
-use Rattle.std.proofs.Common.{◌≡◌, ◌⊎◌, ⊎_elim, ℕ, ◌+◌, ◌-◌, ◌<◌, ◌≤◌, List, ◌++◌, length, get_or, take, drop, sym, ◌∙◌, arith, length-append}
+use Rattle.std.proofs.Common.{◌≡◌, ◌⊎◌, ⊎_elim, ℕ, ◌+◌, ◌-◌, ◌<◌, ◌≤◌, List, ◌++◌, length, get_or, take, drop, sym, ◌∙◌, ap, arith, length-append}
 use Rattle.std.proofs.Math.ListN.{replicate}
 use Rattle.std.proofs.lemmas.List.{ext_get_or, length-take, length-drop, length-replicate, get_or-take, get_or-drop, get_or-replicate, get_or_append_left, get_or-append_right, get_or_past, take-append-le}
 use Rattle.ax_disk.specs.model.Calls.{bytes_from}
@@ -33,3 +33,23 @@ pub is_bytes_from : (list : List ℕ) (at size : ℕ) (bytes : List ℕ) → len
 is_bytes_from list at size bytes long each =
     ext_get_or 0 bytes (bytes_from list at size) (long ∙ sym (length-bytes_from list at size))
     (λ i below. each i (omega arith) ∙ sym (get_or-bytes_from list at size i (omega arith)))
+
+-- a read in two pieces is one read
+pub bytes_from_pieces : (list : List ℕ) (at m n : ℕ) → bytes_from list at (m + n) ≡ bytes_from list at m ++ bytes_from list (at + m) n
+bytes_from_pieces list at m n =
+    let one = length-bytes_from list at m in
+    let other = length-bytes_from list (at + m) n in
+    let all = length-bytes_from list at (m + n) in
+    ext_get_or 0 (bytes_from list at (m + n)) (bytes_from list at m ++ bytes_from list (at + m) n)
+    (omega (arith, all, one, other, length-append (bytes_from list at m) (bytes_from list (at + m) n)))
+    (λ i below.
+    get_or-bytes_from list at (m + n) i (omega (arith, all))
+    ∙ ⊎_elim
+    (λ near. sym (get_or_append_left (bytes_from list at m) (bytes_from list (at + m) n) 0 i (omega (arith, one, near)) ∙ get_or-bytes_from list at m i near))
+    (λ far.
+    let place : at + m + (i - m) ≡ at + i = omega (arith, far) in
+    sym
+    (get_or-append_right (bytes_from list at m) (bytes_from list (at + m) n) m i 0 one far
+    ∙ get_or-bytes_from list (at + m) n (i - m) (omega (arith, all, far, below))
+    ∙ ap (λ (k : ℕ). get_or list k 0) place))
+    (in_list_or_past i m))
