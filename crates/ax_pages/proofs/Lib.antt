@@ -1,0 +1,2 @@
+pub mod OneContents
+pub mod LastPart

@@ -1,0 +1,4 @@
+pub mod Contents
+pub mod AfterPart
+pub mod Leads
+pub mod ContentsCode
