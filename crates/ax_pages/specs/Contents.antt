@@ -42,11 +42,11 @@ now_in payload = from_le_bytes w32 (take 4 (drop 4 payload))
 
 -- the number that the next creation takes
 abbrev pub next_number : Contents → ℕ
-next_number contents = option_map_or next_in 1 contents.meta
+next_number contents = option_map_or next_in contents.meta 1
 
 -- the number of the policy now
 abbrev pub policy_now : Contents → ℕ
-policy_now contents = option_map_or now_in 0 contents.meta
+policy_now contents = option_map_or now_in contents.meta 0
 
 -- a part gave a policy this number, or it is number 0, which needs none
 abbrev pub is_given : ℕ → Contents → Bool
