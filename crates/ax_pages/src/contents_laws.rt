@@ -7,7 +7,10 @@ ghost use Rattle.ax_frame.specs.Part.{PartValue};
 ghost use Rattle.ax_pages.specs.Contents.{Contents, payload_of};
 ghost use Rattle.ax_pages.specs.AfterPart.{after_parts, page_of, left_by};
 ghost use Rattle.ax_pages.specs.Leads.{Leads, IsSpoiled, LeadOn, AreSpoiled};
+ghost use Rattle.ax_pages.specs.HasContents.{HasContents, IsSpoiledImage};
 ghost use Rattle.ax_pages.specs.declared.page.Page.{Page};
+ghost use Rattle.ax_disk.specs.declared.extent.Extent.{Extent};
+ghost use Rattle.ax_disk.specs.model.Image.{Image};
 
 /// The bytes of a frame lead to one contents, or are spoiled at one offset, and not both.
 pub fn one_outcome_of_a_frame()
@@ -25,6 +28,17 @@ pub fn one_outcome_of_frames()
         → AreSpoiled frames before i → AreSpoiled frames before j → i ≡ j }
     ensures either { (frames : List (List ℕ)) (before after : Contents) (i : ℕ)
         → LeadOn frames before after → AreSpoiled frames before i → ⊥ }
+{}
+
+/// So it is with an image.
+pub fn one_outcome_of_an_image()
+    ensures one { (image : Image) (x y : Contents) → HasContents x image → HasContents y image → x ≡ y }
+    ensures extent { (image : Image) (a b : Extent) (i j : ℕ)
+        → IsSpoiledImage image a i → IsSpoiledImage image b j → a ≡ b }
+    ensures offset { (image : Image) (a b : Extent) (i j : ℕ)
+        → IsSpoiledImage image a i → IsSpoiledImage image b j → i ≡ j }
+    ensures either { (image : Image) (contents : Contents) (area : Extent) (i : ℕ)
+        → HasContents contents image → IsSpoiledImage image area i → ⊥ }
 {}
 
 /// Of each page the last part counts, and a page of which there is no part is as it was.
