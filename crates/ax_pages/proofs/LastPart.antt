@@ -22,7 +22,7 @@ passed false x y e = absurd cc
 pub same_number : (n : ℕ) → eq_by_cmp nat_cmp n n ≡ true
 same_number n = ap is_eq (tied_itself nat_cmp_total n)
 
-tie : (r : Ordering) → is_eq r ≡ true → r ≡ Equal
+pub tie : (r : Ordering) → is_eq r ≡ true → r ≡ Equal
 tie Less e = absurd cc
 tie Equal e = refl
 tie Greater e = absurd cc
