@@ -40,13 +40,20 @@ next_in payload = from_le_bytes w32 (take 4 payload)
 abbrev pub now_in : List ℕ → ℕ
 now_in payload = from_le_bytes w32 (take 4 (drop 4 payload))
 
+-- the same of the meta, which may have nothing yet
+abbrev pub next_of : Option (List ℕ) → ℕ
+next_of meta = option_map_or next_in meta 1
+
+abbrev pub now_of : Option (List ℕ) → ℕ
+now_of meta = option_map_or now_in meta 0
+
 -- the number that the next creation takes
 abbrev pub next_number : Contents → ℕ
-next_number contents = option_map_or next_in contents.meta 1
+next_number contents = next_of contents.meta
 
 -- the number of the policy now
 abbrev pub policy_now : Contents → ℕ
-policy_now contents = option_map_or now_in contents.meta 0
+policy_now contents = now_of contents.meta
 
 -- a part gave a policy this number, or it is number 0, which needs none
 abbrev pub is_given : ℕ → Contents → Bool

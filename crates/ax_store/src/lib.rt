@@ -3,6 +3,8 @@
 
 mod directory;
 mod memory;
+mod pages;
 mod row;
 
 pub use memory::Memory;
+pub use pages::Meta;
