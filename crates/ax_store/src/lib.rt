@@ -5,6 +5,7 @@ mod directory;
 mod memory;
 mod pages;
 mod row;
+mod take_parts;
 
 pub use memory::Memory;
 pub use pages::Meta;
