@@ -1,7 +1,7 @@
 -- What a store's pages have: for the meta, each policy and each document, the payload that counts.
 -- From the store's own file format (docs/FORMAT.md, "Parts"); no other document has it.
-use Rattle.std.specs.Prelude.{ℕ, Bool, ◌==◌, ◌||◌, List, [], Option, Some, None, take, drop}
-use Rattle.std.specs.Int.{w32, from_le_bytes}
+use Rattle.std.specs.Prelude.{ℕ, Bool, ◌==◌, ◌||◌, List, [], ◌++◌, Option, Some, None, take, drop}
+use Rattle.std.specs.Int.{w32, from_le_bytes, to_le_bytes}
 use Rattle.std.specs.Ordering.{nat_cmp}
 use Rattle.std.specs.FinMap as map
 use Rattle.std.specs.Option.{option_map_or, option_to_list}
@@ -39,6 +39,10 @@ next_in payload = from_le_bytes w32 (take 4 payload)
 
 abbrev pub now_in : List ℕ → ℕ
 now_in payload = from_le_bytes w32 (take 4 (drop 4 payload))
+
+-- the payload that says these two numbers
+abbrev pub meta_bytes : ℕ → ℕ → List ℕ
+meta_bytes next now = to_le_bytes w32 next ++ to_le_bytes w32 now
 
 -- the same of the meta, which may have nothing yet
 abbrev pub next_of : Option (List ℕ) → ℕ
