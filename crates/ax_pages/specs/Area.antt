@@ -4,7 +4,7 @@
 -- From the store's own file format (docs/FORMAT.md, "Frames"); no other document has it.
 use Rattle.std.specs.Prelude.{◌≡◌, ◌≢◌, ℕ, ◌<◌, ◌^◌, List, ◌++◌, length, slice_index}
 use Rattle.std.specs.List.{flat_map, AllByRecursion}
-use Rattle.ax_frame.specs.Frame.{open_frame}
+use Rattle.ax_frame.specs.LogFrame.{open_frame}
 
 -- what a log frame can span: at least one byte, and no more than its length can say
 pub record IsSpan (bytes : List ℕ) : Type 0 where

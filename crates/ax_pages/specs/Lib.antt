@@ -1,4 +1,9 @@
 pub mod Root
 pub mod Area
 pub mod Image
+pub mod Contents
+pub mod AfterPart
+pub mod Leads
+pub mod ContentsCode
+pub mod HasContents
 pub mod laws

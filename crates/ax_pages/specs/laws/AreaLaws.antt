@@ -4,7 +4,7 @@ use Rattle.std.proofs.Common.{◌≡◌, ℕ, ◌+◌, ◌<◌, ◌≤◌, List,
 use Rattle.std.proofs.lemmas.List.{append-nil, take-take, take_at, get_or-take, get_or-drop, get_or-append-add, length-take, take-append-drop, length-drop}
 use Rattle.std.proofs.lemmas.List.Concat.{flat_map-append}
 use Rattle.ax_frame.specs.Part.{PartValue, parts_bytes}
-use Rattle.ax_frame.specs.Frame.{open_frame, CanFrame}
+use Rattle.ax_frame.specs.LogFrame.{open_frame, CanFrame}
 use Rattle.ax_frame.proofs.Frames.{one_body, parts_take_bytes}
 use Rattle.ax_pages.specs.Area.{IsSpan, AreSpans, frames_bytes, IsClosed, IsNoLogFrame, IsArea, IsBroken}
 

@@ -3,9 +3,9 @@ use Rattle.std.proofs.Common.{◌≡◌, ◌≢◌, ◌⊎◌, inl, inr, ⊎_eli
 use Rattle.std.proofs.lemmas.List.{take-take, drop-take, length-take}
 use Rattle.ax_disk.specs.declared.extent.Extent.{Extent}
 use Rattle.ax_disk.specs.declared.extent.Extent.TheVariants.{Root, A, B}
-use Rattle.ax_frame.specs.declared.slot.RootSlot.{RootSlot}
-use Rattle.ax_frame.specs.declared.slot.RootSlot.TheVariants.{Closed, Live, Bad}
-use Rattle.ax_frame.specs.Slot.{IsSlot}
+use Rattle.ax_frame.specs.declared.root_slot.RootSlot.{RootSlot}
+use Rattle.ax_frame.specs.declared.root_slot.RootSlot.TheVariants.{Closed, Live, Bad}
+use Rattle.ax_frame.specs.RootSlot.{IsSlot}
 use Rattle.ax_frame.proofs.Slots.{one_slot}
 use Rattle.ax_pages.specs.declared.root.RootChoice.{RootChoice}
 use Rattle.ax_pages.specs.declared.root.RootChoice.TheVariants.{Fresh, Counts, Damaged}

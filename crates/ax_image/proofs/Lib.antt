@@ -1,0 +1,3 @@
+pub mod Shown
+pub mod Upserting
+pub mod OneContainer

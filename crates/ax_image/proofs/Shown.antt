@@ -1,0 +1,142 @@
+-- Pages that show entries: they show one list alone, and what a page put in place makes of them.
+use Rattle.std.proofs.Common.{◌≡◌, ℕ, zero, suc, ◌+◌, ◌<◌, ◌≤◌, Bool, true, false, List, [], ◌∷◌, ◌++◌, length, map, find, drop, Option, Some, None, is_some, Ordering, refl, sym, ap, subst, ◌∙◌, arith}
+use Rattle.std.specs.Prelude.{if◌then◌else◌}
+use Rattle.std.specs.List.{list_any, AllByRecursion}
+use Rattle.std.specs.Str.{bytes_eq}
+use Rattle.std.specs.Option.{unwrap_or}
+use Rattle.std.specs.Ordering.{nat_cmp, eq_by_cmp}
+use Rattle.std.specs.Cmp.{nat_cmp_is}
+use Rattle.std.specs.declared.cmp.Ordering.TheVariants.{Less, Equal, Greater}
+use Rattle.std.specs.FinMap.{put}
+use Rattle.std.specs.FinMap as finite
+use Rattle.ax_pages.proofs.LastPart.{same_number}
+use Rattle.std.specs.FinMap.Entries.{by_order}
+use Rattle.ax_tree.specs.declared.tree.Tree.{Tree}
+use Rattle.ax_tree.specs.CanonicalText.{canonical_text}
+use Rattle.ax_tree.specs.Document.{document_id}
+use Rattle.ax_tree.proofs.OneText.{one_text}
+use Rattle.ax_tree.proofs.Fitting.{numbers_fit-well_formed}
+use Rattle.ax_container.specs.Container.{Entry, Container, has_id, NumbersRise, IdsAreDistinct, IsStored, IsSound}
+use Rattle.ax_container.specs.Upsert.{with_tree}
+use Rattle.ax_container.proofs.Ids.{same_from_eq}
+use Rattle.ax_container.proofs.Upserts.{or_none, with_tree-own, with_tree-other}
+use Rattle.ax_image.specs.StandsFor.{IsShown, AreShown}
+
+same_some : {A : Type 0} (x y : A) → Some x ≡ Some y → x ≡ y
+same_some x y e = ap (λ found. unwrap_or found x) e
+
+-- ---- one list of entries
+
+one_entry : (number : ℕ) (payload : List ℕ) (a b : Entry) → IsShown number payload a → IsShown number payload b → IsStored a → IsStored b → a ≡ b
+one_entry number payload a b sa sb ha hb =
+    let numbers : a.number ≡ b.number = sym sa.number_is ∙ sb.number_is in
+    let texts : canonical_text a.tree ≡ canonical_text b.tree = ap (drop 1) (sym sa.payload_is ∙ sb.payload_is) in
+    let trees : a.tree ≡ b.tree = one_text a.tree b.tree (numbers_fit-well_formed a.tree ha.well_formed) (numbers_fit-well_formed b.tree hb.well_formed) texts in
+    let ids : a.id ≡ b.id = same_some a.id b.id (sym ha.own_id ∙ ap document_id trees ∙ hb.own_id) in
+    λ i. record { number = numbers i; id = ids i; tree = trees i }
+
+pub one_list : (pages : List (ℕ × List ℕ)) (xs ys : List Entry) → AreShown pages xs → AreShown pages ys → AllByRecursion IsStored xs → AllByRecursion IsStored ys → xs ≡ ys
+one_list [] [] [] sx sy hx hy = refl
+one_list [] [] (y ∷ ys) sx sy hx hy = absurd sy
+one_list [] (x ∷ xs) ys sx sy hx hy = absurd sx
+one_list (p ∷ ps) [] ys sx sy hx hy = absurd sx
+one_list (p ∷ ps) (x ∷ xs) [] sx sy hx hy = absurd sy
+one_list (p ∷ ps) (x ∷ xs) (y ∷ ys) sx sy hx hy =
+    let first = one_entry p.0 p.1 x y sx.0 sy.0 hx.0 hy.0 in
+    let others = one_list ps xs ys sx.1 sy.1 hx.1 hy.1 in
+    λ i. first i ∷ others i
+
+pub as_many : (pages : List (ℕ × List ℕ)) (entries : List Entry) → AreShown pages entries → length pages ≡ length entries
+as_many [] [] shown = refl
+as_many [] (e ∷ es) shown = absurd shown
+as_many (p ∷ ps) [] shown = absurd shown
+as_many (p ∷ ps) (e ∷ es) shown = ap suc (as_many ps es shown.1)
+
+-- ---- numbers
+
+pub rises_to : (before next : ℕ) (entries : List Entry) → NumbersRise before entries next → before < next
+rises_to before next [] rise = rise
+rises_to before next (e ∷ es) rise = omega (arith, rise.0, rises_to e.number next es rise.1)
+
+pub found_above : (id : List ℕ) (before next : ℕ) (entries : List Entry) (found : Entry) → NumbersRise before entries next → find (has_id id) entries ≡ Some found → before < found.number
+found_above id before next [] found rise is = absurd cc
+found_above id before next (e ∷ es) found rise is =
+    elim (has_id id e) as (λ b. has_id id e ≡ b → (if b then Some e else find (has_id id) es) ≡ Some found → before < found.number) [
+      | true ↦ λ own same. subst (λ (x : Entry). before < x.number) (same_some e found same) rise.0
+      | false ↦ λ other same. let above = found_above id e.number next es found rise.1 same in omega (arith, rise.0, above)
+    ] refl is
+
+after_greater : (k : ℕ) (payload : List ℕ) (page : ℕ × List ℕ) (pages : List (ℕ × List ℕ)) → page.0 < k → put nat_cmp k payload (page ∷ pages) ≡ page ∷ put nat_cmp k payload pages
+after_greater k payload page pages lt =
+    ap (λ r. by_order r ((k, payload) ∷ page ∷ pages) ((page.0, payload) ∷ pages) (page ∷ put nat_cmp k payload pages)) (sym (nat_cmp_is k page.0 Greater lt))
+
+at_equal : (k : ℕ) (payload : List ℕ) (page : ℕ × List ℕ) (pages : List (ℕ × List ℕ)) → k ≡ page.0 → put nat_cmp k payload (page ∷ pages) ≡ (page.0, payload) ∷ pages
+at_equal k payload page pages e =
+    ap (λ r. by_order r ((k, payload) ∷ page ∷ pages) ((page.0, payload) ∷ pages) (page ∷ put nat_cmp k payload pages)) (sym (nat_cmp_is k page.0 Equal e))
+
+-- ---- a page put behind all others, and one put over the page of an entry
+
+pub shown_behind : (pages : List (ℕ × List ℕ)) (entries : List Entry) (before next : ℕ) (payload : List ℕ) (new : Entry) → NumbersRise before entries next → AreShown pages entries → IsShown next payload new
+    → AreShown (put nat_cmp next payload pages) (entries ++ new ∷ [])
+shown_behind [] [] before next payload new rise shown is = (is, tt)
+shown_behind [] (e ∷ es) before next payload new rise shown is = absurd shown
+shown_behind (p ∷ ps) [] before next payload new rise shown is = absurd shown
+shown_behind (p ∷ ps) (e ∷ es) before next payload new rise shown is =
+    let below : p.0 < next = omega (arith, rises_to e.number next es rise.1, shown.0.number_is) in
+    subst (λ pages. AreShown pages (e ∷ es ++ new ∷ [])) (sym (after_greater next payload p ps below))
+    (shown.0, shown_behind ps es e.number next payload new rise.1 shown.1 is)
+
+-- where no entry is of the id, none changes
+unchanged : (id : List ℕ) (tree : Tree) (entries : List Entry) → list_any (has_id id) entries ≡ false → map (with_tree id tree) entries ≡ entries
+unchanged id tree [] none = refl
+unchanged id tree (e ∷ es) none =
+    let parts = or_none (has_id id e) (list_any (has_id id) es) none in
+    λ i. with_tree-other id tree e parts.0 i ∷ unchanged id tree es parts.1 i
+
+-- one page and one entry in front, which is of the id or is not
+over_first : (p : ℕ × List ℕ) (ps : List (ℕ × List ℕ)) (e : Entry) (es : List Entry) (id : List ℕ) (tree : Tree) (policy : ℕ) (found : Entry) → IdsAreDistinct (e ∷ es) → AreShown (p ∷ ps) (e ∷ es)
+    → has_id id e ≡ true → e ≡ found → AreShown (put nat_cmp found.number (policy ∷ canonical_text tree) (p ∷ ps)) (map (with_tree id tree) (e ∷ es))
+over_first p ps e es id tree policy found distinct shown own same =
+    let payload : List ℕ = policy ∷ canonical_text tree in
+    let number : found.number ≡ p.0 = ap (λ (x : Entry). x.number) (sym same) ∙ sym shown.0.number_is in
+    let others : map (with_tree id tree) es ≡ es = unchanged id tree es (ap (λ x. list_any (has_id x) es) (sym (same_from_eq e.id id own)) ∙ distinct.0) in
+    let first : IsShown p.0 payload (record { number = e.number; id = e.id; tree = tree }) = record { policy = policy; number_is = shown.0.number_is; payload_is = refl } in
+    subst (λ pages. AreShown pages (map (with_tree id tree) (e ∷ es))) (sym (at_equal found.number payload p ps number))
+    (subst (λ x. IsShown p.0 payload x) (sym (with_tree-own id tree e own)) first, subst (AreShown ps) (sym others) shown.1)
+
+over_later : (p : ℕ × List ℕ) (ps : List (ℕ × List ℕ)) (e : Entry) (es : List Entry) (next : ℕ) (id : List ℕ) (tree : Tree) (policy : ℕ) (found : Entry) → NumbersRise e.number es next → AreShown (p ∷ ps) (e ∷ es)
+    → has_id id e ≡ false → find (has_id id) es ≡ Some found
+    → AreShown (put nat_cmp found.number (policy ∷ canonical_text tree) ps) (map (with_tree id tree) es)
+    → AreShown (put nat_cmp found.number (policy ∷ canonical_text tree) (p ∷ ps)) (map (with_tree id tree) (e ∷ es))
+over_later p ps e es next id tree policy found rise shown other same later =
+    let payload : List ℕ = policy ∷ canonical_text tree in
+    let below : p.0 < found.number = omega (arith, found_above id e.number next es found rise same, shown.0.number_is) in
+    subst (λ pages. AreShown pages (map (with_tree id tree) (e ∷ es))) (sym (after_greater found.number payload p ps below))
+    (subst (λ x. IsShown p.0 p.1 x) (sym (with_tree-other id tree e other)) shown.0, later)
+
+pub shown_over : (pages : List (ℕ × List ℕ)) (entries : List Entry) (before next : ℕ) (id : List ℕ) (tree : Tree) (policy : ℕ) (found : Entry) → NumbersRise before entries next → IdsAreDistinct entries → AreShown pages entries
+    → find (has_id id) entries ≡ Some found → AreShown (put nat_cmp found.number (policy ∷ canonical_text tree) pages) (map (with_tree id tree) entries)
+shown_over [] [] before next id tree policy found rise distinct shown is = absurd cc
+shown_over [] (e ∷ es) before next id tree policy found rise distinct shown is = absurd shown
+shown_over (p ∷ ps) [] before next id tree policy found rise distinct shown is = absurd shown
+shown_over (p ∷ ps) (e ∷ es) before next id tree policy found rise distinct shown is =
+    elim (has_id id e) as (λ b. has_id id e ≡ b → (if b then Some e else find (has_id id) es) ≡ Some found → AreShown (put nat_cmp found.number (policy ∷ canonical_text tree) (p ∷ ps)) (map (with_tree id tree) (e ∷ es))) [
+      | true ↦ λ own same. over_first p ps e es id tree policy found distinct shown own (same_some e found same)
+      | false ↦ λ other same. over_later p ps e es next id tree policy found rise.1 shown other same (shown_over ps es e.number next id tree policy found rise.1 distinct.1 shown.1 same)
+    ] refl is
+
+-- the number of an entry has a page
+pub found_page : (pages : List (ℕ × List ℕ)) (entries : List Entry) (id : List ℕ) (found : Entry) → AreShown pages entries → find (has_id id) entries ≡ Some found → is_some (finite.find nat_cmp found.number pages) ≡ true
+found_page [] [] id found shown is = absurd cc
+found_page [] (e ∷ es) id found shown is = absurd shown
+found_page (p ∷ ps) [] id found shown is = absurd shown
+found_page (p ∷ ps) (e ∷ es) id found shown is =
+    elim (has_id id e) as (λ b. (if b then Some e else find (has_id id) es) ≡ Some found → is_some (if eq_by_cmp nat_cmp found.number p.0 then Some p.1 else finite.find nat_cmp found.number ps) ≡ true) [
+      | true ↦ λ same.
+          let number : found.number ≡ p.0 = ap (λ (x : Entry). x.number) (sym (same_some e found same)) ∙ sym shown.0.number_is in
+          ap (λ b. is_some (if b then Some p.1 else finite.find nat_cmp found.number ps)) (ap (eq_by_cmp nat_cmp found.number) (sym number) ∙ same_number found.number)
+      | false ↦ λ same. elim (eq_by_cmp nat_cmp found.number p.0) as (λ b. is_some (if b then Some p.1 else finite.find nat_cmp found.number ps) ≡ true) [
+        | true ↦ refl
+        | false ↦ found_page ps es id found shown.1 same
+      ]
+    ] is

@@ -1,0 +1,29 @@
+-- The parts by which an upsert of a document is written: the document under its number; and before it,
+-- where it is created, the meta with the next number.
+-- From the store's own file format (docs/FORMAT.md, "Parts"); no other document has it.
+use Rattle.std.specs.Prelude.{ℕ, ◌+◌, List, [], ◌∷◌}
+use Rattle.std.specs.Option.{option_map_or}
+use Rattle.ax_frame.specs.Part.{PartValue}
+use Rattle.ax_tree.specs.declared.tree.Tree.{Tree}
+use Rattle.ax_tree.specs.CanonicalText.{canonical_text}
+use Rattle.ax_container.specs.Container.{Container, entry_of}
+use Rattle.ax_pages.specs.Contents.{meta_bytes}
+
+-- the document of that number, under that policy
+abbrev pub document_part : ℕ → ℕ → Tree → PartValue
+document_part number policy tree = record { kind = 3; key = number; payload = policy ∷ canonical_text tree }
+
+-- the next number, and the number of the policy now
+abbrev pub meta_part : ℕ → ℕ → PartValue
+meta_part next policy = record { kind = 1; key = 0; payload = meta_bytes next policy }
+
+abbrev pub replacing_parts : ℕ → ℕ → Tree → List PartValue
+replacing_parts number policy tree = document_part number policy tree ∷ []
+
+abbrev pub creating_parts : ℕ → ℕ → Tree → List PartValue
+creating_parts number policy tree = meta_part (number + 1) policy ∷ document_part number policy tree ∷ []
+
+abbrev pub upsert_parts : List ℕ → Tree → ℕ → Container → List PartValue
+upsert_parts id tree policy container =
+    option_map_or (λ entry. replacing_parts entry.number policy tree) (entry_of id container)
+    (creating_parts container.next_number policy tree)

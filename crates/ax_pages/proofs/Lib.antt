@@ -1,0 +1,3 @@
+pub mod OneContents
+pub mod LastPart
+pub mod ImageContents

@@ -1,0 +1,44 @@
+//! The pages of a store, and the kinds of parts that change them.
+
+ghost use Rattle.std.specs.Prelude.{◌≡◌};
+ghost use Rattle.ax_pages.specs.AfterPart.{kind_of};
+
+/// A page of a store: all parts of one kind and key. Until there is an index no page of terms has a
+/// part.
+#[derive(Clone, Copy, Debug, PartialEq, Eq)]
+pub enum Page {
+    /// The next number and the number of the policy now.
+    Meta,
+    /// The policy of a number.
+    Policy(u8),
+    /// The document of a number.
+    Document(u32),
+    /// A page of terms.
+    Term(u32),
+}
+
+/// What a part does to its page.
+#[derive(Clone, Copy, Debug, PartialEq, Eq)]
+pub enum Kind {
+    /// The meta has this payload from now on.
+    Meta,
+    /// The policy has.
+    Policy,
+    /// The document has.
+    Document,
+    /// The document is gone.
+    Gone,
+}
+
+/// The kind of a number. `None` exactly for a number of no kind.
+pub fn kind_of_number(number: u8) -> Option<Kind>
+    ensures { result ≡ kind_of number }
+{
+    match number {
+        1 => Some(Kind::Meta),
+        2 => Some(Kind::Policy),
+        3 => Some(Kind::Document),
+        4 => Some(Kind::Gone),
+        _ => None,
+    }
+}

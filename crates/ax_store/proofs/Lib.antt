@@ -1,0 +1,4 @@
+pub mod Searching
+pub mod RowMaps
+pub mod MapLens
+pub mod TakingLemmas

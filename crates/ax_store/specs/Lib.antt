@@ -1,0 +1,4 @@
+pub mod Rows
+pub mod Listed
+pub mod Kept
+pub mod Taking

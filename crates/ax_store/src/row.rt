@@ -1,0 +1,87 @@
+//! The rows of a directory, and how one is found and changed.
+
+ghost use Rattle.std.specs.Prelude.{◌≡◌, ◌+◌, ◌<◌, ◌≤◌, IfOk, IfErr, vec_len, vec_capacity};
+ghost use Rattle.std.specs.List.{insert};
+ghost use Rattle.std.specs.FinMap as map;
+ghost use Rattle.ax_store.specs.Rows.{AreRising, IsAt, IsGapFor, map_of, payload_kept, offset_kept};
+
+/// A part that counts, kept in memory.
+#[derive(Drop)]
+pub(crate) struct KeptPart {
+    /// Where it stands in the area that counts.
+    pub(crate) at: u64,
+    pub(crate) payload: Vec<u8>,
+}
+
+/// What is known of a number: its part, or none where the document is gone.
+#[derive(Drop)]
+pub(crate) struct Row {
+    pub(crate) number: u32,
+    pub(crate) part: Option<KeptPart>,
+}
+
+/// The position of the row of a number, or the position at which it would stand.
+pub(crate) fn search(rows: &[Row], number: u32) -> Result<usize, usize>
+    requires { AreRising rows.now }
+    ensures found { IfOk result (IsAt rows.now number) }
+    ensures absent { IfErr result (IsGapFor rows.now number) }
+{
+    rows.binary_search_by_key(&number, |row| row.number)
+}
+
+/// Puts a part under a number, in the room that there is. Answers whether the number was held.
+pub(crate) fn put_row(rows: &mut Vec<Row>, number: u32, part: KeptPart) -> bool
+    requires rising { AreRising rows.old.items }
+    requires room { vec_len rows.old < vec_capacity rows.old }
+    ensures rising { AreRising rows.new.items }
+    ensures payloads { map_of payload_kept rows.new.items ≡ map.insert (map_of payload_kept rows.old.items) number (payload_kept part) }
+    ensures offsets { map_of offset_kept rows.new.items ≡ map.insert (map_of offset_kept rows.old.items) number (offset_kept part) }
+    ensures held { result ≡ map.contains_key (map_of payload_kept rows.old.items) number }
+    ensures room { vec_capacity rows.new ≡ vec_capacity rows.old }
+    ensures len { vec_len rows.new ≤ vec_len rows.old + 1 }
+{
+    match search(rows, number) {
+        Ok(at) => {
+            let held = rows[at].part.is_some();
+            rows[at].part = Some(part);
+            held
+        }
+        Err(at) => {
+            let part = Some(part);
+            insert_within(rows, at, Row { number, part });
+            false
+        }
+    }
+}
+
+/// Puts a row at a position, in the room that there is.
+fn insert_within(rows: &mut Vec<Row>, at: usize, row: Row)
+    requires position { at ≤ vec_len rows.old }
+    requires room { vec_len rows.old < vec_capacity rows.old }
+    ensures items { rows.new.items ≡ insert rows.old.items at row }
+    ensures room { vec_capacity rows.new ≡ vec_capacity rows.old }
+    ensures len { vec_len rows.new ≡ vec_len rows.old + 1 }
+{
+    let put = rows.insert(at, row);
+    prove!(put.is_ok());
+}
+
+/// Marks the row of a number, whose part is gone from then on. Answers whether the number was held.
+pub(crate) fn clear_row(rows: &mut Vec<Row>, number: u32) -> bool
+    requires { AreRising rows.old.items }
+    ensures rising { AreRising rows.new.items }
+    ensures payloads { map_of payload_kept rows.new.items ≡ map.remove (map_of payload_kept rows.old.items) number }
+    ensures offsets { map_of offset_kept rows.new.items ≡ map.remove (map_of offset_kept rows.old.items) number }
+    ensures held { result ≡ map.contains_key (map_of payload_kept rows.old.items) number }
+    ensures room { vec_capacity rows.new ≡ vec_capacity rows.old }
+    ensures len { vec_len rows.new ≡ vec_len rows.old }
+{
+    match search(rows, number) {
+        Ok(at) => {
+            let held = rows[at].part.is_some();
+            rows[at].part = None;
+            held
+        }
+        Err(_) => false,
+    }
+}
