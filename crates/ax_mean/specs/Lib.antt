@@ -4,4 +4,12 @@ pub use Rattle.ax_tree.specs.Names
 pub use Rattle.ax_tree.specs.Nesting
 pub use Rattle.ax_tree.specs.Rising
 pub use Rattle.ax_tree.specs.WellFormed
+pub mod Arithmetic
+pub mod Comparison
+pub mod Like
+pub mod Logic
+pub mod Operators
+pub mod Sameness
+pub mod ValueOrder
+pub mod Values
 pub mod formers

@@ -7,6 +7,7 @@
 
 mod boxed;
 mod expr;
+pub mod laws;
 mod operator;
 mod query;
 mod value;
