@@ -32,3 +32,7 @@ same_level _ _ = false
 
 abbrev pub is_same : Tree → Tree → Bool
 is_same = fold-Tree (Tree → Bool) (λ level other. same_level level (out-Tree other))
+
+-- a member with the test that its value stands for
+abbrev pub member_test : Member Tree → Member (Tree → Bool)
+member_test m = record { name = m.name; value = is_same m.value }

@@ -20,9 +20,12 @@ rank_level (Tree-F.Text text) = 5
 rank_level (Tree-F.List items) = 6
 rank_level (Tree-F.Object members) = 7
 
+abbrev pub tree_rank : Tree → ℕ
+tree_rank tree = rank_level (out-Tree tree)
+
 abbrev pub rank : Value → ℕ
 rank Undefined = 0
-rank (Defined tree) = rank_level (out-Tree tree)
+rank (Defined tree) = tree_rank tree
 
 -- the number that orders numbers
 abbrev pub number_key_level : Tree-F Tree → ℤ
