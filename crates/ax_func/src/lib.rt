@@ -6,7 +6,9 @@
 #![tactic(auto)]
 
 mod arithmetic;
+mod chars;
 mod comparison;
+mod like;
 mod logic;
 mod memory;
 mod operators;
