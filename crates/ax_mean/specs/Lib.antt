@@ -3,5 +3,16 @@ pub use Rattle.ax_tree.specs.Document
 pub use Rattle.ax_tree.specs.Names
 pub use Rattle.ax_tree.specs.Nesting
 pub use Rattle.ax_tree.specs.Rising
-pub use Rattle.ax_tree.specs.SerdeData
 pub use Rattle.ax_tree.specs.WellFormed
+pub mod Arithmetic
+pub mod Comparison
+pub mod Functions
+pub mod Like
+pub mod ListFunctions
+pub mod Logic
+pub mod Operators
+pub mod Sameness
+pub mod TextFunctions
+pub mod ValueOrder
+pub mod Values
+pub mod formers

@@ -1,10 +1,24 @@
-//! What queries mean: it will have their definitions, with those of values and rows, so that a
-//! change of one proves again only what speaks of queries. Today it gives on the trees of `ax_tree`
-//! and has nothing of its own.
+//! What queries are and what they mean: values, expressions, and the definitions of what an
+//! expression stands for. Every crate that evaluates or plans cites these definitions.
 //!
-//! Stands on `ax_tree`.
+//! Stands on `ax_tree`, whose trees it gives on. It has types and definitions, and next to no code:
+//! its one contract is the laws of the value order.
 #![tactic(auto)]
 
-pub use ax_tree::{
-    Items, Member, Members, Memory, Text, Tree, append_tree, id_of, laws, may_be_id, write_tree,
+mod boxed;
+mod expr;
+pub mod laws;
+mod operator;
+mod query;
+mod value;
+
+pub use ax_tree::{Items, Member, Members, Memory, Text, Tree};
+pub use ax_tree::{id_of, may_be_id, numbers_of_well_formed_fit, one_canonical_text, write_tree};
+pub use boxed::Boxed;
+pub use expr::{Chained, Expr, ExprList, MemberList, OpChain, QueryStep, StepList};
+pub use operator::{Aggregate, BinaryOp, Func, UnaryOp};
+pub use query::{
+    FromItem, FromList, KeyedRow, Named, NamedList, Order, OrderList, Path, Pick, PlaceList, Query,
+    Step,
 };
+pub use value::{Value, ValueList};

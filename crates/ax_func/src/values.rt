@@ -1,0 +1,60 @@
+//! What a value holds, and the value of a result.
+ghost use Rattle.std.specs.Prelude.{◌≡◌};
+ghost use Rattle.std.specs.Option.{option_copied};
+ghost use Rattle.ax_mean.specs.Values.{truth_of as truth_held, number_of as number_held, text_of as text_held, list_of as list_held, of_truth as truth_value, of_number as number_value};
+
+use ax_mean::{Items, Text, Tree, Value};
+
+pub fn truth_of(value: &Value) -> Option<bool>
+    ensures { result ≡ truth_held value.now }
+{
+    match value {
+        Value::Defined(Tree::Truth(truth)) => Some(*truth),
+        _ => None,
+    }
+}
+
+pub fn number_of(value: &Value) -> Option<i64>
+    ensures { result ≡ number_held value.now }
+{
+    match value {
+        Value::Defined(Tree::Number(number)) => Some(*number),
+        _ => None,
+    }
+}
+
+pub fn text_of(value: &Value) -> Option<&Text>
+    ensures { option_copied result ≡ text_held value.now }
+{
+    match value {
+        Value::Defined(Tree::Text(text)) => Some(text),
+        _ => None,
+    }
+}
+
+pub fn list_of(value: &Value) -> Option<&Items<Tree>>
+    ensures { option_copied result ≡ list_held value.now }
+{
+    match value {
+        Value::Defined(Tree::List(items)) => Some(items),
+        _ => None,
+    }
+}
+
+pub fn of_truth(truth: Option<bool>) -> Value
+    ensures { result ≡ truth_value truth }
+{
+    match truth {
+        None => Value::Undefined,
+        Some(truth) => Value::Defined(Tree::Truth(truth)),
+    }
+}
+
+pub fn of_number(number: Option<i64>) -> Value
+    ensures { result ≡ number_value number }
+{
+    match number {
+        None => Value::Undefined,
+        Some(number) => Value::Defined(Tree::Number(number)),
+    }
+}
