@@ -1,9 +1,9 @@
-use Rattle.std.proofs.Common.{◌≡◌, ◌≤◌, length, take, refl, ◌∙◌, ap, subst, arith}
+use Rattle.std.proofs.Common.{◌≤◌, length, take, refl, ◌∙◌, ap, subst, arith}
 use Rattle.std.proofs.lemmas.List.{length-take, get_or-take, take_all}
 use Rattle.ax_disk.specs.model.Image.{Image, list_of}
 use Rattle.ax_disk.specs.mem_disk.Lists.{image_of, greatest_length}
 use Rattle.ax_disk.specs.model.Pending.{AreBytes}
-use Rattle.ax_disk.specs.mem_disk.OperationLog.{OperationLog, wrote, with_operation}
+use Rattle.ax_disk.specs.mem_disk.OperationLog.{wrote, with_operation}
 use Rattle.ax_disk.specs.mem_disk.OperationList.{operations_in}
 use Rattle.ax_disk.specs.mem_disk.LoggedLists.{log_of, reads_may_stay}
 use Rattle.ax_disk.proofs.Effects.{writes_done, writes_failed}
