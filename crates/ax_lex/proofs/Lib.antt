@@ -1,3 +1,4 @@
+pub mod KeywordLaws
 pub mod Lexing
 pub mod Meanings
 pub mod Numbers

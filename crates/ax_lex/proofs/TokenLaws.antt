@@ -27,50 +27,80 @@ token_found lexeme after = Some (lexeme, after)
 
 -- ---- what is read is a token
 
-word_token : (word before after : List ℕ) → IsWord word before after → (o : Option Keyword) → keyword_of word ≡ o → IsToken (word_says o word) before after
+word_token : (word before after : List ℕ) → IsWord word before after → (o : Option Keyword)
+    → keyword_of word ≡ o → IsToken (word_says o word) before after
 word_token word before after w None e = word_as_name w e
 word_token word before after w (Some which) e = word_as_keyword w e
 
-letter_sound : (bytes : List ℕ) (found : Lexeme × List ℕ) → option_map (λ found. (word_says (keyword_of found.0) found.0, found.1)) (read_word bytes) ≡ Some found → IsToken found.0 bytes found.1
+letter_sound : (bytes : List ℕ) (found : Lexeme × List ℕ)
+    → option_map (λ found. (word_says (keyword_of found.0) found.0, found.1))
+    (read_word bytes) ≡ Some found → IsToken found.0 bytes found.1
 letter_sound bytes found e =
-    let m : MapFound (λ (found : List ℕ × List ℕ). (word_says (keyword_of found.0) found.0, found.1)) (read_word bytes) found = map_found _ (read_word bytes) found e in
+    let m : MapFound (λ (found : List ℕ × List ℕ). (
+      word_says
+          (keyword_of found.0) found.0,
+      found.1,
+    )) (read_word bytes) found = map_found _
+    (read_word bytes) found e in
     subst (λ (f : Lexeme × List ℕ). IsToken f.0 bytes f.1) m.then
     (word_token m.x.0 bytes m.x.1 (word_sound bytes m.x m.first) (keyword_of m.x.0) refl)
 
-at_sound : (first : ℕ) (rest : List ℕ) (found : Lexeme × List ℕ) → class_of first ≡ At → option_map (λ found. (parameter found.0, found.1)) (read_word rest) ≡ Some found → IsToken found.0 (first ∷ rest) found.1
+at_sound : (first : ℕ) (rest : List ℕ) (found : Lexeme × List ℕ) → class_of first ≡ At
+    → option_map (λ found. (parameter found.0, found.1)) (read_word rest) ≡ Some found
+    → IsToken found.0 (first ∷ rest) found.1
 at_sound first rest found c e =
-    let m : MapFound (λ (found : List ℕ × List ℕ). (parameter found.0, found.1)) (read_word rest) found = map_found _ (read_word rest) found e in
+    let m : MapFound (λ (found : List ℕ × List ℕ). (parameter found.0, found.1))
+    (read_word rest) found = map_found _ (read_word rest) found e in
     subst (λ (f : Lexeme × List ℕ). IsToken f.0 (first ∷ rest) f.1) m.then
     (at_and_word c (word_sound rest m.x m.first))
 
-quote_sound : (first : ℕ) (rest : List ℕ) (found : Lexeme × List ℕ) → class_of first ≡ Quote → option_map (λ found. (text found.0, found.1)) (read_inside first (length rest) rest) ≡ Some found → IsToken found.0 (first ∷ rest) found.1
+quote_sound : (first : ℕ) (rest : List ℕ) (found : Lexeme × List ℕ) → class_of first ≡ Quote
+    → option_map (λ found. (text found.0, found.1)) (read_inside first
+    (length rest) rest) ≡ Some found → IsToken found.0 (first ∷ rest) found.1
 quote_sound first rest found c e =
-    let m : MapFound (λ (found : List ℕ × List ℕ). (text found.0, found.1)) (read_inside first (length rest) rest) found = map_found _ (read_inside first (length rest) rest) found e in
+    let m : MapFound (λ (found : List ℕ × List ℕ). (text found.0, found.1)) (read_inside first
+    (length rest) rest) found = map_found _ (read_inside first (length rest) rest) found e in
     subst (λ (f : Lexeme × List ℕ). IsToken f.0 (first ∷ rest) f.1) m.then
     (quoted c (inside_sound first (length rest) rest m.x m.first))
 
-digit_sound : (first : ℕ) (rest : List ℕ) (found : Lexeme × List ℕ) → class_of first ≡ Digit → read_number first rest ≡ Some found → IsToken found.0 (first ∷ rest) found.1
+digit_sound : (first : ℕ) (rest : List ℕ) (found : Lexeme × List ℕ) → class_of first ≡ Digit
+    → read_number first rest ≡ Some found → IsToken found.0 (first ∷ rest) found.1
 digit_sound first rest found c e =
-    let m : (spoils_number (after_run is_digit rest) ≡ false) × ((number (number_of (first ∷ run_of is_digit rest)), after_run is_digit rest) ≡ found) = else_chosen _ _ _ e in
+    let m : (spoils_number (after_run is_digit rest) ≡ false) × ((
+      number (number_of
+          (first ∷ run_of is_digit rest)),
+      after_run is_digit rest,
+    ) ≡ found) = else_chosen _ _ _ e in
     subst (λ (f : Lexeme × List ℕ). IsToken f.0 (first ∷ rest) f.1) m.1
     (digits c (run_sound is_digit rest) m.0 refl)
 
-single_sound : (first : ℕ) (rest : List ℕ) (found : Lexeme × List ℕ) → class_of first ≡ Sign → begins_pair first rest ≡ false → option_map (λ which. (symbol which, rest)) (single_symbol first) ≡ Some found → IsToken found.0 (first ∷ rest) found.1
+single_sound : (first : ℕ) (rest : List ℕ) (found : Lexeme × List ℕ) → class_of first ≡ Sign
+    → begins_pair first rest ≡ false → option_map (λ which. (symbol which, rest))
+    (single_symbol first) ≡ Some found → IsToken found.0 (first ∷ rest) found.1
 single_sound first rest found c p e =
-    let m : MapFound (λ which. (symbol which, rest)) (single_symbol first) found = map_found _ (single_symbol first) found e in
+    let m : MapFound (λ which. (symbol which, rest)) (single_symbol first) found = map_found _
+    (single_symbol first) found e in
     subst (λ (f : Lexeme × List ℕ). IsToken f.0 (first ∷ rest) f.1) m.then (one_sign c p m.first)
 
-pair_sound : (first next : ℕ) (rest : List ℕ) (found : Lexeme × List ℕ) → class_of first ≡ Sign → (o : Option Symbol) → pair_symbol first next ≡ o → sign_or o first (next ∷ rest) rest ≡ Some found → IsToken found.0 (first ∷ next ∷ rest) found.1
+pair_sound : (first next : ℕ) (rest : List ℕ) (found : Lexeme × List ℕ) → class_of first ≡ Sign
+    → (o : Option Symbol) → pair_symbol first next ≡ o
+    → sign_or o first (next ∷ rest) rest ≡ Some found
+    → IsToken found.0 (first ∷ next ∷ rest) found.1
 pair_sound first next rest found c (Some which) p e =
     let same : (symbol which, rest) ≡ found = cc in
     subst (λ (f : Lexeme × List ℕ). IsToken f.0 (first ∷ next ∷ rest) f.1) same (two_signs c p)
-pair_sound first next rest found c None p e = single_sound first (next ∷ rest) found c (ap (λ o. is_some o) p) e
+pair_sound first next rest found c None p e = single_sound first (next ∷ rest) found c (ap
+    (λ o. is_some o) p) e
 
-sign_sound : (first : ℕ) (rest : List ℕ) (found : Lexeme × List ℕ) → class_of first ≡ Sign → read_symbol first rest ≡ Some found → IsToken found.0 (first ∷ rest) found.1
+sign_sound : (first : ℕ) (rest : List ℕ) (found : Lexeme × List ℕ) → class_of first ≡ Sign
+    → read_symbol first rest ≡ Some found → IsToken found.0 (first ∷ rest) found.1
 sign_sound first [] found c e = single_sound first [] found c refl e
-sign_sound first (next ∷ rest) found c e = pair_sound first next rest found c (pair_symbol first next) refl e
+sign_sound first (next ∷ rest) found c e = pair_sound first next rest found c
+    (pair_symbol first next) refl e
 
-by_sound : (first : ℕ) (rest : List ℕ) (found : Lexeme × List ℕ) (class : ByteClass) → class_of first ≡ class → read_by class first rest ≡ Some found → IsToken found.0 (first ∷ rest) found.1
+by_sound : (first : ℕ) (rest : List ℕ) (found : Lexeme × List ℕ) (class : ByteClass)
+    → class_of first ≡ class → read_by class first rest ≡ Some found
+    → IsToken found.0 (first ∷ rest) found.1
 by_sound first rest found Space c e = absurd (cc)
 by_sound first rest found Letter c e = letter_sound (first ∷ rest) found e
 by_sound first rest found Digit c e = digit_sound first rest found c e
@@ -79,7 +109,8 @@ by_sound first rest found At c e = at_sound first rest found c e
 by_sound first rest found Sign c e = sign_sound first rest found c e
 
 -- what is read as a token is one
-pub token_sound : (bytes : List ℕ) (found : Lexeme × List ℕ) → read_token bytes ≡ Some found → IsToken found.0 bytes found.1
+pub token_sound : (bytes : List ℕ) (found : Lexeme × List ℕ) → read_token bytes ≡ Some found
+    → IsToken found.0 bytes found.1
 unfolding read_token
 token_sound [] found e = absurd (cc)
 token_sound (first ∷ rest) found e = by_sound first rest found (class_of first) refl e
@@ -94,37 +125,53 @@ letter_class Quote e = absurd (cc)
 letter_class At e = absurd (cc)
 letter_class Sign e = absurd (cc)
 
-reads_word : {word before after : List ℕ} → IsWord word before after → read_token before ≡ token_found (word_says (keyword_of word) word) after
+reads_word : {word before after : List ℕ} → IsWord word before after
+    → read_token before ≡ token_found (word_says (keyword_of word) word) after
 unfolding read_token
 reads_word {word} {before} {after} w =
     let b : WordBegins before = word_begins w in
     rw b.begins_so
     (rw (letter_class (class_of b.first) b.letter)
-    (ap (option_map (λ (found : List ℕ × List ℕ). (word_says (keyword_of found.0) found.0, found.1))) (sym (ap read_word b.begins_so) ∙ word_complete w)))
+    (ap (option_map (λ (found : List ℕ × List ℕ). (
+      word_says
+          (keyword_of found.0) found.0,
+      found.1,
+    ))) (sym (ap read_word b.begins_so)
+    ∙ word_complete w)))
 
-single_complete : (sign : ℕ) (which : Symbol) (after : List ℕ) (o : Option Symbol) → is_some o ≡ false → single_symbol sign ≡ Some which → (rest : List ℕ) → sign_or o sign after rest ≡ token_found (symbol which) after
+single_complete : (sign : ℕ) (which : Symbol) (after : List ℕ) (o : Option Symbol)
+    → is_some o ≡ false → single_symbol sign ≡ Some which → (rest : List ℕ)
+    → sign_or o sign after rest ≡ token_found (symbol which) after
 single_complete sign which after None p s rest = rw s refl
 single_complete sign which after (Some other) p s rest = absurd (cc)
 
-sign_complete : (sign : ℕ) (which : Symbol) (after : List ℕ) → begins_pair sign after ≡ false → single_symbol sign ≡ Some which → read_symbol sign after ≡ token_found (symbol which) after
+sign_complete : (sign : ℕ) (which : Symbol) (after : List ℕ) → begins_pair sign after ≡ false
+    → single_symbol sign ≡ Some which → read_symbol sign after ≡ token_found (symbol which) after
 sign_complete sign which [] p s = rw s refl
-sign_complete sign which (next ∷ rest) p s = single_complete sign which (next ∷ rest) (pair_symbol sign next) p s rest
+sign_complete sign which (next ∷ rest) p s = single_complete sign which (next ∷ rest)
+    (pair_symbol sign next) p s rest
 
-pub token_complete : {lexeme : Lexeme} {before after : List ℕ} → IsToken lexeme before after → read_token before ≡ token_found lexeme after
+pub token_complete : {lexeme : Lexeme} {before after : List ℕ} → IsToken lexeme before after
+    → read_token before ≡ token_found lexeme after
 unfolding read_token
-token_complete (word_as_name {word} {before} {after} w k) = reads_word w ∙ ap (λ o. token_found (word_says o word) after) k
-token_complete (word_as_keyword {which} {word} {before} {after} w k) = reads_word w ∙ ap (λ o. token_found (word_says o word) after) k
+token_complete (word_as_name {word} {before} {after} w k) = reads_word w
+    ∙ ap (λ o. token_found (word_says o word) after) k
+token_complete (word_as_keyword {which} {word} {before} {after} w k) = reads_word w
+    ∙ ap (λ o. token_found (word_says o word) after) k
 token_complete (at_and_word {at} {word} {before} {after} c w) =
-    rw c (ap (option_map (λ (found : List ℕ × List ℕ). (parameter found.0, found.1))) (word_complete w))
+    rw c (ap (option_map (λ (found : List ℕ × List ℕ). (parameter found.0, found.1)))
+    (word_complete w))
 token_complete (quoted {quote} {value} {before} {after} c i) =
-    rw c (ap (option_map (λ (found : List ℕ × List ℕ). (text found.0, found.1))) (inside_complete quote i (length before) (omega arith)))
+    rw c (ap (option_map (λ (found : List ℕ × List ℕ). (text found.0, found.1)))
+    (inside_complete quote i (length before) (omega arith)))
 token_complete (digits {first} {value} {run} {before} {after} c r s v) =
     let was : RunIs is_digit run before after = run_complete is_digit r in
     rw (c, was.front, was.rest, s) (ap (λ n. token_found (number n) after) (sym v))
 token_complete (two_signs {which} {sign} {next} {after} c p) = rw (c, p) refl
 token_complete (one_sign {which} {sign} {after} c p s) = rw c (sign_complete sign which after p s)
 
-pub token_shorter : {lexeme : Lexeme} {before after : List ℕ} → IsToken lexeme before after → length after < length before
+pub token_shorter : {lexeme : Lexeme} {before after : List ℕ} → IsToken lexeme before after
+    → length after < length before
 token_shorter (word_as_name w k) = word_shorter w
 token_shorter (word_as_keyword w k) = word_shorter w
 token_shorter (at_and_word c w) = omega (arith, word_shorter w)
@@ -134,7 +181,8 @@ token_shorter (two_signs c p) = omega arith
 token_shorter (one_sign c p s) = omega arith
 
 -- no token begins with white space, and none stands at the end
-pub no_token_at_space : {lexeme : Lexeme} {byte : ℕ} {rest after : List ℕ} → class_of byte ≡ Space → IsToken lexeme (byte ∷ rest) after → ⊥
+pub no_token_at_space : {lexeme : Lexeme} {byte : ℕ} {rest after : List ℕ}
+    → class_of byte ≡ Space → IsToken lexeme (byte ∷ rest) after → ⊥
 unfolding read_token
 no_token_at_space {lexeme} {byte} {rest} {after} c t =
     let none : read_token (byte ∷ rest) ≡ None = rw c refl in
@@ -159,13 +207,16 @@ after_in : Option (Lexeme × List ℕ) → List ℕ
 after_in None = []
 after_in (Some found) = found.1
 
-pub same_found : (lexeme other : Lexeme) (after rest : List ℕ) → token_found lexeme after ≡ token_found other rest → SameToken lexeme other after rest
+pub same_found : (lexeme other : Lexeme) (after rest : List ℕ)
+    → token_found lexeme after ≡ token_found other rest → SameToken lexeme other after rest
 unfolding lexeme_in after_in
 same_found lexeme other after rest e = record { says = ap lexeme_in e; then = ap after_in e }
 
 -- one token stands at a place
-pub token_one : {lexeme other : Lexeme} {before after rest : List ℕ} → IsToken lexeme before after → IsToken other before rest → SameToken lexeme other after rest
-token_one {lexeme} {other} {before} {after} {rest} s t = same_found lexeme other after rest (sym (token_complete s) ∙ token_complete t)
+pub token_one : {lexeme other : Lexeme} {before after rest : List ℕ}
+    → IsToken lexeme before after → IsToken other before rest → SameToken lexeme other after rest
+token_one {lexeme} {other} {before} {after} {rest} s t = same_found lexeme other after rest (sym
+    (token_complete s) ∙ token_complete t)
 
 -- ---- lists of tokens
 
@@ -174,9 +225,12 @@ make kind start end = record { kind = kind; start = start; end = end }
 
 same_fields : (s t : Token) → s.kind ≡ t.kind → s.start ≡ t.start → s.end ≡ t.end → s ≡ t
 same_fields s t k b e =
-    ap (λ x. make x s.start s.end) k ∙ ap (λ x. make t.kind x s.end) b ∙ ap (λ x. make t.kind t.start x) e
+    ap (λ x. make x s.start s.end) k ∙ ap (λ x. make t.kind x s.end) b
+    ∙ ap (λ x. make t.kind t.start x) e
 
-pub token_placed : {total : ℕ} {s t : Token} {lexeme other : Lexeme} {before after rest : List ℕ} → Stands total s lexeme before after → Stands total t other before rest → s ≡ t
+pub token_placed : {total : ℕ} {s t : Token} {lexeme other : Lexeme}
+    {before after rest : List ℕ} → Stands total s lexeme before after
+    → Stands total t other before rest → s ≡ t
 token_placed {total} {s} {t} {lexeme} {other} {before} {after} {rest} a b =
     let one : SameToken lexeme other after rest = token_one a.reads b.reads in
     same_fields s t
@@ -189,14 +243,16 @@ pub record SameList (a b : List Token) (x y : List Lexeme) : Type 0 where
   pub lexemes : x ≡ y
 
 -- a text has one list of tokens
-pub tokens_one : {total : ℕ} {before : List ℕ} {a b : List Token} {x y : List Lexeme} → HasTokens total before a x → HasTokens total before b y → SameList a b x y
+pub tokens_one : {total : ℕ} {before : List ℕ} {a b : List Token} {x y : List Lexeme}
+    → HasTokens total before a x → HasTokens total before b y → SameList a b x y
 tokens_one ended ended = record { tokens = refl; lexemes = refl }
 tokens_one ended (token s r) = absurd (no_token_at_end s.reads)
 tokens_one (space c p) (space d q) = tokens_one p q
 tokens_one (space c p) (token s r) = absurd (no_token_at_space c s.reads)
 tokens_one (token s r) ended = absurd (no_token_at_end s.reads)
 tokens_one (token s r) (space c p) = absurd (no_token_at_space c s.reads)
-tokens_one (token {token = s} {lexeme = l} {after = after} {tokens = ts} {lexemes = ls} p r) (token {token = t} {lexeme = m} {after = rest} {tokens = us} {lexemes = ms} q w) =
+tokens_one (token {token = s} {lexeme = l} {after = after} {tokens = ts} {lexemes = ls} p r)
+    (token {token = t} {lexeme = m} {after = rest} {tokens = us} {lexemes = ms} q w) =
     let one : SameToken l m after rest = token_one p.reads q.reads in
     let placed : s ≡ t = token_placed p q in
     let rest_is : SameList ts us ls ms = tokens_one r (rw (← one.then) at w) in
@@ -214,20 +270,28 @@ sign_found after = (kind.Symbol, after)
 abbrev behind_sign : Option (Lexeme × List ℕ) → Option (List ℕ)
 behind_sign o = option_map (λ found. found.1) o
 
-single_kind : (rest : List ℕ) (o : Option Symbol) → with_kind (option_map (λ which. (symbol which, rest)) o) ≡ option_map sign_found (behind_sign (option_map (λ which. (symbol which, rest)) o))
+single_kind : (rest : List ℕ) (o : Option Symbol)
+    → with_kind (option_map (λ which. (symbol which, rest)) o) ≡ option_map sign_found
+    (behind_sign (option_map (λ which. (symbol which, rest)) o))
 single_kind rest None = refl
 single_kind rest (Some which) = refl
 
-pair_kind : (sign : ℕ) (rest after : List ℕ) (o : Option Symbol) → with_kind (sign_or o sign rest after) ≡ option_map sign_found (behind_sign (sign_or o sign rest after))
+pair_kind : (sign : ℕ) (rest after : List ℕ) (o : Option Symbol)
+    → with_kind (sign_or o sign rest after) ≡ option_map sign_found (behind_sign
+    (sign_or o sign rest after))
 pair_kind sign rest after None = single_kind rest (single_symbol sign)
 pair_kind sign rest after (Some which) = refl
 
-symbol_kind : (sign : ℕ) (rest : List ℕ) → with_kind (read_symbol sign rest) ≡ option_map sign_found (behind_sign (read_symbol sign rest))
+symbol_kind : (sign : ℕ) (rest : List ℕ)
+    → with_kind (read_symbol sign rest) ≡ option_map sign_found (behind_sign
+    (read_symbol sign rest))
 symbol_kind sign [] = single_kind [] (single_symbol sign)
 symbol_kind sign (next ∷ rest) = pair_kind sign (next ∷ rest) rest (pair_symbol sign next)
 
 -- a symbol as the code takes it off the front
-pub sign_taken : (first : ℕ) (rest bytes after : List ℕ) → bytes ≡ first ∷ rest → Sign ≡ class_of first → Some after ≡ behind_sign (read_symbol first rest) → kind_found kind.Symbol after ≡ with_kind (read_token bytes)
+pub sign_taken : (first : ℕ) (rest bytes after : List ℕ) → bytes ≡ first ∷ rest
+    → Sign ≡ class_of first → Some after ≡ behind_sign (read_symbol first rest)
+    → kind_found kind.Symbol after ≡ with_kind (read_token bytes)
 unfolding read_token
 sign_taken first rest bytes after e c a =
     let d : class_of first ≡ Sign = sym c in

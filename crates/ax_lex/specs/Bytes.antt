@@ -1,5 +1,5 @@
--- What a byte outside a text is. White space is the four characters of JSON (RFC 8259, section 2), letters and digits
--- are those of ASCII.
+-- What a byte outside a text is. White space is the four characters of JSON (RFC 8259, section 2),
+-- letters and digits are those of ASCII.
 use Rattle.std.specs.Prelude.{ℕ, Bool, true, false, ◌&&◌, ◌||◌, ◌==◌, nat_le, if◌then◌else◌}
 use Rattle.ax_lex.specs.declared.class.ByteClass.{ByteClass}
 use Rattle.ax_lex.specs.declared.class.ByteClass.TheVariants.{Space, Letter, Digit, Quote, At, Sign}
@@ -7,7 +7,8 @@ use Rattle.ax_lex.specs.declared.class.ByteClass.TheVariants.{Space, Letter, Dig
 abbrev pub is_between : ℕ → ℕ → ℕ → Bool
 is_between low high byte = nat_le low byte && nat_le byte high
 
--- space, tab, carriage return, newline; `A` to `Z`, `a` to `z`, `_`; `0` to `9`; `'` and `"`; `@`; any other byte
+-- space, tab, carriage return, newline; `A` to `Z`, `a` to `z`, `_`; `0` to `9`; `'` and `"`; `@`;
+-- any other byte
 abbrev pub class_of : ℕ → ByteClass
 class_of byte =
     if byte == 32 || byte == 9 || byte == 13 || byte == 10 then Space

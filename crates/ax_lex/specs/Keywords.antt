@@ -1,6 +1,7 @@
--- The keywords, and which of them a word is. Those of SQL (ISO/IEC 9075) that queries of Azure Cosmos DB for NoSQL have.
-use Rattle.std.specs.Prelude.{ℕ, List, [], ◌∷◌, Option, codes}
-use Rattle.std.specs.List.{find}
+-- The keywords, and which of them a word is. Those of SQL (ISO/IEC 9075) that queries of Azure
+-- Cosmos DB for NoSQL have.
+use Rattle.std.specs.Prelude.{ℕ, List, [], ◌∷◌, Option, codes, length, ◌==◌}
+use Rattle.std.specs.List.{filter, find}
 use Rattle.std.specs.Str.{str_eq_ignore_ascii_case}
 use Rattle.ax_lex.specs.declared.keyword.Keyword.{Keyword}
 use Rattle.ax_lex.specs.declared.keyword.Keyword.TheVariants as keyword
@@ -43,3 +44,7 @@ keywords =
 -- the keyword that a word is, in letters of any case
 abbrev pub keyword_of : List ℕ → Option Keyword
 keyword_of word = find (λ keyword. str_eq_ignore_ascii_case word (spelling keyword)) keywords
+
+-- the keywords of so many letters
+abbrev pub keywords_of : ℕ → List Keyword
+keywords_of letters = filter (λ keyword. length (spelling keyword) == letters) keywords

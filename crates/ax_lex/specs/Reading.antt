@@ -1,5 +1,6 @@
--- Reading a token from the front of a list of bytes, as functions on lists that answer what was read and the rest. Only
--- the clauses of private functions, and `text_of`, cite these: what is read is said by the grammar in `Tokens`.
+-- Reading a token from the front of a list of bytes, as functions on lists that answer what was
+-- read and the rest. Only the clauses of private functions, and `text_of`, cite these: what is read
+-- is said by the grammar in `Tokens`.
 use Rattle.std.specs.Prelude.{ℕ, Bool, true, false, ◌&&◌, ◌==◌, List, [], ◌∷◌, ◌++◌, Option, Some, None, zero, suc, length, nat_le, option_and_then, encode_utf8, if◌then◌else◌}
 use Rattle.std.specs.Option.{option_map}
 use lib.Utf8.{scalar}
@@ -63,24 +64,29 @@ read_digit high (byte ∷ rest) = if is_hex byte then Some (with_digit high byte
 -- four of them
 unfoldable pub read_digits : List ℕ → Option (ℕ × List ℕ)
 read_digits bytes =
-    option_and_then (λ a. option_and_then (λ b. option_and_then (λ c. read_digit c.0 c.1) (read_digit b.0 b.1)) (read_digit a.0 a.1))
+    option_and_then (λ a. option_and_then (λ b. option_and_then (λ c. read_digit c.0 c.1)
+    (read_digit b.0 b.1)) (read_digit a.0 a.1))
     (read_digit 0 bytes)
 
 -- the unit at the front
 unfoldable pub read_unit : List ℕ → Option (ℕ × List ℕ)
-read_unit bytes = option_and_then (λ rest. option_and_then read_digits (after_byte letter_u rest)) (after_byte backslash bytes)
+read_unit bytes = option_and_then (λ rest. option_and_then read_digits
+    (after_byte letter_u rest)) (after_byte backslash bytes)
 
 -- the character of two surrogates
 abbrev pub pair_character : ℕ → ℕ → Option ℕ
-pair_character high low = if is_high high && is_low low then Some (character_of_pair high low) else None
+pair_character high low = if is_high high && is_low low then Some
+    (character_of_pair high low) else None
 
 -- the character of this surrogate and the one that follows it at once
 unfoldable pub read_second : ℕ → List ℕ → Option (List ℕ × List ℕ)
 read_second high bytes =
-    option_and_then (λ low. option_map (λ code. (encode_utf8 code, low.1)) (pair_character high low.0)) (read_unit bytes)
+    option_and_then (λ low. option_map (λ code. (encode_utf8 code, low.1))
+    (pair_character high low.0)) (read_unit bytes)
 
 abbrev pub character_at : ℕ × List ℕ → Option (List ℕ × List ℕ)
-character_at unit = if scalar unit.0 then Some (encode_utf8 unit.0, unit.1) else read_second unit.0 unit.1
+character_at unit = if scalar unit.0 then Some
+    (encode_utf8 unit.0, unit.1) else read_second unit.0 unit.1
 
 -- the character whose number stands at the front, behind `\u`
 unfoldable pub read_character : List ℕ → Option (List ℕ × List ℕ)
@@ -111,7 +117,8 @@ read_inside quote zero bytes = None
 read_inside quote (suc more) [] = None
 read_inside quote (suc more) (byte ∷ rest) =
     if byte == quote then Some ([], rest)
-    else option_and_then (λ first. behind first.0 (read_inside quote more first.1)) (read_piece (byte ∷ rest))
+    else option_and_then (λ first. behind first.0 (read_inside quote more first.1)) (read_piece
+    (byte ∷ rest))
 
 -- what a word says that is this keyword, or none
 abbrev pub word_says : Option Keyword → List ℕ → Lexeme
@@ -139,9 +146,14 @@ read_number first rest =
 -- the token that a byte of this class begins
 abbrev pub read_by : ByteClass → ℕ → List ℕ → Option (Lexeme × List ℕ)
 read_by Space first rest = None
-read_by Letter first rest = option_map (λ found. (word_says (keyword_of found.0) found.0, found.1)) (read_word (first ∷ rest))
+read_by Letter first rest = option_map (λ found. (
+  word_says
+      (keyword_of found.0) found.0,
+  found.1,
+)) (read_word (first ∷ rest))
 read_by Digit first rest = read_number first rest
-read_by Quote first rest = option_map (λ found. (text found.0, found.1)) (read_inside first (length rest) rest)
+read_by Quote first rest = option_map (λ found. (text found.0, found.1)) (read_inside first
+    (length rest) rest)
 read_by At first rest = option_map (λ found. (parameter found.0, found.1)) (read_word rest)
 read_by Sign first rest = read_symbol first rest
 

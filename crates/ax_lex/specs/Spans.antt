@@ -5,4 +5,5 @@ use Rattle.ax_lex.specs.declared.token.Token.{Token}
 -- the spans stand between these two places, one behind the other
 abbrev pub SpansRise : ℕ → List Token → ℕ → Type 0
 SpansRise low [] high = low ≤ high
-SpansRise low (token ∷ tokens) high = (low ≤ token.start) × (token.start < token.end) × SpansRise token.end tokens high
+SpansRise low (token ∷ tokens) high = (low ≤ token.start) × (token.start < token.end)
+    × SpansRise token.end tokens high

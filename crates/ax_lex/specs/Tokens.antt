@@ -1,6 +1,7 @@
--- The grammar of tokens: which tokens a query text has, by what is before a token (the bytes from its first on) and what
--- is after it. A token is the longest that may stand at its place, so what may not follow is said with it. The words of
--- the language are those of queries of Azure Cosmos DB for NoSQL.
+-- The grammar of tokens: which tokens a query text has, by what is before a token (the bytes from
+-- its first on) and what is after it. A token is the longest that may stand at its place, so what
+-- may not follow is said with it. The words of the language are those of queries of Azure Cosmos DB
+-- for NoSQL.
 use Rattle.std.specs.Prelude.{◌≡◌, ℕ, ◌+◌, ◌-◌, ◌*◌, ◌≤◌, Bool, true, false, ◌&&◌, ◌||◌, ◌==◌, List, [], ◌∷◌, length, fold, Some, None}
 use Rattle.std.specs.Str.{IsUtf8}
 use Rattle.ax_lex.specs.declared.class.ByteClass.TheVariants as class
@@ -30,7 +31,8 @@ most_of_a_word = 255
 
 -- word = letter {letter | digit}, of at most 255 bytes
 pub data IsWord : (word before after : List ℕ) → Type 0 where
-  word : {first : ℕ} {run before after : List ℕ} → is_letter first ≡ true → IsRun is_word_byte run before after
+  word : {first : ℕ} {run before after : List ℕ} → is_letter first ≡ true
+      → IsRun is_word_byte run before after
       → length (first ∷ run) ≤ most_of_a_word → IsWord (first ∷ run) (first ∷ before) after
 
 -- the value of decimal digits
@@ -50,34 +52,43 @@ pub data IsToken : (lexeme : Lexeme) (before after : List ℕ) → Type 0 where
   word_as_keyword : {which : Keyword} {word before after : List ℕ} → IsWord word before after
       → keyword_of word ≡ Some which → IsToken (keyword which) before after
   -- parameter = "@" word
-  at_and_word : {at : ℕ} {word before after : List ℕ} → class_of at ≡ class.At → IsWord word before after
+  at_and_word : {at : ℕ} {word before after : List ℕ} → class_of at ≡ class.At
+      → IsWord word before after
       → IsToken (parameter word) (at ∷ before) after
   -- text = quote inside, up to the same quote
-  quoted : {quote : ℕ} {value before after : List ℕ} → class_of quote ≡ class.Quote → IsInside quote value before after
+  quoted : {quote : ℕ} {value before after : List ℕ} → class_of quote ≡ class.Quote
+      → IsInside quote value before after
       → IsToken (text value) (quote ∷ before) after
   -- number = digit {digit}, with nothing behind it that spoils it
-  digits : {first value : ℕ} {run before after : List ℕ} → class_of first ≡ class.Digit → IsRun is_digit run before after
-      → spoils_number after ≡ false → value ≡ number_of (first ∷ run) → IsToken (number value) (first ∷ before) after
+  digits : {first value : ℕ} {run before after : List ℕ} → class_of first ≡ class.Digit
+      → IsRun is_digit run before after
+      → spoils_number after ≡ false → value ≡ number_of (first ∷ run)
+      → IsToken (number value) (first ∷ before) after
   -- symbol = sign sign
   two_signs : {which : Symbol} {sign next : ℕ} {after : List ℕ} → class_of sign ≡ class.Sign
       → pair_symbol sign next ≡ Some which → IsToken (symbol which) (sign ∷ next ∷ after) after
   -- symbol = sign, where it belongs with no sign after it
   one_sign : {which : Symbol} {sign : ℕ} {after : List ℕ} → class_of sign ≡ class.Sign
-      → begins_pair sign after ≡ false → single_symbol sign ≡ Some which → IsToken (symbol which) (sign ∷ after) after
+      → begins_pair sign after ≡ false → single_symbol sign ≡ Some which
+      → IsToken (symbol which) (sign ∷ after) after
 
 -- a token stands before these bytes, in a text of so many bytes, and says this
-pub record Stands (total : ℕ) (token : Token) (lexeme : Lexeme) (before after : List ℕ) : Type 0 where
+pub record Stands (total : ℕ) (token : Token) (lexeme : Lexeme)
+    (before after : List ℕ) : Type 0 where
   pub reads : IsToken lexeme before after
   pub kind : token.kind ≡ kind_of lexeme
   pub start : token.start ≡ total - length before
   pub end : token.end ≡ total - length after
 
 -- tokens = {space | token}, up to the end of a text of so many bytes
-pub data HasTokens (total : ℕ) : (before : List ℕ) (tokens : List Token) (lexemes : List Lexeme) → Type 0 where
+pub data HasTokens (total : ℕ) : (before : List ℕ) (tokens : List Token) (lexemes : List Lexeme)
+    → Type 0 where
   ended : HasTokens total [] [] []
-  space : {byte : ℕ} {before : List ℕ} {tokens : List Token} {lexemes : List Lexeme} → class_of byte ≡ class.Space
+  space : {byte : ℕ} {before : List ℕ} {tokens : List Token} {lexemes : List Lexeme}
+      → class_of byte ≡ class.Space
       → HasTokens total before tokens lexemes → HasTokens total (byte ∷ before) tokens lexemes
-  token : {token : Token} {lexeme : Lexeme} {before after : List ℕ} {tokens : List Token} {lexemes : List Lexeme}
+  token : {token : Token} {lexeme : Lexeme} {before after : List ℕ} {tokens : List Token}
+      {lexemes : List Lexeme}
       → Stands total token lexeme before after → HasTokens total after tokens lexemes
       → HasTokens total before (token ∷ tokens) (lexeme ∷ lexemes)
 

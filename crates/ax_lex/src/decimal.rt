@@ -4,7 +4,8 @@ ghost use Rattle.std.specs.Prelude.{◌≡◌, ◌≤◌};
 ghost use Rattle.std.specs.Option.{SomeIff};
 ghost use Rattle.ax_lex.specs.Tokens.{number_of};
 
-/// The value of the digits of a number, where it is at most `limit`: `None` where it is above. It may have leading zeros.
+/// The value of the digits of a number, where it is at most `limit`: `None` where it is above. It
+/// may have leading zeros.
 pub fn number(digits: &[u8], limit: u64) -> Option<u64>
     ensures { SomeIff result (number_of digits.now ≤ limit) (number_of digits.now) }
 {

@@ -3,7 +3,8 @@ use std::alloc::{AllocError, AllocFailed};
 /// Why a text has no tokens here.
 #[derive(Clone, Copy, Debug, PartialEq, Eq)]
 pub enum LexFault {
-    /// The text is outside the grammar of tokens: some of its bytes are no token and no white space, or it is no UTF-8.
+    /// The text is outside the grammar of tokens: some of its bytes are no token and no white
+    /// space, or it is no UTF-8.
     Text,
     /// Out of memory.
     Memory,

@@ -8,7 +8,8 @@ use crate::piece::split_piece;
 
 /// The bytes after the quote that closes a text, from behind the one that opens it on.
 pub(crate) fn after_inside(quote: u8, bytes: &[u8]) -> Option<&[u8]>
-    ensures { option_map (λ after. after.now) result ≡ option_map (λ found. found.1) (read_inside quote (length bytes.now) bytes.now) }
+    ensures { option_map (λ after. after.now) result
+        ≡ option_map (λ found. found.1) (read_inside quote (length bytes.now) bytes.now) }
 {
     let mut rest = bytes;
     for _turn in 0..bytes.len() {

@@ -1,5 +1,10 @@
 //! The words that the language keeps for itself.
 
+ghost use Rattle.std.specs.Prelude.{◌≡◌};
+ghost use Rattle.std.specs.List.{find};
+ghost use Rattle.std.specs.Str.{str_eq_ignore_ascii_case};
+ghost use Rattle.ax_lex.specs.Keywords.{keyword_of, keywords_of, spelling};
+
 /// A keyword. It is written in letters of any case.
 #[derive(Clone, Copy, Debug, PartialEq, Eq)]
 pub enum Keyword {
@@ -30,47 +35,54 @@ pub enum Keyword {
     Undefined,
 }
 
-const KEYWORDS: [Keyword; 25] = [
-    Keyword::Select,
-    Keyword::Top,
-    Keyword::Distinct,
-    Keyword::Value,
-    Keyword::As,
-    Keyword::From,
-    Keyword::Join,
-    Keyword::In,
-    Keyword::Where,
-    Keyword::Order,
-    Keyword::By,
-    Keyword::Asc,
-    Keyword::Desc,
-    Keyword::Group,
-    Keyword::Offset,
-    Keyword::Limit,
-    Keyword::And,
-    Keyword::Or,
-    Keyword::Not,
-    Keyword::Between,
-    Keyword::Like,
-    Keyword::Null,
-    Keyword::True,
-    Keyword::False,
-    Keyword::Undefined,
-];
+/// The keywords of so many letters.
+fn keywords_of(letters: usize) -> &'static [Keyword]
+    ensures { result.now ≡ keywords_of letters }
+{
+    match letters {
+        2 => &[Keyword::As, Keyword::In, Keyword::By, Keyword::Or],
+        3 => &[Keyword::Top, Keyword::Asc, Keyword::And, Keyword::Not],
+        4 => &[
+            Keyword::From,
+            Keyword::Join,
+            Keyword::Desc,
+            Keyword::Like,
+            Keyword::Null,
+            Keyword::True,
+        ],
+        5 => &[
+            Keyword::Value,
+            Keyword::Where,
+            Keyword::Order,
+            Keyword::Group,
+            Keyword::Limit,
+            Keyword::False,
+        ],
+        6 => &[Keyword::Select, Keyword::Offset],
+        7 => &[Keyword::Between],
+        8 => &[Keyword::Distinct],
+        9 => &[Keyword::Undefined],
+        _ => &[],
+    }
+}
+
+/// The first of these keywords that is spelled as the word, in letters of any case.
+fn spelled_as(keywords: &[Keyword], word: &[u8]) -> Option<Keyword>
+    ensures { result
+        ≡ find (λ keyword. str_eq_ignore_ascii_case word.now (spelling keyword)) keywords.now }
+{
+    keywords
+        .iter()
+        .copied()
+        .find(|keyword| keyword.is_spelled(word))
+}
 
 impl Keyword {
-    ghost use Rattle.std.specs.Prelude.{◌≡◌};
-    ghost use Rattle.ax_lex.specs.Keywords.{keyword_of, spelling};
-    ghost use Rattle.std.specs.Str.{str_eq_ignore_ascii_case};
-
     /// The keyword that a word is, in letters of any case. `None` where it is none.
     pub fn of(word: &[u8]) -> Option<Keyword>
         ensures { result ≡ keyword_of word.now }
     {
-        KEYWORDS
-            .iter()
-            .copied()
-            .find(|keyword| keyword.is_spelled(word))
+        spelled_as(keywords_of(word.len()), word)
     }
 
     /// The keyword in capital letters.

@@ -12,14 +12,14 @@ ghost use Rattle.ax_lex.specs.Tokens.{AreTokens, IsToken};
 
 /// A text has one list of tokens at most, and they say one thing.
 pub fn tokens_are_the_ones()
-    ensures { (text : List ℕ) (a b : List Token) (x y : List Lexeme) → AreTokens text a x → AreTokens text b y
-        → (a ≡ b) × (x ≡ y) }
+    ensures { (text : List ℕ) (a b : List Token) (x y : List Lexeme)
+        → AreTokens text a x → AreTokens text b y → (a ≡ b) × (x ≡ y) }
 {}
 
 /// What the tokens of a text say is what their bytes say.
 pub fn tokens_say_what_their_bytes_say()
-    ensures { (text : List ℕ) (tokens : List Token) (lexemes : List Lexeme) → AreTokens text tokens lexemes
-        → lexemes ≡ lexemes_of text tokens }
+    ensures { (text : List ℕ) (tokens : List Token) (lexemes : List Lexeme)
+        → AreTokens text tokens lexemes → lexemes ≡ lexemes_of text tokens }
 {}
 
 /// Bytes that are taken as a token of a kind say something of that kind.
@@ -29,8 +29,8 @@ pub fn bytes_say_their_kind()
 
 /// The tokens of a text stand one behind the other, and in it.
 pub fn spans_of_tokens_rise()
-    ensures { (text : List ℕ) (tokens : List Token) (lexemes : List Lexeme) → AreTokens text tokens lexemes
-        → SpansRise 0 tokens (length text) }
+    ensures { (text : List ℕ) (tokens : List Token) (lexemes : List Lexeme)
+        → AreTokens text tokens lexemes → SpansRise 0 tokens (length text) }
 {}
 
 /// What `text_value` answers is what the grammar has for bytes that are one text token and no more.

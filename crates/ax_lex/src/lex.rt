@@ -18,9 +18,12 @@ use std::alloc::Global;
 
 /// The tokens of bytes that are UTF-8, as `tokens` gives them.
 pub(crate) fn lex(alloc: Global, text: &[u8]) -> Result<Vec<Token>, LexFault>
-    ensures ok { IfOk result (λ found. (lexemes : List Lexeme) × HasTokens (length text.now) text.now found.items lexemes) }
+    ensures ok { IfOk result
+        (λ found. (lexemes : List Lexeme)
+        × HasTokens (length text.now) text.now found.items lexemes) }
     ensures refused { result ≡ Err LexFault.Text
-        → (tokens : List Token) (lexemes : List Lexeme) → ¬ (HasTokens (length text.now) text.now tokens lexemes) }
+        → (tokens : List Token) (lexemes : List Lexeme)
+        → ¬ (HasTokens (length text.now) text.now tokens lexemes) }
 {
     // A token and the space behind it take some four bytes.
     let mut found = Vec::with_capacity(alloc, text.len() / 4)?;
@@ -70,7 +73,8 @@ fn is_space(byte: u8) -> bool
 #[tactic(auto, unfolding(crate::specs::Reading::read_token))]
 #[inline]
 fn split_token(bytes: &[u8]) -> Option<(TokenKind, &[u8])>
-    ensures { option_map (λ found. (found.0, found.1.now)) result ≡ with_kind (read_token bytes.now) }
+    ensures { option_map (λ found. (found.0, found.1.now)) result
+        ≡ with_kind (read_token bytes.now) }
 {
     let (&first, rest) = bytes.split_first()?;
     match class_of(first) {
@@ -117,7 +121,8 @@ fn word_kind(word: &[u8]) -> TokenKind
 /// The bytes after the symbol that begins with this sign: two signs, or else one.
 #[inline]
 fn after_symbol(sign: u8, rest: &[u8]) -> Option<&[u8]>
-    ensures { option_map (λ after. after.now) result ≡ option_map (λ found. found.1) (read_symbol sign rest.now) }
+    ensures { option_map (λ after. after.now) result
+        ≡ option_map (λ found. found.1) (read_symbol sign rest.now) }
 {
     if let Some((&next, after)) = rest.split_first()
         && pair_symbol(sign, next).is_some()

@@ -1,9 +1,10 @@
-//! The tokens of a query text: names, keywords, parameters, texts, numbers and symbols, with the place of each.
+//! The tokens of a query text: names, keywords, parameters, texts, numbers and symbols, with the
+//! place of each.
 //!
-//! The crate stands on `std` alone. Its one contract: `tokens` answers the list of tokens that the grammar of
-//! `specs/Tokens.antt` relates to the text, each with its span, and `LexFault::Text` only where the grammar relates
-//! none. At most one list is related to a text, a law. What a token says is asked by its bytes: `Keyword::of`,
-//! `Symbol::of`, `number` and `text_value`.
+//! The crate stands on `std` alone. Its one contract: `tokens` answers the list of tokens that the
+//! grammar of `specs/Tokens.antt` relates to the text, each with its span, and `LexFault::Text`
+//! only where the grammar relates none. At most one list is related to a text, a law. What a token
+//! says is asked by its bytes: `Keyword::of`, `Symbol::of`, `number` and `text_value`.
 #![tactic(auto)]
 
 mod class;

@@ -18,7 +18,8 @@ pub enum Piece {
 #[inline]
 #[tactic(auto, unfolding(crate::specs::Reading::read_piece))]
 pub(crate) fn split_piece(bytes: &[u8]) -> Option<(Piece, &[u8])>
-    ensures { option_map (λ found. (piece_bytes found.0, found.1.now)) result ≡ read_piece bytes.now }
+    ensures { option_map (λ found. (piece_bytes found.0, found.1.now)) result
+        ≡ read_piece bytes.now }
 {
     let (&byte, after) = bytes.split_first()?;
     if byte == b'\\' {
@@ -31,7 +32,8 @@ pub(crate) fn split_piece(bytes: &[u8]) -> Option<(Piece, &[u8])>
 /// The same for an escape, from behind its backslash on.
 #[tactic(auto, unfolding(crate::specs::Reading::read_escape))]
 fn split_escape(bytes: &[u8]) -> Option<(Piece, &[u8])>
-    ensures { option_map (λ found. (piece_bytes found.0, found.1.now)) result ≡ read_escape bytes.now }
+    ensures { option_map (λ found. (piece_bytes found.0, found.1.now)) result
+        ≡ read_escape bytes.now }
 {
     let (&letter, after) = bytes.split_first()?;
     if let Some(byte) = short_escape(letter) {
@@ -65,7 +67,8 @@ fn short_escape(letter: u8) -> Option<u8>
 /// The same for a character by its number, from behind `\u` on.
 #[tactic(auto, unfolding(crate::specs::Reading::read_character))]
 fn split_character(bytes: &[u8]) -> Option<(Piece, &[u8])>
-    ensures { option_map (λ found. (piece_bytes found.0, found.1.now)) result ≡ read_character bytes.now }
+    ensures { option_map (λ found. (piece_bytes found.0, found.1.now)) result
+        ≡ read_character bytes.now }
 {
     let (unit, after) = split_digits(bytes)?;
     match char::from_u32(unit) {
@@ -77,7 +80,8 @@ fn split_character(bytes: &[u8]) -> Option<(Piece, &[u8])>
 /// The same for a pair of surrogates, from behind the first of them on.
 #[tactic(auto, unfolding(crate::specs::Reading::read_second))]
 fn split_second(high: u32, bytes: &[u8]) -> Option<(Piece, &[u8])>
-    ensures { option_map (λ found. (piece_bytes found.0, found.1.now)) result ≡ read_second high bytes.now }
+    ensures { option_map (λ found. (piece_bytes found.0, found.1.now)) result
+        ≡ read_second high bytes.now }
 {
     let (low, after) = split_unit(bytes)?;
     let character = character_of_pair(high, low)?;
@@ -128,7 +132,8 @@ fn split_digits(bytes: &[u8]) -> Option<(u32, &[u8])>
 /// Takes a hexadecimal digit off the front, behind those of this value.
 fn split_digit(high: u32, bytes: &[u8]) -> Option<(u32, &[u8])>
     requires { high < 65536 }
-    ensures digit { option_map (λ found. (found.0, found.1.now)) result ≡ read_digit high bytes.now }
+    ensures digit { option_map (λ found. (found.0, found.1.now)) result
+        ≡ read_digit high bytes.now }
     ensures small { IfSome result (λ found. found.0 < 16 * high + 16) }
 {
     let (&byte, rest) = bytes.split_first()?;

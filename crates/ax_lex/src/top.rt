@@ -13,7 +13,8 @@ use std::alloc::Global;
 /// The tokens of a query text. `LexFault::Text` where the grammar of tokens relates no list to it.
 pub fn tokens(alloc: Global, text: &[u8]) -> Result<Vec<Token>, LexFault>
     // They are the tokens of the text, and say what their bytes say.
-    ensures ok { IfOk result (λ found. AreTokens text.now found.items (lexemes_of text.now found.items)) }
+    ensures ok { IfOk result
+        (λ found. AreTokens text.now found.items (lexemes_of text.now found.items)) }
     ensures refused { result ≡ Err LexFault.Text
         → (tokens : List Token) (lexemes : List Lexeme) → ¬ (AreTokens text.now tokens lexemes) }
 

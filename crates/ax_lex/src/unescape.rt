@@ -11,8 +11,8 @@ use crate::fault::LexFault;
 use crate::piece::{Piece, split_piece};
 use std::alloc::{AllocError, Global};
 
-/// What stands between the quotes of a text token, its escapes undone. `LexFault::Text` where the bytes are no text
-/// token, which the bytes of a token of that kind never are.
+/// What stands between the quotes of a text token, its escapes undone. `LexFault::Text` where the
+/// bytes are no text token, which the bytes of a token of that kind never are.
 pub fn text_value(alloc: Global, bytes: &[u8]) -> Result<String, LexFault>
     ensures ok { IfOk result (λ value. text_of bytes.now ≡ Some (string_bytes value)) }
     ensures refused { result ≡ Err LexFault.Text → text_of bytes.now ≡ None }
@@ -34,10 +34,14 @@ pub fn text_value(alloc: Global, bytes: &[u8]) -> Result<String, LexFault>
     Ok(value)
 }
 
-/// What stands before the quote that closes a text, from behind the one that opens it on, and the bytes after.
+/// What stands before the quote that closes a text, from behind the one that opens it on, and the
+/// bytes after.
 fn unescaped(alloc: Global, quote: u8, bytes: &[u8]) -> Result<(Vec<u8>, &[u8]), LexFault>
-    ensures ok { IfOk result (λ found. read_inside quote (length bytes.now) bytes.now ≡ Some (found.0.items, found.1.now)) }
-    ensures refused { result ≡ Err LexFault.Text → read_inside quote (length bytes.now) bytes.now ≡ None }
+    ensures ok { IfOk result
+        (λ found. read_inside quote (length bytes.now) bytes.now
+        ≡ Some (found.0.items, found.1.now)) }
+    ensures refused { result ≡ Err LexFault.Text
+        → read_inside quote (length bytes.now) bytes.now ≡ None }
 {
     let mut value = Vec::with_capacity(alloc, bytes.len())?;
     let mut rest = bytes;

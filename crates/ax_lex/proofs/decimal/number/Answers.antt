@@ -5,12 +5,17 @@ use Rattle.ax_lex.proofs.decimal.number.Goals as goal
 
 pub returns-in_err-checked_mul : goal.returns-in_err-checked_mul
 returns-in_err-checked_mul c =
-    let large : 10 * c.loop-digit.value + (get_or c.args.digits.now c.loop-digit.digit-index 0 - 48) ≤ number_of c.args.digits.now =
-    rw c.loop-digit.invariant at (large_already c.args.digits.now c.loop-digit.digit-index c.loop-digit.value (omega arith)) in
+    let large : 10 * c.loop-digit.value +
+    (get_or c.args.digits.now c.loop-digit.digit-index 0 - 48) ≤ number_of c.args.digits.now =
+    rw c.loop-digit.invariant at
+    (large_already c.args.digits.now c.loop-digit.digit-index c.loop-digit.value (omega arith)) in
     rw c.from_residual.ensures (λ h. c.in_err-checked_mul.ensures (omega (arith, h)))
 
 pub returns-in_err-value : goal.returns-in_err-value
 returns-in_err-value c =
-    let large : 10 * c.loop-digit.value + (get_or c.args.digits.now c.loop-digit.digit-index 0 - 48) ≤ number_of c.args.digits.now =
-    rw c.loop-digit.invariant at (large_already c.args.digits.now c.loop-digit.digit-index c.loop-digit.value (omega arith)) in
-    rw c.from_residual-in_err-value.ensures (λ h. c.in_err-value.ensures (omega (arith, h, c.in_ok-checked_mul.ensures, c.from.ensures, c.saturating_sub.ensures)))
+    let large : 10 * c.loop-digit.value +
+    (get_or c.args.digits.now c.loop-digit.digit-index 0 - 48) ≤ number_of c.args.digits.now =
+    rw c.loop-digit.invariant at
+    (large_already c.args.digits.now c.loop-digit.digit-index c.loop-digit.value (omega arith)) in
+    rw c.from_residual-in_err-value.ensures (λ h. c.in_err-value.ensures (omega
+    (arith, h, c.in_ok-checked_mul.ensures, c.from.ensures, c.saturating_sub.ensures)))

@@ -8,11 +8,13 @@ use Rattle.ax_lex.proofs.top.tokens.Goals as goal
 pub returns-clause-ok : goal.returns-clause-ok
 returns-clause-ok c =
     let text = c.args.text.now in
-    then_ok (λ found. (lexemes : List Lexeme) × HasTokens (length text) text found.items lexemes) _ c.lex.result
+    then_ok (λ found. (lexemes : List Lexeme) × HasTokens
+    (length text) text found.items lexemes) _ c.lex.result
     (λ found h. with_lexemes text found.items c.in-Ok.ensures.cases.1 h) c.lex.ensures.ok
 
 pub returns-clause-spans : goal.returns-clause-spans
 returns-clause-spans c =
     let text = c.args.text.now in
-    then_ok (λ found. (lexemes : List Lexeme) × HasTokens (length text) text found.items lexemes) _ c.lex.result
+    then_ok (λ found. (lexemes : List Lexeme) × HasTokens
+    (length text) text found.items lexemes) _ c.lex.result
     (λ found h. all_rise text found.items h.0 h.1) c.lex.ensures.ok

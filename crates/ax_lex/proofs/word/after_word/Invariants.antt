@@ -4,7 +4,8 @@ use Rattle.ax_lex.specs.Reading.{after_run}
 use Rattle.ax_lex.proofs.word.after_word.Given as goal
 
 abbrev pub invariant-loop-byte : goal.invariant-loop-byte
-invariant-loop-byte l = (after_run is_word_byte l.rest ≡ after_run is_word_byte l.bytes) × (length l.rest ≤ length l.bytes)
+invariant-loop-byte l = (after_run is_word_byte l.rest ≡ after_run is_word_byte l.bytes) ×
+    (length l.rest ≤ length l.bytes)
 
 abbrev pub decreases-loop-byte : goal.decreases-loop-byte
 decreases-loop-byte l = length l.rest
