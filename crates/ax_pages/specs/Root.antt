@@ -4,9 +4,9 @@
 use Rattle.std.specs.Prelude.{◌≡◌, ◌⊎◌, ℕ, ◌==◌, nat_lt, if◌then◌else◌, ◌<◌, ◌≤◌, List, length, take, drop}
 use Rattle.ax_disk.specs.declared.extent.Extent.{Extent}
 use Rattle.ax_disk.specs.declared.extent.Extent.TheVariants.{A, B}
-use Rattle.ax_frame.specs.declared.slot.RootSlot.{RootSlot}
-use Rattle.ax_frame.specs.declared.slot.RootSlot.TheVariants.{Closed, Live, Bad}
-use Rattle.ax_frame.specs.Slot.{IsSlot}
+use Rattle.ax_frame.specs.declared.root_slot.RootSlot.{RootSlot}
+use Rattle.ax_frame.specs.declared.root_slot.RootSlot.TheVariants.{Closed, Live, Bad}
+use Rattle.ax_frame.specs.RootSlot.{IsSlot}
 use Rattle.ax_pages.specs.declared.root.RootChoice.{RootChoice}
 use Rattle.ax_pages.specs.declared.root.RootChoice.TheVariants.{Fresh, Counts, Damaged}
 
