@@ -13,13 +13,13 @@ use Rattle.ax_disk.specs.laws.ExtentLaws.{list_of-same, list_of-other, pending_o
 use Rattle.ax_disk.specs.laws.TornLaws.{one_byte_written}
 use Rattle.ax_disk.specs.laws.WriteLaws.{WriteFrom, written_list, common_list_stays}
 use Rattle.ax_disk.specs.laws.StaysLaws.{stays_join, stays_turn, stays_weaken, turns_weaken, writes_stay, writes_keep, syncs_stay, synced_rests}
-use Rattle.ax_frame.specs.Frame.{open_frame}
+use Rattle.ax_frame.specs.LogFrame.{open_frame}
 use Rattle.ax_pages.specs.declared.root.RootChoice.TheVariants.{Counts}
 use Rattle.ax_pages.specs.Root.{IsRoot}
 use Rattle.ax_pages.specs.Area.{frames_bytes, IsArea}
 use Rattle.ax_pages.specs.Image.{HasFrames}
 use Rattle.ax_pages.specs.laws.RootLaws.{counts_named}
-use Rattle.ax_pages.specs.laws.AreaLaws.{area_by_front, gate_within, frames_push, spans_push}
+use Rattle.ax_pages.specs.laws.AreaLaws.{area_by_prefix, gate_within, frames_push, spans_push}
 use Rattle.ax_log.specs.declared.log.Log.{Log}
 use Rattle.ax_log.specs.Log.{log_area, log_generation, log_end}
 use Rattle.ax_log.specs.Agreement.{HasLog, Agrees}
@@ -35,7 +35,7 @@ staged_ready bytes frames end text span end-is area frame =
     let gate = get_or bytes end 0 in
     let more = drop (end + 1 + length text) bytes in
     let before : take end bytes ≡ frames_bytes frames = ap (take end) area.spelled ∙ take_at (frames_bytes frames) area.rest end (sym end-is) in
-    let front : take (end + 1) bytes ≡ frames_bytes frames ++ gate ∷ [] = take_more bytes end 0 within ∙ ap (λ (b : List ℕ). b ++ gate ∷ []) before in
+    let prefix : take (end + 1) bytes ≡ frames_bytes frames ++ gate ∷ [] = take_more bytes end 0 within ∙ ap (λ (b : List ℕ). b ++ gate ∷ []) before in
     let place : end ≡ length (frames_bytes frames) + 0 = omega (arith, end-is) in
     let gate-is : gate ≡ get_or area.rest 0 0 =
     ap (λ (b : List ℕ). get_or b end 0) area.spelled ∙ ap (λ (k : ℕ). get_or (frames_bytes frames ++ area.rest) k 0) place ∙ get_or-append-add (frames_bytes frames) area.rest 0 0 in
@@ -47,7 +47,7 @@ staged_ready bytes frames end text span end-is area frame =
       gate = gate;
       closed = λ is. area.closed.1 (sym gate-is ∙ is);
       more = more;
-      spelled = ap (λ (b : List ℕ). b ++ text ++ more) front ∙ ap (λ (b : List ℕ). b ++ more) (append_assoc (frames_bytes frames) (gate ∷ []) text);
+      spelled = ap (λ (b : List ℕ). b ++ text ++ more) prefix ∙ ap (λ (b : List ℕ). b ++ more) (append_assoc (frames_bytes frames) (gate ∷ []) text);
     }
 
 -- some byte at the gate
@@ -59,8 +59,8 @@ module _ (bytes : List ℕ) (frames : List (List ℕ)) (end : ℕ) (span : List 
   unfolding ready_rest
   ready-is = ready.spelled ∙ append_assoc (frames_bytes frames) (ready.gate ∷ ready.text) ready.more
 
-  ready_front : take end bytes ≡ frames_bytes frames
-  ready_front = ap (take end) ready-is ∙ take_at (frames_bytes frames) (ready.gate ∷ ready_rest) end (sym end-is)
+  ready_prefix : take end bytes ≡ frames_bytes frames
+  ready_prefix = ap (take end) ready-is ∙ take_at (frames_bytes frames) (ready.gate ∷ ready_rest) end (sym end-is)
 
   ready_back : drop (end + 1) bytes ≡ ready_rest
   ready_back =
@@ -71,7 +71,7 @@ module _ (bytes : List ℕ) (frames : List (List ℕ)) (end : ℕ) (span : List 
   ready_within = omega (arith, end-is, ap length ready-is, length-append (frames_bytes frames) (ready.gate ∷ ready_rest))
 
   with_byte : (byte : ℕ) → take end bytes ++ byte ∷ drop (end + 1) bytes ≡ frames_bytes frames ++ byte ∷ ready_rest
-  with_byte byte = ap (λ (b : List ℕ). b ++ byte ∷ drop (end + 1) bytes) ready_front ∙ ap (λ (b : List ℕ). frames_bytes frames ++ byte ∷ b) ready_back
+  with_byte byte = ap (λ (b : List ℕ). b ++ byte ∷ drop (end + 1) bytes) ready_prefix ∙ ap (λ (b : List ℕ). frames_bytes frames ++ byte ∷ b) ready_back
 
   closed_area : (others : List ℕ) (byte : ℕ) → byte ≢ 1 → others ≡ take end bytes ++ byte ∷ drop (end + 1) bytes → IsArea others frames
   closed_area others byte closed is = record {
@@ -112,7 +112,7 @@ module _ (root : List ℕ) (area : Extent) (frames : List (List ℕ)) (end : ℕ
   kept_behind : (unsynced : Unsynced) (image : Image) → (from : WriteFrom area (end + 1) unsynced image) → HasLog root area frames from.before → HasLog root area frames image
   kept_behind unsynced image from has = record {
     root_is = from.others Root (λ e. apart (sym e)) ∙ has.root_is;
-    has = area_by_front (list_of area image) (list_of area from.before) frames (end + 1) (omega (arith, end-is)) from.front has.has;
+    has = area_by_prefix (list_of area image) (list_of area from.before) frames (end + 1) (omega (arith, end-is)) from.prefix has.has;
   }
 
   module _ {T E : Type 0} (text : List ℕ) (old mid : History) (stays : MayLeave old.unsynced old.reads) (within : end < length (list_of area old.reads)) (rests : Rests old (HasLog root area frames)) where

@@ -11,13 +11,13 @@ use Rattle.ax_disk.specs.laws.PendingLaws.{settled_only}
 use Rattle.ax_disk.specs.laws.TornLaws.{kept_up_to}
 use Rattle.ax_disk.specs.laws.WriteLaws.{CutImageFrom}
 use Rattle.ax_disk.specs.laws.StaysLaws.{stays_join, stays_weaken, writes_stay, cuts_keep, syncs_stay, synced_settled, settled_rests}
-use Rattle.ax_frame.specs.Slot.{CanName}
-use Rattle.ax_frame.specs.declared.slot.RootSlot.TheVariants.{Closed, Live}
+use Rattle.ax_frame.specs.RootSlot.{CanName}
+use Rattle.ax_frame.specs.declared.root_slot.RootSlot.TheVariants.{Closed, Live}
 use Rattle.ax_pages.specs.declared.root.RootChoice.TheVariants.{Fresh, Counts}
 use Rattle.ax_pages.specs.Root.{IsRoot, IsWholeRoot}
 use Rattle.ax_pages.specs.Area.{IsArea}
 use Rattle.ax_pages.specs.Image.{IsFresh, HasFrames}
-use Rattle.ax_pages.specs.laws.RootLaws.{fresh_front, whole_by_front}
+use Rattle.ax_pages.specs.laws.RootLaws.{fresh_prefix, whole_by_prefix}
 use Rattle.ax_log.specs.declared.log.Log.{Log}
 use Rattle.ax_log.specs.Log.{log_area, log_generation, log_end}
 use Rattle.ax_log.specs.Agreement.{HasLog, Agrees}
@@ -30,7 +30,7 @@ root_of image = image.root
 
 -- a cut of any list leaves a fresh root fresh
 cut_fresh : (ext : Extent) (unsynced : Unsynced) (image : Image) → (from : CutImageFrom ext unsynced image) → IsFresh from.before → IsFresh image
-cut_fresh Root unsynced image from fresh = fresh_front from.before.root image.root from.front fresh
+cut_fresh Root unsynced image from fresh = fresh_prefix from.before.root image.root from.prefix fresh
 cut_fresh A unsynced image from fresh = subst (λ (r : List ℕ). IsRoot r Fresh) (sym (from.others Root (λ e. absurd cc))) fresh
 cut_fresh B unsynced image from fresh = subst (λ (r : List ℕ). IsRoot r Fresh) (sym (from.others Root (λ e. absurd cc))) fresh
 
@@ -141,7 +141,7 @@ module _ (h0 : History) (laid_out : IsSettledAt laid_image h0) where
       (λ short. inl (short_fresh image.root short, refl))
       (λ long.
       let same : take 32 image.root ≡ take 32 fresh_slots = kept_up_to (written 32 1 (settled fresh_slots)) image.root 32 left.root (omega (arith, long)) (omega arith) (λ i below. (inl below, tt)) in
-      whole_has_none image (inr (whole_by_front image.root formed_image.root (Counts 1 A 1) long same formed_whole)) (settled_only (0 ∷ []) image.a left.a))
+      whole_has_none image (inr (whole_by_prefix image.root formed_image.root (Counts 1 A 1) long same formed_whole)) (settled_only (0 ∷ []) image.a left.a))
       (short_or_whole (length image.root))
 
   module _ {T E : Type 0} (h1 : History) where

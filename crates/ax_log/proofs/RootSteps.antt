@@ -2,8 +2,8 @@
 use Rattle.std.proofs.Common.{◌≡◌, inr, ℕ, ◌+◌, ◌≤◌, List, length, take, drop, sym, ◌∙◌, subst}
 use Rattle.ax_disk.specs.model.Calls.{bytes_from}
 use Rattle.ax_disk.specs.laws.ReadLaws.{bytes_from-within}
-use Rattle.ax_frame.specs.declared.slot.RootSlot.{RootSlot}
-use Rattle.ax_frame.specs.Slot.{IsSlot}
+use Rattle.ax_frame.specs.declared.root_slot.RootSlot.{RootSlot}
+use Rattle.ax_frame.specs.RootSlot.{IsSlot}
 use Rattle.ax_pages.specs.declared.root.RootChoice.{RootChoice}
 use Rattle.ax_pages.specs.Root.{chosen, IsRoot}
 

@@ -6,7 +6,7 @@ use Rattle.ax_disk.specs.declared.extent.Extent.{Extent}
 use Rattle.ax_disk.specs.model.Image.{Image, list_of}
 use Rattle.ax_disk.specs.model.Calls.{bytes_from}
 use Rattle.ax_disk.specs.laws.ReadLaws.{length-bytes_from, get_or-bytes_from, bytes_from-within, is_bytes_from}
-use Rattle.ax_frame.specs.Frame.{open_head, open_frame}
+use Rattle.ax_frame.specs.LogFrame.{open_head, open_frame}
 use Rattle.ax_frame.proofs.Frames.{body_found}
 use Rattle.ax_pages.specs.Area.{frames_bytes, IsClosed, IsNoLogFrame, IsBroken}
 use Rattle.ax_pages.specs.laws.AreaLaws.{frames_push, spans_push}
@@ -44,7 +44,7 @@ head_shown items list start at from n shows after within from-is n-is =
 pub frame_found : (bytes head : List ℕ) (len left : ℕ) → head ≡ bytes_from bytes 0 9 → left ≡ length bytes → 9 ≤ left → len ≤ left - 9 → 0 < len → len < 2 ^ 64
     → head ≡ open_head len → IsFrameOf bytes (9 + len)
 frame_found bytes head len left read left-is long short some fits is =
-    let front : open_head len ≡ take 9 bytes = sym is ∙ read ∙ bytes_from-within bytes 0 9 (omega arith) in
+    let prefix : open_head len ≡ take 9 bytes = sym is ∙ read ∙ bytes_from-within bytes 0 9 (omega arith) in
     let rest = drop 9 bytes in
     let enough : len ≤ length rest = omega (arith, length-drop 9 bytes) in
     let size : length (take len rest) ≡ len = omega (arith, length-take len rest) in
@@ -52,7 +52,7 @@ frame_found bytes head len left read left-is long short some fits is =
       span = take len rest;
       rest = drop len rest;
       fits = record { some = omega (arith, size); fits = subst (λ (k : ℕ). k < 2 ^ 64) (sym size) fits };
-      spelled = body_found bytes (open_head len) rest len front refl refl enough;
+      spelled = body_found bytes (open_head len) rest len prefix refl refl enough;
       size_is = omega (arith, size);
     }
 

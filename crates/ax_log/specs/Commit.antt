@@ -7,7 +7,7 @@ use Rattle.ax_disk.specs.model.Image.{list_of, with_list}
 use Rattle.ax_disk.specs.model.Pending.{all_settled}
 use Rattle.ax_disk.specs.model.Moments.{History}
 use Rattle.ax_disk.specs.model.Calls.{overwritten}
-use Rattle.ax_frame.specs.Frame.{open_frame}
+use Rattle.ax_frame.specs.LogFrame.{open_frame}
 use Rattle.ax_pages.specs.Area.{IsSpan, AreSpans, frames_bytes}
 
 -- The text of a frame that is to be committed: the frame without its own gate, and a closed gate

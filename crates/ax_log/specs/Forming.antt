@@ -5,7 +5,7 @@ use Rattle.std.specs.Prelude.{◌≡◌, List, ℕ, [], ◌∷◌, ◌++◌, rep
 use Rattle.ax_disk.specs.model.Image.{Image}
 use Rattle.ax_disk.specs.model.Pending.{all_settled}
 use Rattle.ax_disk.specs.model.Moments.{History}
-use Rattle.ax_frame.specs.Slot.{slot_bytes}
+use Rattle.ax_frame.specs.RootSlot.{slot_bytes}
 
 abbrev pub empty_image : Image
 empty_image = record { root = []; a = []; b = [] }

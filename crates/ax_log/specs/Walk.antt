@@ -3,7 +3,7 @@
 use Rattle.std.specs.Prelude.{◌≡◌, ℕ, ◌+◌, ◌<◌, ◌≤◌, List, ◌++◌, length, Result, Ok, Err}
 use Rattle.ax_disk.specs.declared.extent.Extent.{Extent}
 use Rattle.ax_disk.specs.model.Calls.{bytes_from}
-use Rattle.ax_frame.specs.Frame.{open_frame}
+use Rattle.ax_frame.specs.LogFrame.{open_frame}
 use Rattle.ax_pages.specs.Area.{IsSpan, AreSpans, frames_bytes, IsClosed, IsNoLogFrame, IsArea, IsBroken}
 use Rattle.ax_pages.specs.Image.{extent_number}
 use Rattle.ax_log.specs.declared.fault.LogFault.{LogFault}
@@ -26,7 +26,7 @@ window_start window = window.start
 abbrev pub window_bytes : Window → List ℕ
 window_bytes window = window.bytes.items
 
--- a frame of so many bytes stands at the front
+-- a frame of so many bytes stands first
 pub record IsFrameOf (bytes : List ℕ) (size : ℕ) : Type 0 where
   pub span : List ℕ
   pub rest : List ℕ
@@ -34,7 +34,7 @@ pub record IsFrameOf (bytes : List ℕ) (size : ℕ) : Type 0 where
   pub spelled : bytes ≡ open_frame span ++ rest
   pub size_is : size ≡ length (open_frame span)
 
--- what stands at the front of the bytes that are left
+-- what stands first in the bytes that are left
 abbrev pub IsNext : List ℕ → Next → Type 0
 IsNext bytes Closed = IsClosed bytes
 IsNext bytes (Frame size) = IsFrameOf bytes size

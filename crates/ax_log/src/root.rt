@@ -3,7 +3,7 @@
 ghost use Rattle.std.specs.Prelude.{◌≡◌, ◌+◌, ◌≤◌, ℕ, List, length, take, drop, IsTrue, IfOk};
 ghost use Rattle.ax_faults.specs.Faults.{HasCause};
 ghost use Rattle.ax_disk.specs.model.Calls.{Idles};
-ghost use Rattle.ax_frame.specs.Slot.{IsSlot};
+ghost use Rattle.ax_frame.specs.RootSlot.{IsSlot};
 ghost use Rattle.ax_pages.specs.Root.{IsRoot};
 
 use ax_disk::{Disk, DiskFailed, Extent};

@@ -130,7 +130,7 @@ fn head(window: &Window, at: u64) -> [u8; 9]
     head
 }
 
-/// What stands at the front of the bytes that are left, by the nine bytes there.
+/// What stands first in the bytes that are left, by the nine bytes there.
 fn what_follows(head: &[u8; 9], left: u64) -> Next
     requires { 0 < left }
     ensures is { (bytes : List ℕ) → head.now ≡ bytes_from bytes 0 9 → left ≡ length bytes → IsNext bytes result }

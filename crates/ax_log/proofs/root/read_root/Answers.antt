@@ -1,6 +1,6 @@
 use Rattle.std.proofs.Common.{◌≤◌, ℕ, length, ◌∙◌, ap, subst, arith, List, take, drop}
 use Rattle.ax_disk.specs.model.Image.{Image}
-use Rattle.ax_frame.specs.Slot.{IsSlot}
+use Rattle.ax_frame.specs.RootSlot.{IsSlot}
 use Rattle.ax_log.proofs.RootSteps.{root_read}
 use Rattle.ax_log.proofs.root.read_root.Goals as goal
 
