@@ -27,17 +27,24 @@ formed-Number z = search (rules, tree.the_lemmas)
 pub formed-Text : (s : List ℕ) → is_well_formed (tree.Text s) ≡ is_utf8 s
 formed-Text s = search (rules, tree.the_lemmas)
 
-formed-mapped : (ts : List tree.Tree) → is_well_formed (tree.List ts) ≡ list_all (λ item. item) (map is_well_formed ts)
+formed-mapped : (ts : List tree.Tree)
+    → is_well_formed (tree.List ts) ≡ list_all (λ item. item) (map is_well_formed ts)
 formed-mapped ts = search (rules, tree.the_lemmas)
 
-formed-judged : (ms : List (Member tree.Tree)) → is_well_formed (tree.Object ms) ≡ (is_rising (names (map judged ms)) && list_all (λ m. is_utf8 m.name && m.value) (map judged ms))
+formed-judged : (ms : List (Member tree.Tree))
+    → is_well_formed
+    (tree.Object ms)
+    ≡ (is_rising (names (map judged ms)) && list_all (λ m. is_utf8 m.name && m.value)
+    (map judged ms))
 formed-judged ms = search (rules, tree.the_lemmas)
 
-all-mapped : (ts : List tree.Tree) → list_all (λ item. item) (map is_well_formed ts) ≡ list_all is_well_formed ts
+all-mapped : (ts : List tree.Tree)
+    → list_all (λ item. item) (map is_well_formed ts) ≡ list_all is_well_formed ts
 all-mapped [] = refl
 all-mapped (t ∷ ts) = ap (λ b. is_well_formed t && b) (all-mapped ts)
 
-all-judged : (ms : List (Member tree.Tree)) → list_all (λ m. is_utf8 m.name && m.value) (map judged ms) ≡ list_all is_good_member ms
+all-judged : (ms : List (Member tree.Tree))
+    → list_all (λ m. is_utf8 m.name && m.value) (map judged ms) ≡ list_all is_good_member ms
 all-judged [] = refl
 all-judged (m ∷ ms) = ap (λ b. is_good_member m && b) (all-judged ms)
 
@@ -48,8 +55,11 @@ names-judged (m ∷ ms) = ap (λ l. m.name ∷ l) (names-judged ms)
 pub formed-List : (ts : List tree.Tree) → is_well_formed (tree.List ts) ≡ list_all is_well_formed ts
 formed-List ts = formed-mapped ts ∙ all-mapped ts
 
-pub formed-Object : (ms : List (Member tree.Tree)) → is_well_formed (tree.Object ms) ≡ (is_rising (names ms) && list_all is_good_member ms)
-formed-Object ms = formed-judged ms ∙ ap₂ (λ a b. is_rising a && b) (names-judged ms) (all-judged ms)
+pub formed-Object : (ms : List (Member tree.Tree))
+    → is_well_formed (tree.Object ms) ≡ (is_rising (names ms) && list_all is_good_member ms)
+formed-Object ms = formed-judged ms
+    ∙ ap₂ (λ a b. is_rising a && b) (names-judged ms) (all-judged ms)
 
-pub object-formed : (ms : List (Member tree.Tree)) → HaveRisingNames ms → list_all is_good_member ms ≡ true → IsWellFormed (tree.Object ms)
+pub object-formed : (ms : List (Member tree.Tree)) → HaveRisingNames ms
+    → list_all is_good_member ms ≡ true → IsWellFormed (tree.Object ms)
 object-formed ms rising good = formed-Object ms ∙ ap₂ (λ a b. a && b) rising good

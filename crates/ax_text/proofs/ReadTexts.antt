@@ -62,7 +62,8 @@ word_text t =
 operator_text : (x : ℕ) → IsTextLexeme (operator_lexeme x)
 operator_text x =
     mark (x == 123) (token begin_object) _ tt (mark (x == 125) (token end_object) _ tt
-    (mark (x == 91) (token begin_array) _ tt (mark (x == 93) (token end_array) _ tt (mark (x == 44) comma colon tt tt))))
+    (mark (x == 91) (token begin_array) _ tt
+    (mark (x == 93) (token end_array) _ tt (mark (x == 44) comma colon tt tt))))
 
 quoted_text : (o : Option (List ℕ)) → IfSome o IsUtf8 → IsText (string_token o)
 quoted_text None h = tt
@@ -80,9 +81,11 @@ quote_class x false false false false e is = absurd (cc)
 is_quote : (x : ℕ) → class x ≡ quote → x ≡ 34
 is_quote x e = quote_class x (x == 34) (x == 92) (is_operator x) (is_space x) refl e
 
-byte_text : (m : Mode) (c : Class) (x : ℕ) (xs : List ℕ) (k : Mode → List Lexeme) → (c ≡ quote → IsUtf8 xs)
+byte_text : (m : Mode) (c : Class) (x : ℕ) (xs : List ℕ) (k : Mode → List Lexeme)
+    → (c ≡ quote → IsUtf8 xs)
     → ((n : Mode) → AreTextLexemes (k n)) → AreTextLexemes (lex_byte m c x xs k)
-byte_text between quote x xs k utf8 h = (quoted_text (content plain xs) (string_utf8 xs (utf8 refl)), h in_string)
+byte_text between quote x xs k utf8 h =
+    (quoted_text (content plain xs) (string_utf8 xs (utf8 refl)), h in_string)
 byte_text between backslash x xs k utf8 h = (tt, h in_word)
 byte_text between operator x xs k utf8 h = (operator_text x, h between)
 byte_text between space x xs k utf8 h = h between
@@ -105,14 +108,17 @@ lexemes_text [] prefix m utf8 = tt
 lexemes_text (x ∷ xs) prefix m utf8 =
     byte_text m (class x) x xs (λ n. lex n xs)
     (λ e. let is : x ≡ 34 = is_quote x e in rest_utf8 prefix xs x (omega arith) utf8)
-    (λ n. lexemes_text xs (prefix ++ x ∷ []) n (subst IsUtf8 (sym (append_assoc prefix (x ∷ []) xs)) utf8))
+    (λ n. lexemes_text xs (prefix ++ x ∷ []) n
+    (subst IsUtf8 (sym (append_assoc prefix (x ∷ []) xs)) utf8))
 
-allowed : (b : Bool) (t : Token) (k : Place → List Token) (next : Place) → IsText t → AreTexts (k next)
+allowed : (b : Bool) (t : Token) (k : Place → List Token) (next : Place) → IsText t
+    → AreTexts (k next)
     → AreTexts (if_allowed b t k next)
 allowed true t k next p q = (p, q)
 allowed false t k next p q = (tt, tt)
 
-placed : (p : Place) (t : Token) (b : Bool) (k : Place → List Token) → IsText t → ((n : Place) → AreTexts (k n))
+placed : (p : Place) (t : Token) (b : Bool) (k : Place → List Token) → IsText t
+    → ((n : Place) → AreTexts (k n))
     → AreTexts (place_token p t b k)
 placed p begin_object b k q h = allowed (may_begin p) begin_object k fresh q (h fresh)
 placed p end_object b k q h = allowed (may_close p) end_object k after_value q (h after_value)
@@ -132,7 +138,8 @@ punctuated [] h fresh = tt
 punctuated [] h after_value = tt
 punctuated [] h after_comma = (tt, tt)
 punctuated [] h after_key = (tt, tt)
-punctuated (token t ∷ ls) h p = placed p t (begins_colon ls) (λ n. punctuate n ls) h.0 (punctuated ls h.1)
+punctuated (token t ∷ ls) h p =
+    placed p t (begins_colon ls) (λ n. punctuate n ls) h.0 (punctuated ls h.1)
 punctuated (comma ∷ ls) h fresh = (tt, tt)
 punctuated (comma ∷ ls) h after_value = punctuated ls h.1 after_comma
 punctuated (comma ∷ ls) h after_comma = (tt, tt)
@@ -176,9 +183,11 @@ mapped : {A B : Type 0} (P : A → Type 0) (Q : B → Type 0) (f : A → B) → 
 mapped P Q f g None h = tt
 mapped P Q f g (Some p) h = (g p.0 h.0, h.1)
 
-and_more : {B : Type 0} (Q : B → Type 0) (f : Json → B → B) → ((j : Json) (b : B) → HasTexts j → Q b → Q (f j b))
+and_more : {B : Type 0} (Q : B → Type 0) (f : Json → B → B)
+    → ((j : Json) (b : B) → HasTexts j → Q b → Q (f j b))
     → (more : Parse B) → Keeps Q more
-    → (o : Option (Json × List Token)) → Gives HasTexts o → Gives Q (option_and_then (λ q. parse_map (f q.0) (more q.1)) o)
+    → (o : Option (Json × List Token)) → Gives HasTexts o
+    → Gives Q (option_and_then (λ q. parse_map (f q.0) (more q.1)) o)
 and_more Q f g more keeps None h = tt
 and_more Q f g more keeps (Some q) h = mapped Q Q (f q.0) (λ b. g q.0 b h.0) _ (keeps q.1 h.1)
 
@@ -221,31 +230,39 @@ module _ (p : Parse Json) (keeps : Keeps HasTexts p) where
   item_turn : (more : Parse Items) → Keeps ItemsHaveTexts more → (ts : List Token) → AreTexts ts
       → (o : Option (List Token)) → Rest o → Gives ItemsHaveTexts (items_step p more ts o)
   item_turn more again ts h (Some r) q = (tt, q)
-  item_turn more again ts h None q = and_more ItemsHaveTexts json.item (λ j b x y. (x, y)) more again (p ts) (keeps ts h)
+  item_turn more again ts h None q =
+      and_more ItemsHaveTexts json.item (λ j b x y. (x, y)) more again (p ts) (keeps ts h)
 
   Keeps-items : (n : ℕ) → Keeps ItemsHaveTexts (items p n)
   unfolding items
   Keeps-items zero ts h = tt
-  Keeps-items (suc n) ts h = item_turn (items p n) (Keeps-items n) ts h (after_end_array ts) (closing ts h)
+  Keeps-items (suc n) ts h =
+      item_turn (items p n) (Keeps-items n) ts h (after_end_array ts) (closing ts h)
 
-  member_turn : (more : Parse Members) → Keeps MembersHaveTexts more → (o : Option (Option (List ℕ) × List Token)) → Gives IsName o
+  member_turn : (more : Parse Members) → Keeps MembersHaveTexts more
+      → (o : Option (Option (List ℕ) × List Token)) → Gives IsName o
       → Gives MembersHaveTexts (option_and_then (λ q. members_step p more q.0 q.1) o)
   member_turn more again None h = tt
   member_turn more again (Some (None, s)) h = (tt, h.1)
   member_turn more again (Some (Some k, s)) h =
-      and_more MembersHaveTexts (json.member k) (λ j b x y. (h.0, x, y)) more again (p s) (keeps s h.1)
+      and_more MembersHaveTexts (json.member k) (λ j b x y. (h.0, x, y)) more again (p s)
+      (keeps s h.1)
 
   Keeps-members : (n : ℕ) → Keeps MembersHaveTexts (members p n)
   unfolding members
   Keeps-members zero ts h = tt
-  Keeps-members (suc n) ts h = member_turn (members p n) (Keeps-members n) (read_key ts) (naming ts h)
+  Keeps-members (suc n) ts h =
+      member_turn (members p n) (Keeps-members n) (read_key ts) (naming ts h)
 
-Keeps-value_with : (a : Parse Items) (o : Parse Members) → Keeps ItemsHaveTexts a → Keeps MembersHaveTexts o
+Keeps-value_with : (a : Parse Items) (o : Parse Members) → Keeps ItemsHaveTexts a
+    → Keeps MembersHaveTexts o
     → Keeps HasTexts (value_with a o)
 Keeps-value_with a o p q [] h = tt
-Keeps-value_with a o p q (begin_object ∷ ts) h = mapped MembersHaveTexts HasTexts json.object (λ m x. x) _ (q ts h.1)
+Keeps-value_with a o p q (begin_object ∷ ts) h =
+    mapped MembersHaveTexts HasTexts json.object (λ m x. x) _ (q ts h.1)
 Keeps-value_with a o p q (end_object ∷ ts) h = tt
-Keeps-value_with a o p q (begin_array ∷ ts) h = mapped ItemsHaveTexts HasTexts json.array (λ m x. x) _ (p ts h.1)
+Keeps-value_with a o p q (begin_array ∷ ts) h =
+    mapped ItemsHaveTexts HasTexts json.array (λ m x. x) _ (p ts h.1)
 Keeps-value_with a o p q (end_array ∷ ts) h = tt
 Keeps-value_with a o p q (key s ∷ ts) h = tt
 Keeps-value_with a o p q (string s ∷ ts) h = h
@@ -259,9 +276,11 @@ unfolding value
 Keeps-value zero = Keeps-value_with (λ ts. None) (λ ts. None) (λ ts h. tt) (λ ts h. tt)
 Keeps-value (suc d) =
     Keeps-value_with (λ ts. items (value d) (length ts) ts) (λ ts. members (value d) (length ts) ts)
-    (λ ts. Keeps-items (value d) (Keeps-value d) (length ts) ts) (λ ts. Keeps-members (value d) (Keeps-value d) (length ts) ts)
+    (λ ts. Keeps-items (value d) (Keeps-value d) (length ts) ts)
+    (λ ts. Keeps-members (value d) (Keeps-value d) (length ts) ts)
 
-last : (o : Option (Json × List Token)) → Gives HasTexts o → IfSome (option_and_then (λ p. if_last p.0 p.1) o) HasTexts
+last : (o : Option (Json × List Token)) → Gives HasTexts o
+    → IfSome (option_and_then (λ p. if_last p.0 p.1) o) HasTexts
 last None h = tt
 last (Some (j, [])) h = h.0
 last (Some (j, t ∷ ts)) h = tt
@@ -269,4 +288,5 @@ last (Some (j, t ∷ ts)) h = tt
 -- the JSON that a text is
 pub json_texts : (depth : ℕ) (text : List ℕ) → IsUtf8 text
     → IfSome (option_and_then (λ p. if_last p.0 p.1) (value depth (tokens text))) HasTexts
-json_texts depth text utf8 = last (value depth (tokens text)) (Keeps-value depth (tokens text) (tokens_text text utf8))
+json_texts depth text utf8 =
+    last (value depth (tokens text)) (Keeps-value depth (tokens text) (tokens_text text utf8))

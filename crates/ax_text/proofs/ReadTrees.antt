@@ -53,23 +53,30 @@ either P false x y p q = q
 
 float_fits : (sign : Bool) (p : Parts) → IfSome (float_of sign p) Fits
 float_fits sign p =
-    let x = nearest binary64 sign p in either Fits (float_is_finite x) (Some (serde.float x)) None tt tt
+    let x =
+    nearest binary64 sign p in either Fits (float_is_finite x) (Some (serde.float x)) None tt tt
 
 parts_fit : (sign : Bool) (p : Parts) → IfSome (number_from sign p) Fits
 parts_fit false p =
-    either Fits (is_integer p && nat_lt (digits_of p) (2 ^ 64)) (Some (serde.unsigned (digits_of p))) (float_of false p)
+    either Fits (is_integer p && nat_lt (digits_of p) (2 ^ 64))
+    (Some (serde.unsigned (digits_of p))) (float_of false p)
     (unsigned_fits (digits_of p) (nat_lt (digits_of p) (2 ^ 63)) refl) (float_fits false p)
-parts_fit true p = by_test (is_integer p && nat_lt 0 (digits_of p) && nat_le (digits_of p) (2 ^ 63)) refl
+parts_fit true p =
+    by_test (is_integer p && nat_lt 0 (digits_of p) && nat_le (digits_of p) (2 ^ 63)) refl
   where
-    by_test : (b : Bool) → (is_integer p && nat_lt 0 (digits_of p) && nat_le (digits_of p) (2 ^ 63)) ≡ b
-        → IfSome (if b then Some (serde.negative (with_sign true (digits_of p))) else float_of true p) Fits
-    by_test true e = negative_fits (digits_of p) (leb-true (digits_of p) (2 ^ 63) (and_parts _ _ e).1)
+    by_test : (b : Bool)
+        → (is_integer p && nat_lt 0 (digits_of p) && nat_le (digits_of p) (2 ^ 63)) ≡ b
+        → IfSome
+        (if b then Some (serde.negative (with_sign true (digits_of p))) else float_of true p) Fits
+    by_test true e =
+        negative_fits (digits_of p) (leb-true (digits_of p) (2 ^ 63) (and_parts _ _ e).1)
     by_test false e = float_fits true p
 
 number_fits : (s : List ℕ) → IfSome (number_of s) Fits
 unfolding number_of
 number_fits s =
-    either Fits (slice_index s 0 == minus) (number_from true (scan (drop 1 s))) (number_from false (scan s))
+    either Fits (slice_index s 0 == minus) (number_from true (scan (drop 1 s)))
+    (number_from false (scan s))
     (parts_fit true (scan (drop 1 s))) (parts_fit false (scan s))
 
 -- ---- names that rise
@@ -77,18 +84,24 @@ number_fits s =
 rising_after : (l k : List ℕ) (d : serde.Data) (ms : serde.Members) → is_before l k ≡ true
     → is_rising (l ∷ data_names ms) ≡ true → is_rising (l ∷ data_names (serde.put k d ms)) ≡ true
 rising_after l k d serde.no_members before rising = ap (λ b. b && true) before
-rising_after l k d (serde.member m e ms) before rising = by_order (slice_cmp nat_cmp k m) refl (rising_after m k d ms)
+rising_after l k d (serde.member m e ms) before rising =
+    by_order (slice_cmp nat_cmp k m) refl (rising_after m k d ms)
   where
     parts : (is_before l m ≡ true) × (is_rising (m ∷ data_names ms) ≡ true)
     parts = and_parts (is_before l m) (is_rising (m ∷ data_names ms)) rising
 
     by_order : (o : Ordering) → slice_cmp nat_cmp k m ≡ o
-        → (is_before m k ≡ true → is_rising (m ∷ data_names ms) ≡ true → is_rising (m ∷ data_names (serde.put k d ms)) ≡ true)
-        → is_rising (l ∷ data_names (match_ordering o (serde.member k d (serde.member m e ms)) (serde.member m d ms) (serde.member m e (serde.put k d ms)))) ≡ true
+        → (is_before m k ≡ true → is_rising (m ∷ data_names ms) ≡ true
+        → is_rising (m ∷ data_names (serde.put k d ms)) ≡ true)
+        → is_rising
+        (l ∷ data_names
+        (match_ordering o (serde.member k d (serde.member m e ms)) (serde.member m d ms)
+        (serde.member m e (serde.put k d ms)))) ≡ true
     by_order Less is more = λ i. before i && (is_lt (is i) && parts.1 i)
     by_order Equal is more = rising
     by_order Greater is more =
-        let later : is_before m k ≡ true = ap is_lt (nat_list_cmp_total.antisymm m k ∙ ap ordering_reverse is) in
+        let later : is_before m k ≡ true =
+        ap is_lt (nat_list_cmp_total.antisymm m k ∙ ap ordering_reverse is) in
         λ i. parts.0 i && more later parts.1 i
 
 rising_put : (k : List ℕ) (d : serde.Data) (ms : serde.Members) → is_rising (data_names ms) ≡ true
@@ -97,11 +110,15 @@ rising_put k d serde.no_members rising = refl
 rising_put k d (serde.member m e ms) rising = by_order (slice_cmp nat_cmp k m) refl
   where
     by_order : (o : Ordering) → slice_cmp nat_cmp k m ≡ o
-        → is_rising (data_names (match_ordering o (serde.member k d (serde.member m e ms)) (serde.member m d ms) (serde.member m e (serde.put k d ms)))) ≡ true
+        → is_rising
+        (data_names
+        (match_ordering o (serde.member k d (serde.member m e ms)) (serde.member m d ms)
+        (serde.member m e (serde.put k d ms)))) ≡ true
     by_order Less is = λ i. is_lt (is i) && rising i
     by_order Equal is = rising
     by_order Greater is =
-        rising_after m k d ms (ap is_lt (nat_list_cmp_total.antisymm m k ∙ ap ordering_reverse is)) rising
+        rising_after m k d ms (ap is_lt (nat_list_cmp_total.antisymm m k ∙ ap ordering_reverse is))
+        rising
 
 -- ---- data that was read
 
@@ -122,13 +139,17 @@ abbrev mutual
   HasReadMembers serde.no_members = ⊤
   HasReadMembers (serde.member k d ms) = IsUtf8 k × IsRead d × HasReadMembers ms
 
-read_put : (k : List ℕ) (d : serde.Data) (ms : serde.Members) → IsUtf8 k → IsRead d → HasReadMembers ms
+read_put : (k : List ℕ) (d : serde.Data) (ms : serde.Members) → IsUtf8 k → IsRead d
+    → HasReadMembers ms
     → HasReadMembers (serde.put k d ms)
 read_put k d serde.no_members utf8 is h = (utf8, is, tt)
-read_put k d (serde.member m e ms) utf8 is h = by_order (slice_cmp nat_cmp k m) (read_put k d ms utf8 is h.2)
+read_put k d (serde.member m e ms) utf8 is h =
+    by_order (slice_cmp nat_cmp k m) (read_put k d ms utf8 is h.2)
   where
     by_order : (o : Ordering) → HasReadMembers (serde.put k d ms)
-        → HasReadMembers (match_ordering o (serde.member k d (serde.member m e ms)) (serde.member m d ms) (serde.member m e (serde.put k d ms)))
+        → HasReadMembers
+        (match_ordering o (serde.member k d (serde.member m e ms)) (serde.member m d ms)
+        (serde.member m e (serde.put k d ms)))
     by_order Less more = (utf8, is, h)
     by_order Equal more = (h.0, is, h.2)
     by_order Greater more = (h.0, h.1, more)
@@ -145,9 +166,11 @@ mutual
   read_json : (j : json.Json) → HasTexts j → IfSome (of_json j) IsRead
   read_json json.null h = tt
   read_json (json.boolean b) h = tt
-  read_json (json.number s) h = of_map (number_of s) serde.number Fits IsRead (λ n fits. fits) (number_fits s)
+  read_json (json.number s) h =
+      of_map (number_of s) serde.number Fits IsRead (λ n fits. fits) (number_fits s)
   read_json (json.string s) h = h
-  read_json (json.array js) h = of_map (of_items js) serde.array AreRead IsRead (λ ds is. is) (read_items js h)
+  read_json (json.array js) h =
+      of_map (of_items js) serde.array AreRead IsRead (λ ds is. is) (read_items js h)
   read_json (json.object ms) h =
       of_map (of_members ms serde.no_members) serde.object RisingRead IsRead (λ found is. is)
       (read_members ms serde.no_members h (refl, tt))
@@ -156,9 +179,11 @@ mutual
   read_items json.no_items h = tt
   read_items (json.item j js) h =
       of_some IsRead AreRead (λ d. option_map (serde.item d) (of_items js)) (of_json j)
-      (λ d is. of_map (of_items js) (serde.item d) AreRead AreRead (λ ds are. (is, are)) (read_items js h.1)) (read_json j h.0)
+      (λ d is. of_map (of_items js) (serde.item d) AreRead AreRead (λ ds are. (is, are))
+      (read_items js h.1)) (read_json j h.0)
 
-  read_members : (ms : json.Members) (found : serde.Members) → MembersHaveTexts ms → RisingRead found
+  read_members : (ms : json.Members) (found : serde.Members) → MembersHaveTexts ms
+      → RisingRead found
       → IfSome (of_members ms found) RisingRead
   read_members json.no_members found h is = is
   read_members (json.member k j ms) found h is =
@@ -178,7 +203,8 @@ record IsGoodMember (name : List ℕ) (m : Member tree.Tree) : Type 0 where
   good : is_good_member m ≡ true
   same : m.name ≡ name
 
-number_formed : (o : Option ℤ) → IfSome o (λ z. is_of_64_bits z ≡ true) → IfSome (option_map tree.Number o) IsWellFormed
+number_formed : (o : Option ℤ) → IfSome o (λ z. is_of_64_bits z ≡ true)
+    → IfSome (option_map tree.Number o) IsWellFormed
 number_formed None h = tt
 number_formed (Some z) h = formed-Number z ∙ h
 
@@ -195,19 +221,24 @@ mutual
       of_map (members_of ms) tree.Object (AreGoodMembers ms) IsWellFormed
       (λ l are. object-formed l (ap is_rising are.same ∙ h.0) are.good) (members_formed ms h.1)
 
-  items_formed : (ds : serde.Items) → AreRead ds → IfSome (items_of ds) (λ ts. list_all is_well_formed ts ≡ true)
+  items_formed : (ds : serde.Items) → AreRead ds
+      → IfSome (items_of ds) (λ ts. list_all is_well_formed ts ≡ true)
   items_formed serde.no_items h = refl
   items_formed (serde.item d ds) h =
       of_both (tree_of d) (items_of ds) IsWellFormed (λ ts. list_all is_well_formed ts ≡ true)
-      (λ ts. list_all is_well_formed ts ≡ true) (λ t ts p q. λ i. p i && q i) (tree_formed d h.0) (items_formed ds h.1)
+      (λ ts. list_all is_well_formed ts ≡ true) (λ t ts p q. λ i. p i && q i) (tree_formed d h.0)
+      (items_formed ds h.1)
 
-  members_formed : (ms : serde.Members) → HasReadMembers ms → IfSome (members_of ms) (AreGoodMembers ms)
+  members_formed : (ms : serde.Members) → HasReadMembers ms
+      → IfSome (members_of ms) (AreGoodMembers ms)
   members_formed serde.no_members h = record { good = refl; same = refl }
   members_formed (serde.member k d ms) h =
-      of_both (named k (tree_of d)) (members_of ms) (IsGoodMember k) (AreGoodMembers ms) (AreGoodMembers (serde.member k d ms))
+      of_both (named k (tree_of d)) (members_of ms) (IsGoodMember k) (AreGoodMembers ms)
+      (AreGoodMembers (serde.member k d ms))
       (λ m l p q. record { good = λ i. p.good i && q.good i; same = λ i. p.same i ∷ q.same i })
       (of_map (tree_of d) (λ t. record { name = k; value = t }) IsWellFormed (IsGoodMember k)
-      (λ t formed. record { good = λ i. is_utf8-from_IsUtf8 k h.0 i && formed i; same = refl }) (tree_formed d h.1))
+      (λ t formed. record { good = λ i. is_utf8-from_IsUtf8 k h.0 i && formed i; same = refl })
+      (tree_formed d h.1))
       (members_formed ms h.2)
 
 -- ---- readings
@@ -226,12 +257,14 @@ of_tree_stands : (o : Option tree.Tree) → IfSome o IsStanding → IfStands (of
 of_tree_stands None h = tt
 of_tree_stands (Some t) h = h
 
-both_facts : (o : Option tree.Tree) → IfSome o IsWellFormed → ((t : tree.Tree) → o ≡ Some t → nesting t ≤ 127)
+both_facts : (o : Option tree.Tree) → IfSome o IsWellFormed
+    → ((t : tree.Tree) → o ≡ Some t → nesting t ≤ 127)
     → IfSome o IsStanding
 both_facts None formed shallow = tt
 both_facts (Some t) formed shallow = record { formed = formed; shallow = shallow t refl }
 
-of_data_stands : (o : Option serde.Data) → IfSome o IsRead → ((d : serde.Data) → o ≡ Some d → serde.depth d ≤ max_depth)
+of_data_stands : (o : Option serde.Data) → IfSome o IsRead
+    → ((d : serde.Data) → o ≡ Some d → serde.depth d ≤ max_depth)
     → IfStands (of_data o)
 of_data_stands None h shallow = tt
 of_data_stands (Some d) h shallow =
@@ -241,9 +274,11 @@ of_data_stands (Some d) h shallow =
 data_read : (bytes : List ℕ) → IsUtf8 bytes → IfSome (read bytes) IsRead
 data_read bytes utf8 = of_some HasTexts IsRead of_json _ read_json (json_texts max_depth bytes utf8)
 
-reading_stands : (bytes : List ℕ) (b : Bool) → is_utf8 bytes ≡ b → IfStands (if b then of_data (read bytes) else NotJson)
+reading_stands : (bytes : List ℕ) (b : Bool) → is_utf8 bytes ≡ b
+    → IfStands (if b then of_data (read bytes) else NotJson)
 reading_stands bytes true e =
-    of_data_stands (read bytes) (data_read bytes (IsUtf8-from_is_utf8 bytes e)) (λ d. depth-read bytes d)
+    of_data_stands (read bytes) (data_read bytes (IsUtf8-from_is_utf8 bytes e))
+    (λ d. depth-read bytes d)
 reading_stands bytes false e = tt
 
 pub stands : (bytes : List ℕ) (t : tree.Tree) → reading bytes ≡ Stands t → IsStanding t

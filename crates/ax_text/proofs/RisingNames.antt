@@ -20,7 +20,8 @@ pub and_second : (a b : Bool) → (a && b) ≡ true → b ≡ true
 and_second true b e = e
 and_second false b e = cc
 
-pub is_before_trans : (a b c : List ℕ) → is_before a b ≡ true → is_before b c ≡ true → is_before a c ≡ true
+pub is_before_trans : (a b c : List ℕ) → is_before a b ≡ true → is_before b c ≡ true
+    → is_before a c ≡ true
 is_before_trans a b c first second =
     ap is_lt (nat_list_cmp_total.trans a b c (is_lt_Less _ first) (is_lt_Less _ second))
 
@@ -34,7 +35,8 @@ AreBefore [] k = Unit {0}
 AreBefore (name ∷ rest) k = (is_before name k ≡ true) × AreBefore rest k
 
 -- where names rise, those in prefix are before each later one
-pub rising_before : (prefix : List (List ℕ)) (k : List ℕ) (rest : List (List ℕ)) → is_rising (prefix ++ k ∷ rest) ≡ true → AreBefore prefix k
+pub rising_before : (prefix : List (List ℕ)) (k : List ℕ) (rest : List (List ℕ))
+    → is_rising (prefix ++ k ∷ rest) ≡ true → AreBefore prefix k
 rising_before [] k rest e = tt
 rising_before (a ∷ []) k rest e = (and_first _ _ e, tt)
 rising_before (a ∷ b ∷ prefix) k rest e =

@@ -1,5 +1,5 @@
--- The canonical text of a tree: JSON (RFC 8259) with no space, with a map's members in byte order of
--- their names, which a tree keeps in that order. It is the compact text of `serde_json`.
+-- The canonical text of a tree: JSON (RFC 8259) with no space, with a map's members in byte order
+-- of their names, which a tree keeps in that order. It is the compact text of `serde_json`.
 use Rattle.std.specs.Prelude.{ℕ, List, ◌∷◌, ◌++◌, [], map, Bool, true, false, codes}
 use Rattle.std.specs.List.{join_with_byte}
 use Rattle.std.specs.Fmt.{signed_decimal}
@@ -21,7 +21,8 @@ truth_text false = codes "false"
 
 -- texts between two brackets, with commas between them
 abbrev pub in_brackets : ℕ → ℕ → List (List ℕ) → List ℕ
-in_brackets open_bracket close_bracket texts = open_bracket ∷ join_with_byte comma texts ++ close_bracket ∷ []
+in_brackets open_bracket close_bracket texts =
+    open_bracket ∷ join_with_byte comma texts ++ close_bracket ∷ []
 
 -- a member, whose value is seen as its text
 abbrev pub member_text : Member (List ℕ) → List ℕ

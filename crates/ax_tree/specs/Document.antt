@@ -44,11 +44,14 @@ is_control byte = nat_lt byte 32 || (byte == 127)
 
 -- the text may be an id
 abbrev pub is_id : List ℕ → Bool
-is_id text = nat_le 1 (length text) && nat_le (length text) 255 && list_all (λ byte. not (is_control byte)) text
+is_id text =
+    nat_le 1 (length text) && nat_le (length text) 255
+    && list_all (λ byte. not (is_control byte)) text
 
 -- the id of a document, and none of a tree that is no document
 abbrev pub document_id : Tree → Option (List ℕ)
-document_id tree = option_and_then (λ id. if is_id id then Some id else None) (text_member (codes "id") tree)
+document_id tree =
+    option_and_then (λ id. if is_id id then Some id else None) (text_member (codes "id") tree)
 
 abbrev pub IsDocument : Tree → Type 0
 IsDocument tree = IsSome (document_id tree)

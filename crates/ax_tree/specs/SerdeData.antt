@@ -41,4 +41,5 @@ items_tokens items = shape.items_tokens (items_outline (items_of (map data_of it
 
 -- the tokens of a map's members, with the brace that closes it
 abbrev pub members_tokens : List (Member Tree) → List Token
-members_tokens members = shape.members_tokens (members_outline (data_members (map member_data members)))
+members_tokens members =
+    shape.members_tokens (members_outline (data_members (map member_data members)))

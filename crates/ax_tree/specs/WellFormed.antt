@@ -1,5 +1,5 @@
--- The trees that JSON texts stand for: their numbers fit a signed whole number of 64 bits, their texts
--- and names are UTF-8, and the names of a map's members rise strictly by bytes.
+-- The trees that JSON texts stand for: their numbers fit a signed whole number of 64 bits, their
+-- texts and names are UTF-8, and the names of a map's members rise strictly by bytes.
 use Rattle.std.specs.Prelude.{◌≡◌, ℤ, pos, negsuc, ◌^◌, Bool, true, ◌&&◌, nat_lt}
 use Rattle.std.specs.List.{list_all}
 use Rattle.std.specs.Str.{is_utf8}
@@ -20,7 +20,8 @@ well_formed_level (Tree-F.Truth value) = true
 well_formed_level (Tree-F.Number value) = is_of_64_bits value
 well_formed_level (Tree-F.Text text) = is_utf8 text
 well_formed_level (Tree-F.List items) = list_all (λ item. item) items
-well_formed_level (Tree-F.Object members) = is_rising (names members) && list_all (λ m. is_utf8 m.name && m.value) members
+well_formed_level (Tree-F.Object members) =
+    is_rising (names members) && list_all (λ m. is_utf8 m.name && m.value) members
 
 abbrev pub is_well_formed : Tree → Bool
 is_well_formed = fold-Tree Bool well_formed_level
