@@ -146,7 +146,8 @@ fn past_the_stated_calls_each_call_fails(rt: HostRuntime) -> Result<(), Fail> {
     Ok(())
 }
 
-// Of five bytes the first two are written, of one byte none. All of them take room: 8 bytes are given.
+// Of five bytes the first two are written, of one byte none. All of them take room: 8 bytes are
+// given.
 #[test]
 fn torn_writes_leave_their_first_half_and_take_room_for_all(rt: HostRuntime) -> Result<(), Fail> {
     let mut disk = disk_with(rt.alloc(), &[1, 2, 3, 4], 8, 9, &[1, 2, 4])?;
