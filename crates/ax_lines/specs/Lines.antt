@@ -1,7 +1,9 @@
 -- What the bytes of a script line ask for, or the refusal of the line: a command word, one space, and
 -- the raw rest of the line as its argument, which may be empty. A carriage return at the end of the
 -- line is dropped, and only one. For each form a table of causes says when it is refused.
-use Rattle.std.specs.Prelude.{ℕ, ◌-◌, List, [], ◌∷◌, length, take, drop, slice_index, Bool, false, not, ◌==◌, nat_lt, if◌then◌else◌, Option, Some, None, is_some, Result, Err, codes}
+use Rattle.std.specs.Prelude.{ℕ, ◌-◌, List, [], ◌∷◌, length, take, drop, slice_index, Bool, false}
+use Rattle.std.specs.Prelude.{not, ◌==◌, nat_lt, if◌then◌else◌, Option, Some, None, is_some, Result}
+use Rattle.std.specs.Prelude.{Err, codes}
 use Rattle.std.specs.Option.{option_map_or}
 use Rattle.std.specs.Str.{bytes_eq}
 use Rattle.ax_tree.specs.declared.tree.Tree.{Tree}
@@ -19,7 +21,8 @@ carriage_return = 13
 
 -- the bytes without the carriage return that may end them
 abbrev pub without_return : List ℕ → List ℕ
-without_return bytes = if slice_index bytes (length bytes - 1) == carriage_return then take (length bytes - 1) bytes else bytes
+without_return bytes = if slice_index bytes (length bytes - 1) == carriage_return then take
+    (length bytes - 1) bytes else bytes
 
 -- ---- the forms of a line
 
@@ -30,7 +33,8 @@ pub data Form : Type 0 where
 
 -- what follows this word and its space at the beginning of a line
 abbrev pub argument : List ℕ → List ℕ → Option (List ℕ)
-argument word bytes = if bytes_eq (take (length word) bytes) word then Some (drop (length word) bytes) else None
+argument word bytes = if bytes_eq (take (length word) bytes) word then Some
+    (drop (length word) bytes) else None
 
 -- the form, where the argument is there, else what other forms give
 abbrev pub in_form : (List ℕ → Form) → Option (List ℕ) → Option Form → Option Form
@@ -59,7 +63,8 @@ abbrev pub all_documents : List ℕ
 all_documents = codes "SELECT * FROM c"
 
 abbrev pub asks_for_all : Tree → Bool
-asks_for_all body = option_map_or (λ text. bytes_eq text all_documents) (text_member (codes "query") body) false
+asks_for_all body = option_map_or (λ text. bytes_eq text all_documents)
+    (text_member (codes "query") body) false
 
 abbrev pub query_causes : Tree → List Cause
 query_causes body =
@@ -75,7 +80,8 @@ with_tree_of NotJson ask = Err refusal.Json
 with_tree_of NotWhole ask = Err refusal.Json
 
 abbrev pub line_in : Form → Result Line Refusal
-line_in (Upsert text) = with_tree_of (reading text) (λ tree. unless (upsert_causes tree) (line.Upsert tree))
+line_in (Upsert text) = with_tree_of (reading text)
+    (λ tree. unless (upsert_causes tree) (line.Upsert tree))
 line_in (Query text) = with_tree_of (reading text) (λ body. unless (query_causes body) line.Query)
 
 abbrev pub of_form : Option Form → Result Line Refusal

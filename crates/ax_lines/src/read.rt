@@ -68,7 +68,8 @@ fn query_line(alloc: Global, body: &[u8]) -> Result<Line, LineFault>
 /// The tree that an argument stands for.
 fn tree_of(alloc: Global, json: &[u8]) -> Result<Tree, LineFault>
     ensures tree { IfOk result (λ tree. reading json.now ≡ Stands tree) }
-    ensures refused { IfErr result (λ fault. (ask : TreeOf → Result Line Refusal)
+    ensures refused { IfErr result
+        (λ fault. (ask : TreeOf → Result Line Refusal)
         → IsRefusedBy fault (spec.with_tree_of (reading json.now) ask)) }
 {
     match read_tree(alloc, json) {

@@ -12,10 +12,12 @@ row_text row = with_newline (codes "row " ++ row)
 -- what stands behind so many rows
 abbrev pub end_text : reply.RowsEnd → ℕ → List ℕ
 end_text reply.End count = with_newline (codes "end " ++ decimal count)
-end_text (reply.More token) count = with_newline (codes "more " ++ decimal count ++ codes " " ++ token)
+end_text (reply.More token) count =
+    with_newline (codes "more " ++ decimal count ++ codes " " ++ token)
 
 abbrev pub refusal_text : Refusal → List ℕ
-refusal_text why = with_newline (codes "err " ++ decimal (number_of why) ++ codes " " ++ word_of why)
+refusal_text why = with_newline
+    (codes "err " ++ decimal (number_of why) ++ codes " " ++ word_of why)
 
 abbrev pub reply_text : reply.Reply → List ℕ
 reply_text reply.Ok = with_newline (codes "ok")

@@ -30,7 +30,8 @@ upsert_by None tree container = (container, reply.Refused refusal.Json)
 -- what a line does that is read, and its reply
 abbrev pub served : Container → Result Line Refusal → Container × reply.Reply
 served container (Ok (line.Upsert tree)) = upsert_by (document_id tree) tree container
-served container (Ok line.Query) = (container, reply.Rows (map canonical_text (trees container)) reply.End)
+served container (Ok line.Query) =
+    (container, reply.Rows (map canonical_text (trees container)) reply.End)
 served container (Err why) = (container, reply.Refused why)
 
 abbrev pub step : Container → List ℕ → Container × reply.Reply

@@ -13,7 +13,8 @@ pub fn there_is_a_run()
 
 /// A run and then another is the run of both: it goes on from the container that the first leaves.
 pub fn runs_join()
-    ensures lines { (run more : List Exchange) → lines_of (run ++ more) ≡ lines_of run ++ lines_of more }
+    ensures lines { (run more : List Exchange)
+        → lines_of (run ++ more) ≡ lines_of run ++ lines_of more }
     ensures after { (before : Container) (run more : List Exchange)
         → after before (run ++ more) ≡ after (after before run) more }
     ensures texts { (before : Container) (run more : List Exchange)
@@ -29,5 +30,6 @@ pub fn a_step_keeps_soundness()
 
 /// So does a run, however its lines are answered.
 pub fn a_run_keeps_soundness()
-    ensures { (before : Container) (run : List Exchange) → IsSound before → IsSound (after before run) }
+    ensures { (before : Container) (run : List Exchange) → IsSound before
+        → IsSound (after before run) }
 {}

@@ -23,7 +23,9 @@ impl Model for PlainDocument {
 
     ghost coded = { entry_code };
 
-    ghost view = { λ document. record { number = document.number; id = document.id; tree = document.tree } };
+    ghost
+        view = { λ document. record { number = document.number; id = document.id; tree =
+        document.tree } };
 }
 
 impl PlainDocument {

@@ -34,7 +34,9 @@ impl Model for PlainMachine {
 
     ghost coded = { container_code };
 
-    ghost view = { λ machine. record { entries = machine.documents.items; next_number = machine.next_number } };
+    ghost
+        view = { λ machine. record { entries = machine.documents.items; next_number =
+        machine.next_number } };
 }
 
 impl PlainMachine {
@@ -65,7 +67,8 @@ impl PlainMachine {
     }
 
     fn upsert(&mut self, alloc: Global, tree: Tree) -> Result<Vec<u8>, Memory>
-        ensures reply { IfOk result (λ text. text.items ≡ reply_text (upsert_by (document_id tree) tree self.old).1) }
+        ensures reply { IfOk result (λ text. text.items ≡ reply_text
+            (upsert_by (document_id tree) tree self.old).1) }
         ensures after { OnOk result (self.new ≡ (upsert_by (document_id tree) tree self.old).0) }
         ensures err { OnErr result (self.new ≡ self.old) }
     {

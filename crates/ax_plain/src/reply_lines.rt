@@ -18,8 +18,8 @@ pub fn ok_line(alloc: Global) -> Result<Vec<u8>, Memory>
 /// The reply to a query whose rows are the trees of these documents: a line for each, and a last
 /// line with their count.
 pub fn rows_lines(alloc: Global, documents: &[PlainDocument]) -> Result<Vec<u8>, Memory>
-    ensures { IfOk result (λ text. text.items
-        ≡ reply_text (reply.Rows (map canonical_text (map (λ entry. entry.tree) documents.now)) reply.End)) }
+    ensures { IfOk result (λ text. text.items ≡ reply_text
+        (reply.Rows (map canonical_text (map (λ entry. entry.tree) documents.now)) reply.End)) }
 {
     let mut text = Vec::new(alloc);
     for document in documents {

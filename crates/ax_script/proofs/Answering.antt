@@ -1,5 +1,6 @@
 -- What runs of lines are answered, one after another.
-use Rattle.std.proofs.Common.{◌≡◌, ℕ, List, [], ◌∷◌, ◌++◌, refl, sym, ap, ◌∙◌, subst, append_assoc, append-nil}
+use Rattle.std.proofs.Common.{◌≡◌, ℕ, List, [], ◌∷◌, ◌++◌, refl, sym, ap, ◌∙◌, subst, append_assoc}
+use Rattle.std.proofs.Common.{append-nil}
 use Rattle.ax_container.specs.Container.{Container}
 use Rattle.ax_machine.specs.Run.{Exchange, lines_of, after, text_of}
 use Rattle.ax_machine.proofs.Runs.{there_is_a_run, lines_of-append, after-append, text_of-append}
@@ -18,7 +19,8 @@ answers_some before lines =
 
 -- ---- a run, and then more
 
-pub Answers-append : (a b : Container) (lines more : List (List ℕ)) (run later : List Exchange) (text other : List ℕ)
+pub Answers-append : (a b : Container) (lines more : List (List ℕ)) (run later : List Exchange)
+    (text other : List ℕ)
     → Answers a lines run text → b ≡ after a run → Answers b more later other
     → Answers a (lines ++ more) (run ++ later) (text ++ other)
 Answers-append a b lines more run later text other first stands second = record {
@@ -27,16 +29,20 @@ Answers-append a b lines more run later text other first stands second = record 
       ∙ sym (text_of-append a run later);
 }
 
-pub BeginsToAnswer-append : (a b : Container) (lines more : List (List ℕ)) (run later : List Exchange) (text other : List ℕ)
+pub BeginsToAnswer-append : (a b : Container) (lines more : List (List ℕ))
+    (run later : List Exchange) (text other : List ℕ)
     → Answers a lines run text → b ≡ after a run → BeginsToAnswer b more later other
     → BeginsToAnswer a (lines ++ more) (run ++ later) (text ++ other)
 BeginsToAnswer-append a b lines more run later text other first stands second = record {
   rest = second.rest;
-  answers = subst (Answers a (lines ++ more) (run ++ later)) (sym (append_assoc text other second.rest))
-      (Answers-append a b lines more run later text (other ++ second.rest) first stands second.answers);
+  answers = subst (Answers a (lines ++ more) (run ++ later))
+      (sym (append_assoc text other second.rest))
+      (Answers-append a b lines more run later text
+      (other ++ second.rest) first stands second.answers);
 }
 
-pub stands-append : (a b c : Container) (run later : List Exchange) → b ≡ after a run → c ≡ after b later
+pub stands-append : (a b c : Container) (run later : List Exchange) → b ≡ after a run
+    → c ≡ after b later
     → c ≡ after a (run ++ later)
 stands-append a b c run later first second =
     second ∙ ap (λ x. after x later) first ∙ sym (after-append a run later)
@@ -44,7 +50,8 @@ stands-append a b c run later first second =
 -- ---- prefixes
 
 -- all of the text is a prefix of it
-pub BeginsToAnswer-all : (a : Container) (lines : List (List ℕ)) (run : List Exchange) (text : List ℕ)
+pub BeginsToAnswer-all : (a : Container) (lines : List (List ℕ)) (run : List Exchange)
+    (text : List ℕ)
     → Answers a lines run text → BeginsToAnswer a lines run text
 BeginsToAnswer-all a lines run text answers = record {
   rest = [];
@@ -53,14 +60,17 @@ BeginsToAnswer-all a lines run text answers = record {
 
 -- what begins to answer some lines begins to answer more
 pub begins_more : (a : Container) (lines more : List (List ℕ)) (run : List Exchange) (text : List ℕ)
-    → BeginsToAnswer a lines run text → (longer : List Exchange) × BeginsToAnswer a (lines ++ more) longer text
+    → BeginsToAnswer a lines run text → (longer : List Exchange)
+    × BeginsToAnswer a (lines ++ more) longer text
 begins_more a lines more run text begun =
     let now : Container = after a run in
     let some = answers_some now more in (
       run ++ some.0,
       record {
         rest = begun.rest ++ text_of now some.0;
-        answers = subst (Answers a (lines ++ more) (run ++ some.0)) (append_assoc text begun.rest (text_of now some.0))
-            (Answers-append a now lines more run some.0 (text ++ begun.rest) (text_of now some.0) begun.answers refl some.1);
+        answers = subst (Answers a (lines ++ more) (run ++ some.0))
+            (append_assoc text begun.rest (text_of now some.0))
+            (Answers-append a now lines more run some.0 (text ++ begun.rest)
+            (text_of now some.0) begun.answers refl some.1);
       },
     )

@@ -1,44 +1,59 @@
 -- What the serving of lines and of pieces of the input leaves.
-use Rattle.std.proofs.Common.{◌≡◌, ◌==◌, false, true≢false, ℕ, ◌≤◌, List, [], ◌∷◌, ◌++◌, length, Option, refl, sym, ap, ◌∙◌, subst, append_assoc, append-nil, take, drop, take-append-drop, arith}
+use Rattle.std.proofs.Common.{◌≡◌, ◌==◌, false, true≢false, ℕ, ◌≤◌, List, [], ◌∷◌, ◌++◌, length}
+use Rattle.std.proofs.Common.{Option, refl, sym, ap, ◌∙◌, subst, append_assoc, append-nil, take}
+use Rattle.std.proofs.Common.{drop, take-append-drop, arith}
 use Rattle.std.specs.Io.KnownBytes.{Appends}
 use Rattle.std.proofs.KnownBytes.{Appends-nil, Appends-trans}
 use Rattle.ax_container.specs.Container.{Container}
 use Rattle.ax_lines.specs.ScriptLines.{with_newline, IsOneLine, last_line}
-use Rattle.ax_lines.proofs.Splits.{IsOneLine-append, AreLines-more, AreLines-none, AreLines-one, there_are_lines}
+use Rattle.ax_lines.proofs.Splits.{IsOneLine-append, AreLines-more, AreLines-none, AreLines-one}
+use Rattle.ax_lines.proofs.Splits.{there_are_lines}
 use Rattle.ax_machine.specs.ReplyTexts.{reply_text}
 use Rattle.ax_machine.specs.Run.{Served, Exchange, reply_to, text_of}
 use Rattle.ax_machine.proofs.Runs.{text_of-one}
 use Rattle.ax_script.specs.Script.{Answers, BeginsToAnswer}
-use Rattle.ax_script.specs.Progress.{Serves, BeginsToServe, ServesLines, BeginsLines, ServesLast, BeginsLast}
-use Rattle.ax_script.proofs.Answering.{Answers-nil, answers_some, Answers-append, BeginsToAnswer-append, stands-append, BeginsToAnswer-all, begins_more}
+use Rattle.ax_script.specs.Progress.{Serves, BeginsToServe, ServesLines, BeginsLines, ServesLast}
+use Rattle.ax_script.specs.Progress.{BeginsLast}
+use Rattle.ax_script.proofs.Answering.{Answers-nil, answers_some, Answers-append}
+use Rattle.ax_script.proofs.Answering.{BeginsToAnswer-append, stands-append, BeginsToAnswer-all}
+use Rattle.ax_script.proofs.Answering.{begins_more}
 
 -- ---- one line
 
 -- nothing was written of a reply
-pub begins_with_nothing : (before : Container) (line : List ℕ) (old : Option (List ℕ)) → BeginsToServe before line old old
-begins_with_nothing before line old = record { outcome = Served; replied = (0, omega arith, Appends-nil old) }
+pub begins_with_nothing : (before : Container) (line : List ℕ) (old : Option (List ℕ))
+    → BeginsToServe before line old old
+begins_with_nothing before line old =
+    record { outcome = Served; replied = (0, omega arith, Appends-nil old) }
 
--- a line with how it was answered
-abbrev exchange : (before : Container) (line : List ℕ) (now : Container) (old new : Option (List ℕ)) → Serves before line now old new → List Exchange
-exchange before line now old new served = record { line = line; outcome = served.outcome } ∷ []
+-- the answer of a line, as a run of one
+pub answers_line : (before now : Container) (line : List ℕ) (old new : Option (List ℕ))
+    (served : Serves before line now old new)
+    → Answers before (line ∷ []) (record { line = line; outcome = served.outcome } ∷ [])
+    (reply_text (reply_to before line served.outcome))
+answers_line before now line old new served =
+    record { answered = refl; replies = sym (text_of-one before line served.outcome) }
 
-pub answers_line : (before now : Container) (line : List ℕ) (old new : Option (List ℕ)) (served : Serves before line now old new)
-    → Answers before (line ∷ []) (record { line = line; outcome = served.outcome } ∷ []) (reply_text (reply_to before line served.outcome))
-answers_line before now line old new served = record { answered = refl; replies = sym (text_of-one before line served.outcome) }
-
-pub begins_to_answer_line : (before : Container) (line : List ℕ) (old new : Option (List ℕ)) (served : BeginsToServe before line old new)
+pub begins_to_answer_line : (before : Container) (line : List ℕ) (old new : Option (List ℕ))
+    (served : BeginsToServe before line old new)
     → BeginsToAnswer before (line ∷ []) (record { line = line; outcome = served.outcome } ∷ [])
     (take served.replied.0 (reply_text (reply_to before line served.outcome)))
 begins_to_answer_line before line old new served =
     let reply = reply_text (reply_to before line served.outcome) in
     record {
       rest = drop served.replied.0 reply;
-      answers = record { answered = refl; replies = take-append-drop served.replied.0 reply ∙ sym (text_of-one before line served.outcome) };
+      answers = record {
+        answered = refl;
+        replies = take-append-drop served.replied.0 reply
+            ∙ sym (text_of-one before line served.outcome);
+      };
     }
 
 -- a line in two pieces was served
-pub serves_line : (before now : Container) (pending head : List ℕ) (old new : Option (List ℕ)) → IsOneLine pending → IsOneLine head
-    → Serves before (pending ++ head) now old new → ServesLines before (pending ++ with_newline head) now [] old new
+pub serves_line : (before now : Container) (pending head : List ℕ) (old new : Option (List ℕ))
+    → IsOneLine pending → IsOneLine head
+    → Serves before (pending ++ head) now old new
+    → ServesLines before (pending ++ with_newline head) now [] old new
 serves_line before now pending head old new p q served = record {
   lines = (pending ++ head) ∷ [];
   run = record { line = pending ++ head; outcome = served.outcome } ∷ [];
@@ -49,8 +64,10 @@ serves_line before now pending head old new p q served = record {
   appended = served.replied;
 }
 
-pub begins_line : (before : Container) (pending head : List ℕ) (old new : Option (List ℕ)) → IsOneLine pending → IsOneLine head
-    → BeginsToServe before (pending ++ head) old new → BeginsLines before (pending ++ with_newline head) old new
+pub begins_line : (before : Container) (pending head : List ℕ) (old new : Option (List ℕ))
+    → IsOneLine pending → IsOneLine head
+    → BeginsToServe before (pending ++ head) old new
+    → BeginsLines before (pending ++ with_newline head) old new
 begins_line before pending head old new p q served = record {
   lines = (pending ++ head) ∷ [];
   last = [];
@@ -64,7 +81,8 @@ begins_line before pending head old new p q served = record {
 -- ---- some lines, and then more
 
 -- nothing was taken
-pub serves_nothing : (before : Container) (pending : List ℕ) (old : Option (List ℕ)) → IsOneLine pending → ServesLines before pending before pending old old
+pub serves_nothing : (before : Container) (pending : List ℕ) (old : Option (List ℕ))
+    → IsOneLine pending → ServesLines before pending before pending old old
 serves_nothing before pending old plain = record {
   lines = [];
   run = [];
@@ -75,32 +93,41 @@ serves_nothing before pending old plain = record {
   appended = Appends-nil old;
 }
 
-pub serves_more : (a b c : Container) (bytes piece pending rest : List ℕ) (old between new : Option (List ℕ))
-    → ServesLines a bytes b pending old between → ServesLines b (pending ++ piece) c rest between new → ServesLines a (bytes ++ piece) c rest old new
+pub serves_more : (a b c : Container) (bytes piece pending rest : List ℕ)
+    (old between new : Option (List ℕ))
+    → ServesLines a bytes b pending old between
+    → ServesLines b (pending ++ piece) c rest between new
+    → ServesLines a (bytes ++ piece) c rest old new
 serves_more a b c bytes piece pending rest old between new first second = record {
   lines = first.lines ++ second.lines;
   run = first.run ++ second.run;
   text = first.text ++ second.text;
   split = AreLines-more bytes piece first.lines second.lines pending rest first.split second.split;
-  answers = Answers-append a b first.lines second.lines first.run second.run first.text second.text first.answers first.stands second.answers;
+  answers = Answers-append a b first.lines second.lines first.run second.run first.text second.text
+      first.answers first.stands second.answers;
   stands = stands-append a b c first.run second.run first.stands second.stands;
   appended = Appends-trans old between new first.text second.text first.appended second.appended;
 }
 
-pub begins_after : (a b : Container) (bytes piece pending : List ℕ) (old between new : Option (List ℕ))
-    → ServesLines a bytes b pending old between → BeginsLines b (pending ++ piece) between new → BeginsLines a (bytes ++ piece) old new
+pub begins_after : (a b : Container) (bytes piece pending : List ℕ)
+    (old between new : Option (List ℕ))
+    → ServesLines a bytes b pending old between → BeginsLines b (pending ++ piece) between new
+    → BeginsLines a (bytes ++ piece) old new
 begins_after a b bytes piece pending old between new first second = record {
   lines = first.lines ++ second.lines;
   last = second.last;
   run = first.run ++ second.run;
   text = first.text ++ second.text;
-  split = AreLines-more bytes piece first.lines second.lines pending second.last first.split second.split;
-  answers = BeginsToAnswer-append a b first.lines second.lines first.run second.run first.text second.text first.answers first.stands second.answers;
+  split = AreLines-more bytes piece first.lines second.lines pending second.last first.split
+      second.split;
+  answers = BeginsToAnswer-append a b first.lines second.lines first.run second.run first.text
+      second.text first.answers first.stands second.answers;
   appended = Appends-trans old between new first.text second.text first.appended second.appended;
 }
 
 -- what begins with some of the bytes begins with all
-pub begins_longer : (a : Container) (bytes piece : List ℕ) (old new : Option (List ℕ)) → BeginsLines a bytes old new → BeginsLines a (bytes ++ piece) old new
+pub begins_longer : (a : Container) (bytes piece : List ℕ) (old new : Option (List ℕ))
+    → BeginsLines a bytes old new → BeginsLines a (bytes ++ piece) old new
 begins_longer a bytes piece old new begun =
     let later = there_are_lines (begun.last ++ piece) in
     let longer = begins_more a begun.lines later.0 begun.run begun.text begun.answers in
@@ -115,7 +142,8 @@ begins_longer a bytes piece old new begun =
     }
 
 -- nothing was written of what the lines among the bytes are answered
-pub begins_with_no_line : (before : Container) (bytes : List ℕ) (old : Option (List ℕ)) → BeginsLines before bytes old old
+pub begins_with_no_line : (before : Container) (bytes : List ℕ) (old : Option (List ℕ))
+    → BeginsLines before bytes old old
 begins_with_no_line before bytes old =
     let are = there_are_lines bytes in
     let some = answers_some before are.0 in
@@ -132,55 +160,70 @@ begins_with_no_line before bytes old =
 -- ---- a piece: a prefix of it is served, and the rest is to do
 
 -- the prefix of a piece that is served, and what it left
-pub record InPiece (before now : Container) (first pending piece rest : List ℕ) (old new : Option (List ℕ)) : Type 0 where
+pub record InPiece (before now : Container) (first pending piece rest : List ℕ)
+    (old new : Option (List ℕ)) : Type 0 where
   pub done : List ℕ
   pub whole : piece ≡ done ++ rest
   pub served : ServesLines before (first ++ done) now pending old new
 
-pub piece_begins : (before : Container) (first piece : List ℕ) (old : Option (List ℕ)) → IsOneLine first → InPiece before before first first piece piece old old
+pub piece_begins : (before : Container) (first piece : List ℕ) (old : Option (List ℕ))
+    → IsOneLine first → InPiece before before first first piece piece old old
 piece_begins before first piece old plain = record {
   done = [];
   whole = refl;
-  served = subst (λ bytes. ServesLines before bytes before first old old) (sym (append-nil first)) (serves_nothing before first old plain);
+  served = subst (λ bytes. ServesLines before bytes before first old old) (sym (append-nil first))
+      (serves_nothing before first old plain);
 }
 
-module _ (before now : Container) (first pending piece rest : List ℕ) (old new : Option (List ℕ)) (p : InPiece before now first pending piece rest old new) where
+module _ (before now : Container) (first pending piece rest : List ℕ) (old new : Option (List ℕ))
+    (p : InPiece before now first pending piece rest old new) where
   regrouped : (first ++ p.done) ++ rest ≡ first ++ piece
   regrouped = append_assoc first p.done rest ∙ ap (λ l. first ++ l) (sym p.whole)
 
   -- the first line of the rest was served
-  pub piece_goes_on : (later : Container) (head tail : List ℕ) (new' : Option (List ℕ)) → rest ≡ with_newline head ++ tail → IsOneLine head
-      → Serves now (pending ++ head) later new new' → InPiece before later first [] piece tail old new'
+  pub piece_goes_on : (later : Container) (head tail : List ℕ) (new' : Option (List ℕ))
+      → rest ≡ with_newline head ++ tail → IsOneLine head
+      → Serves now (pending ++ head) later new new'
+      → InPiece before later first [] piece tail old new'
   piece_goes_on later head tail new' split plain served = record {
     done = p.done ++ with_newline head;
-    whole = p.whole ∙ ap (λ l. p.done ++ l) split ∙ sym (append_assoc p.done (with_newline head) tail);
-    served = subst (λ bytes. ServesLines before bytes later [] old new') (append_assoc first p.done (with_newline head))
-        (serves_more before now later (first ++ p.done) (with_newline head) pending [] old new new' p.served
+    whole = p.whole ∙ ap (λ l. p.done ++ l) split
+        ∙ sym (append_assoc p.done (with_newline head) tail);
+    served = subst (λ bytes. ServesLines before bytes later [] old new')
+        (append_assoc first p.done (with_newline head))
+        (serves_more before now later (first ++ p.done)
+        (with_newline head) pending [] old new new' p.served
         (serves_line now later pending head new new' p.served.split.no_newline plain served));
   }
 
   -- its serving broke off
-  pub piece_fails : (head tail : List ℕ) (new' : Option (List ℕ)) → rest ≡ with_newline head ++ tail → IsOneLine head
+  pub piece_fails : (head tail : List ℕ) (new' : Option (List ℕ)) → rest ≡ with_newline head ++ tail
+      → IsOneLine head
       → BeginsToServe now (pending ++ head) new new' → BeginsLines before (first ++ piece) old new'
   piece_fails head tail new' split plain begun =
       subst (λ bytes. BeginsLines before bytes old new')
-      (append_assoc (first ++ p.done) (with_newline head) tail ∙ ap (λ l. (first ++ p.done) ++ l) (sym split) ∙ regrouped)
+      (append_assoc (first ++ p.done) (with_newline head) tail
+      ∙ ap (λ l. (first ++ p.done) ++ l) (sym split) ∙ regrouped)
       (begins_longer before ((first ++ p.done) ++ with_newline head) tail old new'
       (begins_after before now (first ++ p.done) (with_newline head) pending old new new' p.served
       (begins_line now pending head new new' p.served.split.no_newline plain begun)))
 
   -- no newline is left
-  pub piece_ends : IsOneLine rest → ServesLines before (first ++ piece) now (pending ++ rest) old new
+  pub piece_ends : IsOneLine rest
+      → ServesLines before (first ++ piece) now (pending ++ rest) old new
   piece_ends plain =
       subst (λ bytes. ServesLines before bytes now (pending ++ rest) old new) regrouped
-      (serves_more before now now (first ++ p.done) rest pending (pending ++ rest) old new new p.served
-      (serves_nothing now (pending ++ rest) new (IsOneLine-append pending rest p.served.split.no_newline plain)))
+      (serves_more before now now (first ++ p.done) rest pending
+      (pending ++ rest) old new new p.served
+      (serves_nothing now (pending ++ rest) new
+      (IsOneLine-append pending rest p.served.split.no_newline plain)))
 
   -- the rest could not be kept
   pub piece_breaks_off : BeginsLines before (first ++ piece) old new
   piece_breaks_off =
       subst (λ bytes. BeginsLines before bytes old new) regrouped
-      (begins_after before now (first ++ p.done) rest pending old new new p.served (begins_with_no_line now (pending ++ rest) new))
+      (begins_after before now (first ++ p.done) rest pending old new new p.served
+      (begins_with_no_line now (pending ++ rest) new))
 
 -- ---- the last piece
 
@@ -188,22 +231,28 @@ last_line-some : (last : List ℕ) → false ≡ (length last == 0) → last_lin
 last_line-some [] e = absurd (true≢false (sym e))
 last_line-some (byte ∷ bytes) e = refl
 
-pub serves_last : (before now : Container) (last : List ℕ) (old new : Option (List ℕ)) → false ≡ (length last == 0)
+pub serves_last : (before now : Container) (last : List ℕ) (old new : Option (List ℕ))
+    → false ≡ (length last == 0)
     → Serves before last now old new → ServesLast before last old new
 serves_last before now last old new some served = record {
   run = record { line = last; outcome = served.outcome } ∷ [];
   text = reply_text (reply_to before last served.outcome);
-  answers = subst (λ l. Answers before l (record { line = last; outcome = served.outcome } ∷ []) (reply_text (reply_to before last served.outcome)))
+  answers =
+      subst (λ l. Answers before l (record { line = last; outcome = served.outcome } ∷ [])
+      (reply_text (reply_to before last served.outcome)))
       (sym (last_line-some last some)) (answers_line before now last old new served);
   appended = served.replied;
 }
 
-pub begins_last : (before : Container) (last : List ℕ) (old new : Option (List ℕ)) → false ≡ (length last == 0)
+pub begins_last : (before : Container) (last : List ℕ) (old new : Option (List ℕ))
+    → false ≡ (length last == 0)
     → BeginsToServe before last old new → BeginsLast before last old new
 begins_last before last old new some served = record {
   run = record { line = last; outcome = served.outcome } ∷ [];
   text = take served.replied.0 (reply_text (reply_to before last served.outcome));
-  answers = subst (λ l. BeginsToAnswer before l (record { line = last; outcome = served.outcome } ∷ []) (take served.replied.0 (reply_text (reply_to before last served.outcome))))
+  answers =
+      subst (λ l. BeginsToAnswer before l (record { line = last; outcome = served.outcome } ∷ [])
+      (take served.replied.0 (reply_text (reply_to before last served.outcome))))
       (sym (last_line-some last some)) (begins_to_answer_line before last old new served);
   appended = served.replied.2;
 }

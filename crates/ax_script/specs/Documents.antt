@@ -7,9 +7,11 @@ use Rattle.ax_script.specs.Positions.{position_of}
 use Rattle.ax_script.specs.declared.documents.Documents.TheInside.{Inside}
 
 abbrev pub container_in : Inside → Container
-container_in documents = record { entries = documents.documents.items; next_number = documents.next_number }
+container_in documents = record
+    { entries = documents.documents.items; next_number = documents.next_number }
 
 -- at every id the map has the position of the entry that has it, and no id stands twice
 pub record IsIndexed (inside : Inside) : Type 0 where
-  pub positions : (id : List ℕ) → get_by_text inside.positions id ≡ position_of id inside.documents.items
+  pub positions : (id : List ℕ) → get_by_text inside.positions id ≡ position_of id
+      inside.documents.items
   pub distinct : IdsAreDistinct inside.documents.items

@@ -10,18 +10,21 @@ use Rattle.ax_script.specs.Script.{Answers, BeginsToAnswer}
 use Rattle.ax_script.specs.Streams.{Streams, Moves}
 
 -- the line was answered, and its reply was written
-pub record Serves (before : Container) (line : List ℕ) (now : Container) (old new : Option (List ℕ)) : Type 0 where
+pub record Serves (before : Container) (line : List ℕ) (now : Container)
+    (old new : Option (List ℕ)) : Type 0 where
   pub outcome : Outcome
   pub made : now ≡ after_line before line outcome
   pub replied : Appends old new (reply_text (reply_to before line outcome))
 
 -- the line was answered, and a prefix of its reply was written
-pub record BeginsToServe (before : Container) (line : List ℕ) (old new : Option (List ℕ)) : Type 0 where
+pub record BeginsToServe (before : Container) (line : List ℕ)
+    (old new : Option (List ℕ)) : Type 0 where
   pub outcome : Outcome
   pub replied : AppendsPrefix old new (reply_text (reply_to before line outcome))
 
 -- the lines among the bytes were served, and the last piece of the bytes is pending
-pub record ServesLines (before : Container) (bytes : List ℕ) (now : Container) (pending : List ℕ) (old new : Option (List ℕ)) : Type 0 where
+pub record ServesLines (before : Container) (bytes : List ℕ) (now : Container) (pending : List ℕ)
+    (old new : Option (List ℕ)) : Type 0 where
   pub lines : List (List ℕ)
   pub run : List Exchange
   pub text : List ℕ
@@ -31,7 +34,8 @@ pub record ServesLines (before : Container) (bytes : List ℕ) (now : Container)
   pub appended : Appends old new text
 
 -- a prefix was written of what the lines among the bytes are answered
-pub record BeginsLines (before : Container) (bytes : List ℕ) (old new : Option (List ℕ)) : Type 0 where
+pub record BeginsLines (before : Container) (bytes : List ℕ)
+    (old new : Option (List ℕ)) : Type 0 where
   pub lines : List (List ℕ)
   pub last : List ℕ
   pub run : List Exchange
@@ -41,21 +45,24 @@ pub record BeginsLines (before : Container) (bytes : List ℕ) (old new : Option
   pub appended : Appends old new text
 
 -- the last piece was served, if it is a line, and its reply was written
-pub record ServesLast (before : Container) (last : List ℕ) (old new : Option (List ℕ)) : Type 0 where
+pub record ServesLast (before : Container) (last : List ℕ)
+    (old new : Option (List ℕ)) : Type 0 where
   pub run : List Exchange
   pub text : List ℕ
   pub answers : Answers before (last_line last) run text
   pub appended : Appends old new text
 
 -- a prefix was written of what the last piece is answered
-pub record BeginsLast (before : Container) (last : List ℕ) (old new : Option (List ℕ)) : Type 0 where
+pub record BeginsLast (before : Container) (last : List ℕ)
+    (old new : Option (List ℕ)) : Type 0 where
   pub run : List Exchange
   pub text : List ℕ
   pub answers : BeginsToAnswer before (last_line last) run text
   pub appended : Appends old new text
 
 -- so many bytes were taken, the lines among them were served, and the last piece of them is pending
-pub record Progress (before : Container) (old new : Streams) (now : Container) (pending : List ℕ) (count : ℕ) : Type 0 where
+pub record Progress (before : Container) (old new : Streams) (now : Container) (pending : List ℕ)
+    (count : ℕ) : Type 0 where
   pub taken : List ℕ
   pub lines : List (List ℕ)
   pub run : List Exchange

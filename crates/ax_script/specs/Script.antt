@@ -14,23 +14,29 @@ abbrev pub most_input : ℕ
 most_input = 2 ^ 40
 
 -- the text is all that the run is answered
-pub record Answers (before : Container) (lines : List (List ℕ)) (run : List Exchange) (text : List ℕ) : Type 0 where
+pub record Answers (before : Container) (lines : List (List ℕ)) (run : List Exchange)
+    (text : List ℕ) : Type 0 where
   pub answered : lines_of run ≡ lines
   pub replies : text ≡ text_of before run
 
 -- the text is a prefix of what the run is answered
-pub record BeginsToAnswer (before : Container) (lines : List (List ℕ)) (run : List Exchange) (text : List ℕ) : Type 0 where
+pub record BeginsToAnswer (before : Container) (lines : List (List ℕ)) (run : List Exchange)
+    (text : List ℕ) : Type 0 where
   pub rest : List ℕ
   pub answers : Answers before lines run (text ++ rest)
 
 -- What was written, by how the run ended. The last piece that was taken is a line where the source has
 -- ended.
-abbrev pub IsTextAt : Status → Container → Option (List ℕ) → List (List ℕ) → List ℕ → List Exchange → List ℕ → Type 0
-IsTextAt status.Done before remaining lines last run text = IsAtEnd remaining × Answers before (lines ++ last_line last) run text
+abbrev pub IsTextAt : Status → Container → Option (List ℕ) → List (List ℕ) → List ℕ → List Exchange
+    → List ℕ → Type 0
+IsTextAt status.Done before remaining lines last run text = IsAtEnd remaining
+    × Answers before (lines ++ last_line last) run text
 IsTextAt status.ReadFault before remaining lines last run text = Answers before lines run text
-IsTextAt status.Words before remaining lines last run text = (lines ++ last_line last ≡ []) × (text ≡ [])
+IsTextAt status.Words before remaining lines last run text = (lines ++ last_line last ≡ [])
+    × (text ≡ [])
 IsTextAt other before remaining lines last run text =
-    BeginsToAnswer before lines run text ⊎ (IsAtEnd remaining × BeginsToAnswer before (lines ++ last_line last) run text)
+    BeginsToAnswer before lines run text
+    ⊎ (IsAtEnd remaining × BeginsToAnswer before (lines ++ last_line last) run text)
 
 -- from the container before, what a run that ended so took, answered and wrote
 pub record Runs (before : Container) (ended : Status) (old new : Streams) : Type 0 where

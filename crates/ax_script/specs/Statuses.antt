@@ -1,7 +1,8 @@
 -- The exit code of each status, and its text on standard error.
 use Rattle.std.specs.Prelude.{ℕ, List, [], codes}
 use Rattle.ax_script.specs.declared.status.Status.{Status}
-use Rattle.ax_script.specs.declared.status.Status.TheVariants.{Done, Words, ReadFault, WriteFault, Memory, Long}
+use Rattle.ax_script.specs.declared.status.Status.TheVariants.{Done, Words, ReadFault, WriteFault}
+use Rattle.ax_script.specs.declared.status.Status.TheVariants.{Memory, Long}
 
 abbrev pub code_of : Status → ℕ
 code_of Done = 0

@@ -19,7 +19,12 @@ impl Model for Document {
 
     ghost coded = { entry_code };
 
-    ghost view = { λ document. record { number = document.number; id = document.id; tree = document.tree } };
+    ghost view = { λ document. record {
+      number = document.number;
+      id = document.id;
+      tree =
+          document.tree;
+    } };
 }
 
 impl Document {

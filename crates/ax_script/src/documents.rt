@@ -93,8 +93,10 @@ impl Documents {
     /// creates a document behind all others.
     pub fn upsert(&mut self, tree: Tree) -> Result<(), UpsertFault>
         requires { IsDocument tree }
-        ensures ok { (id : List ℕ) → document_id tree ≡ Some id → OnOk result (upserted id tree self.old ≡ Ok self.new) }
-        ensures full { (id : List ℕ) → document_id tree ≡ Some id → result ≡ Err UpsertFault.Full → upserted id tree self.old ≡ Err Full }
+        ensures ok { (id : List ℕ) → document_id tree ≡ Some id
+            → OnOk result (upserted id tree self.old ≡ Ok self.new) }
+        ensures full { (id : List ℕ) → document_id tree ≡ Some id → result ≡ Err UpsertFault.Full
+            → upserted id tree self.old ≡ Err Full }
         ensures err { OnErr result (self.new ≡ self.old) }
     {
         let Some(id) = id_of(&tree) else {
@@ -129,12 +131,19 @@ impl Documents {
         ensures position { result ≡ position_of id.now self.now.entries }
         ensures within { IfSome result (λ position. position < length self.now.entries) }
     {
+        self.found(id)
+    }
+
+    fn found(&self, id: &str) -> Option<usize>
+        ensures { result ≡ position_of id.now self.now.entries }
+    {
         self.positions.get(id).copied()
     }
 
     fn replace(&mut self, position: usize, tree: Tree)
         requires { position < length self.old.entries }
-        ensures { (id : List ℕ) → position_of id self.old.entries ≡ Some position → self.new ≡ replaced id tree self.old }
+        ensures { (id : List ℕ) → position_of id self.old.entries ≡ Some position
+            → self.new ≡ replaced id tree self.old }
     {
         set_tree(&mut self.documents, position, tree);
     }

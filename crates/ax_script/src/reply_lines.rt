@@ -5,7 +5,7 @@ ghost use Rattle.ax_machine.specs.ReplyTexts.{reply_text, row_text, end_text, re
 
 use crate::document::Document;
 use ax_lines::Refusal;
-use ax_tree::{Memory, Tree, write_tree};
+use ax_tree::{Memory, Tree, append_tree};
 use std::alloc::Global;
 
 /// The reply to a line that is not served because memory ran out. It takes none itself.
@@ -25,23 +25,22 @@ pub fn ok_line(alloc: Global) -> Result<Vec<u8>, Memory>
 /// The reply to a query whose rows are the trees of these documents: a line for each, written
 /// straight into the reply, and a last line with their count.
 pub fn rows_lines(alloc: Global, documents: &[Document]) -> Result<Vec<u8>, Memory>
-    ensures { IfOk result (λ text. text.items
-        ≡ reply_text (reply.Rows (map canonical_text (map (λ entry. entry.tree) documents.now)) reply.End)) }
+    ensures { IfOk result (λ text. text.items ≡ reply_text
+        (reply.Rows (map canonical_text (map (λ entry. entry.tree) documents.now)) reply.End)) }
 {
     let mut text = Vec::new(alloc);
     for document in documents {
-        push_row(alloc, &mut text, document.tree())?;
+        push_row(&mut text, document.tree())?;
     }
     push_end(alloc, &mut text, documents.len())?;
     Ok(text)
 }
 
-fn push_row(alloc: Global, text: &mut Vec<u8>, tree: &Tree) -> Result<(), Memory>
+fn push_row(text: &mut Vec<u8>, tree: &Tree) -> Result<(), Memory>
     ensures { OnOk result (text.new.items ≡ text.old.items ++ row_text (canonical_text tree.now)) }
 {
-    let row = write_tree(alloc, tree)?;
     text.extend_from_slice(b"row ")?;
-    text.extend_from_slice(row.as_slice())?;
+    append_tree(text, tree)?;
     text.push(b'\n')?;
     Ok(())
 }

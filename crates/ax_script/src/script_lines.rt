@@ -28,8 +28,10 @@ pub fn serve_source<S: Source, K: Sink>(
     ensures script { Runs documents.old result
         (record { remaining = S.rest source.old; written = K.written sink.old })
         (record { remaining = S.rest source.new; written = K.written sink.new }) }
-    ensures read_fault { result ≡ Status.ReadFault → Rose (S.faults source.old) (S.faults source.new) }
-    ensures write_fault { result ≡ Status.WriteFault → Rose (K.faults sink.old) (K.faults sink.new) }
+    ensures read_fault { result ≡ Status.ReadFault
+        → Rose (S.faults source.old) (S.faults source.new) }
+    ensures write_fault { result ≡ Status.WriteFault
+        → Rose (K.faults sink.old) (K.faults sink.new) }
     ensures source_faults { S.faults source.old ≤ S.faults source.new }
     ensures sink_faults { K.faults sink.old ≤ K.faults sink.new }
     ensures not_words { result ≢ Status.Words }
@@ -64,9 +66,13 @@ fn serve_piece<K: Sink>(
     sink: &mut K,
 ) -> Result<(), Status>
     requires { IsOneLine pending.old.items }
-    ensures ok { OnOk result (ServesLines documents.old (pending.old.items ++ piece.now) documents.new pending.new.items (K.written sink.old) (K.written sink.new)) }
-    ensures err { OnErr result (BeginsLines documents.old (pending.old.items ++ piece.now) (K.written sink.old) (K.written sink.new)) }
-    ensures only { IfErr result (λ status. (status ≡ Status.WriteFault) ⊎ (status ≡ Status.Memory)) }
+    ensures ok { OnOk result (ServesLines documents.old
+        (pending.old.items ++ piece.now) documents.new pending.new.items (K.written sink.old)
+        (K.written sink.new)) }
+    ensures err { OnErr result (BeginsLines documents.old (pending.old.items ++ piece.now)
+        (K.written sink.old) (K.written sink.new)) }
+    ensures only { IfErr result (λ status. (status ≡ Status.WriteFault)
+        ⊎ (status ≡ Status.Memory)) }
     ensures never_falls { K.faults sink.old ≤ K.faults sink.new }
     ensures cause { result ≡ Err Status.WriteFault → Rose (K.faults sink.old) (K.faults sink.new) }
 {
@@ -92,10 +98,13 @@ fn serve_head<K: Sink>(
     head: &[u8],
     sink: &mut K,
 ) -> Result<(), Status>
-    ensures ok { OnOk result (Serves documents.old (pending.old.items ++ head.now) documents.new (K.written sink.old) (K.written sink.new)) }
+    ensures ok { OnOk result (Serves documents.old (pending.old.items ++ head.now) documents.new
+        (K.written sink.old) (K.written sink.new)) }
     ensures empty { OnOk result (pending.new.items ≡ []) }
-    ensures err { OnErr result (BeginsToServe documents.old (pending.old.items ++ head.now) (K.written sink.old) (K.written sink.new)) }
-    ensures only { IfErr result (λ status. (status ≡ Status.WriteFault) ⊎ (status ≡ Status.Memory)) }
+    ensures err { OnErr result (BeginsToServe documents.old (pending.old.items ++ head.now)
+        (K.written sink.old) (K.written sink.new)) }
+    ensures only { IfErr result (λ status. (status ≡ Status.WriteFault)
+        ⊎ (status ≡ Status.Memory)) }
     ensures never_falls { K.faults sink.old ≤ K.faults sink.new }
     ensures cause { result ≡ Err Status.WriteFault → Rose (K.faults sink.old) (K.faults sink.new) }
 {
@@ -120,8 +129,10 @@ fn serve_whole<K: Sink>(
     line: &[u8],
     sink: &mut K,
 ) -> Result<(), Status>
-    ensures ok { OnOk result (Serves documents.old line.now documents.new (K.written sink.old) (K.written sink.new)) }
-    ensures err { OnErr result (BeginsToServe documents.old line.now (K.written sink.old) (K.written sink.new)) }
+    ensures ok { OnOk result (Serves documents.old line.now documents.new (K.written sink.old)
+        (K.written sink.new)) }
+    ensures err { OnErr result (BeginsToServe documents.old line.now (K.written sink.old)
+        (K.written sink.new)) }
     ensures only { IfErr result (λ status. status ≡ Status.WriteFault) }
     ensures never_falls { K.faults sink.old ≤ K.faults sink.new }
     ensures cause { OnErr result (Rose (K.faults sink.old) (K.faults sink.new)) }
@@ -139,8 +150,10 @@ fn serve_last<K: Sink>(
     pending: &[u8],
     sink: &mut K,
 ) -> Status
-    ensures done { result ≡ Status.Done → ServesLast documents.old pending.now (K.written sink.old) (K.written sink.new) }
-    ensures prefix { result ≡ Status.WriteFault → BeginsLast documents.old pending.now (K.written sink.old) (K.written sink.new) }
+    ensures done { result ≡ Status.Done
+        → ServesLast documents.old pending.now (K.written sink.old) (K.written sink.new) }
+    ensures prefix { result ≡ Status.WriteFault
+        → BeginsLast documents.old pending.now (K.written sink.old) (K.written sink.new) }
     ensures only { (result ≡ Status.Done) ⊎ (result ≡ Status.WriteFault) }
     ensures never_falls { K.faults sink.old ≤ K.faults sink.new }
     ensures cause { result ≡ Status.WriteFault → Rose (K.faults sink.old) (K.faults sink.new) }

@@ -21,8 +21,10 @@ pub fn serve_line<K: Sink>(
     line: &[u8],
     sink: &mut K,
 ) -> Result<(), Failed>
-    ensures whole { OnOk result (Serves documents.old line.now documents.new (K.written sink.old) (K.written sink.new)) }
-    ensures prefix { OnErr result (BeginsToServe documents.old line.now (K.written sink.old) (K.written sink.new)) }
+    ensures whole { OnOk result (Serves documents.old line.now documents.new (K.written sink.old)
+        (K.written sink.new)) }
+    ensures prefix { OnErr result (BeginsToServe documents.old line.now (K.written sink.old)
+        (K.written sink.new)) }
     ensures cause { HasCause result (K.faults sink.old) (K.faults sink.new) }
 {
     answer_line(alloc, documents, line, sink)
@@ -34,8 +36,10 @@ fn answer_line<K: Sink>(
     line: &[u8],
     sink: &mut K,
 ) -> Result<(), Failed>
-    ensures whole { OnOk result (Serves documents.old line.now documents.new (K.written sink.old) (K.written sink.new)) }
-    ensures prefix { OnErr result (BeginsToServe documents.old line.now (K.written sink.old) (K.written sink.new)) }
+    ensures whole { OnOk result (Serves documents.old line.now documents.new (K.written sink.old)
+        (K.written sink.new)) }
+    ensures prefix { OnErr result (BeginsToServe documents.old line.now (K.written sink.old)
+        (K.written sink.new)) }
     ensures cause { HasCause result (K.faults sink.old) (K.faults sink.new) }
 {
     match answer(alloc, documents, line) {
@@ -61,8 +65,10 @@ fn answer(alloc: Global, documents: &mut Documents, line: &[u8]) -> Result<Vec<u
 
 fn upsert(alloc: Global, documents: &mut Documents, tree: Tree) -> Result<Vec<u8>, Memory>
     requires { IsDocument tree }
-    ensures reply { IfOk result (λ text. text.items ≡ reply_text (upsert_by (document_id tree) tree documents.old).1) }
-    ensures after { OnOk result (documents.new ≡ (upsert_by (document_id tree) tree documents.old).0) }
+    ensures reply { IfOk result (λ text. text.items ≡ reply_text
+        (upsert_by (document_id tree) tree documents.old).1) }
+    ensures after { OnOk result
+        (documents.new ≡ (upsert_by (document_id tree) tree documents.old).0) }
     ensures err { OnErr result (documents.new ≡ documents.old) }
 {
     let text = ok_line(alloc)?;

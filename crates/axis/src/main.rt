@@ -4,22 +4,38 @@
 //! code are shown by a run of the program alone.
 #![tactic(auto)]
 
-ghost use Rattle.std.specs.Prelude.{◌≡◌, ◌<◌};
+ghost use Rattle.std.specs.Prelude.{◌≡◌, ◌≢◌, ◌<◌};
 
 use ax_base::{StdSink, StdSource, Steps};
 use ax_disk::DeadDisk;
 use ax_script::{Status, run};
 use std::env;
+use std::io::ErrorKind;
 use std::marker::Brand;
 use std::process::ExitCode;
 use std::sync::ledger::{Blank, Ledger};
 
-/// The words of the command line after the program's name; `None` where they cannot be had.
-fn words(rt: &HostRuntime) -> Option<Vec<String>> {
-    let Ok(arguments) = env::args(rt) else {
-        return None;
+/// The words of the command line after the program's name, or the status with which the program
+/// ends: `Words` where one of them is not UTF-8, `Memory` where there is no memory for them.
+fn words(rt: &HostRuntime) -> Result<Vec<String>, Status> {
+    let arguments = match env::args(rt) {
+        Ok(arguments) => arguments,
+        Err(error) => return Err(status_of(error.kind())),
     };
-    arguments.skip(1).collect(rt.alloc()).ok()
+    arguments
+        .skip(1)
+        .collect(rt.alloc())
+        .map_err(|_| Status::Memory)
+}
+
+fn status_of(kind: ErrorKind) -> Status
+    ensures memory { kind ≡ ErrorKind.OutOfMemory → result ≡ Status.Memory }
+    ensures words { kind ≢ ErrorKind.OutOfMemory → result ≡ Status.Words }
+{
+    match kind {
+        ErrorKind::OutOfMemory => Status::Memory,
+        _ => Status::Words,
+    }
 }
 
 /// Calls `run` over standard input and output, with a counter that begins at 0.
@@ -44,8 +60,8 @@ fn run_here<L: Ledger>(rt: &HostRuntime, words: &[String], blank: Blank) -> Stat
 
 fn main(rt: HostRuntime) -> ExitCode {
     let status = match words(&rt) {
-        Some(words) => run_here::<Brand>(&rt, words.as_slice(), Blank::new(1)),
-        None => Status::Words,
+        Ok(words) => run_here::<Brand>(&rt, words.as_slice(), Blank::new(1)),
+        Err(status) => status,
     };
     if status != Status::Done {
         let text = status.text();

@@ -4,4 +4,5 @@ use Rattle.ax_container.specs.Upsert.{with_tree}
 use Rattle.ax_plain.proofs.plain_machine.replaced.Given as goal
 
 abbrev pub invariant-loop-document : goal.invariant-loop-document
-invariant-loop-document l = l.after.items ++ map (with_tree l.id l.tree) (drop l.document-index l.documents) ≡ map (with_tree l.id l.tree) l.documents
+invariant-loop-document l = l.after.items ++ map (with_tree l.id l.tree)
+    (drop l.document-index l.documents) ≡ map (with_tree l.id l.tree) l.documents

@@ -5,4 +5,6 @@ use Rattle.ax_lines.specs.ScriptLines.{with_newline}
 use Rattle.ax_script.proofs.reply_lines.out_of_memory_line.Goals as goal
 
 pub returns : goal.returns
-returns c = sym (ap (λ digits. with_newline (codes "err " ++ digits ++ codes " " ++ codes "memory")) (decimal_digit 9 (omega arith)))
+returns c =
+    sym (ap (λ digits. with_newline (codes "err " ++ digits ++ codes " " ++ codes "memory"))
+    (decimal_digit 9 (omega arith)))

@@ -1,0 +1,7 @@
+mod documents;
+mod faults;
+mod lines;
+mod plain_machine;
+mod rows;
+mod script;
+mod statuses;

@@ -1,0 +1,68 @@
+use crate::tests::script::{ROOM, output_by_bytes, output_of};
+use ax_script::Status;
+use std::test::Fail;
+
+// The outputs by hand, from the meaning of each line.
+const ROWS: [(&str, &str); 11] = [
+    ("", ""),
+    ("UPSERT {\"id\":\"a\"}", "ok\n"),
+    ("UPSERT {\"id\":\"a\"}\r\n", "ok\n"),
+    ("UPSERT {\"id\":\"a\"}\r\r\n", "ok\n"),
+    (
+        "\n\r\n\r",
+        "err 2 command\nerr 2 command\nerr 2 command\n",
+    ),
+    (
+        "UPSERT {\"id\":\"a\",\"b\":1}\nUPSERT {\"id\":\"a\",\"a\":2}\nQUERY {\"query\":\"SELECT * FROM c\"}\n",
+        "ok\nok\nrow {\"a\":2,\"id\":\"a\"}\nend 1\n",
+    ),
+    (
+        "READ a\nUPSERT {\nUPSERT {\"id\":\"a\",\"n\":1.5}\nQUERY {\"query\":\"SELECT VALUE 1 FROM c\"}\n",
+        "err 2 command\nerr 3 json\nerr 3 json\nerr 10 query\n",
+    ),
+    (
+        "UPSERT {\"total\":30,\"id\":\"o1\",\"lines\":[{\"sku\":\"b\",\"qty\":2}]}\nQUERY {\"query\":\"SELECT * FROM c\"}\n",
+        "ok\nrow {\"id\":\"o1\",\"lines\":[{\"qty\":2,\"sku\":\"b\"}],\"total\":30}\nend 1\n",
+    ),
+    (
+        "UPSERT {\"id\":\"a\",\"n\":1,\"n\":2}\nQUERY {\"query\":\"SELECT * FROM c\"}",
+        "ok\nrow {\"id\":\"a\",\"n\":2}\nend 1\n",
+    ),
+    (
+        "UPSERT {\"id\":\"b\"}\nUPSERT {\"id\":\"a\"}\nUPSERT {\"id\":\"b\",\"x\":null}\nQUERY {\"query\":\"SELECT * FROM c\"}\n",
+        "ok\nok\nok\nrow {\"id\":\"b\",\"x\":null}\nrow {\"id\":\"a\"}\nend 2\n",
+    ),
+    ("QUERY {\"query\":\"SELECT * FROM c\"}\nFOO", "end 0\nerr 2 command\n"),
+];
+
+#[test]
+fn scripts_are_answered(rt: HostRuntime) -> Result<(), Fail> {
+    let alloc = rt.alloc();
+    for (script, expected) in ROWS {
+        let (status, output) = output_of(alloc, script.as_bytes(), &[], &[], ROOM)?;
+        assert_eq!(rt; output.as_slice(), expected.as_bytes(), "{script:?}");
+        assert_eq!(rt; status, Status::Done, "{script:?}");
+    }
+    Ok(())
+}
+
+// A line whose bytes come in many reads is served whole.
+#[test]
+fn one_byte_a_read_is_the_same(rt: HostRuntime) -> Result<(), Fail> {
+    let alloc = rt.alloc();
+    for (script, expected) in ROWS {
+        let (status, output) = output_by_bytes(alloc, script.as_bytes())?;
+        assert_eq!(rt; output.as_slice(), expected.as_bytes(), "{script:?}");
+        assert_eq!(rt; status, Status::Done, "{script:?}");
+    }
+    Ok(())
+}
+
+// Not every line is answered that memory ran out: one document is written, and its row is read.
+#[test]
+fn one_row(rt: HostRuntime) -> Result<(), Fail> {
+    let script = b"UPSERT {\"id\":\"a\"}\nQUERY {\"query\":\"SELECT * FROM c\"}\n";
+    let (_, output) = output_of(rt.alloc(), script, &[], &[], ROOM)?;
+    assert_eq!(rt; output.as_slice(), b"ok\nrow {\"id\":\"a\"}\nend 1\n".as_slice());
+    Ok(())
+}
