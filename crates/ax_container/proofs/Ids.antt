@@ -15,8 +15,11 @@ false_back false y h e = refl
 false_back true y h e = sym (h refl) ∙ e
 
 pub bytes_eq-false_sym : (a b : List ℕ) → bytes_eq a b ≡ false → bytes_eq b a ≡ false
-bytes_eq-false_sym a b e = false_back (bytes_eq b a) (bytes_eq a b) (λ h. (bytes_eq-Decides a b).1 (sym (same_from_eq b a h))) e
+bytes_eq-false_sym a b e =
+    false_back (bytes_eq b a) (bytes_eq a b)
+    (λ h. (bytes_eq-Decides a b).1 (sym (same_from_eq b a h))) e
 
 -- an id that is another's is not also one that differs from it
-pub bytes_eq-other : (a b other : List ℕ) → bytes_eq a b ≡ true → bytes_eq b other ≡ false → bytes_eq a other ≡ false
+pub bytes_eq-other : (a b other : List ℕ) → bytes_eq a b ≡ true → bytes_eq b other ≡ false
+    → bytes_eq a other ≡ false
 bytes_eq-other a b other same differs = ap (λ x. bytes_eq x other) (same_from_eq a b same) ∙ differs

@@ -1,6 +1,6 @@
--- What the store holds: the documents in the order of their creation, each with its number, its id and
--- its tree, and the number that the next creation takes. As in Azure Cosmos DB for NoSQL, an id names
--- one document. Numbers begin at 1 and are never given twice.
+-- What the store holds: the documents in the order of their creation, each with its number, its id
+-- and its tree, and the number that the next creation takes. As in Azure Cosmos DB for NoSQL, an id
+-- names one document. Numbers begin at 1 and are never given twice.
 use Rattle.std.specs.Prelude.{◌≡◌, ℕ, ◌<◌, ◌≤◌, List, [], ◌∷◌, length, map, find, Bool, false, Option, Some, option_map}
 use Rattle.std.specs.List.{list_any, AllByRecursion}
 use Rattle.std.specs.Str.{bytes_eq}
@@ -54,12 +54,14 @@ trees container = map (λ entry. entry.tree) container.entries
 -- each number is above the one before it, and the next number above all
 abbrev pub NumbersRise : ℕ → List Entry → ℕ → Type 0
 NumbersRise before [] next_number = before < next_number
-NumbersRise before (entry ∷ entries) next_number = (before < entry.number) × NumbersRise entry.number entries next_number
+NumbersRise before (entry ∷ entries) next_number =
+    (before < entry.number) × NumbersRise entry.number entries next_number
 
 -- no id stands twice
 abbrev pub IdsAreDistinct : List Entry → Type 0
 IdsAreDistinct [] = Unit {0}
-IdsAreDistinct (entry ∷ entries) = (list_any (has_id entry.id) entries ≡ false) × IdsAreDistinct entries
+IdsAreDistinct (entry ∷ entries) =
+    (list_any (has_id entry.id) entries ≡ false) × IdsAreDistinct entries
 
 -- the tree of an entry is a document of its id, which a text can stand for
 pub record IsStored (entry : Entry) : Type 0 where

@@ -12,8 +12,11 @@ Entry = String Global × Value
 abbrev pub entry_names : List Entry → List (List ℕ)
 entry_names entries = map (λ e. string_bytes e.0) entries
 
-pub entry_names-rise : (entries : List Entry) → IsStrictlySortedBy string_cmp (keys_of entries) → is_rising (entry_names entries) ≡ true
+pub entry_names-rise : (entries : List Entry) → IsStrictlySortedBy string_cmp (keys_of entries)
+    → is_rising (entry_names entries) ≡ true
 unfolding IsStrictlySortedBy
 entry_names-rise [] h = refl
 entry_names-rise (e ∷ []) h = refl
-entry_names-rise (e ∷ next ∷ rest) h = ap (λ b. b && is_rising (entry_names (next ∷ rest))) (ap is_lt h.0.0) ∙ entry_names-rise (next ∷ rest) h.1
+entry_names-rise (e ∷ next ∷ rest) h =
+    ap (λ b. b && is_rising (entry_names (next ∷ rest))) (ap is_lt h.0.0)
+    ∙ entry_names-rise (next ∷ rest) h.1

@@ -1,6 +1,5 @@
 -- When a tree is well formed, one level at a time.
-use Rattle.std.proofs.Common.{rules, ◌≡◌, ◌∙◌, refl, ap, ap₂, ℕ, ℤ, List, [], ◌∷◌, ◌++◌, map, Bool, true, false, ◌&&◌, String, string_bytes}
-use Rattle.std.proofs.lemmas.Str.{is_utf8-from_IsUtf8, IsUtf8-string_bytes}
+use Rattle.std.proofs.Common.{rules, ◌≡◌, ◌∙◌, refl, ap, ap₂, ℕ, ℤ, List, [], ◌∷◌, map, Bool, true, ◌&&◌}
 use Rattle.std.specs.List.{list_all}
 use Rattle.std.specs.Str.{is_utf8}
 use Rattle.ax_tree.specs.Names.{names, HaveRisingNames}
@@ -16,23 +15,36 @@ judged m = record { name = m.name; value = is_well_formed m.value }
 abbrev pub is_good_member : Member tree.Tree → Bool
 is_good_member m = is_utf8 m.name && is_well_formed m.value
 
-formed-Number : (z : ℤ) → is_well_formed (tree.Number z) ≡ is_of_64_bits z
+pub formed-Null : is_well_formed tree.Null ≡ true
+formed-Null = search (rules, tree.the_lemmas)
+
+pub formed-Truth : (b : Bool) → is_well_formed (tree.Truth b) ≡ true
+formed-Truth b = search (rules, tree.the_lemmas)
+
+pub formed-Number : (z : ℤ) → is_well_formed (tree.Number z) ≡ is_of_64_bits z
 formed-Number z = search (rules, tree.the_lemmas)
 
-formed-Text : (s : List ℕ) → is_well_formed (tree.Text s) ≡ is_utf8 s
+pub formed-Text : (s : List ℕ) → is_well_formed (tree.Text s) ≡ is_utf8 s
 formed-Text s = search (rules, tree.the_lemmas)
 
-formed-mapped : (ts : List tree.Tree) → is_well_formed (tree.List ts) ≡ list_all (λ item. item) (map is_well_formed ts)
+formed-mapped : (ts : List tree.Tree)
+    → is_well_formed (tree.List ts) ≡ list_all (λ item. item) (map is_well_formed ts)
 formed-mapped ts = search (rules, tree.the_lemmas)
 
-formed-judged : (ms : List (Member tree.Tree)) → is_well_formed (tree.Object ms) ≡ (is_rising (names (map judged ms)) && list_all (λ m. is_utf8 m.name && m.value) (map judged ms))
+formed-judged : (ms : List (Member tree.Tree))
+    → is_well_formed
+    (tree.Object ms)
+    ≡ (is_rising (names (map judged ms)) && list_all (λ m. is_utf8 m.name && m.value)
+    (map judged ms))
 formed-judged ms = search (rules, tree.the_lemmas)
 
-all-mapped : (ts : List tree.Tree) → list_all (λ item. item) (map is_well_formed ts) ≡ list_all is_well_formed ts
+all-mapped : (ts : List tree.Tree)
+    → list_all (λ item. item) (map is_well_formed ts) ≡ list_all is_well_formed ts
 all-mapped [] = refl
 all-mapped (t ∷ ts) = ap (λ b. is_well_formed t && b) (all-mapped ts)
 
-all-judged : (ms : List (Member tree.Tree)) → list_all (λ m. is_utf8 m.name && m.value) (map judged ms) ≡ list_all is_good_member ms
+all-judged : (ms : List (Member tree.Tree))
+    → list_all (λ m. is_utf8 m.name && m.value) (map judged ms) ≡ list_all is_good_member ms
 all-judged [] = refl
 all-judged (m ∷ ms) = ap (λ b. is_good_member m && b) (all-judged ms)
 
@@ -43,20 +55,11 @@ names-judged (m ∷ ms) = ap (λ l. m.name ∷ l) (names-judged ms)
 pub formed-List : (ts : List tree.Tree) → is_well_formed (tree.List ts) ≡ list_all is_well_formed ts
 formed-List ts = formed-mapped ts ∙ all-mapped ts
 
-pub formed-Object : (ms : List (Member tree.Tree)) → is_well_formed (tree.Object ms) ≡ (is_rising (names ms) && list_all is_good_member ms)
-formed-Object ms = formed-judged ms ∙ ap₂ (λ a b. is_rising a && b) (names-judged ms) (all-judged ms)
+pub formed-Object : (ms : List (Member tree.Tree))
+    → is_well_formed (tree.Object ms) ≡ (is_rising (names ms) && list_all is_good_member ms)
+formed-Object ms = formed-judged ms
+    ∙ ap₂ (λ a b. is_rising a && b) (names-judged ms) (all-judged ms)
 
-pub object-formed : (ms : List (Member tree.Tree)) → HaveRisingNames ms → list_all is_good_member ms ≡ true → IsWellFormed (tree.Object ms)
+pub object-formed : (ms : List (Member tree.Tree)) → HaveRisingNames ms
+    → list_all is_good_member ms ≡ true → IsWellFormed (tree.Object ms)
 object-formed ms rising good = formed-Object ms ∙ ap₂ (λ a b. a && b) rising good
-
-all-again : (a b c : Bool) → (a && b) ≡ true → (b ≡ true → c ≡ true) → (a && c) ≡ true
-all-again true b c h f = f h
-all-again false b c h f = h
-
--- one more that passes
-pub all-more : {A : Type 0} (test : A → Bool) (done : List A) (a : A) → list_all test done ≡ true → test a ≡ true → list_all test (done ++ a ∷ []) ≡ true
-all-more test [] a h passes = ap (λ b. b && true) passes
-all-more test (b ∷ done) a h passes = all-again (test b) (list_all test done) (list_all test (done ++ a ∷ [])) h (λ rest. all-more test done a rest passes)
-
-pub text-formed : {A : Type 0} (s : String A) → IsWellFormed (tree.Text (string_bytes s))
-text-formed s = formed-Text (string_bytes s) ∙ is_utf8-from_IsUtf8 (string_bytes s) (IsUtf8-string_bytes s)

@@ -16,13 +16,16 @@ use Rattle.ax_text.proofs.Entries.{Entry, entry_names, entry_names-rise}
 abbrev pub joined : {A : Type 0} → List A → Option (List A) → Option (List A)
 joined done rest = option_map (λ l. done ++ l) rest
 
-joined-both : {A : Type 0} (done : List A) (a : A) (rest : Option (List A)) → joined done (both (Some a) rest) ≡ joined (done ++ a ∷ []) rest
+joined-both : {A : Type 0} (done : List A) (a : A) (rest : Option (List A))
+    → joined done (both (Some a) rest) ≡ joined (done ++ a ∷ []) rest
 joined-both done a None = refl
 joined-both done a (Some l) = ap Some (sym (append_assoc done (a ∷ []) l))
 
 -- a value is read, and its tree stands behind those made so far
-pub items-more : (all : Option (List Tree)) (done : List Tree) (values rest : List Value) (v : Value) (t : Tree)
-    → joined done (items_of (items_view values)) ≡ all → values ≡ v ∷ rest → tree_of (view v) ≡ Some t
+pub items-more : (all : Option (List Tree)) (done : List Tree) (values rest : List Value)
+    (v : Value) (t : Tree)
+    → joined done (items_of (items_view values)) ≡ all → values ≡ v ∷ rest
+    → tree_of (view v) ≡ Some t
     → joined (done ++ t ∷ []) (items_of (items_view rest)) ≡ all
 items-more all done values rest v t made first value =
     sym (joined-both done t (items_of (items_view rest)))
@@ -31,17 +34,21 @@ items-more all done values rest v t made first value =
     ∙ made
 
 -- an entry is read, and its member stands behind those made so far
-pub members-more : (all : Option (List (Member Tree))) (done : List (Member Tree)) (entries rest : List Entry) (k : String Global) (v : Value) (m : Member Tree)
-    → joined done (members_of (members_view entries)) ≡ all → entries ≡ (k, v) ∷ rest → m.name ≡ string_bytes k → tree_of (view v) ≡ Some m.value
+pub members-more : (all : Option (List (Member Tree))) (done : List (Member Tree))
+    (entries rest : List Entry) (k : String Global) (v : Value) (m : Member Tree)
+    → joined done (members_of (members_view entries)) ≡ all → entries ≡ (k, v) ∷ rest
+    → m.name ≡ string_bytes k → tree_of (view v) ≡ Some m.value
     → joined (done ++ m ∷ []) (members_of (members_view rest)) ≡ all
 members-more all done entries rest k v m made first name value =
     sym (joined-both done m (members_of (members_view rest)))
     ∙ ap (λ n. joined done (both (named n (Some m.value)) (members_of (members_view rest)))) name
-    ∙ ap (λ t. joined done (both (named (string_bytes k) t) (members_of (members_view rest)))) (sym value)
+    ∙ ap (λ t. joined done (both (named (string_bytes k) t) (members_of (members_view rest))))
+    (sym value)
     ∙ ap (λ l. joined done (members_of (members_view l))) (sym first)
     ∙ made
 
-pub names-more : (all : List (List ℕ)) (done : List (Member Tree)) (entries rest : List Entry) (k : String Global) (v : Value) (m : Member Tree)
+pub names-more : (all : List (List ℕ)) (done : List (Member Tree)) (entries rest : List Entry)
+    (k : String Global) (v : Value) (m : Member Tree)
     → names done ++ entry_names entries ≡ all → entries ≡ (k, v) ∷ rest → m.name ≡ string_bytes k
     → names (done ++ m ∷ []) ++ entry_names rest ≡ all
 names-more all done entries rest k v m listed first name =
@@ -52,6 +59,10 @@ names-more all done entries rest k v m listed first name =
     ∙ listed
 
 -- with all entries read, the names are the map's
-pub names-rise : (done : List (Member Tree)) (left all : List Entry) → names done ++ entry_names left ≡ entry_names all → left ≡ [] → IsStrictlySortedBy string_cmp (keys_of all) → HaveRisingNames done
-names-rise done left all listed none_left sorted =
-    ap is_rising (sym (append-nil (names done)) ∙ ap (λ l. names done ++ entry_names l) (sym none_left) ∙ listed) ∙ entry_names-rise all sorted
+pub names-rise : (done : List (Member Tree)) (remaining all : List Entry)
+    → names done ++ entry_names remaining ≡ entry_names all → remaining ≡ []
+    → IsStrictlySortedBy string_cmp (keys_of all) → HaveRisingNames done
+names-rise done remaining all listed none_remain sorted =
+    ap is_rising
+    (sym (append-nil (names done)) ∙ ap (λ l. names done ++ entry_names l) (sym none_remain)
+    ∙ listed) ∙ entry_names-rise all sorted

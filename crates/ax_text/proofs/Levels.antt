@@ -27,12 +27,14 @@ nesting-Text s = search (rules, tree.the_lemmas)
 pub nesting-List : (ts : List tree.Tree) → nesting (tree.List ts) ≡ greatest (map nesting ts) + 1
 nesting-List ts = search (rules, tree.the_lemmas)
 
-nesting-nested : (l : List (Member tree.Tree)) → nesting (tree.Object l) ≡ greatest (map (λ m. m.value) (map nested l)) + 1
+nesting-nested : (l : List (Member tree.Tree))
+    → nesting (tree.Object l) ≡ greatest (map (λ m. m.value) (map nested l)) + 1
 nesting-nested l = search (rules, tree.the_lemmas)
 
-values-nested : (l : List (Member tree.Tree)) → map (λ m. m.value) (map nested l) ≡ map (λ m. nesting m.value) l
+values-nested : (l : List (Member tree.Tree))
+    → map (λ m. m.value) (map nested l) ≡ map (λ m. nesting m.value) l
 values-nested [] = refl
 values-nested (m ∷ ms) = ap (λ ns. nesting m.value ∷ ns) (values-nested ms)
 
-pub nesting-Object : (l : List (Member tree.Tree)) → nesting (tree.Object l) ≡ deepest l + 1
-nesting-Object l = nesting-nested l ∙ ap (λ ns. greatest ns + 1) (values-nested l)
+pub nesting_object : (l : List (Member tree.Tree)) → nesting (tree.Object l) ≡ deepest l + 1
+nesting_object l = nesting-nested l ∙ ap (λ ns. greatest ns + 1) (values-nested l)

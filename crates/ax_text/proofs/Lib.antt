@@ -4,5 +4,9 @@ pub mod Formed
 pub mod GoodData
 pub mod Joined
 pub mod Levels
+pub mod ReadTexts
+pub mod ReadTrees
 pub mod Readings
+pub mod RisingNames
 pub mod RoundTrip
+pub mod StringTexts

@@ -8,13 +8,18 @@ use Rattle.ax_text.specs.Reading.{NotJson, of_tree, of_data, reading}
 use Rattle.ax_text.specs.TreeOf.{tree_of}
 
 -- data was read
-pub reading-data : (bytes : List ℕ) (d : Data) → IsUtf8 bytes → read bytes ≡ Some d → reading bytes ≡ of_tree (tree_of d)
-reading-data bytes d utf8 e = ap (λ b. if b then of_data (read bytes) else NotJson) (is_utf8-from_IsUtf8 bytes utf8) ∙ ap of_data e
+pub reading-data : (bytes : List ℕ) (d : Data) → IsUtf8 bytes → read bytes ≡ Some d
+    → reading bytes ≡ of_tree (tree_of d)
+reading-data bytes d utf8 e =
+    ap (λ b. if b then of_data (read bytes) else NotJson) (is_utf8-from_IsUtf8 bytes utf8)
+    ∙ ap of_data e
 
-refused_at : (bytes : List ℕ) (b : Bool) → is_utf8 bytes ≡ b → (IsUtf8 bytes → read bytes ≡ None) → (if b then of_data (read bytes) else NotJson) ≡ NotJson
+refused_at : (bytes : List ℕ) (b : Bool) → is_utf8 bytes ≡ b → (IsUtf8 bytes → read bytes ≡ None)
+    → (if b then of_data (read bytes) else NotJson) ≡ NotJson
 refused_at bytes true is refused = ap of_data (refused (IsUtf8-from_is_utf8 bytes is))
 refused_at bytes false is refused = refl
 
 -- nothing was read
-pub reading-refused : (bytes : List ℕ) → (IsUtf8 bytes → read bytes ≡ None) → reading bytes ≡ NotJson
+pub reading-refused : (bytes : List ℕ) → (IsUtf8 bytes → read bytes ≡ None)
+    → reading bytes ≡ NotJson
 reading-refused bytes refused = refused_at bytes (is_utf8 bytes) refl refused

@@ -1,5 +1,5 @@
--- The tree that data of JSON (RFC 8259) is. A number is whole where `serde_json` reads it as a whole
--- number from -2^63 to 2^63 - 1; data that holds another number is no tree.
+-- The tree that data of JSON (RFC 8259) is. A number is whole where `serde_json` reads it as a
+-- whole number from -2^63 to 2^63 - 1; data that holds another number is no tree.
 use Rattle.std.specs.Prelude.{ℕ, List, [], ◌∷◌, Option, Some, option_map, option_and_then}
 use Rattle.serde_json.specs.Data as serde
 use Rattle.serde_json.specs.Find.{as_i64}

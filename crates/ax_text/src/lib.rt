@@ -4,15 +4,14 @@
 //! contract: `read_tree` answers exactly what the bytes are as a JSON text.
 #![tactic(auto)]
 
-mod depth;
-mod fault;
-mod laws;
+pub mod laws;
 mod read;
+mod text_fault;
+mod tree_nesting;
 
-pub use depth::nesting;
-pub use fault::TextFault;
-pub use laws::canonical_text_reads_back;
 pub use read::read_tree;
+pub use text_fault::TextFault;
+pub use tree_nesting::nesting;
 
 #[cfg(test)]
 mod tests;

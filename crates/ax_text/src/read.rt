@@ -1,11 +1,11 @@
-ghost use Rattle.std.specs.Prelude.{◌≡◌, ◌≤◌, IfOk, IfErr, Some, None, string_bytes};
+ghost use Rattle.std.specs.Prelude.{◌≡◌, ◌≤◌, IfOk, IfErr, Some, None};
 ghost use Rattle.serde_json.specs.View.{view, items_view, members_view};
 ghost use Rattle.ax_tree.specs.Nesting.{nesting as nesting_of};
 ghost use Rattle.ax_text.specs.TreeOf.{tree_of, items_of, members_of};
 ghost use Rattle.ax_tree.specs.WellFormed.{IsWellFormed};
 ghost use Rattle.ax_text.specs.Reading.{reading, Stands, NotJson, NotWhole};
 
-use crate::fault::TextFault;
+use crate::text_fault::TextFault;
 use ax_tree::{Items, Member, Members, Text, Tree};
 use serde_json::{Map, Value};
 use std::alloc::Global;
@@ -34,7 +34,6 @@ fn tree_from(alloc: Global, value: Value) -> Result<Tree, TextFault>
     ensures tree { IfOk result (λ tree. tree_of (view value) ≡ Some tree) }
     ensures json { result ≡ Err TextFault.Json → ⊥ }
     ensures number { result ≡ Err TextFault.Number → tree_of (view value) ≡ None }
-    ensures well_formed { IfOk result (λ tree. IsWellFormed tree) }
 {
     match value {
         Value::Null => Ok(Tree::Null),
@@ -43,17 +42,10 @@ fn tree_from(alloc: Global, value: Value) -> Result<Tree, TextFault>
             Some(value) => Ok(Tree::Number(value)),
             None => Err(TextFault::Number),
         },
-        Value::String(text) => Ok(text_from(text)),
+        Value::String(text) => Ok(Tree::Text(Text::from_string(text))),
         Value::Array(values) => Ok(Tree::List(items_from(alloc, values)?)),
         Value::Object(entries) => Ok(Tree::Object(members_from(alloc, entries)?)),
     }
-}
-
-fn text_from(text: String) -> Tree
-    ensures tree { result ≡ Tree.Text (string_bytes text) }
-    ensures well_formed { IsWellFormed result }
-{
-    Tree::Text(Text::from_string(text))
 }
 
 #[cycle(read)]
@@ -61,7 +53,6 @@ fn items_from(alloc: Global, values: Vec<Value>) -> Result<Items<Tree>, TextFaul
     ensures items { IfOk result (λ items. items_of (items_view values.items) ≡ Some items) }
     ensures json { result ≡ Err TextFault.Json → ⊥ }
     ensures number { result ≡ Err TextFault.Number → items_of (items_view values.items) ≡ None }
-    ensures well_formed { IfOk result (λ items. IsWellFormed (Tree.List items)) }
 {
     let mut items = Vec::with_capacity(alloc, values.len())?;
     for value in values {
@@ -75,7 +66,6 @@ fn members_from(alloc: Global, entries: Map<String, Value>) -> Result<Members<Tr
     ensures members { IfOk result (λ members. members_of (members_view entries.entries) ≡ Some members) }
     ensures json { result ≡ Err TextFault.Json → ⊥ }
     ensures number { result ≡ Err TextFault.Number → members_of (members_view entries.entries) ≡ None }
-    ensures well_formed { IfOk result (λ members. IsWellFormed (Tree.Object members)) }
 {
     let mut members = Vec::with_capacity(alloc, entries.len())?;
     for (name, value) in entries {

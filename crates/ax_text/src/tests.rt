@@ -3,7 +3,7 @@ use ax_tree::write_tree;
 use std::test::Fail;
 
 #[test]
-fn texts_read(rt: HostRuntime) -> Result<(), Fail> {
+fn a_text_is_read_as_what_it_stands_for(rt: HostRuntime) -> Result<(), Fail> {
     let rows = [
         ("0", "0"),
         ("9223372036854775807", "9223372036854775807"),
@@ -29,7 +29,7 @@ fn texts_read(rt: HostRuntime) -> Result<(), Fail> {
 }
 
 #[test]
-fn texts_that_are_no_json(rt: HostRuntime) {
+fn what_is_no_json_is_refused(rt: HostRuntime) {
     let rows = [
         "",
         "[1.5,",
@@ -60,7 +60,7 @@ fn texts_that_are_no_json(rt: HostRuntime) {
 }
 
 #[test]
-fn numbers_that_are_not_whole(rt: HostRuntime) {
+fn a_number_that_is_not_whole_is_refused(rt: HostRuntime) {
     let rows = [
         "-0",
         "1.0",
@@ -82,7 +82,7 @@ fn numbers_that_are_not_whole(rt: HostRuntime) {
 }
 
 #[test]
-fn nesting_of_texts(rt: HostRuntime) -> Result<(), Fail> {
+fn an_empty_list_nests_one_level(rt: HostRuntime) -> Result<(), Fail> {
     let rows = [
         ("0", 0),
         ("\"[]\"", 0),
@@ -99,7 +99,7 @@ fn nesting_of_texts(rt: HostRuntime) -> Result<(), Fail> {
 }
 
 #[test]
-fn levels_that_are_read(rt: HostRuntime) -> Result<(), Fail> {
+fn levels_127_are_read_and_128_are_not(rt: HostRuntime) -> Result<(), Fail> {
     let mut open = vec![in rt.alloc(); b'['; 127]?;
     let close = vec![in rt.alloc(); b']'; 127]?;
     open.extend_from_slice(close.as_slice())?;
@@ -110,5 +110,23 @@ fn levels_that_are_read(rt: HostRuntime) -> Result<(), Fail> {
     deeper.extend_from_slice(close.as_slice())?;
     let fault = read_tree(rt.alloc(), deeper.as_slice()).err();
     assert_eq!(rt; fault, Some(TextFault::Json));
+    Ok(())
+}
+
+// A text of 262,144 bytes in 127 levels, the most that a document may have of both.
+#[test]
+fn the_largest_text_is_read_copied_and_written(rt: HostRuntime) -> Result<(), Fail> {
+    let mut text = vec![in rt.alloc(); b'['; 127]?;
+    text.extend_from_slice(b"10")?;
+    for _ in 0..130_944 {
+        text.extend_from_slice(b",1")?;
+    }
+    let close = vec![in rt.alloc(); b']'; 127]?;
+    text.extend_from_slice(close.as_slice())?;
+    assert_eq!(rt; text.len(), 262_144);
+    let tree = read_tree(rt.alloc(), text.as_slice())?;
+    assert_eq!(rt; nesting(&tree), 127);
+    let written = write_tree(rt.alloc(), &tree.copy(rt.alloc())?)?;
+    assert!(rt; written.as_slice() == text.as_slice());
     Ok(())
 }

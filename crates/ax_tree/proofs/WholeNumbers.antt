@@ -25,7 +25,11 @@ not_minus (d ∷ ds) first = ne_eqb d 45 (λ e. omega arith)
 IsNumber-minus : (n : ℕ) → 0 < n → n < 2 ^ 64 → IsNumber (45 ∷ decimal n)
 unfolding after_number
 IsNumber-minus n some h =
-    ap (λ b. option_and_then after_exponent (option_and_then after_fraction (after_whole (cond b (drop 1 (decimal n)) (decimal n))))) (sym (not_minus (decimal n) (first_decimal n some h)))
+    ap
+    (λ b.
+    option_and_then after_exponent
+    (option_and_then after_fraction (after_whole (cond b (drop 1 (decimal n)) (decimal n)))))
+    (sym (not_minus (decimal n) (first_decimal n some h)))
     ∙ IsNumber-decimal n h
 
 IsUtf8-decimal : (n : ℕ) → n < 2 ^ 64 → IsUtf8 (decimal n)
@@ -35,7 +39,11 @@ pub reads_back : (z : ℤ) → is_of_64_bits z ≡ true → ReadsBack (of_intege
 reads_back (pos n) e =
     let h : n < 2 ^ 63 = ltb-true n (2 ^ 63) e in
     let wide : n < 2 ^ 64 = omega arith in
-    record { value = number_of-decimal n wide; number = IsNumber-decimal n wide; utf8 = IsUtf8-decimal n wide }
+    record {
+      value = number_of-decimal n wide;
+      number = IsNumber-decimal n wide;
+      utf8 = IsUtf8-decimal n wide;
+    }
 reads_back (negsuc n) e =
     let h : n < 2 ^ 63 = ltb-true n (2 ^ 63) e in
     let some : 0 < suc n = omega arith in
@@ -43,7 +51,9 @@ reads_back (negsuc n) e =
     record {
       value = number_of-negative n h;
       number = IsNumber-minus (suc n) some wide;
-      utf8 = IsUtf8-append (45 ∷ []) (decimal (suc n)) (IsUtf8-are_ascii (45 ∷ []) refl) (IsUtf8-decimal (suc n) wide);
+      utf8 =
+          IsUtf8-append (45 ∷ []) (decimal (suc n)) (IsUtf8-are_ascii (45 ∷ []) refl)
+          (IsUtf8-decimal (suc n) wide);
     }
 
 pub whole : (z : ℤ) → is_of_64_bits z ≡ true → as_i64 (of_integer z) ≡ Some z

@@ -1,4 +1,5 @@
--- The names of a map's members, which rise strictly by bytes.
+-- The names of the members of a map (an object of RFC 8259), which rise strictly by bytes, so that
+-- no name stands twice.
 use Rattle.std.specs.Prelude.{◌≡◌, ℕ, List, map, true}
 use Rattle.ax_tree.specs.declared.members.Member.{Member}
 use Rattle.ax_tree.specs.Rising.{is_rising}

@@ -10,13 +10,13 @@ greatest [] = 0
 greatest (n ∷ ns) = max n (greatest ns)
 
 -- one level of a tree, whose children are seen as their nesting
-abbrev pub nesting_step : Tree-F ℕ → ℕ
-nesting_step Tree-F.Null = 0
-nesting_step (Tree-F.Truth value) = 0
-nesting_step (Tree-F.Number value) = 0
-nesting_step (Tree-F.Text value) = 0
-nesting_step (Tree-F.List items) = greatest items + 1
-nesting_step (Tree-F.Object members) = greatest (map (λ m. m.value) members) + 1
+abbrev pub nesting_level : Tree-F ℕ → ℕ
+nesting_level Tree-F.Null = 0
+nesting_level (Tree-F.Truth value) = 0
+nesting_level (Tree-F.Number value) = 0
+nesting_level (Tree-F.Text value) = 0
+nesting_level (Tree-F.List items) = greatest items + 1
+nesting_level (Tree-F.Object members) = greatest (map (λ m. m.value) members) + 1
 
 abbrev pub nesting : Tree → ℕ
-nesting = fold-Tree ℕ nesting_step
+nesting = fold-Tree ℕ nesting_level

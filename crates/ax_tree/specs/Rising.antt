@@ -1,5 +1,5 @@
--- Names that rise strictly by their bytes, as the members of a map do in its canonical text: each is
--- before the next, so that no name stands twice.
+-- Names that rise strictly by their bytes, as the members of a map do in its canonical text: each
+-- is before the next, so that no name stands twice.
 use Rattle.std.specs.Prelude.{ℕ, List, [], ◌∷◌, Bool, true, ◌&&◌}
 use Rattle.std.specs.Ordering.{nat_cmp, is_lt}
 use Rattle.std.specs.Cmp.Lexicographic.{slice_cmp}

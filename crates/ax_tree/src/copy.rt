@@ -2,7 +2,7 @@ ghost use Rattle.std.specs.Prelude.{◌≡◌, IfOk};
 
 use crate::items::Items;
 use crate::members::{Member, Members};
-use crate::memory::Memory;
+use crate::out_of_memory::Memory;
 use crate::tree::Tree;
 use std::alloc::Global;
 

@@ -1,16 +1,17 @@
 //! JSON trees and what they mean: the values that documents are made of, their one canonical text,
 //! and what makes a tree a document. Every crate that speaks of documents cites these definitions.
 //!
-//! Stands on `serde_json`, which writes the texts. Its one contract: `write_tree` gives exactly the
-//! canonical text of a tree, and `Tree::copy` an equal tree.
+//! Stands on `json`, whose writer puts the texts down, and on the words of `serde_json` for what is
+//! read back. Its one contract: `append_tree` puts exactly the canonical text of a tree behind what
+//! a buffer has, and `Tree::copy` gives an equal tree.
 #![tactic(auto)]
 
 mod copy;
 mod document;
 mod items;
-mod laws;
+pub mod laws;
 mod members;
-mod memory;
+mod out_of_memory;
 #[cfg(test)]
 mod tests;
 mod text;
@@ -19,9 +20,8 @@ mod write;
 
 pub use document::{id_of, may_be_id};
 pub use items::Items;
-pub use laws::{numbers_of_well_formed_fit, one_canonical_text};
 pub use members::{Member, Members};
-pub use memory::Memory;
+pub use out_of_memory::Memory;
 pub use text::Text;
 pub use tree::Tree;
-pub use write::write_tree;
+pub use write::{append_tree, write_tree};

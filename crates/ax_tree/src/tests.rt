@@ -1,4 +1,6 @@
-use crate::{Items, Member, Members, Memory, Text, Tree, id_of, may_be_id, write_tree};
+use crate::{
+    Items, Member, Members, Memory, Text, Tree, append_tree, id_of, may_be_id, write_tree,
+};
 use std::alloc::Global;
 use std::test::Fail;
 
@@ -23,7 +25,7 @@ fn numbers(alloc: Global, numbers: &[i64]) -> Result<Tree, Memory> {
 
 // The texts by hand, from the grammar of JSON.
 #[test]
-fn canonical_texts(rt: HostRuntime) -> Result<(), Fail> {
+fn a_tree_has_its_canonical_text(rt: HostRuntime) -> Result<(), Fail> {
     let alloc = rt.alloc();
     let list = numbers(alloc, &[0, -1, i64::MAX, i64::MIN])?;
     let table = [
@@ -53,7 +55,21 @@ fn canonical_texts(rt: HostRuntime) -> Result<(), Fail> {
 }
 
 #[test]
-fn ids(rt: HostRuntime) -> Result<(), Fail> {
+fn a_text_is_appended_behind_what_stands_there(rt: HostRuntime) -> Result<(), Fail> {
+    let alloc = rt.alloc();
+    let mut out = Vec::new(alloc);
+    out.extend_from_slice(b"ok ")?;
+    append_tree(
+        &mut out,
+        &Tree::Object(member(alloc, "k", Tree::Number(-7))?),
+    )?;
+    append_tree(&mut out, &Tree::Null)?;
+    assert_eq!(rt; out.as_slice(), b"ok {\"k\":-7}null".as_slice());
+    Ok(())
+}
+
+#[test]
+fn an_id_has_no_control_character(rt: HostRuntime) -> Result<(), Fail> {
     let alloc = rt.alloc();
     for (id, expected) in [
         ("a", true),

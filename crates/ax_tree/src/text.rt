@@ -1,6 +1,6 @@
-ghost use Rattle.std.specs.Prelude.{◌≡◌, IfOk, IsUtf8, string_bytes};
+ghost use Rattle.std.specs.Prelude.{◌≡◌, ◌<◌, ◌^◌, IfOk, length, string_bytes};
 
-use crate::memory::Memory;
+use crate::out_of_memory::Memory;
 use std::alloc::Global;
 use std::marker::Model;
 
@@ -37,7 +37,8 @@ impl Text {
     }
 
     pub fn as_str(&self) -> &str
-        ensures { result.now ≡ self.now }
+        ensures text { result.now ≡ self.now }
+        ensures short { length result.now < 2 ^ 63 }
     {
         self.text.as_str()
     }

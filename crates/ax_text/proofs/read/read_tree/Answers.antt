@@ -3,31 +3,44 @@ use Rattle.std.proofs.Common.{◌≡◌, ◌≤◌, Some, ap, sym, ◌∙◌, tr
 use Rattle.std.proofs.lemmas.Result.{IfOk-weaker}
 use Rattle.serde_json.specs.View.{view}
 use Rattle.ax_tree.specs.Nesting.{nesting}
+use Rattle.ax_tree.specs.WellFormed.{IsWellFormed}
 use Rattle.ax_text.specs.Reading.{Stands, reading, of_tree}
 use Rattle.ax_text.specs.TreeOf.{tree_of}
-use Rattle.ax_text.proofs.DataDepth.{nesting_bound}
+use Rattle.ax_text.proofs.ReadTrees.{stands}
 use Rattle.ax_text.proofs.Readings.{reading-data, reading-refused}
 use Rattle.ax_text.proofs.read.read_tree.Goals as goal
 use Rattle.ax_text.proofs.read.read_tree.Goals.{then-is_memory, else-is_memory}
 
 pub returns-in-Ok-clause-tree : goal.returns-in-Ok-clause-tree
 returns-in-Ok-clause-tree c =
-    let read : reading c.args.bytes.now ≡ of_tree (tree_of (view c.in-Ok.value)) = reading-data _ _ c.in-Ok.ensures.ok.0 c.in-Ok.ensures.ok.1 in
-    IfOk-weaker c.tree_from.result (λ tree. tree_of (view c.in-Ok.value) ≡ Some tree) (λ tree. reading c.args.bytes.now ≡ Stands tree)
+    let read : reading c.args.bytes.now ≡ of_tree (tree_of (view c.in-Ok.value)) =
+    reading-data _ _ c.in-Ok.ensures.ok.0 c.in-Ok.ensures.ok.1 in
+    IfOk-weaker c.tree_from.result (λ tree. tree_of (view c.in-Ok.value) ≡ Some tree)
+    (λ tree. reading c.args.bytes.now ≡ Stands tree)
     (λ tree e. read ∙ ap of_tree e) c.tree_from.ensures.tree
 
 pub returns-in-Ok-clause-number : goal.returns-in-Ok-clause-number
 returns-in-Ok-clause-number c =
-    let read : reading c.args.bytes.now ≡ of_tree (tree_of (view c.in-Ok.value)) = reading-data _ _ c.in-Ok.ensures.ok.0 c.in-Ok.ensures.ok.1 in
+    let read : reading c.args.bytes.now ≡ of_tree (tree_of (view c.in-Ok.value)) =
+    reading-data _ _ c.in-Ok.ensures.ok.0 c.in-Ok.ensures.ok.1 in
     λ e. read ∙ ap of_tree (c.tree_from.ensures.number e)
 
 pub returns-in-Ok-clause-nests : goal.returns-in-Ok-clause-nests
 returns-in-Ok-clause-nests c =
-    IfOk-weaker c.tree_from.result (λ tree. tree_of (view c.in-Ok.value) ≡ Some tree) (λ tree. nesting tree ≤ 127)
-    (λ tree e. nesting_bound (view c.in-Ok.value) tree 127 e c.in-Ok.ensures.nests) c.tree_from.ensures.tree
+    IfOk-weaker c.tree_from.result (λ tree. reading c.args.bytes.now ≡ Stands tree)
+    (λ tree. nesting tree ≤ 127)
+    (λ tree read. (stands c.args.bytes.now tree read).shallow) (returns-in-Ok-clause-tree c)
+
+pub returns-in-Ok-clause-well_formed : goal.returns-in-Ok-clause-well_formed
+returns-in-Ok-clause-well_formed c =
+    IfOk-weaker c.tree_from.result (λ tree. reading c.args.bytes.now ≡ Stands tree)
+    (λ tree. IsWellFormed tree)
+    (λ tree read. (stands c.args.bytes.now tree read).formed) (returns-in-Ok-clause-tree c)
 
 pub returns-after-is_memory-clause-json : goal.returns-after-is_memory-clause-json
 returns-after-is_memory-clause-json c = elim c.if-is_memory.branch [
   | then-is_memory w ↦ λ e. absurd (cc)
-  | else-is_memory w ↦ λ e. reading-refused c.args.bytes.now (c.in-Err.ensures.err (λ memory. true≢false (sym (c.is_memory.ensures.1 memory) ∙ w.if-is_memory.false)))
+  | else-is_memory w ↦ λ e. reading-refused c.args.bytes.now
+      (c.in-Err.ensures.err
+      (λ memory. true≢false (sym (c.is_memory.ensures.1 memory) ∙ w.if-is_memory.false)))
 ]

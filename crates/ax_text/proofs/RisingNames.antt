@@ -20,7 +20,8 @@ pub and_second : (a b : Bool) → (a && b) ≡ true → b ≡ true
 and_second true b e = e
 and_second false b e = cc
 
-pub is_before_trans : (a b c : List ℕ) → is_before a b ≡ true → is_before b c ≡ true → is_before a c ≡ true
+pub is_before_trans : (a b c : List ℕ) → is_before a b ≡ true → is_before b c ≡ true
+    → is_before a c ≡ true
 is_before_trans a b c first second =
     ap is_lt (nat_list_cmp_total.trans a b c (is_lt_Less _ first) (is_lt_Less _ second))
 
@@ -33,10 +34,11 @@ abbrev pub AreBefore : List (List ℕ) → List ℕ → Type 0
 AreBefore [] k = Unit {0}
 AreBefore (name ∷ rest) k = (is_before name k ≡ true) × AreBefore rest k
 
--- where names rise, those in front are before each later one
-pub rising_before : (front : List (List ℕ)) (k : List ℕ) (rest : List (List ℕ)) → is_rising (front ++ k ∷ rest) ≡ true → AreBefore front k
+-- where names rise, those in prefix are before each later one
+pub rising_before : (prefix : List (List ℕ)) (k : List ℕ) (rest : List (List ℕ))
+    → is_rising (prefix ++ k ∷ rest) ≡ true → AreBefore prefix k
 rising_before [] k rest e = tt
 rising_before (a ∷ []) k rest e = (and_first _ _ e, tt)
-rising_before (a ∷ b ∷ front) k rest e =
-    let later : AreBefore (b ∷ front) k = rising_before (b ∷ front) k rest (and_second _ _ e) in
+rising_before (a ∷ b ∷ prefix) k rest e =
+    let later : AreBefore (b ∷ prefix) k = rising_before (b ∷ prefix) k rest (and_second _ _ e) in
     (is_before_trans a b k (and_first _ _ e) later.0, later)

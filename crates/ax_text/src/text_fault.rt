@@ -15,7 +15,7 @@ pub enum TextFault {
 
 impl From<AllocError> for TextFault {
     ghost use Rattle.std.specs.Prelude.{◌≡◌};
-    ghost use Rattle.ax_text.specs.declared.fault.TextFault.TheVariants.{Memory as OutOfMemory};
+    ghost use Rattle.ax_text.specs.declared.text_fault.TextFault.TheVariants.{Memory as OutOfMemory};
 
     ghost from_gives = { λ _ fault. fault ≡ OutOfMemory };
 
@@ -26,7 +26,7 @@ impl From<AllocError> for TextFault {
 
 impl<T: Drop> From<AllocFailed<T>> for TextFault {
     ghost use Rattle.std.specs.Prelude.{◌≡◌};
-    ghost use Rattle.ax_text.specs.declared.fault.TextFault.TheVariants.{Memory as OutOfMemory};
+    ghost use Rattle.ax_text.specs.declared.text_fault.TextFault.TheVariants.{Memory as OutOfMemory};
 
     ghost from_gives = { λ _ fault. fault ≡ OutOfMemory };
 
@@ -37,7 +37,7 @@ impl<T: Drop> From<AllocFailed<T>> for TextFault {
 
 impl From<Memory> for TextFault {
     ghost use Rattle.std.specs.Prelude.{◌≡◌};
-    ghost use Rattle.ax_text.specs.declared.fault.TextFault.TheVariants.{Memory as OutOfMemory};
+    ghost use Rattle.ax_text.specs.declared.text_fault.TextFault.TheVariants.{Memory as OutOfMemory};
 
     ghost from_gives = { λ _ fault. fault ≡ OutOfMemory };
 

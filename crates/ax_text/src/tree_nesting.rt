@@ -5,7 +5,8 @@ use ax_tree::{Items, Members, Tree};
 
 /// How deep a tree nests: a scalar 0, a list or a map one more than the deepest of its children, so
 /// that an empty one nests 1; `u32::MAX` where it is more than that. Takes no memory.
-#[cycle(depth)]
+#[cycle(nesting)]
+#[tactic(auto, using(crate::proofs::Levels::nesting_object))]
 pub fn nesting(tree: &Tree) -> u32
     ensures { result ≡ min (nesting_of tree.now) (2 ^ 32 - 1) }
 {
@@ -16,7 +17,7 @@ pub fn nesting(tree: &Tree) -> u32
     }
 }
 
-#[cycle(depth)]
+#[cycle(nesting)]
 fn deepest_item(items: &Items<Tree>) -> u32
     ensures { result ≡ min (greatest (map nesting_of items.now)) (2 ^ 32 - 1) }
 {
@@ -27,7 +28,7 @@ fn deepest_item(items: &Items<Tree>) -> u32
     deepest
 }
 
-#[cycle(depth)]
+#[cycle(nesting)]
 fn deepest_member(members: &Members<Tree>) -> u32
     ensures { result ≡ min (greatest (map (λ m. nesting_of m.value) members.now)) (2 ^ 32 - 1) }
 {
