@@ -1,3 +1,4 @@
 pub mod Characters
 pub mod LikeLemmas
 pub mod Pairwise
+pub mod PlaceLemmas

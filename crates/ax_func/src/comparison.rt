@@ -24,7 +24,7 @@ pub fn equality(a: &Value, b: &Value) -> Option<bool>
 }
 
 /// The tree's kind, as a number.
-fn kind(tree: &Tree) -> u8
+pub fn kind(tree: &Tree) -> u8
     ensures { result ≡ tree_kind tree.now }
 {
     match tree {

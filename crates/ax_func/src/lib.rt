@@ -5,17 +5,22 @@
 //! definitions.
 #![tactic(auto)]
 
+mod args;
 mod arithmetic;
+mod calls;
 mod chars;
 mod comparison;
 mod like;
+mod lists;
 mod logic;
 mod memory;
 mod operators;
 mod order;
 mod same;
+mod texts;
 mod values;
 
+pub use calls::call;
 pub use memory::Memory;
 pub use operators::{binary, unary};
 pub use order::compare;

@@ -1,13 +1,17 @@
+//! The operators of queries.
 ghost use Rattle.std.specs.Prelude.{◌≡◌, IfOk};
-ghost use Rattle.ax_mean.specs.Arithmetic.{arithmetic, on_number, sum_of, difference_of, product_of, quotient_of, remainder_of, negative_of};
-ghost use Rattle.ax_mean.specs.Operators.{binary as binary_value, unary as unary_value};
+ghost use Rattle.ax_mean.specs.Arithmetic.{arithmetic as on_numbers, on_number, sum_of, difference_of, product_of, quotient_of, remainder_of, negative_of};
+ghost use Rattle.ax_mean.specs.Like.{is_like as like_test};
+ghost use Rattle.ax_mean.specs.Values.{of_truth as truth_value};
+ghost use Rattle.ax_mean.specs.Operators.{binary as binary_value, unary as unary_value, joined, first_defined};
 
 use crate::arithmetic;
 use crate::comparison::{equality, scalar_order};
+use crate::like::is_like;
 use crate::logic;
 use crate::memory::Memory;
-use crate::values::{number_of, of_number, of_truth, truth_of};
-use ax_mean::{BinaryOp, Tree, UnaryOp, Value};
+use crate::values::{number_of, of_number, of_string, of_truth, text_of, truth_of};
+use ax_mean::{BinaryOp, UnaryOp, Value};
 use std::alloc::Global;
 
 /// The value of `a op b`.
@@ -22,14 +26,31 @@ pub fn binary(alloc: Global, op: BinaryOp, a: &Value, b: &Value) -> Result<Value
         BinaryOp::Greater => Ok(of_truth(scalar_order(a, b).map(|order| order.is_gt()))),
         BinaryOp::GreaterEqual => Ok(of_truth(scalar_order(a, b).map(|order| order.is_ge()))),
         BinaryOp::Add => Ok(sum(a, b)),
+        BinaryOp::Subtract => Ok(difference(a, b)),
+        BinaryOp::Multiply => Ok(product(a, b)),
+        BinaryOp::Divide => Ok(quotient(a, b)),
+        BinaryOp::Remainder => Ok(remainder(a, b)),
+        BinaryOp::Join => join(alloc, a, b),
         BinaryOp::And => Ok(of_truth(logic::and(truth_of(a), truth_of(b)))),
         BinaryOp::Or => Ok(of_truth(logic::or(truth_of(a), truth_of(b)))),
-        _ => Err(Memory),
+        BinaryOp::Coalesce => coalesce(alloc, a, b),
+        BinaryOp::Like => Ok(like(a, b)),
+    }
+}
+
+/// The value of `op a`.
+pub fn unary(op: UnaryOp, a: &Value) -> Result<Value, Memory>
+    ensures { IfOk result (λ value. value ≡ unary_value op a.now) }
+{
+    match op {
+        UnaryOp::Not => Ok(of_truth(logic::not(truth_of(a)))),
+        UnaryOp::Minus => Ok(of_number(number_of(a).and_then(arithmetic::negative))),
+        UnaryOp::Plus => Ok(of_number(number_of(a))),
     }
 }
 
 fn sum(a: &Value, b: &Value) -> Value
-    ensures { result ≡ arithmetic sum_of a.now b.now }
+    ensures { result ≡ on_numbers sum_of a.now b.now }
 {
     match (number_of(a), number_of(b)) {
         (Some(a), Some(b)) => of_number(arithmetic::sum(a, b)),
@@ -37,13 +58,69 @@ fn sum(a: &Value, b: &Value) -> Value
     }
 }
 
-/// The value of `op a`.
-pub fn unary(alloc: Global, op: UnaryOp, a: &Value) -> Result<Value, Memory>
-    ensures { IfOk result (λ value. value ≡ unary_value op a.now) }
+fn difference(a: &Value, b: &Value) -> Value
+    ensures { result ≡ on_numbers difference_of a.now b.now }
 {
-    match op {
-        UnaryOp::Not => Ok(of_truth(logic::not(truth_of(a)))),
-        UnaryOp::Minus => Ok(of_number(number_of(a).and_then(arithmetic::negative))),
-        UnaryOp::Plus => Ok(of_number(number_of(a))),
+    match (number_of(a), number_of(b)) {
+        (Some(a), Some(b)) => of_number(arithmetic::difference(a, b)),
+        _ => Value::Undefined,
+    }
+}
+
+fn product(a: &Value, b: &Value) -> Value
+    ensures { result ≡ on_numbers product_of a.now b.now }
+{
+    match (number_of(a), number_of(b)) {
+        (Some(a), Some(b)) => of_number(arithmetic::product(a, b)),
+        _ => Value::Undefined,
+    }
+}
+
+fn quotient(a: &Value, b: &Value) -> Value
+    ensures { result ≡ on_numbers quotient_of a.now b.now }
+{
+    match (number_of(a), number_of(b)) {
+        (Some(a), Some(b)) => of_number(arithmetic::quotient(a, b)),
+        _ => Value::Undefined,
+    }
+}
+
+fn remainder(a: &Value, b: &Value) -> Value
+    ensures { result ≡ on_numbers remainder_of a.now b.now }
+{
+    match (number_of(a), number_of(b)) {
+        (Some(a), Some(b)) => of_number(arithmetic::remainder(a, b)),
+        _ => Value::Undefined,
+    }
+}
+
+fn join(alloc: Global, a: &Value, b: &Value) -> Result<Value, Memory>
+    ensures { IfOk result (λ value. value ≡ joined a.now b.now) }
+{
+    let (Some(a), Some(b)) = (text_of(a), text_of(b)) else {
+        return Ok(Value::Undefined);
+    };
+    let (a, b) = (a.as_str(), b.as_str());
+    let mut text = String::with_capacity(alloc, a.len().saturating_add(b.len()))?;
+    text.push_str(a)?;
+    text.push_str(b)?;
+    Ok(of_string(text))
+}
+
+fn coalesce(alloc: Global, a: &Value, b: &Value) -> Result<Value, Memory>
+    ensures { IfOk result (λ value. value ≡ first_defined a.now b.now) }
+{
+    match a {
+        Value::Undefined => Ok(b.copy(alloc)?),
+        Value::Defined(_) => Ok(a.copy(alloc)?),
+    }
+}
+
+fn like(text: &Value, pattern: &Value) -> Value
+    ensures { result ≡ truth_value (like_test text.now pattern.now) }
+{
+    match (text_of(text), text_of(pattern)) {
+        (Some(text), Some(pattern)) => of_truth(is_like(text.as_str(), pattern.as_str())),
+        _ => Value::Undefined,
     }
 }

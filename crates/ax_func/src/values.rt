@@ -1,7 +1,7 @@
 //! What a value holds, and the value of a result.
-ghost use Rattle.std.specs.Prelude.{◌≡◌};
+ghost use Rattle.std.specs.Prelude.{◌≡◌, Some, string_bytes};
 ghost use Rattle.std.specs.Option.{option_copied};
-ghost use Rattle.ax_mean.specs.Values.{truth_of as truth_held, number_of as number_held, text_of as text_held, list_of as list_held, of_truth as truth_value, of_number as number_value};
+ghost use Rattle.ax_mean.specs.Values.{truth_of as truth_held, number_of as number_held, text_of as text_held, list_of as list_held, of_truth as truth_value, of_number as number_value, of_text as text_value, of_list as list_value};
 
 use ax_mean::{Items, Text, Tree, Value};
 
@@ -57,4 +57,16 @@ pub fn of_number(number: Option<i64>) -> Value
         None => Value::Undefined,
         Some(number) => Value::Defined(Tree::Number(number)),
     }
+}
+
+pub fn of_string(text: String) -> Value
+    ensures { result ≡ text_value (Some (string_bytes text)) }
+{
+    Value::Defined(Tree::Text(Text::from_string(text)))
+}
+
+pub fn of_trees(items: Vec<Tree>) -> Value
+    ensures { result ≡ list_value (Some items.items) }
+{
+    Value::Defined(Tree::List(Items::from_vec(items)))
 }

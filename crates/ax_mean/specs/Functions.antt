@@ -1,5 +1,6 @@
 -- What each function makes of its arguments' values, and how many it takes.
-use Rattle.std.specs.Prelude.{ℕ, ℤ, pos, negsuc, neg_ℤ, unsigned_abs, List, [], ◌∷◌, length, Bool, true, false, ◌&&◌, ◌||◌, nat_le, nat_eq, ◌==◌, Option, Some, None, option_map}
+use Rattle.std.specs.Prelude.{ℕ, ℤ, pos, negsuc, neg_ℤ, unsigned_abs, List, [], ◌∷◌, length, Bool, true, false, ◌&&◌, ◌||◌, nat_le, nat_eq, ◌==◌, Option, Some, None, option_map, if◌then◌else◌}
+use Rattle.std.specs.Option.{is_some}
 use Rattle.std.specs.Int.{int_signum}
 use Rattle.ax_mean.specs.declared.operator.Func.{Func}
 use Rattle.ax_mean.specs.declared.operator.Func.TheVariants as func
@@ -23,31 +24,44 @@ absolute z = in_64_bits (pos (unsigned_abs z))
 abbrev pub sign_of : ℤ → Option ℤ
 sign_of z = Some (int_signum z)
 
+-- The arguments, where there are so many.
+abbrev pub only : List Value → Option Value
+only [] = None
+only (a ∷ []) = Some a
+only (a ∷ b ∷ rest) = None
+
+abbrev pub two : List Value → Option (Value × Value)
+two [] = None
+two (a ∷ []) = None
+two (a ∷ b ∷ []) = Some (a, b)
+two (a ∷ b ∷ c ∷ rest) = None
+
+abbrev pub three : List Value → Option (Value × Value × Value)
+three [] = None
+three (a ∷ []) = None
+three (a ∷ b ∷ []) = None
+three (a ∷ b ∷ c ∷ []) = Some (a, b, c)
+three (a ∷ b ∷ c ∷ d ∷ rest) = None
+
 -- A function of so many arguments; of another number it has no meaning.
+abbrev pub given : {X : Type 0} → (X → Value) → Option X → Value
+given f None = Undefined
+given f (Some x) = f x
+
 abbrev pub of_one : (Value → Value) → List Value → Value
-of_one f [] = Undefined
-of_one f (a ∷ []) = f a
-of_one f (a ∷ b ∷ rest) = Undefined
+of_one f args = given f (only args)
 
 abbrev pub of_two : (Value → Value → Value) → List Value → Value
-of_two f [] = Undefined
-of_two f (a ∷ []) = Undefined
-of_two f (a ∷ b ∷ []) = f a b
-of_two f (a ∷ b ∷ c ∷ rest) = Undefined
+of_two f args = given (λ p. f p.0 p.1) (two args)
 
 abbrev pub of_three : (Value → Value → Value → Value) → List Value → Value
-of_three f [] = Undefined
-of_three f (a ∷ []) = Undefined
-of_three f (a ∷ b ∷ []) = Undefined
-of_three f (a ∷ b ∷ c ∷ []) = f a b c
-of_three f (a ∷ b ∷ c ∷ d ∷ rest) = Undefined
+of_three f args = given (λ p. f p.0 p.1 p.2) (three args)
 
+-- ARRAY_SLICE has two arguments or three
 abbrev pub array_slice : List Value → Value
-array_slice [] = Undefined
-array_slice (list ∷ []) = Undefined
-array_slice (list ∷ start ∷ []) = of_list (on_list_and_number slice_from list start)
-array_slice (list ∷ start ∷ count ∷ []) = of_list (on_list_and_numbers slice_of list start count)
-array_slice (list ∷ start ∷ count ∷ d ∷ rest) = Undefined
+array_slice args = if is_some (two args)
+    then of_two (λ list start. of_list (on_list_and_number slice_from list start)) args
+    else of_three (λ list start count. of_list (on_list_and_numbers slice_of list start count)) args
 
 abbrev pub call : Func → List Value → Value
 call func.IsDefined = of_one (λ a. of_truth (Some (is_defined a)))

@@ -82,9 +82,12 @@ shown_level tree (Tree-F.Text text) = text
 shown_level tree (Tree-F.List items) = canonical_text tree
 shown_level tree (Tree-F.Object members) = canonical_text tree
 
+abbrev pub shown_tree : Tree → List ℕ
+shown_tree tree = shown_level tree (out-Tree tree)
+
 abbrev pub shown : Value → Option (List ℕ)
 shown Undefined = None
-shown (Defined tree) = Some (shown_level tree (out-Tree tree))
+shown (Defined tree) = Some (shown_tree tree)
 
 -- A function of a text; of two texts; of a text and a number: undefined where an argument is of
 -- another kind.

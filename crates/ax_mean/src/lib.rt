@@ -12,8 +12,10 @@ mod operator;
 mod query;
 mod value;
 
-pub use ax_tree::{Items, Member, Members, Memory, Text, Tree};
-pub use ax_tree::{id_of, may_be_id, numbers_of_well_formed_fit, one_canonical_text, write_tree};
+pub use ax_tree::laws as tree_laws;
+pub use ax_tree::{
+    Items, Member, Members, Memory, Text, Tree, append_tree, id_of, may_be_id, write_tree,
+};
 pub use boxed::Boxed;
 pub use expr::{Chained, Expr, ExprList, MemberList, OpChain, QueryStep, StepList};
 pub use operator::{Aggregate, BinaryOp, Func, UnaryOp};
