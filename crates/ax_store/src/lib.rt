@@ -1,11 +1,15 @@
 //! The pages of a store over its log.
 #![tactic(auto)]
 
+mod batch;
+mod change;
 mod directory;
 mod memory;
 mod pages;
+mod put_changes;
 mod row;
 mod take_parts;
 
+pub use batch::Batch;
 pub use memory::Memory;
 pub use pages::Meta;
