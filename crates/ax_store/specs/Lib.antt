@@ -5,3 +5,5 @@ pub mod Taking
 pub mod Change
 pub mod Batch
 pub mod Putting
+pub mod Faults
+pub mod Loading

@@ -4,6 +4,8 @@
 mod batch;
 mod change;
 mod directory;
+mod fault;
+mod load;
 mod memory;
 mod pages;
 mod put_changes;
@@ -11,5 +13,6 @@ mod row;
 mod take_parts;
 
 pub use batch::Batch;
+pub use fault::StoreFault;
 pub use memory::Memory;
 pub use pages::Meta;
