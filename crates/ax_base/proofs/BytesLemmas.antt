@@ -1,43 +1,63 @@
--- Bytes that are moved in two turns.
+-- Bytes that are moved in two pieces.
 use Rattle.std.proofs.Common.{◌≡◌, ℕ, ◌+◌, ◌-◌, ◌≤◌, List, ◌++◌, length, take, drop, sym, subst, ap, ◌∙◌, arith, length-drop}
 use Rattle.std.proofs.Math.Seq.{take-add}
 use Rattle.std.proofs.lemmas.List.{take-append-drop, drop-drop, take_all}
 use Rattle.std.proofs.KnownBytes.{Appends-trans}
 use Rattle.std.specs.declared.option.Option.{Option}
 use Rattle.std.specs.Io.KnownBytes.{Appends}
-use Rattle.ax_base.specs.Bytes.{AppendsFront}
+use Rattle.ax_base.specs.Bytes.{AppendsPrefix}
 
--- the slice from `at` on is what is left at `at`
-pub left_whole : (at : ℕ) (bytes : List ℕ) → take (length bytes - at) (drop at bytes) ≡ drop at bytes
-left_whole at bytes = take_all (length bytes - at) (drop at bytes) (omega (arith, length-drop at bytes))
+-- the slice from `at` on is all that follows `at`
+pub whole_slice : (at : ℕ) (bytes : List ℕ)
+    → take (length bytes - at) (drop at bytes) ≡ drop at bytes
+whole_slice at bytes = take_all (length bytes - at) (drop at bytes) (omega (arith, length-drop at bytes))
 
--- what is left at `at` is its front and what is left further on
-pub left_splits : (at count : ℕ) (bytes : List ℕ) → drop at bytes ≡ take count (drop at bytes) ++ drop (at + count) bytes
-left_splits at count bytes = sym (take-append-drop count (drop at bytes)) ∙ ap (λ rest. take count (drop at bytes) ++ rest) (drop-drop count at bytes)
+-- what follows `at` is a prefix of it and what follows that
+pub split_slice : (at count : ℕ) (bytes : List ℕ)
+    → drop at bytes ≡ take count (drop at bytes) ++ drop (at + count) bytes
+split_slice at count bytes =
+    sym (take-append-drop count (drop at bytes))
+    ∙ ap (λ rest. take count (drop at bytes) ++ rest) (drop-drop count at bytes)
 
--- the front up to `at`, and then `count` more of the slice from `at` on
-pub Appends-further : (a b c : Option (List ℕ)) (at count : ℕ) (bytes : List ℕ) → Appends a b (take at bytes) → Appends b c (take count (take (length bytes - at) (drop at bytes)))
+-- the prefix up to `at`, and then `count` more of the slice from `at` on
+pub Appends-further : (a b c : Option (List ℕ)) (at count : ℕ) (bytes : List ℕ)
+    → Appends a b (take at bytes)
+    → Appends b c (take count (take (length bytes - at) (drop at bytes)))
     → Appends a c (take (at + count) bytes)
 Appends-further a b c at count bytes first second =
-    let next = subst (λ (left : List ℕ). Appends b c (take count left)) (left_whole at bytes) second in
-    subst (λ (front : List ℕ). Appends a c front) (sym (take-add at count bytes)) (Appends-trans a b c _ _ first next)
+    let next = subst (λ (more : List ℕ). Appends b c (take count more)) (whole_slice at bytes) second in
+    subst (λ (prefix : List ℕ). Appends a c prefix) (sym (take-add at count bytes))
+    (Appends-trans a b c _ _ first next)
 
--- the front up to `at`, and then a front of the slice from `at` on
-pub AppendsFront-further : (a b c : Option (List ℕ)) (at : ℕ) (bytes : List ℕ) → at ≤ length bytes → Appends a b (take at bytes) → AppendsFront b c (take (length bytes - at) (drop at bytes))
-    → AppendsFront a c bytes
-AppendsFront-further a b c at bytes within first rest =
-    let more : rest.0 ≤ length (drop at bytes) = subst (λ (left : List ℕ). rest.0 ≤ length left) (left_whole at bytes) rest.1 in
-    (at + rest.0, omega (arith, length-drop at bytes), Appends-further a b c at rest.0 bytes first rest.2)
+-- the prefix up to `at`, and then a prefix of the slice from `at` on
+pub AppendsPrefix-further : (a b c : Option (List ℕ)) (at : ℕ) (bytes : List ℕ) → at ≤ length bytes
+    → Appends a b (take at bytes)
+    → AppendsPrefix b c (take (length bytes - at) (drop at bytes))
+    → AppendsPrefix a c bytes
+AppendsPrefix-further a b c at bytes within first second =
+    let more : second.0 ≤ length (drop at bytes) =
+    subst (λ (more : List ℕ). second.0 ≤ length more) (whole_slice at bytes) second.1 in (
+      at + second.0,
+      omega (arith, length-drop at bytes),
+      Appends-further a b c at second.0 bytes first second.2,
+    )
 
 -- `count` more of the slice from `at` on stay within the bytes
-pub within_further : (at count : ℕ) (bytes : List ℕ) → at ≤ length bytes → count ≤ length (take (length bytes - at) (drop at bytes)) → at + count ≤ length bytes
+pub within_further : (at count : ℕ) (bytes : List ℕ) → at ≤ length bytes
+    → count ≤ length (take (length bytes - at) (drop at bytes)) → at + count ≤ length bytes
 within_further at count bytes within more =
-    let left : count ≤ length (drop at bytes) = subst (λ (left : List ℕ). count ≤ length left) (left_whole at bytes) more in
+    let fewer : count ≤ length (drop at bytes) =
+    subst (λ (list : List ℕ). count ≤ length list) (whole_slice at bytes) more in
     omega (arith, length-drop at bytes)
 
--- a front of the slice from `at` on, and what is left after it, are what was left at `at`
-pub left_read : (at count : ℕ) (bytes slice front rest : List ℕ) → drop at bytes ≡ rest → slice ≡ bytes → front ≡ take count (take (length slice - at) (drop at slice)) → rest ≡ front ++ drop (at + count) bytes
-left_read at count bytes slice front rest left same read =
+-- a prefix of the slice from `at` on, and what follows it, are all that remained at `at`
+pub remaining_read : (at count : ℕ) (bytes slice prefix remaining : List ℕ)
+    → drop at bytes ≡ remaining → slice ≡ bytes
+    → prefix ≡ take count (take (length slice - at) (drop at slice))
+    → remaining ≡ prefix ++ drop (at + count) bytes
+remaining_read at count bytes slice prefix remaining is same read =
     let whole : take count (take (length slice - at) (drop at slice)) ≡ take count (drop at bytes) =
-    ap (take count) (left_whole at slice ∙ ap (drop at) same) in
-    sym left ∙ left_splits at count bytes ∙ ap (λ taken. taken ++ drop (at + count) bytes) (sym (read ∙ whole))
+    ap (take count) (whole_slice at slice ∙ ap (drop at) same) in
+    sym is
+    ∙ split_slice at count bytes
+    ∙ ap (λ taken. taken ++ drop (at + count) bytes) (sym (read ∙ whole))

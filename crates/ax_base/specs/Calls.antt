@@ -10,28 +10,31 @@ pub record Calls : Type 0 where
   pub failing : List ℕ
 
 -- the number of the next call; the first is 1
-abbrev pub next_number : Calls → ℕ
-next_number calls = raised calls.made
+abbrev pub next_call : Calls → ℕ
+next_call calls = raised calls.made
 
 -- the calls after one that did not fail
 abbrev pub after_success : Calls → Calls
-after_success calls = record calls { made = next_number calls }
+after_success calls = record calls { made = next_call calls }
 
 -- the calls after one that failed
 abbrev pub after_failure : Calls → Calls
-after_failure calls = record calls { made = next_number calls; faults = raised calls.faults }
+after_failure calls = record calls { made = next_call calls; faults = raised calls.faults }
 
--- a source in memory: the bytes that are still to come, and its calls
+-- a source in memory: the bytes that remain, and its calls
 pub record SourceState : Type 0 where
-  pub rest : List ℕ
+  pub remaining : List ℕ
   pub calls : Calls
 
--- a sink in memory: the bytes that it holds, how many it may hold, and its calls
+-- a sink in memory: the bytes that were written, how many it takes in all, and its calls
 pub record SinkState : Type 0 where
   pub written : List ℕ
-  pub room : ℕ
+  pub capacity : ℕ
   pub calls : Calls
 
--- the next write of the piece fails: it is one that is to fail, or no room is left for any byte of the piece
+-- the next write of the piece fails: it is one that is to fail, or the piece is not empty and there is
+-- room for none of it
 abbrev pub RefusesPiece : SinkState → List ℕ → Type 0
-RefusesPiece sink piece = Contains sink.calls.failing (next_number sink.calls) ⊎ ((0 < length piece) × (sink.room ≤ length sink.written))
+RefusesPiece sink piece =
+    Contains sink.calls.failing (next_call sink.calls)
+    ⊎ ((0 < length piece) × (sink.capacity ≤ length sink.written))

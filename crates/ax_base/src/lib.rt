@@ -9,19 +9,21 @@
 //! answers [`Failed`] only where the count of faults rose in that call.
 #![tactic(auto)]
 
-mod calls;
-mod errors;
+mod call_count;
+mod failed;
 mod mem_sink;
 mod mem_source;
+mod out_of_memory;
 mod sink;
 mod source;
 mod std_sink;
 mod std_source;
 mod steps;
 
-pub use errors::{Failed, Memory};
+pub use failed::Failed;
 pub use mem_sink::MemSink;
 pub use mem_source::MemSource;
+pub use out_of_memory::Memory;
 pub use sink::{Sink, write_all};
 pub use source::Source;
 pub use std_sink::StdSink;

@@ -1,21 +1,21 @@
 ghost use Rattle.std.specs.Prelude.{◌≡◌, ◌<◌, ◌≤◌, ◌↔◌, ◌+◌, ◌-◌, [], Some, IsErr, IfOk, OnOk, OnErr, length, take, min};
 ghost use Rattle.std.specs.Io.{WritesAtMost};
 ghost use Rattle.std.specs.Io.KnownBytes.{Appends};
-ghost use Rattle.ax_base.specs.Bytes.{AppendsFront};
+ghost use Rattle.ax_base.specs.Bytes.{AppendsPrefix};
 ghost use Rattle.ax_faults.specs.Faults.{Rose, HasCause};
 ghost use Rattle.ax_base.specs.Calls.{after_success, after_failure, RefusesPiece};
 
-use crate::calls::CallCount;
+use crate::call_count::CallCount;
 use crate::{Failed, Memory, Sink};
 use std::alloc::Global;
 use std::marker::Model;
 
 /// A sink in memory, which takes a stated number of bytes, takes no memory after it is made, and
-/// fails at chosen calls and where it has no room left.
+/// fails at chosen calls and where it has no more room.
 #[derive(Drop)]
 pub struct MemSink {
     bytes: Vec<u8>,
-    room: usize,
+    capacity: usize,
     calls: CallCount,
 }
 
@@ -25,21 +25,21 @@ impl Model for MemSink {
 
     ghost Value = { SinkState };
 
-    ghost view = { λ s. record { written = s.bytes.items; room = s.room; calls = s.calls } };
+    ghost view = { λ s. record { written = s.bytes.items; capacity = s.capacity; calls = s.calls } };
 
-    ghost invariant = { λ s. (vec_len s.bytes ≤ s.room) × (s.room ≤ vec_capacity s.bytes) };
+    ghost invariant = { λ s. (vec_len s.bytes ≤ s.capacity) × (s.capacity ≤ vec_capacity s.bytes) };
 }
 
 impl MemSink {
     /// An empty sink for `room` bytes. Its calls are numbered from 1, and those in `failing` fail.
     pub fn make(alloc: Global, room: usize, failing: Vec<u64>) -> Result<MemSink, Memory>
         ensures empty { IfOk result (λ sink. sink.written ≡ []) }
-        ensures room { IfOk result (λ sink. sink.room ≡ room) }
+        ensures capacity { IfOk result (λ sink. sink.capacity ≡ room) }
         ensures calls { IfOk result (λ sink. sink.calls ≡ record { made = 0; faults = 0; failing = failing.items }) }
     {
         Ok(MemSink {
             bytes: Vec::with_capacity(alloc, room)?,
-            room,
+            capacity: room,
             calls: CallCount::new(failing),
         })
     }
@@ -59,26 +59,26 @@ impl Sink for MemSink {
 
     /// Takes as many of the bytes as there is room for, unless the call is to fail.
     ///
-    /// `Failed` where the call is to fail, or the piece is not empty and no room is left. Nothing is
+    /// `Failed` where the call is to fail, or the piece is not empty and there is room for none of it. Nothing is
     /// then taken.
     fn write_some(&mut self, bytes: &[u8]) -> Result<usize, Failed>
         ensures bound { WritesAtMost result bytes.now }
         ensures added { IfOk result (λ n. Appends (Some self.old.written) (Some self.new.written) (take n bytes.now)) }
         ensures nothing { IfOk result (λ n. n ≡ 0 → 0 < length bytes.now → Rose self.old.calls.faults self.new.calls.faults) }
-        ensures failed { OnErr result (AppendsFront (Some self.old.written) (Some self.new.written) bytes.now) }
+        ensures failed { OnErr result (AppendsPrefix (Some self.old.written) (Some self.new.written) bytes.now) }
         ensures cause { HasCause result self.old.calls.faults self.new.calls.faults }
 
         // What this sink adds: how many bytes, and which calls fail.
-        ensures count { IfOk result (λ n. n ≡ min (length bytes.now) (self.old.room - length self.old.written)) }
+        ensures count { IfOk result (λ n. n ≡ min (length bytes.now) (self.old.capacity - length self.old.written)) }
         ensures fails { IsErr result ↔ RefusesPiece self.old bytes.now }
-        ensures whole { self.old.calls.failing ≡ [] → length self.old.written + length bytes.now ≤ self.old.room → result ≡ Ok (length bytes.now) }
-        ensures room { self.new.room ≡ self.old.room }
+        ensures whole { self.old.calls.failing ≡ [] → length self.old.written + length bytes.now ≤ self.old.capacity → result ≡ Ok (length bytes.now) }
+        ensures capacity { self.new.capacity ≡ self.old.capacity }
         ensures unchanged { OnErr result (self.new.written ≡ self.old.written) }
         ensures ok_calls { OnOk result (self.new.calls ≡ after_success self.old.calls) }
         ensures err_calls { OnErr result (self.new.calls ≡ after_failure self.old.calls) }
     {
         self.calls.next()?;
-        let count = bytes.len().min(self.room - self.bytes.len());
+        let count = bytes.len().min(self.capacity - self.bytes.len());
         if count == 0 && !bytes.is_empty() {
             return Err(self.calls.fail());
         }

@@ -2,9 +2,9 @@ ghost use Rattle.std.specs.Prelude.{◌≡◌, ◌<◌, ◌≤◌, ◌↔◌, []
 ghost use Rattle.std.specs.Io.{ReadsAtMost};
 ghost use Rattle.std.specs.Io.KnownBytes.{Consumes, Keeps, IsAtEnd};
 ghost use Rattle.ax_faults.specs.Faults.{HasCause};
-ghost use Rattle.ax_base.specs.Calls.{next_number, after_success, after_failure};
+ghost use Rattle.ax_base.specs.Calls.{next_call, after_success, after_failure};
 
-use crate::calls::CallCount;
+use crate::call_count::CallCount;
 use crate::{Failed, Source};
 use std::marker::Model;
 
@@ -22,7 +22,7 @@ impl Model for MemSource {
 
     ghost Value = { SourceState };
 
-    ghost view = { λ s. record { rest = drop s.at s.bytes.items; calls = s.calls } };
+    ghost view = { λ s. record { remaining = drop s.at s.bytes.items; calls = s.calls } };
 
     ghost invariant = { λ s. s.at ≤ vec_len s.bytes };
 }
@@ -30,7 +30,7 @@ impl Model for MemSource {
 impl MemSource {
     /// A source of these bytes. Its calls are numbered from 1, and those in `failing` fail.
     pub fn make(bytes: Vec<u8>, failing: Vec<u64>) -> MemSource
-        ensures rest { result.rest ≡ bytes.items }
+        ensures remaining { result.remaining ≡ bytes.items }
         ensures calls { result.calls ≡ record { made = 0; faults = 0; failing = failing.items } }
     {
         MemSource {
@@ -42,34 +42,34 @@ impl MemSource {
 }
 
 impl Source for MemSource {
-    ghost rest = { λ s. Some s.rest };
+    ghost rest = { λ s. Some s.remaining };
 
     ghost faults = { λ s. s.calls.faults };
 
     /// Reads as many bytes as there are and `buf` has room for, unless the call is to fail.
     fn read_some(&mut self, buf: &mut [u8]) -> Result<usize, Failed>
         ensures bound { ReadsAtMost result buf.new }
-        ensures taken { IfOk result (λ n. Consumes (Some self.old.rest) (Some self.new.rest) (take n buf.new)) }
-        ensures ended { IfOk result (λ n. n ≡ 0 → 0 < length buf.new → IsAtEnd (Some self.new.rest)) }
-        ensures failed { OnErr result (Keeps (Some self.old.rest) (Some self.new.rest)) }
+        ensures taken { IfOk result (λ n. Consumes (Some self.old.remaining) (Some self.new.remaining) (take n buf.new)) }
+        ensures ended { IfOk result (λ n. n ≡ 0 → 0 < length buf.new → IsAtEnd (Some self.new.remaining)) }
+        ensures failed { OnErr result (Keeps (Some self.old.remaining) (Some self.new.remaining)) }
         ensures cause { HasCause result self.old.calls.faults self.new.calls.faults }
 
         // What this source adds: how many bytes, and which calls fail.
-        ensures count { IfOk result (λ n. n ≡ min (length self.old.rest) (length buf.old)) }
-        ensures fails { IsErr result ↔ Contains self.old.calls.failing (next_number self.old.calls) }
+        ensures count { IfOk result (λ n. n ≡ min (length self.old.remaining) (length buf.old)) }
+        ensures fails { IsErr result ↔ Contains self.old.calls.failing (next_call self.old.calls) }
         ensures never_fails { self.old.calls.failing ≡ [] → IsOk result }
         ensures ok_calls { OnOk result (self.new.calls ≡ after_success self.old.calls) }
         ensures err_calls { OnErr result (self.new.calls ≡ after_failure self.old.calls) }
     {
         self.calls.next()?;
-        let count = copy_front(&self.bytes[self.at..], buf);
+        let count = copy_prefix(&self.bytes[self.at..], buf);
         self.at += count;
         Ok(count)
     }
 }
 
-/// Copies as many bytes as both have into the front of `to`, and answers how many.
-fn copy_front(from: &[u8], to: &mut [u8]) -> usize
+/// Copies as many bytes as both have into the prefix of `to`, and answers how many.
+fn copy_prefix(from: &[u8], to: &mut [u8]) -> usize
     ensures count { result ≡ min (length from.now) (length to.old) }
     ensures copied { take result to.new ≡ take result from.now }
 {

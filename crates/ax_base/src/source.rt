@@ -14,7 +14,7 @@ pub trait Source {
     /// How often it failed, up to 2^64 - 1.
     ghost faults: { Self → ℕ };
 
-    /// Reads the next bytes into the front of `buf`, and answers how many: at most as many as
+    /// Reads the next bytes into the prefix of `buf`, and answers how many: at most as many as
     /// `buf` has. None for a `buf` that has room means that the source has ended.
     ///
     /// `Failed` where the source could not read. It has then counted a fault, and no byte is lost.

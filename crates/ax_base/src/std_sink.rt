@@ -1,4 +1,8 @@
-ghost use Rattle.std.specs.Prelude.{◌≡◌};
+ghost use Rattle.std.specs.Prelude.{◌≡◌, ◌<◌, IfOk, OnErr, length, take};
+ghost use Rattle.std.specs.Io.{WritesAtMost};
+ghost use Rattle.std.specs.Io.KnownBytes.{Appends};
+ghost use Rattle.ax_base.specs.Bytes.{AppendsPrefix};
+ghost use Rattle.ax_faults.specs.Faults.{Rose, HasCause, CountsOnce};
 
 use crate::{Failed, Sink};
 use ax_faults::FaultCount;
@@ -47,7 +51,17 @@ impl<W: Write> Sink for StdSink<W> {
 
     ghost faults = { λ s. s.faults };
 
-    fn write_some(&mut self, bytes: &[u8]) -> Result<usize, Failed> {
+    fn write_some(&mut self, bytes: &[u8]) -> Result<usize, Failed>
+        ensures bound { WritesAtMost result bytes.now }
+        ensures added { IfOk result (λ n. Appends self.old.told self.new.told (take n bytes.now)) }
+        ensures nothing { IfOk result (λ n. n ≡ 0 → 0 < length bytes.now → Rose self.old.faults self.new.faults) }
+        ensures failed { OnErr result (AppendsPrefix self.old.told self.new.told bytes.now) }
+        ensures cause { HasCause result self.old.faults self.new.faults }
+
+        // What this sink adds.
+        ensures some { IfOk result (λ n. 0 < length bytes.now → 0 < n) }
+        ensures counts { CountsOnce result self.old.faults self.new.faults }
+    {
         let Ok(count) = self.inner.write(bytes) else {
             self.faults.raise();
             return Err(Failed);

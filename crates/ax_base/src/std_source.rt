@@ -1,4 +1,7 @@
-ghost use Rattle.std.specs.Prelude.{◌≡◌};
+ghost use Rattle.std.specs.Prelude.{◌≡◌, ◌<◌, IfOk, OnErr, length, take};
+ghost use Rattle.std.specs.Io.{ReadsAtMost};
+ghost use Rattle.std.specs.Io.KnownBytes.{Consumes, Keeps, IsAtEnd};
+ghost use Rattle.ax_faults.specs.Faults.{HasCause, CountsOnce};
 
 use crate::{Failed, Source};
 use ax_faults::FaultCount;
@@ -38,7 +41,16 @@ impl<R: Read> Source for StdSource<R> {
 
     ghost faults = { λ s. s.faults };
 
-    fn read_some(&mut self, buf: &mut [u8]) -> Result<usize, Failed> {
+    fn read_some(&mut self, buf: &mut [u8]) -> Result<usize, Failed>
+        ensures bound { ReadsAtMost result buf.new }
+        ensures taken { IfOk result (λ n. Consumes self.old.told self.new.told (take n buf.new)) }
+        ensures ended { IfOk result (λ n. n ≡ 0 → 0 < length buf.new → IsAtEnd self.new.told) }
+        ensures failed { OnErr result (Keeps self.old.told self.new.told) }
+        ensures cause { HasCause result self.old.faults self.new.faults }
+
+        // What this source adds.
+        ensures counts { CountsOnce result self.old.faults self.new.faults }
+    {
         match self.inner.read(buf) {
             Ok(count) => Ok(count),
             Err(_) => {

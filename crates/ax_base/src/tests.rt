@@ -19,8 +19,8 @@ impl Sink for Drip {
     ghost faults = { λ s. s.inner.calls.faults };
 
     fn write_some(&mut self, bytes: &[u8]) -> Result<usize, Failed> {
-        let front = bytes.len().min(1);
-        self.inner.write_some(&bytes[..front])
+        let prefix = bytes.len().min(1);
+        self.inner.write_some(&bytes[..prefix])
     }
 }
 

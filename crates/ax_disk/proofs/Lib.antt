@@ -1,4 +1,4 @@
 mod Effects
 mod Filled
-mod Noted
-mod Recording
+mod AddedOperation
+mod Matching

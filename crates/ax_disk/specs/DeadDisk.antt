@@ -1,6 +1,6 @@
--- What a `DeadDisk` shows: how many calls it has failed. It tells of no list, so no clause reads what it has in the place of a history.
+-- What a `DeadDisk` shows: how many calls it has failed. It tells of no list, so no clause reads what it has instead of a history.
 use Rattle.std.specs.Prelude.{ℕ, []}
-use Rattle.ax_disk.specs.declared.dead.DeadDisk.{DeadDisk}
+use Rattle.ax_disk.specs.declared.dead_disk.DeadDisk.{DeadDisk}
 use Rattle.ax_disk.specs.model.Image.{Image}
 use Rattle.ax_disk.specs.model.Pending.{all_settled}
 use Rattle.ax_disk.specs.model.Moments.{History}

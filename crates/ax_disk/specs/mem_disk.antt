@@ -1,9 +1,9 @@
-pub mod Replay
-pub mod ReplayLaws
+pub mod OperationLog
+pub mod OperationLogLaws
 pub mod Lists
-pub mod Deeds
-pub mod CallLog
-pub mod Recorded
-pub mod Medium
-pub mod Budget
+pub mod OperationHeads
+pub mod OperationList
+pub mod ListsMatch
+pub mod LoggedLists
+pub mod CallBudget
 pub mod MemDisk

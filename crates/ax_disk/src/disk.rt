@@ -1,9 +1,10 @@
 //! A disk as a store sees it: what reads give, what a crash may leave, and how often it has failed.
-ghost use Rattle.std.specs.Prelude.{◌≡◌, ◌+◌, ◌^◌, ◌<◌, ◌≤◌, ℕ, List, Bool, length, IsTrue, IsErr, IfOk, OnOk, OnErr};
+ghost use Rattle.std.specs.Prelude.{◌≡◌, ◌+◌, ◌^◌, ◌<◌, ◌≤◌, ℕ, List, Bool, Option, Some, None, length, IsTrue, IsErr, IfOk, OnOk, OnErr};
 ghost use Rattle.ax_disk.specs.model.Image.{list_of};
 ghost use Rattle.ax_disk.specs.model.Pending.{MayLeave};
 ghost use Rattle.ax_disk.specs.model.Moments.{History, IsCurrent};
 ghost use Rattle.ax_faults.specs.Faults.{HasCause};
+ghost use Rattle.ax_disk.specs.CallLimit.{one_call_less};
 ghost use Rattle.ax_disk.specs.model.Calls.{Idles, Writes, Cuts, Syncs, bytes_from};
 
 use crate::Extent;
@@ -32,6 +33,9 @@ pub trait Disk {
     /// What reads of a store's lists give, what a crash may leave of them, and what a crash at earlier moments might have left.
     ghost history: { Self → List ℕ → History };
 
+    /// How many calls may still succeed, where the disk has such a limit: each call takes one.
+    ghost remaining: { Self → Option ℕ } = { λ _. None };
+
     /// Attaches the store of that name: later calls act on its lists. It changes no list of any store.
     fn attach(&mut self, name: &str) -> Result<(), DiskFailed>
         ensures attached { OnOk result (attached self.new ≡ store_named name.now) }
@@ -39,7 +43,9 @@ pub trait Disk {
         ensures lists { IsTrue (is_honest self.old) → (store : List ℕ)
             → Idles (history self.old store) (history self.new store) }
         ensures cause { HasCause result (faults self.old) (faults self.new) }
-        ensures honest { is_honest self.new ≡ is_honest self.old };
+        ensures honest { is_honest self.new ≡ is_honest self.old }
+        ensures spent { remaining self.new ≡ one_call_less (remaining self.old) }
+        ensures stopped { remaining self.old ≡ Some 0 → IsErr result };
 
     /// The length of a list in bytes. One of more than 2^62 bytes is a failure.
     fn len(&mut self, ext: Extent) -> Result<u64, DiskFailed>
@@ -50,9 +56,11 @@ pub trait Disk {
             → Idles (history self.old (attached self.old)) (history self.new (attached self.new)) }
         ensures attached { attached self.new ≡ attached self.old }
         ensures cause { HasCause result (faults self.old) (faults self.new) }
-        ensures honest { is_honest self.new ≡ is_honest self.old };
+        ensures honest { is_honest self.new ≡ is_honest self.old }
+        ensures spent { remaining self.new ≡ one_call_less (remaining self.old) }
+        ensures stopped { remaining self.old ≡ Some 0 → IsErr result };
 
-    /// Fills `buf` with the bytes at `at`. A place past the end reads as 0, which is no failure.
+    /// Fills `buf` with the bytes at `at`. An offset past the end reads as 0, which is no failure.
     /// After a failure `buf` may hold anything.
     fn read(&mut self, ext: Extent, at: u64, buf: &mut [u8]) -> Result<(), DiskFailed>
         ensures bytes { IsTrue (is_honest self.old)
@@ -61,20 +69,22 @@ pub trait Disk {
             → Idles (history self.old (attached self.old)) (history self.new (attached self.new)) }
         ensures attached { attached self.new ≡ attached self.old }
         ensures cause { HasCause result (faults self.old) (faults self.new) }
-        ensures honest { is_honest self.new ≡ is_honest self.old };
+        ensures honest { is_honest self.new ≡ is_honest self.old }
+        ensures spent { remaining self.new ≡ one_call_less (remaining self.old) }
+        ensures stopped { remaining self.old ≡ Some 0 → IsErr result };
 
-    /// Writes over what is there, and past the end. A write whose end would pass 2^62 fails, and writes nothing.
+    /// Writes over what is there, and past the end. A write whose end would pass 2^62 fails.
     fn write_at(&mut self, ext: Extent, at: u64, bytes: &[u8]) -> Result<(), DiskFailed>
         requires { IsTrue (is_honest self.old)
             → at ≤ length (list_of ext (history self.old (attached self.old)).reads) }
         ensures lists { IsTrue (is_honest self.old)
             → Writes ext at bytes.now result (history self.old (attached self.old)) (history self.new (attached self.new)) }
         ensures limit { 2 ^ 62 < at + length bytes.now → IsErr result }
-        ensures unwritten { IsTrue (is_honest self.old) → 2 ^ 62 < at + length bytes.now
-            → Idles (history self.old (attached self.old)) (history self.new (attached self.new)) }
         ensures attached { attached self.new ≡ attached self.old }
         ensures cause { HasCause result (faults self.old) (faults self.new) }
-        ensures honest { is_honest self.new ≡ is_honest self.old };
+        ensures honest { is_honest self.new ≡ is_honest self.old }
+        ensures spent { remaining self.new ≡ one_call_less (remaining self.old) }
+        ensures stopped { remaining self.old ≡ Some 0 → IsErr result };
 
     /// Shortens a list to `len` bytes. It does nothing to a shorter list.
     fn cut(&mut self, ext: Extent, len: u64) -> Result<(), DiskFailed>
@@ -82,7 +92,9 @@ pub trait Disk {
             → Cuts ext len result (history self.old (attached self.old)) (history self.new (attached self.new)) }
         ensures attached { attached self.new ≡ attached self.old }
         ensures cause { HasCause result (faults self.old) (faults self.new) }
-        ensures honest { is_honest self.new ≡ is_honest self.old };
+        ensures honest { is_honest self.new ≡ is_honest self.old }
+        ensures spent { remaining self.new ≡ one_call_less (remaining self.old) }
+        ensures stopped { remaining self.old ≡ Some 0 → IsErr result };
 
     /// Syncs all three lists. After it a crash leaves what a read gives.
     fn sync(&mut self) -> Result<(), DiskFailed>
@@ -90,7 +102,9 @@ pub trait Disk {
             → Syncs result (history self.old (attached self.old)) (history self.new (attached self.new)) }
         ensures attached { attached self.new ≡ attached self.old }
         ensures cause { HasCause result (faults self.old) (faults self.new) }
-        ensures honest { is_honest self.new ≡ is_honest self.old };
+        ensures honest { is_honest self.new ≡ is_honest self.old }
+        ensures spent { remaining self.new ≡ one_call_less (remaining self.old) }
+        ensures stopped { remaining self.old ≡ Some 0 → IsErr result };
 
     /// An image as read is one of those that a crash now may leave.
     ghost reads_may_stay: { (disk : Self) (store : List ℕ) → IsTrue (is_honest disk)

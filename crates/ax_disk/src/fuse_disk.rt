@@ -1,33 +1,34 @@
 //! A disk that passes so many calls on, and then fails each.
-ghost use Rattle.std.specs.Prelude.{◌≡◌, ◌+◌, ◌-◌, ◌^◌, ◌<◌, ◌≤◌, ◌↔◌, ℕ, List, length, IsTrue, IsErr, IfOk, OnOk, OnErr};
+ghost use Rattle.std.specs.Prelude.{◌≡◌, ◌+◌, ◌-◌, ◌^◌, ◌<◌, ◌≤◌, ◌↔◌, ℕ, List, Some, length, IsTrue, IsErr, IfOk, OnOk, OnErr};
 ghost use Rattle.ax_disk.specs.model.Image.{list_of};
-ghost use Rattle.ax_faults.specs.Faults.{Rose, HasCause};
+ghost use Rattle.ax_faults.specs.Faults.{HasCause, CountsOnce};
 ghost use Rattle.ax_disk.specs.model.Calls.{Idles, Writes, Cuts, Syncs, bytes_from};
 
 use crate::{Disk, DiskFailed, Extent};
 use ax_faults::FaultCount;
 
-/// Passes the first k calls on to the disk that it holds. It fails each later call, counts it, and leaves that disk alone.
+/// Passes the first k calls on to the disk beneath it, each as one call. It fails each later call,
+/// counts it, and leaves that disk as it is.
 #[derive(Drop)]
 pub struct FuseDisk<D: Disk> {
     inner: D,
-    left: u64,
-    refused: FaultCount,
+    calls_remaining: u64,
+    refusals: FaultCount,
 }
 
 impl<D: Disk> FuseDisk<D> {
-    ghost use Rattle.ax_disk.specs.FuseDisk.{inner_of, calls_left, refusals};
+    ghost use Rattle.ax_disk.specs.FuseDisk.{inner_of, calls_remaining_of, refusals_of};
 
     /// A fuse that passes `k` calls on to `disk`.
     pub fn make(disk: D, k: u64) -> FuseDisk<D>
         ensures inner { inner_of result ≡ disk }
-        ensures left { calls_left result ≡ k }
-        ensures refusals { refusals result ≡ 0 }
+        ensures remaining { calls_remaining_of result ≡ k }
+        ensures refusals_of { refusals_of result ≡ 0 }
     {
         FuseDisk {
             inner: disk,
-            left: k,
-            refused: FaultCount::new(),
+            calls_remaining: k,
+            refusals: FaultCount::new(),
         }
     }
 
@@ -37,33 +38,32 @@ impl<D: Disk> FuseDisk<D> {
     {
         let FuseDisk {
             inner,
-            left: _,
-            refused: _,
+            calls_remaining: _,
+            refusals: _,
         } = self;
         inner
     }
 }
 
-/// Takes one of the calls that are left, or fails and counts it.
-fn spend(left: &mut u64, refused: &mut FaultCount) -> Result<(), DiskFailed>
-    ensures blown { IsErr result ↔ (left.old ≡ 0) }
-    ensures spent { left.new ≡ left.old - 1 }
-    ensures passed { OnOk result (refused.new ≡ refused.old) }
-    ensures rose { OnErr result (Rose refused.old refused.new) }
-    ensures never_falls { refused.old ≤ refused.new }
+/// Takes one of the calls that remain, or fails and counts it.
+fn spend(calls_remaining: &mut u64, refusals: &mut FaultCount) -> Result<(), DiskFailed>
+    ensures blown { IsErr result ↔ (calls_remaining.old ≡ 0) }
+    ensures spent { calls_remaining.new ≡ calls_remaining.old - 1 }
+    ensures counts { CountsOnce result refusals.old refusals.new }
+    ensures never_falls { refusals.old ≤ refusals.new }
 {
-    if *left == 0 {
-        refused.raise();
+    if *calls_remaining == 0 {
+        refusals.raise();
         return Err(DiskFailed);
     }
-    *left -= 1;
+    *calls_remaining -= 1;
     Ok(())
 }
 
 impl<D: Disk> Disk for FuseDisk<D> {
-    ghost use Rattle.ax_disk.specs.FuseDisk.{inner_of, calls_left, refusals};
+    ghost use Rattle.ax_disk.specs.FuseDisk.{inner_of, calls_remaining_of, refusals_of, PassesOn};
 
-    ghost faults = { λ fuse. D.Disk.faults fuse.inner + fuse.refused };
+    ghost faults = { λ fuse. D.Disk.faults fuse.inner + fuse.refusals };
 
     ghost is_honest = { λ fuse. D.Disk.is_honest fuse.inner };
 
@@ -72,6 +72,8 @@ impl<D: Disk> Disk for FuseDisk<D> {
     ghost attached = { λ fuse. D.Disk.attached fuse.inner };
 
     ghost history = { λ fuse. D.Disk.history fuse.inner };
+
+    ghost remaining = { λ fuse. Some fuse.calls_remaining };
 
     ghost reads_may_stay = { λ fuse. D.Disk.reads_may_stay fuse.inner };
 
@@ -82,15 +84,13 @@ impl<D: Disk> Disk for FuseDisk<D> {
         ensures detached { OnErr result (D.attached (inner_of self.new) ≡ D.attached (inner_of self.old)) }
         ensures lists { IsTrue (D.is_honest (inner_of self.old)) → (store : List ℕ)
             → Idles (D.history (inner_of self.old) store) (D.history (inner_of self.new) store) }
-        ensures cause { HasCause result (D.faults (inner_of self.old) + refusals self.old) (D.faults (inner_of self.new) + refusals self.new) }
+        ensures cause { HasCause result (D.faults (inner_of self.old) + refusals_of self.old) (D.faults (inner_of self.new) + refusals_of self.new) }
         ensures honest { D.is_honest (inner_of self.new) ≡ D.is_honest (inner_of self.old) }
-        ensures passed { 0 < calls_left self.old → IsErr result
-            → Rose (D.faults (inner_of self.old)) (D.faults (inner_of self.new)) }
-        ensures blown { calls_left self.old ≡ 0 → IsErr result }
-        ensures alone { calls_left self.old ≡ 0 → inner_of self.new ≡ inner_of self.old }
-        ensures spent { calls_left self.new ≡ calls_left self.old - 1 }
+
+        // What a fuse adds.
+        ensures passes { PassesOn D.faults D.remaining result self.old self.new }
     {
-        spend(&mut self.left, &mut self.refused)?;
+        spend(&mut self.calls_remaining, &mut self.refusals)?;
         self.inner.attach(name)
     }
 
@@ -101,15 +101,13 @@ impl<D: Disk> Disk for FuseDisk<D> {
         ensures lists { IsTrue (D.is_honest (inner_of self.old))
             → Idles (D.history (inner_of self.old) (D.attached (inner_of self.old))) (D.history (inner_of self.new) (D.attached (inner_of self.new))) }
         ensures attached { D.attached (inner_of self.new) ≡ D.attached (inner_of self.old) }
-        ensures cause { HasCause result (D.faults (inner_of self.old) + refusals self.old) (D.faults (inner_of self.new) + refusals self.new) }
+        ensures cause { HasCause result (D.faults (inner_of self.old) + refusals_of self.old) (D.faults (inner_of self.new) + refusals_of self.new) }
         ensures honest { D.is_honest (inner_of self.new) ≡ D.is_honest (inner_of self.old) }
-        ensures passed { 0 < calls_left self.old → IsErr result
-            → Rose (D.faults (inner_of self.old)) (D.faults (inner_of self.new)) }
-        ensures blown { calls_left self.old ≡ 0 → IsErr result }
-        ensures alone { calls_left self.old ≡ 0 → inner_of self.new ≡ inner_of self.old }
-        ensures spent { calls_left self.new ≡ calls_left self.old - 1 }
+
+        // What a fuse adds.
+        ensures passes { PassesOn D.faults D.remaining result self.old self.new }
     {
-        spend(&mut self.left, &mut self.refused)?;
+        spend(&mut self.calls_remaining, &mut self.refusals)?;
         self.inner.len(ext)
     }
 
@@ -119,15 +117,13 @@ impl<D: Disk> Disk for FuseDisk<D> {
         ensures lists { IsTrue (D.is_honest (inner_of self.old))
             → Idles (D.history (inner_of self.old) (D.attached (inner_of self.old))) (D.history (inner_of self.new) (D.attached (inner_of self.new))) }
         ensures attached { D.attached (inner_of self.new) ≡ D.attached (inner_of self.old) }
-        ensures cause { HasCause result (D.faults (inner_of self.old) + refusals self.old) (D.faults (inner_of self.new) + refusals self.new) }
+        ensures cause { HasCause result (D.faults (inner_of self.old) + refusals_of self.old) (D.faults (inner_of self.new) + refusals_of self.new) }
         ensures honest { D.is_honest (inner_of self.new) ≡ D.is_honest (inner_of self.old) }
-        ensures passed { 0 < calls_left self.old → IsErr result
-            → Rose (D.faults (inner_of self.old)) (D.faults (inner_of self.new)) }
-        ensures blown { calls_left self.old ≡ 0 → IsErr result }
-        ensures alone { calls_left self.old ≡ 0 → inner_of self.new ≡ inner_of self.old }
-        ensures spent { calls_left self.new ≡ calls_left self.old - 1 }
+
+        // What a fuse adds.
+        ensures passes { PassesOn D.faults D.remaining result self.old self.new }
     {
-        spend(&mut self.left, &mut self.refused)?;
+        spend(&mut self.calls_remaining, &mut self.refusals)?;
         self.inner.read(ext, at, buf)
     }
 
@@ -137,18 +133,14 @@ impl<D: Disk> Disk for FuseDisk<D> {
         ensures lists { IsTrue (D.is_honest (inner_of self.old))
             → Writes ext at bytes.now result (D.history (inner_of self.old) (D.attached (inner_of self.old))) (D.history (inner_of self.new) (D.attached (inner_of self.new))) }
         ensures limit { 2 ^ 62 < at + length bytes.now → IsErr result }
-        ensures unwritten { IsTrue (D.is_honest (inner_of self.old)) → 2 ^ 62 < at + length bytes.now
-            → Idles (D.history (inner_of self.old) (D.attached (inner_of self.old))) (D.history (inner_of self.new) (D.attached (inner_of self.new))) }
         ensures attached { D.attached (inner_of self.new) ≡ D.attached (inner_of self.old) }
-        ensures cause { HasCause result (D.faults (inner_of self.old) + refusals self.old) (D.faults (inner_of self.new) + refusals self.new) }
+        ensures cause { HasCause result (D.faults (inner_of self.old) + refusals_of self.old) (D.faults (inner_of self.new) + refusals_of self.new) }
         ensures honest { D.is_honest (inner_of self.new) ≡ D.is_honest (inner_of self.old) }
-        ensures passed { 0 < calls_left self.old → IsErr result
-            → Rose (D.faults (inner_of self.old)) (D.faults (inner_of self.new)) }
-        ensures blown { calls_left self.old ≡ 0 → IsErr result }
-        ensures alone { calls_left self.old ≡ 0 → inner_of self.new ≡ inner_of self.old }
-        ensures spent { calls_left self.new ≡ calls_left self.old - 1 }
+
+        // What a fuse adds.
+        ensures passes { PassesOn D.faults D.remaining result self.old self.new }
     {
-        spend(&mut self.left, &mut self.refused)?;
+        spend(&mut self.calls_remaining, &mut self.refusals)?;
         self.inner.write_at(ext, at, bytes)
     }
 
@@ -156,15 +148,13 @@ impl<D: Disk> Disk for FuseDisk<D> {
         ensures lists { IsTrue (D.is_honest (inner_of self.old))
             → Cuts ext len result (D.history (inner_of self.old) (D.attached (inner_of self.old))) (D.history (inner_of self.new) (D.attached (inner_of self.new))) }
         ensures attached { D.attached (inner_of self.new) ≡ D.attached (inner_of self.old) }
-        ensures cause { HasCause result (D.faults (inner_of self.old) + refusals self.old) (D.faults (inner_of self.new) + refusals self.new) }
+        ensures cause { HasCause result (D.faults (inner_of self.old) + refusals_of self.old) (D.faults (inner_of self.new) + refusals_of self.new) }
         ensures honest { D.is_honest (inner_of self.new) ≡ D.is_honest (inner_of self.old) }
-        ensures passed { 0 < calls_left self.old → IsErr result
-            → Rose (D.faults (inner_of self.old)) (D.faults (inner_of self.new)) }
-        ensures blown { calls_left self.old ≡ 0 → IsErr result }
-        ensures alone { calls_left self.old ≡ 0 → inner_of self.new ≡ inner_of self.old }
-        ensures spent { calls_left self.new ≡ calls_left self.old - 1 }
+
+        // What a fuse adds.
+        ensures passes { PassesOn D.faults D.remaining result self.old self.new }
     {
-        spend(&mut self.left, &mut self.refused)?;
+        spend(&mut self.calls_remaining, &mut self.refusals)?;
         self.inner.cut(ext, len)
     }
 
@@ -172,15 +162,13 @@ impl<D: Disk> Disk for FuseDisk<D> {
         ensures lists { IsTrue (D.is_honest (inner_of self.old))
             → Syncs result (D.history (inner_of self.old) (D.attached (inner_of self.old))) (D.history (inner_of self.new) (D.attached (inner_of self.new))) }
         ensures attached { D.attached (inner_of self.new) ≡ D.attached (inner_of self.old) }
-        ensures cause { HasCause result (D.faults (inner_of self.old) + refusals self.old) (D.faults (inner_of self.new) + refusals self.new) }
+        ensures cause { HasCause result (D.faults (inner_of self.old) + refusals_of self.old) (D.faults (inner_of self.new) + refusals_of self.new) }
         ensures honest { D.is_honest (inner_of self.new) ≡ D.is_honest (inner_of self.old) }
-        ensures passed { 0 < calls_left self.old → IsErr result
-            → Rose (D.faults (inner_of self.old)) (D.faults (inner_of self.new)) }
-        ensures blown { calls_left self.old ≡ 0 → IsErr result }
-        ensures alone { calls_left self.old ≡ 0 → inner_of self.new ≡ inner_of self.old }
-        ensures spent { calls_left self.new ≡ calls_left self.old - 1 }
+
+        // What a fuse adds.
+        ensures passes { PassesOn D.faults D.remaining result self.old self.new }
     {
-        spend(&mut self.left, &mut self.refused)?;
+        spend(&mut self.calls_remaining, &mut self.refusals)?;
         self.inner.sync()
     }
 }

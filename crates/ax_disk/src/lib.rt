@@ -5,24 +5,25 @@
 //! wasn't written since is the one that a read gave then; after a sync that succeeded a crash leaves what a read gives.
 #![tactic(auto)]
 
-mod call_log;
-mod dead;
-mod deed;
+mod call_budget;
+mod dead_disk;
 mod disk;
 mod extent;
-mod fate;
 mod fuse_disk;
 mod lists;
-mod medium;
+mod logged_lists;
 mod mem_disk;
-mod memory;
+mod operation_head;
+mod operation_list;
+mod out_of_memory;
+mod outcome;
 
-pub use dead::DeadDisk;
+pub use dead_disk::DeadDisk;
 pub use disk::{Disk, DiskFailed};
 pub use extent::Extent;
 pub use fuse_disk::FuseDisk;
 pub use mem_disk::MemDisk;
-pub use memory::Memory;
+pub use out_of_memory::Memory;
 
 #[cfg(test)]
 mod tests;

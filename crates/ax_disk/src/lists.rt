@@ -79,7 +79,7 @@ impl Lists {
     }
 
     pub fn write(&mut self, ext: Extent, at: usize, bytes: &[u8])
-        requires place { at ≤ length (list_of ext (image_of self.old)) }
+        requires offset { at ≤ length (list_of ext (image_of self.old)) }
         requires room { at + length bytes.now ≤ least_capacity self.old }
         ensures written { image_of self.new ≡ with_list ext (overwritten (list_of ext (image_of self.old)) at bytes.now) (image_of self.old) }
         ensures room { least_capacity self.old ≤ least_capacity self.new }
@@ -115,7 +115,7 @@ fn set(list: &mut Vec<u8>, bytes: &[u8])
 }
 
 fn overwrite(list: &mut Vec<u8>, at: usize, bytes: &[u8])
-    requires place { at ≤ vec_len list.old }
+    requires offset { at ≤ vec_len list.old }
     requires room { at + length bytes.now ≤ vec_capacity list.old }
     ensures written { list.new.items ≡ overwritten list.old.items at bytes.now }
     ensures room { vec_capacity list.old ≤ vec_capacity list.new }

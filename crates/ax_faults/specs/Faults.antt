@@ -1,7 +1,7 @@
 -- Counts of faults, as the parts that reach outside the program keep them.
 -- A count is that of a `u64` that is raised by one at each failure and stays at its last value,
 -- 2^64 - 1. It is this project's own; it comes from no public document.
-use Rattle.std.specs.Prelude.{ℕ, ◌+◌, ◌-◌, ◌^◌, ◌≤◌, min, Result, IsErr}
+use Rattle.std.specs.Prelude.{◌≡◌, ℕ, ◌+◌, ◌-◌, ◌^◌, ◌≤◌, min, Result, IsErr, OnOk, OnErr}
 
 -- the next value of a count
 abbrev pub raised : ℕ → ℕ
@@ -15,3 +15,8 @@ Rose before now = raised before ≤ now
 pub record HasCause {T E : Type 0} (result : Result T E) (before now : ℕ) : Type 0 where
   pub never_falls : before ≤ now
   pub failed : IsErr result → Rose before now
+
+-- a call that succeeds leaves the count as it was, and one that fails raises it by one
+pub record CountsOnce {T E : Type 0} (result : Result T E) (before now : ℕ) : Type 0 where
+  pub ok : OnOk result (now ≡ before)
+  pub err : OnErr result (now ≡ raised before)

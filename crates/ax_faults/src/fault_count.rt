@@ -26,6 +26,13 @@ impl FaultCount {
         FaultCount { count: 0 }
     }
 
+    /// How often something has failed.
+    pub fn count(&self) -> u64
+        ensures { result ≡ self.now }
+    {
+        self.count
+    }
+
     /// Counts a failure.
     pub fn raise(&mut self)
         ensures raised { self.new ≡ raised self.old }

@@ -83,17 +83,18 @@ impl<'a> FrameParts<'a> {
     }
 }
 
-/// The bytes that the open frame at the beginning spans. `None` exactly where no open frame of at least one byte stands
-/// there whole.
-fn frame_body(bytes: &[u8]) -> Option<&[u8]>
-    ensures fits { IfSome result (λ body. (0 < length body.now) × (length body.now < 2 ^ 64)) }
-    ensures found { IfSome result (λ body. (rest : List ℕ) × (bytes.now ≡ open_frame body.now ++ rest)) }
+/// The bytes that the open frame at the beginning spans, and the bytes after it. `None` exactly where no open frame of at
+/// least one byte stands there whole.
+#[tactic(auto, using(crate::proofs::Frames::body_found))]
+fn frame_body(bytes: &[u8]) -> Option<(&[u8], &[u8])>
+    ensures fits { IfSome result (λ x. (0 < length x.0.now) × (length x.0.now < 2 ^ 64)) }
+    ensures found { IfSome result (λ x. bytes.now ≡ open_frame x.0.now ++ x.1.now) }
     ensures none { IfNone result ((body rest : List ℕ) → 0 < length body → length body < 2 ^ 64
         → bytes.now ≡ open_frame body ++ rest → ⊥) }
 {
     let (head, rest) = bytes.split_first_chunk::<9>()?;
     match frame_head(head) {
-        FrameHead::Frame { len } if len <= rest.len() as u64 => Some(&rest[..len as usize]),
+        FrameHead::Frame { len } if len <= rest.len() as u64 => Some(rest.split_at(len as usize)),
         _ => None,
     }
 }
@@ -108,7 +109,7 @@ pub fn read_frame(bytes: &[u8]) -> Result<FrameParts<'_>, NotFrame>
         → IsOkAnd result (λ found. found ≡ ps) }
     ensures none { OnErr result (NoFrame bytes.now) }
 {
-    let Some(body) = frame_body(bytes) else {
+    let Some((body, rest)) = frame_body(bytes) else {
         return Err(NotFrame);
     };
     if !are_parts(body) {

@@ -1,7 +1,7 @@
 //! Root slots: sixteen bytes that name the area of frames that counts.
 
-ghost use Rattle.std.specs.Prelude.{◌≡◌, ◌≤◌, ◌⊎◌};
-ghost use Rattle.ax_frame.specs.RootSlot.{IsSlot, slot_bytes};
+ghost use Rattle.std.specs.Prelude.{◌≡◌, ◌≤◌, ◌⊎◌, ◌↔◌, IsTrue};
+ghost use Rattle.ax_frame.specs.RootSlot.{IsSlot, mark, slot_bytes};
 
 /// What sixteen bytes of the root are as a slot.
 #[derive(Clone, Copy, Debug, PartialEq, Eq)]
@@ -51,7 +51,7 @@ pub fn read_slot(bytes: &[u8; 16]) -> RootSlot
     }
     let version = u16::from_le_bytes([v0, v1]);
     let generation = u64::from_le_bytes([g0, g1, g2, g3, g4, g5, g6, g7]);
-    if version == 0 || area == 0 || area > 2 || [m0, m1, m2, m3] != MARK {
+    if !is_named(version, area, [m0, m1, m2, m3]) {
         return RootSlot::Bad;
     }
     RootSlot::Live {
@@ -59,6 +59,13 @@ pub fn read_slot(bytes: &[u8; 16]) -> RootSlot
         area,
         generation,
     }
+}
+
+/// Whether an open slot can name this version and area, and ends so.
+fn is_named(version: u16, area: u8, end: [u8; 4]) -> bool
+    ensures { IsTrue result ↔ ((1 ≤ version) × ((area ≡ 1) ⊎ (area ≡ 2)) × (end ≡ mark)) }
+{
+    version >= 1 && (area == 1 || area == 2) && end == MARK
 }
 
 /// The open slot that names this version, area and generation.

@@ -5,9 +5,9 @@ use Rattle.std.proofs.lemmas.List.Elements.{All-same, All-drop}
 use Rattle.std.proofs.lemmas.Bool.{lt-ltb, ltb-true}
 use Rattle.ax_gap.specs.Varint.{varint}
 use Rattle.ax_gap.specs.Gaps.{gaps, gaps_from, AreGaps, IsGapList, IsRisingList}
-use Rattle.ax_gap.specs.Reading.{front, before, body}
+use Rattle.ax_gap.specs.Reading.{first_varint, first_number, before, first_gaps}
 use Rattle.ax_gap.proofs.Rising.{RisesFrom, rises, rising_list}
-use Rattle.ax_gap.proofs.VarintLaws.{grammar_spells, spells_grammar, front_again, front_takes, found, length-varint}
+use Rattle.ax_gap.proofs.VarintLaws.{grammar_spells, spells_grammar, first_varint_again, first_varint_takes, found, same_number, same_after, length-varint}
 
 -- ---- what is written
 
@@ -63,16 +63,16 @@ spells_list_grammar list h =
 abbrev pub given : List ℕ → List ℕ → Option (List ℕ × List ℕ)
 given list rest = Some (list, rest)
 
-pub body_again : (list : List ℕ) (least : ℕ) (rest : List ℕ) → RisesFrom least list → body least (length list) (gaps_from least list ++ rest) ≡ given list rest
-unfolding gaps_from body
-body_again [] least rest h = refl
-body_again (n ∷ list) least rest h =
+pub first_gaps_again : (list : List ℕ) (least : ℕ) (rest : List ℕ) → RisesFrom least list → first_gaps least (length list) (gaps_from least list ++ rest) ≡ given list rest
+unfolding gaps_from first_gaps
+first_gaps_again [] least rest h = refl
+first_gaps_again (n ∷ list) least rest h =
     let split : varint (n - least) ++ gaps_from (n + 1) list ++ rest ≡ varint (n - least) ++ (gaps_from (n + 1) list ++ rest) =
     append_assoc (varint (n - least)) (gaps_from (n + 1) list) rest
     in
     let number : least + (n - least) ≡ n = omega (arith, h.0) in
     let small : nat_lt n 4294967296 ≡ true = lt-ltb n 4294967296 h.1 in
-    rw (split, front_again (n - least) (gaps_from (n + 1) list ++ rest), number, small, body_again list (n + 1) rest h.2) refl
+    rw (split, first_varint_again (n - least) (gaps_from (n + 1) list ++ rest), number, small, first_gaps_again list (n + 1) rest h.2) refl
 
 -- ---- what is read is spelled so
 
@@ -97,13 +97,9 @@ before_found n None list rest e = absurd (cc)
 before_found n (Some (ns, after)) list rest e =
     (ns, ap (given ns) (same_end (n ∷ ns) list after rest e), same_list (n ∷ ns) list after rest e)
 
-chosen_found : (b : Bool) (r : Option (List ℕ × List ℕ)) (list rest : List ℕ) → cond b r None ≡ given list rest → (b ≡ true) × (r ≡ given list rest)
-chosen_found true r list rest e = (refl, e)
-chosen_found false r list rest e = absurd (cc)
-
-gap_found : (r : Option (ℕ × List ℕ)) (f : ℕ × List ℕ → Option (List ℕ × List ℕ)) (list rest : List ℕ) → option_and_then f r ≡ given list rest → (gap : ℕ) × (after : List ℕ) × (r ≡ found gap after) × (f (gap, after) ≡ given list rest)
-gap_found None f list rest e = absurd (cc)
-gap_found (Some (gap, after)) f list rest e = (gap, after, refl, e)
+number_before : (r : Option (ℕ × List ℕ)) (f : ℕ × List ℕ → Option (List ℕ × List ℕ)) (list rest : List ℕ) → option_and_then f r ≡ given list rest → (gap : ℕ) × (after : List ℕ) × (r ≡ found gap after) × (f (gap, after) ≡ given list rest)
+number_before None f list rest e = absurd (cc)
+number_before (Some (gap, after)) f list rest e = (gap, after, refl, e)
 
 pub all_after : (bytes : List ℕ) (gap : ℕ) (after : List ℕ) → All (λ b. b < 256) bytes → bytes ≡ varint gap ++ after → All (λ b. b < 256) after
 all_after bytes gap after all e =
@@ -111,50 +107,72 @@ all_after bytes gap after all e =
     ap (λ bs. drop (length (varint gap)) bs) e ∙ drop_at (varint gap) after (length (varint gap)) refl
     in All-same (λ b. b < 256) after (drop (length (varint gap)) bytes) (sym k) (All-drop (λ b. b < 256) (length (varint gap)) bytes all)
 
--- `list` is read from `bytes` as `count` numbers, and `rest` is left
+-- `list` is read from `bytes` as `count` numbers, and `rest` follows
 pub record IsReadAs (least count : ℕ) (bytes list rest : List ℕ) : Type 0 where
   pub spelled : bytes ≡ gaps_from least list ++ rest
   pub rises : RisesFrom least list
   pub counted : length list ≡ count
 
-read_more : (least count gap : ℕ) (bytes after ns list rest : List ℕ) → bytes ≡ varint gap ++ after → least + gap < 4294967296 → (least + gap) ∷ ns ≡ list → IsReadAs (least + gap + 1) count after ns rest → IsReadAs least (suc count) bytes list rest
+-- a number that comes first is `least` with a gap
+pub record NumberTaken (least number : ℕ) (bytes after : List ℕ) : Type 0 where
+  pub gap : ℕ
+  pub first : first_varint bytes ≡ found gap after
+  pub is : least + gap ≡ number
+  pub fits : number < 4294967296
+
+number_kept : (b : Bool) (m n : ℕ) (x y : List ℕ) → cond b (found m x) None ≡ found n y → (b ≡ true) × (m ≡ n) × (x ≡ y)
+number_kept true m n x y e = (refl, same_number m n x y e, same_after m n x y e)
+number_kept false m n x y e = absurd (cc)
+
+number_from_taken : (least number : ℕ) (bytes after : List ℕ) (r : Option (ℕ × List ℕ)) → first_varint bytes ≡ r
+    → option_and_then (λ gap. cond (nat_lt (least + gap.0) 4294967296) (found (least + gap.0) gap.1) None) r ≡ found number after
+    → NumberTaken least number bytes after
+number_from_taken least number bytes after None was e = absurd (cc)
+number_from_taken least number bytes after (Some (gap, rest)) was e =
+    let kept = number_kept (nat_lt (least + gap) 4294967296) (least + gap) number rest after e in
+    let under : least + gap < 4294967296 = ltb-true (least + gap) 4294967296 kept.0 in
+    record { gap = gap; first = was ∙ ap (found gap) kept.2; is = kept.1; fits = omega (arith, kept.1, under) }
+
+pub number_taken : (least number : ℕ) (bytes after : List ℕ) → first_number least bytes ≡ found number after → NumberTaken least number bytes after
+number_taken least number bytes after e = number_from_taken least number bytes after (first_varint bytes) refl e
+
+read_more : (least count number gap : ℕ) (bytes after ns list rest : List ℕ) → bytes ≡ varint gap ++ after → least + gap ≡ number → number < 4294967296 → number ∷ ns ≡ list → IsReadAs (number + 1) count after ns rest → IsReadAs least (suc count) bytes list rest
 unfolding gaps_from
-read_more least count gap bytes after ns list rest first small is later =
-    let this : least + gap - least ≡ gap = omega arith in
-    let whole : bytes ≡ gaps_from least ((least + gap) ∷ ns) ++ rest =
+read_more least count number gap bytes after ns list rest first sums small is later =
+    let this : number - least ≡ gap = omega arith in
+    let whole : bytes ≡ gaps_from least (number ∷ ns) ++ rest =
     first ∙ ap (λ bs. varint gap ++ bs) later.spelled
-    ∙ sym (append_assoc (varint gap) (gaps_from (least + gap + 1) ns) rest)
-    ∙ ap (λ (m : ℕ). varint m ++ gaps_from (least + gap + 1) ns ++ rest) (sym this)
+    ∙ sym (append_assoc (varint gap) (gaps_from (number + 1) ns) rest)
+    ∙ ap (λ (m : ℕ). varint m ++ gaps_from (number + 1) ns ++ rest) (sym this)
     in
-    let up : RisesFrom least ((least + gap) ∷ ns) = (omega arith, small, later.rises) in
+    let up : RisesFrom least (number ∷ ns) = (omega arith, small, later.rises) in
     record {
       spelled = whole ∙ ap (λ l. gaps_from least l ++ rest) is;
       rises = subst (RisesFrom least) is up;
       counted = sym (ap length is) ∙ omega (arith, later.counted);
     }
 
-pub body_takes : (count least : ℕ) (bytes list rest : List ℕ) → All (λ b. b < 256) bytes → body least count bytes ≡ given list rest → IsReadAs least count bytes list rest
-unfolding gaps_from body
-body_takes zero least bytes list rest all e =
+pub first_gaps_takes : (count least : ℕ) (bytes list rest : List ℕ) → All (λ b. b < 256) bytes → first_gaps least count bytes ≡ given list rest → IsReadAs least count bytes list rest
+unfolding gaps_from first_gaps
+first_gaps_takes zero least bytes list rest all e =
     let none : [] ≡ list = same_list [] list bytes rest e in
-    let left : bytes ≡ rest = same_end [] list bytes rest e in
-    record { spelled = rw (← none) left; rises = rw (← none) tt; counted = rw (← none) refl }
-body_takes (suc count) least bytes list rest all e =
-    let (gap, after, first, more) = gap_found (front bytes) _ list rest e in
-    let chosen = chosen_found (nat_lt (least + gap) 4294967296) _ list rest more in
-    let (ns, later, is) = before_found (least + gap) _ list rest chosen.1 in
-    let split : bytes ≡ varint gap ++ after = front_takes bytes gap after all first in
-    read_more least count gap bytes after ns list rest split (ltb-true (least + gap) 4294967296 chosen.0) is
-    (body_takes count (least + gap + 1) after ns rest (all_after bytes gap after all split) later)
+    let same : bytes ≡ rest = same_end [] list bytes rest e in
+    record { spelled = rw (← none) same; rises = rw (← none) tt; counted = rw (← none) refl }
+first_gaps_takes (suc count) least bytes list rest all e =
+    let (number, after, first, more) = number_before (first_number least bytes) _ list rest e in
+    let taken = number_taken least number bytes after first in
+    let (ns, later, is) = before_found number _ list rest more in
+    let split : bytes ≡ varint taken.gap ++ after = first_varint_takes bytes taken.gap after all taken.first in
+    read_more least count number taken.gap bytes after ns list rest split taken.is taken.fits is
+    (first_gaps_takes count (number + 1) after ns rest (all_after bytes taken.gap after all split) later)
 
-pub body_counts : (count least : ℕ) (bytes list rest : List ℕ) → body least count bytes ≡ given list rest → length list ≡ count
-unfolding body
-body_counts zero least bytes list rest e = ap length (sym (same_list [] list bytes rest e))
-body_counts (suc count) least bytes list rest e =
-    let (gap, after, first, more) = gap_found (front bytes) _ list rest e in
-    let chosen = chosen_found (nat_lt (least + gap) 4294967296) _ list rest more in
-    let (ns, later, is) = before_found (least + gap) _ list rest chosen.1 in
-    sym (ap length is) ∙ ap suc (body_counts count (least + gap + 1) after ns rest later)
+pub first_gaps_counts : (count least : ℕ) (bytes list rest : List ℕ) → first_gaps least count bytes ≡ given list rest → length list ≡ count
+unfolding first_gaps
+first_gaps_counts zero least bytes list rest e = ap length (sym (same_list [] list bytes rest e))
+first_gaps_counts (suc count) least bytes list rest e =
+    let (number, after, first, more) = number_before (first_number least bytes) _ list rest e in
+    let (ns, later, is) = before_found number _ list rest more in
+    sym (ap length is) ∙ ap suc (first_gaps_counts count (number + 1) after ns rest later)
 
 -- each number takes a byte at least
 pub length-gaps_from : (list : List ℕ) (least : ℕ) → length list ≤ length (gaps_from least list)

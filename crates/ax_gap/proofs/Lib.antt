@@ -5,3 +5,5 @@ pub mod GapLaws
 pub mod Rising
 pub mod VarintLaws
 pub mod Long
+pub mod Lengths
+pub mod Gathering

@@ -3,7 +3,7 @@ use Rattle.std.proofs.Common.{◌≡◌, ℕ, ◌+◌, ◌-◌, ◌*◌, ◌<◌
 use Rattle.std.proofs.lemmas.Bool.{le-ltb, lt-ltb, lt-leb, ne_eqb, and_right}
 use Rattle.std.proofs.lemmas.List.{at_drop_more}
 use Rattle.std.proofs.lemmas.Nat.{mul-le}
-use Rattle.ax_gap.specs.Reading.{front, longer, at_most}
+use Rattle.ax_gap.specs.Reading.{first_varint, longer, at_most}
 
 -- what is read where so many groups came before, which stand for `low`, and the next group counts `scale`
 abbrev pub placed : ℕ → ℕ → ℕ → Option (ℕ × List ℕ) → Option (ℕ × List ℕ)
@@ -12,7 +12,7 @@ placed low scale taken (Some found) =
     if nat_lt 0 taken && (found.0 == 0) then None else Some (low + found.0 * scale, found.1)
 
 pub record IsUnderWay (low scale taken : ℕ) (bytes : List ℕ) : Type 0 where
-  pub reads : placed low scale taken (front (drop taken bytes)) ≡ front bytes
+  pub reads : placed low scale taken (first_varint (drop taken bytes)) ≡ first_varint bytes
   pub below : low < scale
   pub scale_fits : scale ≤ 549755813888
   pub first : taken ≡ 0 → scale ≡ 1
@@ -49,12 +49,12 @@ placed_more low scale taken byte (Some (suc n, rest)) =
 pub more : (low scale taken byte : ℕ) (bytes : List ℕ) → IsUnderWay low scale taken bytes → taken < length bytes → byte ≡ get_or bytes taken 0 → 128 ≤ byte → byte < 256 → scale ≤ 4294967296 → IsUnderWay (low + (byte - 128) * scale) (scale * 128) (taken + 1) bytes
 more low scale taken byte bytes was within at long small fits =
     let rest : List ℕ = drop (taken + 1) bytes in
-    let here : front (drop taken bytes) ≡ front (get_or bytes taken 0 ∷ rest) = at_drop_more front bytes taken 0 within in
-    let named : front (get_or bytes taken 0 ∷ rest) ≡ front (byte ∷ rest) = ap (λ (b : ℕ). front (b ∷ rest)) (sym at) in
-    let goes_on : front (byte ∷ rest) ≡ longer byte (front rest) = rw (le-ltb byte 128 long) refl in
+    let here : first_varint (drop taken bytes) ≡ first_varint (get_or bytes taken 0 ∷ rest) = at_drop_more first_varint bytes taken 0 within in
+    let named : first_varint (get_or bytes taken 0 ∷ rest) ≡ first_varint (byte ∷ rest) = ap (λ (b : ℕ). first_varint (b ∷ rest)) (sym at) in
+    let goes_on : first_varint (byte ∷ rest) ≡ longer byte (first_varint rest) = rw (le-ltb byte 128 long) refl in
     let part : (byte - 128) * scale ≤ 127 * scale = mul-le (byte - 128) scale 127 scale (omega arith) (omega arith) in
     record {
-      reads = sym (placed_more low scale taken byte (front rest)) ∙ ap (placed low scale taken) (sym (here ∙ named ∙ goes_on)) ∙ was.reads;
+      reads = sym (placed_more low scale taken byte (first_varint rest)) ∙ ap (placed low scale taken) (sym (here ∙ named ∙ goes_on)) ∙ was.reads;
       below = omega (arith, was.below, part);
       scale_fits = omega arith;
       first = λ e. absurd (omega arith);

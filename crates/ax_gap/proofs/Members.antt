@@ -24,13 +24,13 @@ contains_from_in (x ∷ xs) n h =
     (λ e. let (k, l, at) = contains_from_in xs n e in (suc k, omega arith, at))
     (or_cases (n == x) (is_in n xs) h)
 
-filter_step : (passes same later here left : Bool) → left ≡ (later && here) → (same ≡ true → here ≡ passes) → cond passes (same || left) left ≡ ((same || later) && here)
-filter_step true true later here left e h = sym (h refl)
-filter_step true false later here left e h = e
-filter_step false true later here left e h =
+filter_step : (passes same later here kept : Bool) → kept ≡ (later && here) → (same ≡ true → here ≡ passes) → cond passes (same || kept) kept ≡ ((same || later) && here)
+filter_step true true later here kept e h = sym (h refl)
+filter_step true false later here kept e h = e
+filter_step false true later here kept e h =
     let none : here ≡ false = h refl in
     e ∙ ap (λ b. later && b) none ∙ and_right later false refl ∙ sym none
-filter_step false false later here left e h = e
+filter_step false false later here kept e h = e
 
 pub in_filter : (p : ℕ → Bool) (xs : List ℕ) (n : ℕ) → is_in n (filter p xs) ≡ (is_in n xs && p n)
 in_filter p [] n = refl

@@ -4,7 +4,7 @@ use Rattle.std.proofs.lemmas.Bool.{le-ltb, lt-ltb, ne_eqb, cases_lt, le-leb}
 use Rattle.std.proofs.lemmas.List.{length-append, length-take, drop_at, take-append-le, append_assoc}
 use Rattle.std.proofs.lemmas.List.Elements.{All-head, All-tail, All-from_get_or}
 use Rattle.ax_gap.specs.Varint.{IsVarint, groups, varint}
-use Rattle.ax_gap.specs.Reading.{front, longer, at_most}
+use Rattle.ax_gap.specs.Reading.{first_varint, longer, at_most}
 
 below_self : (n k : ℕ) → n ≤ suc k → 128 ≤ n → n / 128 ≤ k
 below_self n k h l = omega arith
@@ -47,9 +47,9 @@ longer_found : (byte m : ℕ) (rest : List ℕ) → 0 < m → longer byte (Some 
 longer_found byte m rest h = let s : (m == 0) ≡ false = ne_eqb m 0 (λ e. omega arith) in rw s refl
 
 -- what is spelled so is read
-pub front_again : (n : ℕ) (rest : List ℕ) → front (varint n ++ rest) ≡ Some (n, rest)
-front_again n rest =
-    by_groups (λ n. front (varint n ++ rest) ≡ Some (n, rest))
+pub first_varint_again : (n : ℕ) (rest : List ℕ) → first_varint (varint n ++ rest) ≡ Some (n, rest)
+first_varint_again n rest =
+    by_groups (λ n. first_varint (varint n ++ rest) ≡ Some (n, rest))
     (λ n h. let s : nat_lt n 128 ≡ true = lt-ltb n 128 h in rw (varint-small n h, s) refl)
     (λ n h was.
     let s : nat_lt (128 + n % 128) 128 ≡ false = le-ltb (128 + n % 128) 128 (omega arith) in
@@ -103,9 +103,9 @@ takes_longer byte bytes (Some (suc m, r)) n rest s l was e =
     large_again byte (suc m) n bytes rest s l (omega arith) number (was (suc m) (ap (λ (x : List ℕ). Some (suc m, x)) after))
 
 -- what is read is spelled so
-pub front_takes : (bytes : List ℕ) (n : ℕ) (rest : List ℕ) → All (λ b. b < 256) bytes → front bytes ≡ Some (n, rest) → bytes ≡ varint n ++ rest
-front_takes [] n rest all e = absurd (cc)
-front_takes (byte ∷ bytes) n rest all e =
+pub first_varint_takes : (bytes : List ℕ) (n : ℕ) (rest : List ℕ) → All (λ b. b < 256) bytes → first_varint bytes ≡ Some (n, rest) → bytes ≡ varint n ++ rest
+first_varint_takes [] n rest all e = absurd (cc)
+first_varint_takes (byte ∷ bytes) n rest all e =
     ⊎_elim
     (λ h.
     let s : nat_lt byte 128 ≡ true = lt-ltb byte 128 h in
@@ -115,9 +115,9 @@ front_takes (byte ∷ bytes) n rest all e =
     rw (← number, varint-small byte h, after) refl)
     (λ h.
     let s : nat_lt byte 128 ≡ false = le-ltb byte 128 h in
-    let f : longer byte (front bytes) ≡ Some (n, rest) = rw s at e in
-    takes_longer byte bytes (front bytes) n rest (All-head (λ b. b < 256) byte bytes all) h
-    (λ m was. front_takes bytes m rest (All-tail (λ b. b < 256) byte bytes all) was) f)
+    let f : longer byte (first_varint bytes) ≡ Some (n, rest) = rw s at e in
+    takes_longer byte bytes (first_varint bytes) n rest (All-head (λ b. b < 256) byte bytes all) h
+    (λ m was. first_varint_takes bytes m rest (All-tail (λ b. b < 256) byte bytes all) was) f)
     (cases_lt byte 128)
 
 -- the grammar
@@ -136,7 +136,7 @@ spells_grammar =
     (λ n h. rw (varint-small n h) (h, refl))
     (λ n h was. rw (varint-large n h) (grammar_longer n (varint (n / 128)) (varint-cons (n / 128)) h was))
 
--- ---- what the code takes off the front
+-- ---- what the code takes off the beginning
 
 pub most_found : (most : ℕ) (r : Option (ℕ × List ℕ)) (n : ℕ) (rest : List ℕ) → found n rest ≡ at_most most r → found n rest ≡ r
 most_found most None n rest e = e
@@ -144,14 +144,14 @@ most_found most (Some x) n rest e =
     elim (nat_le x.0 most) as (λ b. found n rest ≡ cond b (Some x) None → found n rest ≡ Some x) [ true ↦ λ h. h | false ↦ λ h. absurd (cc) ] e
 
 -- what is taken off is spelled so
-pub split_takes : (bytes : List ℕ) (n : ℕ) (rest : List ℕ) → ((i : ℕ) → get_or bytes i 0 < 256) → found n rest ≡ at_most 4294967296 (front bytes) → bytes ≡ varint n ++ rest
+pub split_takes : (bytes : List ℕ) (n : ℕ) (rest : List ℕ) → ((i : ℕ) → get_or bytes i 0 < 256) → found n rest ≡ at_most 4294967296 (first_varint bytes) → bytes ≡ varint n ++ rest
 split_takes bytes n rest fits e =
-    front_takes bytes n rest (All-from_get_or (λ b. b < 256) bytes 0 (λ i h. fits i)) (sym (most_found 4294967296 (front bytes) n rest e))
+    first_varint_takes bytes n rest (All-from_get_or (λ b. b < 256) bytes 0 (λ i h. fits i)) (sym (most_found 4294967296 (first_varint bytes) n rest e))
 
 -- what is spelled so is taken off
-pub split_again : (bytes : List ℕ) (n : ℕ) (rest : List ℕ) → n ≤ 4294967296 → bytes ≡ varint n ++ rest → at_most 4294967296 (front bytes) ≡ found n rest
+pub split_again : (bytes : List ℕ) (n : ℕ) (rest : List ℕ) → n ≤ 4294967296 → bytes ≡ varint n ++ rest → at_most 4294967296 (first_varint bytes) ≡ found n rest
 split_again bytes n rest h e =
-    ap (λ bs. at_most 4294967296 (front bs)) e ∙ ap (at_most 4294967296) (front_again n rest) ∙ rw (le-leb n 4294967296 h) refl
+    ap (λ bs. at_most 4294967296 (first_varint bs)) e ∙ ap (at_most 4294967296) (first_varint_again n rest) ∙ rw (le-leb n 4294967296 h) refl
 
 pub length-split : (bytes : List ℕ) (n : ℕ) (rest : List ℕ) → bytes ≡ varint n ++ rest → length bytes ≡ length (varint n) + length rest
 length-split bytes n rest e = ap length e ∙ length-append (varint n) rest
@@ -170,7 +170,7 @@ same_used m n used e h = rw (h, e) refl
 pub push-large : (bytes : List ℕ) (n : ℕ) → 128 ≤ n → bytes ++ (128 + n % 128) ∷ [] ++ varint (n / 128) ≡ bytes ++ varint n
 push-large bytes n h = append_assoc bytes ((128 + n % 128) ∷ []) (varint (n / 128)) ∙ ap (λ bs. bytes ++ bs) (sym (varint-large n h))
 
--- a text begins with what it began with before more was written
+-- bytes begin with what they began with before more was written
 pub take-more_written : (old new more : List ℕ) → take (length old) new ≡ old → take (length old) (new ++ more) ≡ old
 take-more_written old new more e =
     let l : min (length old) (length new) ≡ length old = sym (length-take (length old) new) ∙ ap length e in
@@ -184,7 +184,7 @@ one_form s t x y m n h k e =
     let first : s ≡ varint m = grammar_spells s m h in
     let second : t ≡ varint n = grammar_spells t n k in
     let read : found m x ≡ found n y =
-    sym (front_again m x) ∙ ap (λ bs. front (bs ++ x)) (sym first) ∙ ap front e ∙ ap (λ bs. front (bs ++ y)) second ∙ front_again n y
+    sym (first_varint_again m x) ∙ ap (λ bs. first_varint (bs ++ x)) (sym first) ∙ ap first_varint e ∙ ap (λ bs. first_varint (bs ++ y)) second ∙ first_varint_again n y
     in
     let same : m ≡ n = same_number m n x y read in
     (same, first ∙ ap varint same ∙ sym second, same_after m n x y read)

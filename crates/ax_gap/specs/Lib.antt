@@ -1,5 +1,5 @@
 pub mod Cursor
 pub mod Gaps
-pub mod Left
+pub mod Remaining
 pub mod Reading
 pub mod Varint

@@ -1,9 +1,10 @@
-//! Reading gap lists: the one at the front of some bytes is checked whole, and then given number by number.
+//! Reading gap lists: the one with which bytes begin is checked whole, and then given number by number.
 
-ghost use Rattle.std.specs.Prelude.{◌≡◌, ℕ, ◌++◌, ◌≤◌, List, length, drop, slice_get, IfSome, IsSomeAnd};
+ghost use Rattle.std.specs.Prelude.{◌≡◌, ℕ, ◌++◌, ◌≤◌, ◌^◌, List, Some, length, drop, slice_get, IsSome, IfSome, IsSomeAnd};
 ghost use Rattle.std.specs.Option.{option_map};
 ghost use Rattle.ax_gap.specs.Gaps.{IsRisingList, gaps};
-ghost use Rattle.ax_gap.specs.Reading.{body};
+ghost use Rattle.ax_gap.specs.Reading.{first_gaps, first_number};
+ghost use Rattle.ax_gap.specs.Cursor.{numbers_of};
 
 use crate::varint::split_varint;
 use std::marker::Model;
@@ -13,13 +14,13 @@ const END: u64 = 1 << 32;
 
 /// The numbers of a gap list, one after another. It reads them from the bytes and takes no memory.
 ///
-/// A clause sees the numbers that are left, and how many bytes the whole gap list takes.
+/// A clause sees the remaining numbers, and how many bytes the whole gap list takes.
 #[derive(Drop)]
 pub struct GapCursor<'a> {
     // The bytes from the next gap on.
-    rest: &'a [u8],
-    // How many numbers are left.
-    left: usize,
+    bytes: &'a [u8],
+    // How many numbers remain.
+    count: usize,
     // The least number that may come next.
     least: u64,
     // How many bytes the whole list takes.
@@ -27,41 +28,40 @@ pub struct GapCursor<'a> {
 }
 
 impl<'a> Model for GapCursor<'a> {
-    ghost use Rattle.ax_gap.specs.Left.{GapsLeft};
+    ghost use Rattle.ax_gap.specs.Remaining.{RemainingGaps};
 
-    ghost Value = { GapsLeft };
+    ghost Value = { RemainingGaps };
 
-    ghost use Rattle.ax_gap.specs.Cursor.{gaps_left, IsCursor};
+    ghost use Rattle.ax_gap.specs.Cursor.{remaining_gaps, IsCursor};
 
-    ghost view = { gaps_left };
+    ghost view = { remaining_gaps };
 
     ghost invariant = { IsCursor };
 }
 
 impl<'a> GapCursor<'a> {
-    /// The next number. `None` exactly where none is left.
+    /// The next number. `None` exactly where none remains.
     #[inline]
     pub fn next(&mut self) -> Option<u32>
         ensures number { result ≡ slice_get self.old.numbers 0 }
-        ensures rest { self.new.numbers ≡ drop 1 self.old.numbers }
+        ensures remaining { self.new.numbers ≡ drop 1 self.old.numbers }
         ensures used { self.new.used ≡ self.old.used }
     {
-        if self.left == 0 {
+        if self.count == 0 {
             return None;
         }
-        let (gap, rest) = split_varint(self.rest)?;
-        let number = self.least + gap;
-        self.rest = rest;
-        self.left -= 1;
+        let (number, rest) = split_number(self.bytes, self.least)?;
+        self.bytes = rest;
+        self.count -= 1;
         self.least = number + 1;
         Some(number as u32)
     }
 
-    /// How many numbers are left.
+    /// How many numbers remain.
     pub fn len(&self) -> usize
         ensures { result ≡ length self.now.numbers }
     {
-        self.left
+        self.count
     }
 
     /// How many bytes the whole gap list takes, whatever was read of it.
@@ -72,8 +72,8 @@ impl<'a> GapCursor<'a> {
     }
 }
 
-/// The gap list at the front of the bytes, at its beginning. `None` exactly where none stands there. Anything may
-/// follow it.
+/// The gap list with which the bytes begin, its cursor before the first number. `None` exactly where they begin with
+/// none. Anything may follow it.
 pub fn read_gaps(bytes: &[u8]) -> Option<GapCursor<'_>>
     // What is read is the gap list of the cursor's numbers.
     ensures found { IfSome result (λ cursor. bytes.now ≡ gaps cursor.numbers ++ drop cursor.used bytes.now) }
@@ -85,36 +85,62 @@ pub fn read_gaps(bytes: &[u8]) -> Option<GapCursor<'_>>
     ensures only { (list rest : List ℕ) → IsRisingList list → bytes.now ≡ gaps list ++ rest
         → IsSomeAnd result (λ cursor. (cursor.numbers ≡ list) × (cursor.used ≡ length (gaps list))) }
 {
-    let (count, rest) = split_varint(bytes)?;
-    if count > rest.len() as u64 {
-        return None;
-    }
-    let left = count as usize;
-    let end = skip_gaps(rest, left)?;
+    let (count, first, after) = split_list(bytes)?;
     Some(GapCursor {
-        rest,
-        left,
+        bytes: first,
+        count,
         least: 0,
-        used: bytes.len() - end.len(),
+        used: bytes.len() - after.len(),
     })
 }
 
-/// The bytes after so many gaps at the front. `None` where they are not there, or go above 2^32 - 1.
-fn skip_gaps(bytes: &[u8], count: usize) -> Option<&[u8]>
-    ensures { option_map (λ end. end.now) result ≡ option_map (λ found. found.1) (body 0 count bytes.now) }
+/// The count of the gap list with which the bytes begin, the bytes from its first gap on, and those after its last.
+/// `None` exactly where they begin with none.
+fn split_list(bytes: &[u8]) -> Option<(usize, &[u8], &[u8])>
+    ensures found { IfSome result (λ x.
+        bytes.now ≡ gaps (numbers_of (first_gaps 0 x.0 x.1.now)) ++ x.2.now) }
+    ensures rising { IfSome result (λ x. IsRisingList (numbers_of (first_gaps 0 x.0 x.1.now))) }
+    ensures reads { IfSome result (λ x. IsSome (first_gaps 0 x.0 x.1.now)) }
+    ensures only { (list rest : List ℕ) → IsRisingList list → bytes.now ≡ gaps list ++ rest
+        → IsSomeAnd result (λ x. first_gaps 0 x.0 x.1.now ≡ Some (list, rest)) }
 {
-    let mut rest = bytes;
-    let mut least = 0u64;
-    let mut left = count;
-    while left > 0 {
-        let (gap, after) = split_varint(rest)?;
-        let number = least + gap;
-        if number >= END {
-            return None;
-        }
-        rest = after;
-        least = number + 1;
-        left -= 1;
+    let (count, first) = split_varint(bytes)?;
+    if count > first.len() as u64 {
+        return None;
     }
-    Some(rest)
+    let count = count as usize;
+    let after = skip_gaps(first, count)?;
+    Some((count, first, after))
+}
+
+/// The bytes after so many gaps. `None` where they are not there, or go above 2^32 - 1.
+fn skip_gaps(bytes: &[u8], count: usize) -> Option<&[u8]>
+    ensures { option_map (λ end. end.now) result ≡ option_map (λ found. found.1) (first_gaps 0 count bytes.now) }
+{
+    let mut remaining = bytes;
+    let mut least = 0u64;
+    let mut many = count;
+    while many > 0 {
+        let (number, after) = split_number(remaining, least)?;
+        remaining = after;
+        least = number + 1;
+        many -= 1;
+    }
+    Some(remaining)
+}
+
+/// The number whose gap comes first, where none below `least` may stand, and the bytes after the gap. `None` exactly
+/// where no gap comes first, or that of a number above 2^32 - 1.
+#[inline]
+#[tactic(auto, using(crate::proofs::CursorLaws::number_past, crate::proofs::CursorLaws::number_high, crate::proofs::CursorLaws::number_found))]
+fn split_number(bytes: &[u8], least: u64) -> Option<(u64, &[u8])>
+    requires { least ≤ 2 ^ 32 }
+    ensures { option_map (λ found. (found.0, found.1.now)) result ≡ first_number least bytes.now }
+{
+    let (gap, rest) = split_varint(bytes)?;
+    let number = least + gap;
+    if number >= END {
+        return None;
+    }
+    Some((number, rest))
 }

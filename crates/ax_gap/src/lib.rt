@@ -4,21 +4,21 @@
 //! difference from the number before, less 1. Most gaps of a dense list take one byte. The crate stands on `std` alone.
 //!
 //! Its one contract: a list of rising numbers has one spelling, `gaps list` of `specs/Gaps.antt`. `put_gaps` writes
-//! it. `read_gaps` finds it at the front of any bytes, whatever follows, and answers `None` exactly where no gap list
-//! stands there; its cursor gives the list's numbers, in order, and takes no memory. `meet`, `join` and `without` are
+//! it. `read_gaps` finds the one with which bytes begin, whatever follows, and answers `None` exactly where they begin
+//! with none; its cursor gives the list's numbers, in order, and takes no memory. `meet`, `join` and `without` are
 //! the intersection, the union and the difference of rising lists, each in one pass over both.
 #![tactic(auto)]
 
 mod cursor;
 mod gaps;
 pub mod laws;
-mod memory;
+mod out_of_memory;
 mod sets;
 pub mod varint;
 
 pub use cursor::{GapCursor, read_gaps};
 pub use gaps::put_gaps;
-pub use memory::Memory;
+pub use out_of_memory::Memory;
 pub use sets::{is_rising, join, meet, without};
 
 #[cfg(test)]

@@ -3,7 +3,7 @@
 ghost use Rattle.std.specs.Prelude.{◌≡◌, ℕ, ◌↔◌, ◌⊎◌, IfOk, IsTrue, Contains};
 ghost use Rattle.std.specs.List.Sorted.{IsStrictlyIncreasing};
 
-use crate::memory::Memory;
+use crate::out_of_memory::Memory;
 use std::alloc::Global;
 
 /// Is each number above the one before? The other calls of this crate require it of their lists.

@@ -6,7 +6,7 @@ use std::test::Fail;
 
 // A gap list with something before it and after it.
 #[test]
-fn worked_gap_lists(rt: HostRuntime) -> Result<(), Fail> {
+fn worked_gap_lists_are_written_and_read(rt: HostRuntime) -> Result<(), Fail> {
     let rows: [(&[u32], &[u8]); 8] = [
         (&[], &[0]),
         (&[3, 4, 10, 300], &[4, 3, 0, 5, 0xA1, 2]),
@@ -38,7 +38,7 @@ fn worked_gap_lists(rt: HostRuntime) -> Result<(), Fail> {
 }
 
 #[test]
-fn refused_gap_lists(rt: HostRuntime) {
+fn bytes_outside_the_grammar_are_no_gap_list(rt: HostRuntime) {
     let rows: [&[u8]; 12] = [
         &[],
         // A count that does not end, and one in a longer form.
@@ -63,7 +63,7 @@ fn refused_gap_lists(rt: HostRuntime) {
 }
 
 #[test]
-fn worked_varints(rt: HostRuntime) -> Result<(), Fail> {
+fn worked_varints_are_written_and_read(rt: HostRuntime) -> Result<(), Fail> {
     let rows: [(u32, &[u8]); 7] = [
         (0, &[0]),
         (127, &[0x7F]),
@@ -88,7 +88,7 @@ fn worked_varints(rt: HostRuntime) -> Result<(), Fail> {
 }
 
 #[test]
-fn worked_sets(rt: HostRuntime) -> Result<(), Fail> {
+fn lists_are_met_joined_and_parted(rt: HostRuntime) -> Result<(), Fail> {
     let rows: [(&[u32], &[u32], &[u32], &[u32], &[u32]); 6] = [
         (&[], &[], &[], &[], &[]),
         (&[1, 2], &[], &[], &[1, 2], &[1, 2]),
@@ -113,8 +113,39 @@ fn worked_sets(rt: HostRuntime) -> Result<(), Fail> {
     Ok(())
 }
 
+// Gaps of one, two and three bytes in turn: 100,000 numbers, in three bytes for their count, one for the first number,
+// and 33,333 times six.
 #[test]
-fn random_round_trips(rt: HostRuntime) -> Result<(), Fail> {
+fn lists_of_100_000_numbers_are_written_read_and_joined(rt: HostRuntime) -> Result<(), Fail> {
+    let mut list = Vec::new(rt.alloc());
+    let mut behind = Vec::new(rt.alloc());
+    let mut number = 0u32;
+    for i in 0..100_000 {
+        list.push(number)?;
+        behind.push(number.wrapping_add(1))?;
+        number = number.wrapping_add([6, 301, 20_001][i % 3]);
+    }
+    assert!(rt; is_rising(list.as_slice()) && is_rising(behind.as_slice()));
+    let mut out = Vec::new(rt.alloc());
+    put_gaps(&mut out, list.as_slice())?;
+    assert_eq!(rt; out.len(), 200_002);
+    let mut cursor = read_gaps(out.as_slice()).ok_or("no gap list")?;
+    assert_eq!(rt; cursor.used(), 200_002);
+    assert_eq!(rt; cursor.len(), 100_000);
+    for &n in &list {
+        assert_eq!(rt; cursor.next(), Some(n));
+    }
+    let met = meet(rt.alloc(), list.as_slice(), list.as_slice())?;
+    assert_eq!(rt; met.as_slice(), list.as_slice());
+    let joined = join(rt.alloc(), list.as_slice(), behind.as_slice())?;
+    assert_eq!(rt; joined.len(), 200_000);
+    let kept = without(rt.alloc(), list.as_slice(), behind.as_slice())?;
+    assert_eq!(rt; kept.as_slice(), list.as_slice());
+    Ok(())
+}
+
+#[test]
+fn written_lists_are_read_again(rt: HostRuntime) -> Result<(), Fail> {
     let mut state = 88172645463325252u64;
     for _ in 0..200 {
         let mut list = Vec::new(rt.alloc());

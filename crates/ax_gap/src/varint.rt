@@ -2,10 +2,10 @@
 
 ghost use Rattle.std.specs.Prelude.{◌≡◌, ℕ, ◌++◌, ◌^◌, ◌<◌, ◌≤◌, Some, None, List, length, take, drop, IfSome, OnOk, OnErr};
 ghost use Rattle.std.specs.Option.{option_map};
-ghost use Rattle.ax_gap.specs.Reading.{front, at_most};
+ghost use Rattle.ax_gap.specs.Reading.{first_varint, at_most};
 ghost use Rattle.ax_gap.specs.Varint.{varint};
 
-use crate::memory::Memory;
+use crate::out_of_memory::Memory;
 
 /// The greatest number that is read: the count of a gap list that has every 32-bit number.
 const MOST: u64 = 1 << 32;
@@ -23,8 +23,8 @@ pub fn put_varint(out: &mut Vec<u8>, number: u32) -> Result<(), Memory>
     put
 }
 
-/// Reads the varint at the front: its number, and how many bytes it takes. `None` where no varint of a number below
-/// 2^32 stands there. Anything may follow it.
+/// Reads the varint with which the bytes begin: its number, and how many bytes it takes. `None` where they begin with no
+/// varint of a number below 2^32. Anything may follow it.
 pub fn read_varint(bytes: &[u8]) -> Option<(u32, usize)>
     // What is read is spelled so.
     ensures found { IfSome result (λ found. bytes.now ≡ varint found.0 ++ drop found.1 bytes.now) }
@@ -44,36 +44,41 @@ pub fn read_varint(bytes: &[u8]) -> Option<(u32, usize)>
 /// Writes the varint of a number at the end. An error may leave some of its bytes there.
 pub(crate) fn push_varint(out: &mut Vec<u8>, number: u64) -> Result<(), Memory>
     ensures ok { OnOk result (out.new.items ≡ out.old.items ++ varint number) }
-    ensures front { take (length out.old.items) out.new.items ≡ out.old.items }
+    ensures prefix { take (length out.old.items) out.new.items ≡ out.old.items }
 {
-    let mut rest = number;
-    while rest >= 128 {
-        out.push(128 + (rest % 128) as u8)?;
-        rest /= 128;
+    let mut high = number;
+    while high >= 128 {
+        out.push(128 + (high % 128) as u8)?;
+        high /= 128;
     }
-    out.push(rest as u8)?;
+    out.push(high as u8)?;
     Ok(())
 }
 
-/// Takes the varint at the front off, where its number is at most `MOST`: the number, and the bytes after it.
+/// Takes the first varint off, where its number is at most `MOST`: the number, and the bytes after it.
+///
+/// One byte or two are read without a branch on which it is, since in a mixture of both it could not be guessed.
 #[inline]
 pub(crate) fn split_varint(bytes: &[u8]) -> Option<(u64, &[u8])>
-    ensures { option_map (λ found. (found.0, found.1.now)) result ≡ at_most (2 ^ 32) (front bytes.now) }
+    ensures { option_map (λ found. (found.0, found.1.now)) result ≡ at_most (2 ^ 32) (first_varint bytes.now) }
 {
-    if bytes.is_empty() {
-        return None;
+    if bytes.len() < 2 {
+        return split_longer(bytes);
     }
-    let byte = bytes[0];
-    if byte < 128 {
-        Some((byte as u64, &bytes[1..]))
-    } else {
-        split_longer(bytes)
+    let first = bytes[0] as u64;
+    let more = first / 128;
+    // What the second byte adds to the number is 128 times this. It is above 126 where that byte does not end the varint,
+    // or is 0 and should not be there.
+    let above = more * bytes[1].wrapping_sub(1) as u64;
+    if above > 126 {
+        return split_longer(bytes);
     }
+    Some((first + 128 * above, &bytes[1 + more as usize..]))
 }
 
 /// The same, for a varint of any length.
 fn split_longer(bytes: &[u8]) -> Option<(u64, &[u8])>
-    ensures { option_map (λ found. (found.0, found.1.now)) result ≡ at_most (2 ^ 32) (front bytes.now) }
+    ensures { option_map (λ found. (found.0, found.1.now)) result ≡ at_most (2 ^ 32) (first_varint bytes.now) }
 {
     let mut low = 0u64;
     let mut scale = 1u64;

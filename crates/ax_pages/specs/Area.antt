@@ -18,11 +18,11 @@ AreSpans frames = AllByRecursion IsSpan frames
 abbrev pub frames_bytes : List (List ℕ) → List ℕ
 frames_bytes frames = flat_map open_frame frames
 
--- a closed gate stands at the front: a byte that is not 1
+-- a closed gate stands first: a byte that is not 1
 abbrev pub IsClosed : List ℕ → Type 0
 IsClosed bytes = (0 < length bytes) × (slice_index bytes 0 ≢ 1)
 
--- no log frame stands at the front
+-- no log frame stands first
 abbrev pub IsNoLogFrame : List ℕ → Type 0
 IsNoLogFrame bytes = (span rest : List ℕ) → IsSpan span → bytes ≡ open_frame span ++ rest → ⊥
 

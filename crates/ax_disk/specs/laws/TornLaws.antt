@@ -51,17 +51,17 @@ below_or_not a b = grind arith
 pub back_put_back : (pending : Pending) (at size : ℕ) (list bytes : List ℕ) → MayHold pending list → MayHold (written at size pending) bytes
     → at ≤ length list → at ≤ length bytes → MayHold pending (take at bytes ++ drop at list)
 back_put_back pending at size list bytes before after within reached =
-    let front : length (take at bytes) ≡ at = length-take-le at bytes reached in
-    let long : length (take at bytes ++ drop at list) ≡ length list = omega (arith, length-append (take at bytes) (drop at list), front, length-drop at list) in
+    let prefix : length (take at bytes) ≡ at = length-take-le at bytes reached in
+    let long : length (take at bytes ++ drop at list) ≡ length list = omega (arith, length-append (take at bytes) (drop at list), prefix, length-drop at list) in
     mixed_holds pending at size list bytes (take at bytes ++ drop at list) before after
     (omega (arith, long, before.no_shorter))
     (omega (arith, long, before.no_longer))
     (λ i below.
     ⊎_elim
-    (λ near. inr (omega (arith, near), inl near, get_or_append_left (take at bytes) (drop at list) 0 i (omega (arith, front, near)) ∙ get_or-take at bytes i 0 near))
+    (λ near. inr (omega (arith, near), inl near, get_or_append_left (take at bytes) (drop at list) 0 i (omega (arith, prefix, near)) ∙ get_or-take at bytes i 0 near))
     (λ far.
     let back : at + (i - at) ≡ i = omega (arith, far) in
-    inl (omega (arith, long, below), get_or-append_right (take at bytes) (drop at list) at i 0 front far ∙ get_or-drop at list (i - at) 0 ∙ ap (λ (k : ℕ). get_or list k 0) back))
+    inl (omega (arith, long, below), get_or-append_right (take at bytes) (drop at list) at i 0 prefix far ∙ get_or-drop at list (i - at) 0 ∙ ap (λ (k : ℕ). get_or list k 0) back))
     (below_or_not i at))
 
 -- with the old bytes of a range put back that has the written one in it, it is an image from before
@@ -91,23 +91,23 @@ range_put_back pending at size from n list bytes before after starts ends within
     (below_or_not i (from + n)))
     (below_or_not i from))
 
--- with the old front put back that has the written range in it, it is an image from before
-pub front_put_back : (pending : Pending) (at size n : ℕ) (list bytes : List ℕ) → MayHold pending list → MayHold (written at size pending) bytes
+-- with the old prefix put back that has the written range in it, it is an image from before
+pub prefix_put_back : (pending : Pending) (at size n : ℕ) (list bytes : List ℕ) → MayHold pending list → MayHold (written at size pending) bytes
     → at + size ≤ n → n ≤ length list → n ≤ length bytes → MayHold pending (take n list ++ drop n bytes)
-front_put_back pending at size n list bytes before after ends within reached =
+prefix_put_back pending at size n list bytes before after ends within reached =
     let some : 0 + length (take n list) ≡ n = omega (arith, length-take-le n list within) in
     subst (λ (k : ℕ). MayHold pending (take n list ++ drop k bytes)) some (range_put_back pending at size 0 n list bytes before after (omega arith) (omega arith) (omega arith) (omega arith))
 
 -- a list that a crash might have left before the write, and that is the same up to its place
-pub record FrontFrom (pending : Pending) (at : ℕ) (bytes : List ℕ) : Type 0 where
+pub record PrefixFrom (pending : Pending) (at : ℕ) (bytes : List ℕ) : Type 0 where
   pub before : List ℕ
   pub held : MayHold pending before
-  pub front : take at bytes ≡ take at before
+  pub prefix : take at bytes ≡ take at before
 
 -- What a crash leaves after a write is, up to the place of the write, what it might have left before.
-pub front_from_before : (pending : Pending) (at size : ℕ) (list bytes : List ℕ) → MayHold pending list → at ≤ length list → MayHold (written at size pending) bytes
-    → FrontFrom pending at bytes
-front_from_before pending at size list bytes before within after =
+pub prefix_from_before : (pending : Pending) (at size : ℕ) (list bytes : List ℕ) → MayHold pending list → at ≤ length list → MayHold (written at size pending) bytes
+    → PrefixFrom pending at bytes
+prefix_from_before pending at size list bytes before within after =
     ⊎_elim
     (λ short. record {
       before = bytes;
@@ -117,23 +117,23 @@ front_from_before pending at size list bytes before within after =
         kept = λ i stable below untouched. after.kept i stable below (inl (omega arith), untouched);
         fit = after.fit;
       };
-      front = refl;
+      prefix = refl;
     })
     (λ reached. record {
       before = take at bytes ++ drop at list;
       held = back_put_back pending at size list bytes before after within reached;
-      front = sym (take_at (take at bytes) (drop at list) at (length-take-le at bytes reached));
+      prefix = sym (take_at (take at bytes) (drop at list) at (length-take-le at bytes reached));
     })
     (below_or_not (length bytes) at)
 
--- A front that all have stays, where the write begins behind it.
-pub list_front_stays : (pending : Pending) (at size : ℕ) (list front : List ℕ) → MayHold pending list → at ≤ length list → length front ≤ at
-    → ((bytes : List ℕ) → MayHold pending bytes → take (length front) bytes ≡ front)
-    → (bytes : List ℕ) → MayHold (written at size pending) bytes → take (length front) bytes ≡ front
-list_front_stays pending at size list front before within behind all bytes after =
-    let from = front_from_before pending at size list bytes before within after in
-    let n = length front in
-    sym (take-take n at bytes behind) ∙ ap (take n) from.front ∙ take-take n at from.before behind ∙ all from.before from.held
+-- A prefix that all have stays, where the write begins behind it.
+pub list_prefix_stays : (pending : Pending) (at size : ℕ) (list prefix : List ℕ) → MayHold pending list → at ≤ length list → length prefix ≤ at
+    → ((bytes : List ℕ) → MayHold pending bytes → take (length prefix) bytes ≡ prefix)
+    → (bytes : List ℕ) → MayHold (written at size pending) bytes → take (length prefix) bytes ≡ prefix
+list_prefix_stays pending at size list prefix before within behind all bytes after =
+    let from = prefix_from_before pending at size list bytes before within after in
+    let n = length prefix in
+    sym (take-take n at bytes behind) ∙ ap (take n) from.prefix ∙ take-take n at from.before behind ∙ all from.before from.held
 
 -- A list that all have: after a write within it each has the same length, and the same bytes outside the range.
 pub record OnlyRange (at size : ℕ) (list bytes : List ℕ) : Type 0 where
@@ -155,7 +155,7 @@ list_only_stays pending at size list before within all bytes after =
       outside = λ i out. sym (overwritten_outside bytes at piece size i (omega arith) (omega (arith, some)) out) ∙ ap (λ (l : List ℕ). get_or l i 0) same;
     }
 
--- a front that was not written is left as it was, as far as the list goes
+-- a prefix that was not written is left as it was, as far as the list goes
 pub kept_up_to : (pending : Pending) (bytes : List ℕ) (k : ℕ) → MayHold pending bytes → k ≤ length bytes → k ≤ length pending.stable
     → ((i : ℕ) → i < k → IsUntouched i pending.ranges) → take k bytes ≡ take k pending.stable
 kept_up_to pending bytes k held reached stable untouched =
@@ -174,28 +174,28 @@ pub one_byte_written : (list : List ℕ) (at : ℕ) (bytes : List ℕ) → at < 
 one_byte_written list at bytes within held =
     let long : length bytes ≡ length list = omega (arith, held.no_shorter, held.no_longer) in
     let pending = written at 1 (settled list) in
-    let front : take at bytes ≡ take at list = kept_up_to pending bytes at held (omega arith) (omega arith) (λ i below. (inl below, tt)) in
+    let prefix : take at bytes ≡ take at list = kept_up_to pending bytes at held (omega arith) (omega arith) (λ i below. (inl below, tt)) in
     let back : drop (at + 1) bytes ≡ drop (at + 1) list = kept_back pending bytes (at + 1) held refl (omega arith) (λ i past. (inr past, tt)) in
     record {
       byte = get_or bytes at 0;
-      is = sym (take-append-drop at bytes) ∙ ap (λ (l : List ℕ). l ++ drop at bytes) front
+      is = sym (take-append-drop at bytes) ∙ ap (λ (l : List ℕ). l ++ drop at bytes) prefix
           ∙ ap (λ (l : List ℕ). take at list ++ l) (drop_more bytes at 0 (omega (arith, long)) ∙ ap (λ (l : List ℕ). get_or bytes at 0 ∷ l) back);
     }
 
--- a list that a crash might have left before the cut, and of which this one is a front
+-- a list that a crash might have left before the cut, and of which this one is a prefix
 pub record CutFrom (pending : Pending) (bytes : List ℕ) : Type 0 where
   pub before : List ℕ
   pub held : MayHold pending before
-  pub front : bytes ≡ take (length bytes) before
+  pub prefix : bytes ≡ take (length bytes) before
 
 behind : (bytes list : List ℕ) (i : ℕ) → length bytes ≤ i → get_or (bytes ++ drop (length bytes) list) i 0 ≡ get_or list i 0
 behind bytes list i far =
     let back : length bytes + (i - length bytes) ≡ i = omega (arith, far) in
     get_or-append_right bytes (drop (length bytes) list) (length bytes) i 0 refl far ∙ get_or-drop (length bytes) list (i - length bytes) 0 ∙ ap (λ (k : ℕ). get_or list k 0) back
 
--- What a crash leaves after a cut is a front of what it might have left before.
-pub front_of_before : (pending : Pending) (len : ℕ) (list bytes : List ℕ) → MayHold pending list → MayHold (shortened len pending) bytes → CutFrom pending bytes
-front_of_before pending len list bytes before after =
+-- What a crash leaves after a cut is a prefix of what it might have left before.
+pub prefix_of_before : (pending : Pending) (len : ℕ) (list bytes : List ℕ) → MayHold pending list → MayHold (shortened len pending) bytes → CutFrom pending bytes
+prefix_of_before pending len list bytes before after =
     ⊎_elim
     (λ short.
     let mixed = bytes ++ drop (length bytes) list in
@@ -216,25 +216,25 @@ front_of_before pending len list bytes before after =
             (λ far. subst (λ (b : ℕ). b < 256) (sym (behind bytes list i far)) (before.fit i (omega (arith, long))))
             (below_or_not i (length bytes));
       };
-      front = sym (take_at bytes (drop (length bytes) list) (length bytes) refl);
+      prefix = sym (take_at bytes (drop (length bytes) list) (length bytes) refl);
     })
     (λ enough. record {
       before = bytes;
       held = record { no_shorter = enough; no_longer = after.no_longer; kept = after.kept; fit = after.fit };
-      front = sym (take_all (length bytes) bytes (omega arith));
+      prefix = sym (take_all (length bytes) bytes (omega arith));
     })
     (below_or_not (length bytes) pending.least)
 
--- a cut of a settled list leaves a front of it
-pub cut_leaves_a_front : (list : List ℕ) (len : ℕ) (bytes : List ℕ) → MayHold (shortened len (settled list)) bytes → bytes ≡ take (length bytes) list
-cut_leaves_a_front list len bytes held =
+-- a cut of a settled list leaves a prefix of it
+pub cut_leaves_a_prefix : (list : List ℕ) (len : ℕ) (bytes : List ℕ) → MayHold (shortened len (settled list)) bytes → bytes ≡ take (length bytes) list
+cut_leaves_a_prefix list len bytes held =
     sym (take_all (length bytes) bytes (omega arith))
     ∙ kept_up_to (shortened len (settled list)) bytes (length bytes) held (omega arith) held.no_longer (λ i below. tt)
 
 -- a write of as many bytes as a piece has puts them in its place
-pub overwritten_piece : (front old back new : List ℕ) → length new ≡ length old → overwritten (front ++ old ++ back) (length front) new ≡ front ++ new ++ back
-overwritten_piece front old back new same =
-    let n = length front in
-    let before : take n (front ++ old ++ back) ≡ front = ap (take n) (append_assoc front old back) ∙ take_at front (old ++ back) n refl in
-    let after : drop (n + length new) (front ++ old ++ back) ≡ back = drop_at (front ++ old) back (n + length new) (omega (arith, length-append front old, same)) in
-    ap (λ (l : List ℕ). l ++ new ++ drop (n + length new) (front ++ old ++ back)) before ∙ ap (λ (l : List ℕ). front ++ new ++ l) after
+pub overwritten_piece : (prefix old back new : List ℕ) → length new ≡ length old → overwritten (prefix ++ old ++ back) (length prefix) new ≡ prefix ++ new ++ back
+overwritten_piece prefix old back new same =
+    let n = length prefix in
+    let before : take n (prefix ++ old ++ back) ≡ prefix = ap (take n) (append_assoc prefix old back) ∙ take_at prefix (old ++ back) n refl in
+    let after : drop (n + length new) (prefix ++ old ++ back) ≡ back = drop_at (prefix ++ old) back (n + length new) (omega (arith, length-append prefix old, same)) in
+    ap (λ (l : List ℕ). l ++ new ++ drop (n + length new) (prefix ++ old ++ back)) before ∙ ap (λ (l : List ℕ). prefix ++ new ++ l) after

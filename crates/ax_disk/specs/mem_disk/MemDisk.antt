@@ -1,20 +1,18 @@
 -- What a disk in memory shows: what was done to it and the history of that, its counts, and what it may still do.
-use Rattle.std.specs.Prelude.{ℕ}
-use Rattle.std.proofs.Common.{subst, sym}
+use Rattle.std.specs.Prelude.{◌≡◌, ◌⊎◌, ℕ, ◌+◌, ◌^◌, ◌<◌, ◌≤◌}
 use Rattle.ax_disk.specs.declared.mem_disk.MemDisk.{MemDisk}
-use Rattle.ax_disk.specs.model.Image.{Image}
 use Rattle.ax_disk.specs.model.Pending.{MayLeave}
 use Rattle.ax_disk.specs.model.Moments.{History, IsCurrent}
-use Rattle.ax_disk.specs.mem_disk.Replay.{Account}
-use Rattle.ax_disk.specs.mem_disk.ReplayLaws.{history_is_current}
-use Rattle.ax_disk.specs.mem_disk.Medium.{account_of, medium_history, room_of, turns_of}
-use Rattle.ax_disk.specs.mem_disk.Budget.{Budget}
+use Rattle.ax_disk.specs.mem_disk.OperationLog.{OperationLog}
+use Rattle.ax_disk.specs.mem_disk.OperationLogLaws.{history_is_current}
+use Rattle.ax_disk.specs.mem_disk.LoggedLists.{log_of, lists_history, room_of, reads_may_stay}
+use Rattle.ax_disk.specs.mem_disk.CallBudget.{CallBudget}
 
-abbrev pub disk_account : MemDisk → Account
-disk_account disk = account_of disk.medium
+abbrev pub operation_log : MemDisk → OperationLog
+operation_log disk = log_of disk.lists
 
 abbrev pub disk_history : MemDisk → History
-disk_history disk = medium_history disk.medium
+disk_history disk = lists_history disk.lists
 
 abbrev pub disk_faults : MemDisk → ℕ
 disk_faults disk = disk.faults
@@ -22,14 +20,26 @@ disk_faults disk = disk.faults
 abbrev pub counted_reads : MemDisk → ℕ
 counted_reads disk = disk.reads
 
-abbrev pub budget_of : MemDisk → Budget
-budget_of disk = record { turns = turns_of disk.medium; room = room_of disk.medium; made = disk.made; failing = disk.failing.items }
+abbrev pub call_budget : MemDisk → CallBudget
+call_budget disk = disk.calls
+
+-- so many bytes may still be written
+abbrev pub disk_room : MemDisk → ℕ
+disk_room disk = room_of disk.lists
+
+-- A call remains, there is room for a write of so many bytes, and its end doesn't pass 2^62.
+pub record HasRoomFor (at size : ℕ) (disk : MemDisk) : Type 0 where
+  pub call : 0 < (call_budget disk).remaining
+  pub room : size ≤ disk_room disk
+  pub end : at + size ≤ 2 ^ 62
+
+-- one of these is wanting
+abbrev pub LacksRoomFor : ℕ → ℕ → MemDisk → Type 0
+LacksRoomFor at size disk = ((call_budget disk).remaining ≡ 0) ⊎ (disk_room disk < size) ⊎ (2 ^ 62 < at + size)
 
 -- an image as read is one of those that a crash now may leave
 pub disk_reads_may_stay : (disk : MemDisk) → MayLeave (disk_history disk).unsynced (disk_history disk).reads
-disk_reads_may_stay disk =
-    let recorded = disk.medium.recorded in
-    subst (λ (image : Image). MayLeave (disk_history disk).unsynced image) (sym recorded.reads) recorded.may_keep
+disk_reads_may_stay disk = reads_may_stay disk.lists
 
 pub disk_is_current : (disk : MemDisk) → IsCurrent (disk_history disk)
-disk_is_current disk = history_is_current (disk_account disk)
+disk_is_current disk = history_is_current (operation_log disk)

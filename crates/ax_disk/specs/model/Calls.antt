@@ -1,5 +1,5 @@
 -- What each call of a disk does to the lists of the store that it acts on.
--- Source: as `Pending` and `Moments`; a place past the end of a list reads as 0, and a failed call may stop anywhere on its way.
+-- Source: as `Pending` and `Moments`; an offset past the end of a list reads as 0, and a failed call may stop anywhere on its way.
 use Rattle.std.specs.Prelude.{◌≡◌, ◌⊎◌, ℕ, ◌+◌, List, ◌++◌, length, take, drop, replicate, Result, OnOk, OnErr}
 use Rattle.ax_disk.specs.declared.extent.Extent.{Extent}
 use Rattle.ax_disk.specs.model.Image.{list_of, with_list}

@@ -15,7 +15,7 @@ list_of Root image = image.root
 list_of A image = image.a
 list_of B image = image.b
 
--- the image with this list in the place of that extent's
+-- the image with this list instead of that extent's
 abbrev pub with_list : Extent → List ℕ → Image → Image
 with_list Root bytes image = record image { root = bytes }
 with_list A bytes image = record image { a = bytes }

@@ -7,7 +7,7 @@ use Rattle.ax_disk.specs.declared.extent.Extent.{Extent}
 use Rattle.ax_disk.specs.declared.extent.Extent.TheVariants.{Root, A, B}
 use Rattle.ax_disk.specs.model.Image.{Image}
 
--- so many places from `at` on
+-- so many bytes from the offset `at` on
 pub record Range : Type 0 where
   pub at : ℕ
   pub size : ℕ
@@ -15,7 +15,7 @@ pub record Range : Type 0 where
 abbrev pub IsOutside : ℕ → Range → Type 0
 IsOutside i range = (i < range.at) ⊎ (range.at + range.size ≤ i)
 
--- the place is in none of the ranges
+-- the offset is in none of the ranges
 abbrev pub IsUntouched : ℕ → List Range → Type 0
 IsUntouched i [] = Unit {0}
 IsUntouched i (range ∷ ranges) = IsOutside i range × IsUntouched i ranges
@@ -34,7 +34,7 @@ pub record Pending : Type 0 where
   -- the ranges that were written since, by writes that failed too, the newest first
   pub ranges : List Range
 
--- A crash may leave these bytes of the list: any length between, the stable byte at each place below the stable length
+-- A crash may leave these bytes of the list: any length between, the stable byte at each offset below the stable length
 -- that wasn't written, and any byte elsewhere.
 pub record MayHold (pending : Pending) (bytes : List ℕ) : Type 0 where
   pub no_shorter : pending.least ≤ length bytes

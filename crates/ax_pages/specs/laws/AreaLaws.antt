@@ -60,13 +60,13 @@ pub gate_within : (bytes : List ℕ) (frames : List (List ℕ)) → IsArea bytes
 gate_within bytes frames area = omega (arith, ap length area.spelled, length-append (frames_bytes frames) area.rest, area.closed.0)
 
 -- Bytes that are the same up to the gate, itself included, have the same frames.
-pub area_by_front : (bytes others : List ℕ) (frames : List (List ℕ)) (n : ℕ) → n ≡ length (frames_bytes frames) + 1 → take n bytes ≡ take n others
+pub area_by_prefix : (bytes others : List ℕ) (frames : List (List ℕ)) (n : ℕ) → n ≡ length (frames_bytes frames) + 1 → take n bytes ≡ take n others
     → IsArea others frames → IsArea bytes frames
-area_by_front bytes others frames n n-is same area =
+area_by_prefix bytes others frames n n-is same area =
     let end = length (frames_bytes frames) in
     let long : end < length others = gate_within others frames area in
     let reached : n ≤ length bytes = omega (arith, ap length same, length-take n bytes, length-take n others) in
-    let front : take end bytes ≡ frames_bytes frames =
+    let prefix : take end bytes ≡ frames_bytes frames =
     sym (take-take end n bytes (omega arith)) ∙ ap (take end) same ∙ take-take end n others (omega arith)
     ∙ ap (take end) area.spelled ∙ take_at (frames_bytes frames) area.rest end refl in
     let gate : get_or (drop end bytes) 0 0 ≡ get_or area.rest 0 0 =
@@ -76,7 +76,7 @@ area_by_front bytes others frames n n-is same area =
     record {
       spans = area.spans;
       rest = drop end bytes;
-      spelled = sym (take-append-drop end bytes) ∙ ap (λ (b : List ℕ). b ++ drop end bytes) front;
+      spelled = sym (take-append-drop end bytes) ∙ ap (λ (b : List ℕ). b ++ drop end bytes) prefix;
       closed = (omega (arith, length-drop end bytes), λ is. area.closed.1 (sym gate ∙ is));
     }
 

@@ -24,8 +24,8 @@ one_root root one other (inr a) (inr b) =
     ∙ ap (λ (s : RootSlot). chosen b.first s) second ∙ sym b.choice_is
 
 -- Bytes that are the same up to 32, and as many as a whole root has, say the same.
-pub whole_by_front : (root other : List ℕ) (choice : RootChoice) → 33 ≤ length root → take 32 root ≡ take 32 other → IsWholeRoot other choice → IsWholeRoot root choice
-whole_by_front root other choice long same whole =
+pub whole_by_prefix : (root other : List ℕ) (choice : RootChoice) → 33 ≤ length root → take 32 root ≡ take 32 other → IsWholeRoot other choice → IsWholeRoot root choice
+whole_by_prefix root other choice long same whole =
     let first : take 16 root ≡ take 16 other = sym (take-take 16 32 root (omega arith)) ∙ ap (take 16) same ∙ take-take 16 32 other (omega arith) in
     let second : take 16 (drop 16 root) ≡ take 16 (drop 16 other) = sym (drop-take 16 16 root) ∙ ap (drop 16) same ∙ drop-take 16 16 other in
     record {
@@ -40,14 +40,14 @@ whole_by_front root other choice long same whole =
 short_or_whole : (n : ℕ) → (n < 33) ⊎ (33 ≤ n)
 short_or_whole n = grind arith
 
--- A front of a fresh root is a fresh one.
-pub fresh_front : (root front : List ℕ) → front ≡ take (length front) root → IsRoot root Fresh → IsRoot front Fresh
-fresh_front root front is (inl short) = inl (omega (arith, ap length is, length-take (length front) root, short.0), refl)
-fresh_front root front is (inr whole) =
+-- A prefix of a fresh root is a fresh one.
+pub fresh_prefix : (root prefix : List ℕ) → prefix ≡ take (length prefix) root → IsRoot root Fresh → IsRoot prefix Fresh
+fresh_prefix root prefix is (inl short) = inl (omega (arith, ap length is, length-take (length prefix) root, short.0), refl)
+fresh_prefix root prefix is (inr whole) =
     ⊎_elim
     (λ short. inl (short, refl))
-    (λ long. inr (whole_by_front front root Fresh long (ap (take 32) is ∙ take-take 32 (length front) root (omega arith)) whole))
-    (short_or_whole (length front))
+    (λ long. inr (whole_by_prefix prefix root Fresh long (ap (take 32) is ∙ take-take 32 (length prefix) root (omega arith)) whole))
+    (short_or_whole (length prefix))
 
 -- The slot that counts names an area, and a version from 1 on.
 abbrev IsNamed : RootChoice → Type 0

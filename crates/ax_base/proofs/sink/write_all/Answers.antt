@@ -1,12 +1,12 @@
--- Each turn adds the next bytes.
+-- Each call adds the next bytes.
 use Rattle.std.proofs.Common.{arith}
 use Rattle.std.proofs.lemmas.Result.{err_from_is_err_and}
-use Rattle.ax_base.proofs.BytesLemmas.{Appends-further, AppendsFront-further, within_further}
+use Rattle.ax_base.proofs.BytesLemmas.{Appends-further, AppendsPrefix-further, within_further}
 use Rattle.ax_base.proofs.sink.write_all.Goals as goal
 
 pub returns-in_err-count-clause-failed : goal.returns-in_err-count-clause-failed
 returns-in_err-count-clause-failed g c =
-    let p = err_from_is_err_and c.from_residual.result c.from_residual.ensures.1 in rw p.1 (AppendsFront-further _ _ _ c.loop-at.at c.args.bytes.now c.loop-at.invariant.within c.loop-at.invariant.added c.in_err-count.ensures.failed)
+    let p = err_from_is_err_and c.from_residual.result c.from_residual.ensures.1 in rw p.1 (AppendsPrefix-further _ _ _ c.loop-at.at c.args.bytes.now c.loop-at.invariant.within c.loop-at.invariant.added c.in_err-count.ensures.failed)
 
 pub loop-at-preserved : goal.loop-at-preserved
 loop-at-preserved g c = record {

@@ -11,8 +11,7 @@ returns-in_default-clause-none c = frame_is_body c.args.bytes.now c.in_default.e
 
 pub returns-then-not-are_parts-clause-only : goal.returns-then-not-are_parts-clause-only
 returns-then-not-are_parts-clause-only c ps rest begins =
-    let found = c.in-Some.ensures.found in
-    let no = c.if-not-are_parts.ensures.no (frame_spans_parts c.args.bytes.now c.in-Some.body.now found.0 ps rest c.in-Some.ensures.fits.1 found.1 begins) in
+    let no = c.if-not-are_parts.ensures.no (frame_spans_parts c.args.bytes.now c.in-Some.body.now c.in-Some.rest.now ps rest c.in-Some.ensures.fits.1 c.in-Some.ensures.found begins) in
     cc
 
 pub returns-then-not-are_parts-clause-none : goal.returns-then-not-are_parts-clause-none
@@ -23,10 +22,8 @@ invariant_of-result c = are_parts_seen c.in-Some.body.now (c.if-not-are_parts.en
 
 pub returns-clause-found : goal.returns-clause-found
 returns-clause-found c =
-    let found = c.in-Some.ensures.found in
-    (found.0, frame_found c.args.bytes.now c.in-Some.body.now found.0 c.in-Some.ensures.fits.0 c.in-Some.ensures.fits.1 found.1 (c.if-not-are_parts.ensures.yes refl))
+    (c.in-Some.rest.now, frame_found c.args.bytes.now c.in-Some.body.now c.in-Some.rest.now c.in-Some.ensures.fits.0 c.in-Some.ensures.fits.1 c.in-Some.ensures.found (c.if-not-are_parts.ensures.yes refl))
 
 pub returns-clause-only : goal.returns-clause-only
 returns-clause-only c ps rest begins =
-    let found = c.in-Some.ensures.found in
-    frame_only c.args.bytes.now c.in-Some.body.now found.0 ps rest c.in-Some.ensures.fits.1 found.1 begins
+    frame_only c.args.bytes.now c.in-Some.body.now c.in-Some.rest.now ps rest c.in-Some.ensures.fits.1 c.in-Some.ensures.found begins

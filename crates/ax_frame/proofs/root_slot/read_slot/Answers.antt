@@ -1,20 +1,19 @@
-use Rattle.std.proofs.Common.{rules, ◌≡◌, ◌∷◌, [], get_or, arith}
+use Rattle.std.proofs.Common.{get_or, refl, arith}
 use Rattle.ax_frame.specs.declared.root_slot.RootSlot.TheVariants.{Live}
-use Rattle.ax_frame.specs.RootSlot.{mark}
 use Rattle.ax_frame.proofs.Slots.{slot_read, one_slot}
 use Rattle.ax_frame.proofs.root_slot.read_slot.Goals as goal
 
 pub returns-clause-is : goal.returns-clause-is
 returns-clause-is c =
     let b = c.args.bytes.now in
-    let mark-is : get_or b 12 0 ∷ get_or b 13 0 ∷ get_or b 14 0 ∷ get_or b 15 0 ∷ [] ≡ mark = search rules in (
+    let named = c.if-not-is_named.ensures.0 refl in (
       record {
-        version_from = omega arith;
+        version_from = named.0;
         version_fits = omega (arith, c.fits-bytes 1, c.fits-bytes 2);
-        one_of_two = search rules;
+        one_of_two = named.1;
         generation_fits = omega (arith, c.fits-bytes 4, c.fits-bytes 5, c.fits-bytes 6, c.fits-bytes 7, c.fits-bytes 8, c.fits-bytes 9, c.fits-bytes 10, c.fits-bytes 11);
       },
-      slot_read b c.from_le_bytes-version.result c.from_le_bytes-generation.result c.told-bytes c.fits-bytes c.if-gate-ne1.false c.from_le_bytes-version.ensures c.from_le_bytes-generation.ensures mark-is,
+      slot_read b c.from_le_bytes-version.result c.from_le_bytes-generation.result c.told-bytes c.fits-bytes c.if-gate-ne1.false c.from_le_bytes-version.ensures c.from_le_bytes-generation.ensures named.2,
     )
 
 pub returns-clause-only : goal.returns-clause-only

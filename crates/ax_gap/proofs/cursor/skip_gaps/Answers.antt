@@ -1,29 +1,24 @@
 use Rattle.std.proofs.Common.{◌+◌, ◌-◌, arith, ap, ◌∙◌, sym}
 use Rattle.std.specs.Option.{option_map}
-use Rattle.ax_gap.specs.Reading.{body}
-use Rattle.ax_gap.proofs.CursorLaws.{body_past, body_high, body_more, body_done, end_before}
+use Rattle.ax_gap.specs.Reading.{first_gaps}
+use Rattle.ax_gap.proofs.CursorLaws.{first_gaps_past, first_gaps_more, first_gaps_done, number_fits, end_before}
 use Rattle.ax_gap.proofs.cursor.skip_gaps.Goals as goal
 
-pub returns-in_err-gap : goal.returns-in_err-gap
-returns-in_err-gap c =
+pub returns-in_err-number : goal.returns-in_err-number
+returns-in_err-number c =
     rw c.from_residual.ensures
-    (ap (option_map (λ found. found.1)) (sym (body_past c.loop-left.least c.loop-left.left (c.loop-left.left - 1) c.loop-left.rest.now (omega arith) c.in_err-gap.ensures))
-    ∙ c.loop-left.invariant.reads)
+    (ap (option_map (λ found. found.1)) (sym (first_gaps_past c.loop-many.least c.loop-many.many (c.loop-many.many - 1) c.loop-many.remaining.now (omega arith) c.in_err-number.ensures))
+    ∙ c.loop-many.invariant.reads)
 
-pub returns-then-number-ge-END : goal.returns-then-number-ge-END
-returns-then-number-ge-END c =
-    ap (option_map (λ found. found.1)) (sym (body_high c.loop-left.least c.loop-left.left (c.loop-left.left - 1) _ c.loop-left.rest.now c.in_ok-gap.after.now (omega arith) c.in_ok-gap.ensures (omega arith)))
-    ∙ c.loop-left.invariant.reads
-
-pub loop-left-preserved : goal.loop-left-preserved
-loop-left-preserved c = record {
-  reads = sym (end_before (c.loop-left.least + c.in_ok-gap.gap) (body (c.loop-left.least + c.in_ok-gap.gap + 1) (c.loop-left.left - 1) c.in_ok-gap.after.now))
-      ∙ ap (option_map (λ found. found.1)) (sym (body_more c.loop-left.least c.loop-left.left (c.loop-left.left - 1) _ c.loop-left.rest.now c.in_ok-gap.after.now (omega arith) c.in_ok-gap.ensures (omega arith)))
-      ∙ c.loop-left.invariant.reads;
-  fits = omega arith;
+pub loop-many-preserved : goal.loop-many-preserved
+loop-many-preserved c = record {
+  reads = sym (end_before c.in_ok-number.number (first_gaps (c.in_ok-number.number + 1) (c.loop-many.many - 1) c.in_ok-number.after.now))
+      ∙ ap (option_map (λ found. found.1)) (sym (first_gaps_more c.loop-many.least c.loop-many.many (c.loop-many.many - 1) _ c.loop-many.remaining.now c.in_ok-number.after.now (omega arith) c.in_ok-number.ensures))
+      ∙ c.loop-many.invariant.reads;
+  fits = omega (arith, number_fits c.loop-many.least c.in_ok-number.number c.loop-many.remaining.now c.in_ok-number.after.now c.in_ok-number.ensures);
 }
 
 pub returns : goal.returns
 returns c =
-    ap (option_map (λ found. found.1)) (sym (body_done c.loop-left.least c.loop-left.left c.loop-left.rest.now (omega arith)))
-    ∙ c.loop-left.invariant.reads
+    ap (option_map (λ found. found.1)) (sym (first_gaps_done c.loop-many.least c.loop-many.many c.loop-many.remaining.now (omega arith)))
+    ∙ c.loop-many.invariant.reads

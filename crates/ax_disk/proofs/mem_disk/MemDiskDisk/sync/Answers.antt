@@ -1,9 +1,0 @@
-use Rattle.std.proofs.Common.{◌∙◌, ap}
-use Rattle.ax_disk.specs.mem_disk.Replay.{synced, with_deed}
-use Rattle.ax_disk.specs.mem_disk.MemDisk.{disk_account, disk_reads_may_stay}
-use Rattle.ax_disk.proofs.Effects.{syncs_done}
-use Rattle.ax_disk.proofs.mem_disk.MemDiskDisk.sync.Goals as goal
-
-pub returns-in-Done-clause-lists : goal.returns-in-Done-clause-lists
-returns-in-Done-clause-lists c =
-    syncs_done (tt {0}) (disk_account c.args.self.now) _ (c.sync.ensures.account ∙ ap (with_deed synced) c.begin.ensures.lists) (disk_reads_may_stay c.args.self.now)

@@ -1,0 +1,5 @@
+mod CommitSteps
+mod FormSteps
+mod RootSteps
+mod WalkSteps
+mod OpenSteps

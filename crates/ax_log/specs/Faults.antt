@@ -1,0 +1,27 @@
+-- When a call of the log may answer that the disk failed: only where the disk's count of faults rose
+-- in that call. It is this project's own; it comes from no public document.
+use Rattle.std.specs.Prelude.{◌≤◌, ℕ, Result, Ok, Err}
+use Rattle.ax_faults.specs.Faults.{Rose}
+use Rattle.ax_log.specs.declared.fault.LogFault.{LogFault}
+use Rattle.ax_log.specs.declared.fault.LogFault.TheVariants.{Disk, Damaged, Newer, Memory}
+
+-- the answer is that the disk failed
+abbrev pub IsDiskFault : LogFault → Type 0
+IsDiskFault Disk = Unit {0}
+IsDiskFault (Damaged extent at) = ⊥
+IsDiskFault (Newer version) = ⊥
+IsDiskFault Memory = ⊥
+
+abbrev pub FailsByDisk : {T : Type 0} → Result T LogFault → Type 0
+FailsByDisk (Ok value) = ⊥
+FailsByDisk (Err fault) = IsDiskFault fault
+
+-- any other refusal
+abbrev pub IsRefused : {T : Type 0} → Result T LogFault → Type 0
+IsRefused (Ok value) = ⊥
+IsRefused (Err fault) = IsDiskFault fault → ⊥
+
+-- the count doesn't fall, and a failure of the disk is answered only where it rose
+pub record HasDiskCause {T : Type 0} (result : Result T LogFault) (before now : ℕ) : Type 0 where
+  pub never_falls : before ≤ now
+  pub failed : FailsByDisk result → Rose before now

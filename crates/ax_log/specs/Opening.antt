@@ -1,0 +1,43 @@
+-- What opening a log answers, by what reads give of the store when it begins: a log that agrees with
+-- the disk by the frames that were there, the place that is damaged, or the later version. A fresh
+-- store is formed; of any other nothing is changed.
+-- It is this project's own; it comes from no public document.
+use Rattle.std.specs.Prelude.{◌≡◌, ◌⊎◌, ℕ, List, [], Result, Ok, Err}
+use Rattle.ax_disk.specs.declared.extent.Extent.{Extent}
+use Rattle.ax_disk.specs.model.Image.{Image}
+use Rattle.ax_disk.specs.model.Pending.{MayLeave}
+use Rattle.ax_disk.specs.model.Moments.{History}
+use Rattle.ax_disk.specs.model.Stays.{Stays}
+use Rattle.ax_pages.specs.Image.{IsFresh, IsLive, IsNewer, IsDamaged, extent_number}
+use Rattle.ax_log.specs.declared.log.Log.{Log}
+use Rattle.ax_log.specs.declared.fault.LogFault.{LogFault}
+use Rattle.ax_log.specs.declared.fault.LogFault.TheVariants.{Disk, Damaged, Newer, Memory}
+use Rattle.ax_log.specs.Log.{log_area, log_generation}
+use Rattle.ax_log.specs.Agreement.{Agrees}
+
+-- The log agrees with the disk by the frames that the image before has: its area and generation are
+-- those of that image, or that was fresh, and it has none.
+pub record IsOpened (log : Log) (before : Image) (history : History) : Type 0 where
+  pub frames : List (List ℕ)
+  pub agrees : Agrees log frames history
+  pub from : (IsFresh before × (frames ≡ [])) ⊎ IsLive (log_area log) (log_generation log) frames before
+
+-- the image before is damaged at this place
+pub record IsDamagedAt (before : Image) (extent at : ℕ) : Type 0 where
+  pub list : Extent
+  pub number : extent ≡ extent_number list
+  pub damaged : IsDamaged before list at
+
+-- what each answer says
+abbrev pub Tells : Result Log LogFault → Image → History → Type 0
+Tells (Ok log) before history = IsOpened log before history
+Tells (Err Disk) before history = Unit {0}
+Tells (Err (Damaged extent at)) before history = IsDamagedAt before extent at
+Tells (Err (Newer version)) before history = IsNewer before version
+Tells (Err Memory) before history = Unit {0}
+
+-- Nothing was changed: reads give what they gave, and a crash leaves nothing that it might not have
+-- left before.
+pub record Keeps (old new : History) : Type 0 where
+  pub reads : new.reads ≡ old.reads
+  pub stays : Stays old new (MayLeave old.unsynced)

@@ -1,0 +1,142 @@
+//! Opening a log: the frames that a crash left are found, or a fresh store is formed.
+
+ghost use Rattle.std.specs.Prelude.{◌≡◌, ◌^◌, ◌≤◌, ℕ, List, [], IsTrue, IfOk, OnOk};
+ghost use Rattle.ax_disk.specs.model.Pending.{all_settled};
+ghost use Rattle.ax_disk.specs.model.Calls.{Idles};
+ghost use Rattle.ax_disk.specs.model.Stays.{Stays, SinceBarrier};
+ghost use Rattle.ax_pages.specs.Root.{IsRoot};
+ghost use Rattle.ax_pages.specs.declared.root.RootChoice.TheVariants.{Counts};
+ghost use Rattle.ax_pages.specs.Image.{IsFresh, HasFrames};
+ghost use Rattle.ax_log.specs.Faults.{IsRefused, HasDiskCause};
+ghost use Rattle.ax_log.specs.Opening.{Tells, Keeps};
+
+use crate::fault::LogFault;
+use crate::form::form;
+use crate::log::Log;
+use crate::root::read_root;
+use crate::walk::frames_end;
+use ax_disk::{Disk, Extent};
+use ax_pages::RootChoice;
+use std::alloc::Global;
+
+/// The latest version of the format that this program knows.
+const NEWEST_VERSION: u16 = 1;
+
+impl Log {
+    /// Opens the log of the store attached, or forms one where the store is fresh.
+    ///
+    /// It begins with a sync, the barrier: until that succeeds a crash leaves what it might have left
+    /// before, and from then on the frames that reads gave. `Damaged` and `Newer` are answered where
+    /// the store is so, and leave it as it was; so does `Memory`.
+    pub fn open_log<D: Disk>(alloc: Global, disk: &mut D) -> Result<Log, LogFault>
+        ensures tells { IsTrue (D.is_honest disk.old)
+            → Tells result (D.history disk.old (D.attached disk.old)).reads (D.history disk.new (D.attached disk.new)) }
+
+        // Only a fresh store is changed, and no store where the answer is a refusal.
+        ensures unchanged { IsTrue (D.is_honest disk.old)
+            → (IsFresh (D.history disk.old (D.attached disk.old)).reads → ⊥)
+            → Keeps (D.history disk.old (D.attached disk.old)) (D.history disk.new (D.attached disk.new)) }
+        ensures refused { IsTrue (D.is_honest disk.old) → IsRefused result
+            → Keeps (D.history disk.old (D.attached disk.old)) (D.history disk.new (D.attached disk.new)) }
+
+        // A crash at any moment since the barrier, and after the call, leaves the frames that were there.
+        ensures any_moment { IsTrue (D.is_honest disk.old) → (frames : List (List ℕ))
+            → HasFrames frames (D.history disk.old (D.attached disk.old)).reads
+            → SinceBarrier (D.history disk.old (D.attached disk.old)) (D.history disk.new (D.attached disk.new)) (HasFrames frames) }
+
+        ensures cause { HasDiskCause result (D.faults disk.old) (D.faults disk.new) }
+        ensures attached { D.attached disk.new ≡ D.attached disk.old }
+        ensures honest { D.is_honest disk.new ≡ D.is_honest disk.old }
+    {
+        let Ok(()) = disk.sync() else {
+            return Err(LogFault::Disk);
+        };
+        recover(alloc, disk)
+    }
+}
+
+/// Finds the log of a store all of which is synced, or forms it.
+fn recover<D: Disk>(alloc: Global, disk: &mut D) -> Result<Log, LogFault>
+    requires settled { IsTrue (D.is_honest disk.old)
+        → (D.history disk.old (D.attached disk.old)).unsynced ≡ all_settled (D.history disk.old (D.attached disk.old)).reads }
+    ensures tells { IsTrue (D.is_honest disk.old)
+        → Tells result (D.history disk.old (D.attached disk.old)).reads (D.history disk.new (D.attached disk.new)) }
+    ensures unchanged { IsTrue (D.is_honest disk.old)
+        → (IsFresh (D.history disk.old (D.attached disk.old)).reads → ⊥)
+        → Idles (D.history disk.old (D.attached disk.old)) (D.history disk.new (D.attached disk.new)) }
+    ensures refused { IsTrue (D.is_honest disk.old) → IsRefused result
+        → Idles (D.history disk.old (D.attached disk.old)) (D.history disk.new (D.attached disk.new)) }
+    ensures any_moment { IsTrue (D.is_honest disk.old) → (frames : List (List ℕ))
+        → HasFrames frames (D.history disk.old (D.attached disk.old)).reads
+        → Stays (D.history disk.old (D.attached disk.old)) (D.history disk.new (D.attached disk.new)) (HasFrames frames) }
+    ensures cause { HasDiskCause result (D.faults disk.old) (D.faults disk.new) }
+    ensures attached { D.attached disk.new ≡ D.attached disk.old }
+    ensures honest { D.is_honest disk.new ≡ D.is_honest disk.old }
+{
+    let Ok(choice) = read_root(disk) else {
+        return Err(LogFault::Disk);
+    };
+    match choice {
+        RootChoice::Fresh => form_log(disk),
+        RootChoice::Damaged { at } => Err(LogFault::Damaged { extent: 0, at }),
+        RootChoice::Counts {
+            version,
+            area,
+            generation,
+        } => {
+            if version > NEWEST_VERSION {
+                return Err(LogFault::Newer { version });
+            }
+            find_log(alloc, disk, area, generation)
+        }
+    }
+}
+
+/// Forms the log of a fresh store all of which is synced.
+fn form_log<D: Disk>(disk: &mut D) -> Result<Log, LogFault>
+    requires settled { IsTrue (D.is_honest disk.old)
+        → (D.history disk.old (D.attached disk.old)).unsynced ≡ all_settled (D.history disk.old (D.attached disk.old)).reads }
+    requires fresh { IsTrue (D.is_honest disk.old) → IsFresh (D.history disk.old (D.attached disk.old)).reads }
+    ensures tells { IsTrue (D.is_honest disk.old)
+        → Tells result (D.history disk.old (D.attached disk.old)).reads (D.history disk.new (D.attached disk.new)) }
+    ensures never_refused { IsRefused result → ⊥ }
+    ensures any_moment { IsTrue (D.is_honest disk.old)
+        → Stays (D.history disk.old (D.attached disk.old)) (D.history disk.new (D.attached disk.new)) (HasFrames []) }
+    ensures cause { HasDiskCause result (D.faults disk.old) (D.faults disk.new) }
+    ensures attached { D.attached disk.new ≡ D.attached disk.old }
+    ensures honest { D.is_honest disk.new ≡ D.is_honest disk.old }
+{
+    let Ok(log) = form(disk) else {
+        return Err(LogFault::Disk);
+    };
+    Ok(log)
+}
+
+/// Finds the log of a live store all of which is synced: this area counts, with this generation.
+fn find_log<D: Disk>(
+    alloc: Global,
+    disk: &mut D,
+    area: Extent,
+    generation: u64,
+) -> Result<Log, LogFault>
+    requires settled { IsTrue (D.is_honest disk.old)
+        → (D.history disk.old (D.attached disk.old)).unsynced ≡ all_settled (D.history disk.old (D.attached disk.old)).reads }
+    requires counts { IsTrue (D.is_honest disk.old)
+        → IsRoot (D.history disk.old (D.attached disk.old)).reads.root (Counts 1 area generation) }
+    ensures tells { IsTrue (D.is_honest disk.old)
+        → Tells result (D.history disk.old (D.attached disk.old)).reads (D.history disk.new (D.attached disk.new)) }
+    ensures lists { IsTrue (D.is_honest disk.old)
+        → Idles (D.history disk.old (D.attached disk.old)) (D.history disk.new (D.attached disk.new)) }
+    ensures cause { HasDiskCause result (D.faults disk.old) (D.faults disk.new) }
+    ensures attached { D.attached disk.new ≡ D.attached disk.old }
+    ensures honest { D.is_honest disk.new ≡ D.is_honest disk.old }
+{
+    match frames_end(alloc, disk, area) {
+        Ok(end) => Ok(Log {
+            area,
+            generation,
+            end,
+        }),
+        Err(fault) => Err(fault),
+    }
+}
