@@ -2,3 +2,5 @@ pub mod Searching
 pub mod RowMaps
 pub mod MapLens
 pub mod TakingLemmas
+pub mod CanFrames
+pub mod PuttingLemmas

@@ -1,11 +1,18 @@
 //! The pages of a store over its log.
 #![tactic(auto)]
 
+mod batch;
+mod change;
 mod directory;
+mod fault;
+mod load;
 mod memory;
 mod pages;
+mod put_changes;
 mod row;
 mod take_parts;
 
+pub use batch::Batch;
+pub use fault::StoreFault;
 pub use memory::Memory;
 pub use pages::Meta;

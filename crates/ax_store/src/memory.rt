@@ -17,3 +17,9 @@ impl<T: Drop> From<AllocFailed<T>> for Memory {
         Memory
     }
 }
+
+impl From<ax_frame::Memory> for Memory {
+    fn from(_error: ax_frame::Memory) -> Memory {
+        Memory
+    }
+}
