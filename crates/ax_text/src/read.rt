@@ -63,9 +63,11 @@ fn items_from(alloc: Global, values: Vec<Value>) -> Result<Items<Tree>, TextFaul
 
 #[cycle(read)]
 fn members_from(alloc: Global, entries: Map<String, Value>) -> Result<Members<Tree>, TextFault>
-    ensures members { IfOk result (λ members. members_of (members_view entries.entries) ≡ Some members) }
+    ensures members { IfOk result
+        (λ members. members_of (members_view entries.entries) ≡ Some members) }
     ensures json { result ≡ Err TextFault.Json → ⊥ }
-    ensures number { result ≡ Err TextFault.Number → members_of (members_view entries.entries) ≡ None }
+    ensures number { result ≡ Err TextFault.Number
+        → members_of (members_view entries.entries) ≡ None }
 {
     let mut members = Vec::with_capacity(alloc, entries.len())?;
     for (name, value) in entries {
