@@ -1,6 +1,6 @@
 //! What stands between the quotes of a text.
 
-ghost use Rattle.std.specs.Prelude.{◌≡◌, ◌≤◌, length, IfSome};
+ghost use Rattle.std.specs.Prelude.{◌≡◌, length};
 ghost use Rattle.std.specs.Option.{option_map};
 ghost use Rattle.ax_lex.specs.Reading.{read_inside};
 

@@ -1,6 +1,6 @@
 //! The pieces that a text is made of between its quotes.
 
-ghost use Rattle.std.specs.Prelude.{◌≡◌, ◌<◌, ◌+◌, ◌*◌, IfSome, length};
+ghost use Rattle.std.specs.Prelude.{◌≡◌, ◌<◌, ◌+◌, ◌*◌, IfSome};
 ghost use Rattle.std.specs.Option.{option_map};
 ghost use Rattle.ax_lex.specs.Inside.{short_escape};
 ghost use Rattle.ax_lex.specs.Reading.{after_byte, pair_character, piece_bytes, read_character, read_digit, read_digits, read_escape, read_piece, read_second, read_unit};

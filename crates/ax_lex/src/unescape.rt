@@ -1,8 +1,6 @@
 //! What a text says.
 
 ghost use Rattle.std.specs.Prelude.{◌≡◌, ◌++◌, Some, None, Ok, Err, IfOk, OnOk, length, string_bytes};
-ghost use Rattle.std.specs.Option.{option_map};
-ghost use Rattle.ax_lex.specs.Inside.{begins_with};
 ghost use Rattle.ax_lex.specs.Lexemes.{text_of};
 ghost use Rattle.ax_lex.specs.Reading.{piece_bytes, read_inside};
 
