@@ -6,3 +6,4 @@ pub mod Commit
 pub mod Forming
 pub mod Walk
 pub mod Opening
+pub mod OpeningLaws

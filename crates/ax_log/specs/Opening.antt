@@ -36,6 +36,10 @@ Tells (Err (Damaged extent at)) before history = IsDamagedAt before extent at
 Tells (Err (Newer version)) before history = IsNewer before version
 Tells (Err Memory) before history = Unit {0}
 
+-- This is the answer, but that the disk may fail, and memory run out.
+abbrev pub IsAnswer : LogFault → Result Log LogFault → Type 0
+IsAnswer fault result = (result ≡ Err fault) ⊎ ((result ≡ Err Disk) ⊎ (result ≡ Err Memory))
+
 -- Nothing was changed: reads give what they gave, and a crash leaves nothing that it might not have
 -- left before.
 pub record Keeps (old new : History) : Type 0 where

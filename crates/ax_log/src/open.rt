@@ -6,9 +6,9 @@ ghost use Rattle.ax_disk.specs.model.Calls.{Idles};
 ghost use Rattle.ax_disk.specs.model.Stays.{Stays, SinceBarrier};
 ghost use Rattle.ax_pages.specs.Root.{IsRoot};
 ghost use Rattle.ax_pages.specs.declared.root.RootChoice.TheVariants.{Counts};
-ghost use Rattle.ax_pages.specs.Image.{IsFresh, HasFrames};
+ghost use Rattle.ax_pages.specs.Image.{IsFresh, IsDamaged, IsNewer, HasFrames, extent_number};
 ghost use Rattle.ax_log.specs.Faults.{IsRefused, HasDiskCause};
-ghost use Rattle.ax_log.specs.Opening.{Tells, Keeps};
+ghost use Rattle.ax_log.specs.Opening.{Tells, IsAnswer, Keeps};
 
 use crate::fault::LogFault;
 use crate::form::form;
@@ -31,6 +31,14 @@ impl Log {
     pub fn open_log<D: Disk>(alloc: Global, disk: &mut D) -> Result<Log, LogFault>
         ensures tells { IsTrue (D.is_honest disk.old)
             → Tells result (D.history disk.old (D.attached disk.old)).reads (D.history disk.new (D.attached disk.new)) }
+
+        // Wherever the store is damaged, or of a later version, that is the answer.
+        ensures damaged { IsTrue (D.is_honest disk.old) → (ext : Extent) → (at : ℕ)
+            → IsDamaged (D.history disk.old (D.attached disk.old)).reads ext at
+            → IsAnswer (LogFault.Damaged (extent_number ext) at) result }
+        ensures newer { IsTrue (D.is_honest disk.old) → (version : ℕ)
+            → IsNewer (D.history disk.old (D.attached disk.old)).reads version
+            → IsAnswer (LogFault.Newer version) result }
 
         // Only a fresh store is changed, and no store where the answer is a refusal.
         ensures unchanged { IsTrue (D.is_honest disk.old)

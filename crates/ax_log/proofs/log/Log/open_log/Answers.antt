@@ -1,7 +1,8 @@
-use Rattle.std.proofs.Common.{sym, ◌∙◌, subst}
+use Rattle.std.proofs.Common.{inl, inr, refl, sym, ◌∙◌, subst}
 use Rattle.ax_disk.specs.model.Image.{Image}
 use Rattle.ax_disk.specs.laws.StageLaws.{barrier_fails, barrier_passed}
-use Rattle.ax_pages.specs.Image.{IsFresh, HasFrames}
+use Rattle.ax_pages.specs.Image.{IsFresh, IsDamaged, IsNewer, HasFrames}
+use Rattle.ax_log.specs.OpeningLaws.{damaged_exactly, newer_exactly}
 use Rattle.ax_log.proofs.OpenSteps.{sync_keeps_on}
 use Rattle.ax_log.proofs.log.Log.open_log.Goals as goal
 
@@ -28,3 +29,19 @@ returns-clause-any_moment g c = λ honest frames has.
     let sync = c.in-Ok.ensures.lists honest in
     let has_now = subst (λ (i : Image). HasFrames frames i) (sym sync.reads) has in
     barrier_passed c.in-Ok.field-0 _ _ _ (HasFrames frames) sync (c.recover.ensures.any_moment (c.sync.ensures.honest ∙ honest) frames has_now)
+
+pub returns-clause-damaged : goal.returns-clause-damaged
+returns-clause-damaged g c = λ honest ext at damaged.
+    let same = (c.sync.ensures.lists honest).reads in
+    damaged_exactly c.recover.result _ _ ext at (subst (λ (i : Image). IsDamaged i ext at) (sym same) damaged) (c.recover.ensures.tells (c.sync.ensures.honest ∙ honest))
+
+pub returns-clause-newer : goal.returns-clause-newer
+returns-clause-newer g c = λ honest version newer.
+    let same = (c.sync.ensures.lists honest).reads in
+    newer_exactly c.recover.result _ _ version (subst (λ (i : Image). IsNewer i version) (sym same) newer) (c.recover.ensures.tells (c.sync.ensures.honest ∙ honest))
+
+pub returns-in_default-clause-damaged : goal.returns-in_default-clause-damaged
+returns-in_default-clause-damaged g c = λ honest ext at damaged. inr (inl refl)
+
+pub returns-in_default-clause-newer : goal.returns-in_default-clause-newer
+returns-in_default-clause-newer g c = λ honest version newer. inr (inl refl)
