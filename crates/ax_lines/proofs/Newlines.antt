@@ -15,7 +15,7 @@ none_in_front p (x ∷ xs) zero within nowhere = refl
 none_in_front p (x ∷ xs) (suc n) within nowhere =
     let first : p x ≡ false = false_if_not_true (p x) (nowhere 0 (omega arith)) in
     ap (λ b. b || list_any p (take n xs)) first
-        ∙ none_in_front p xs n (omega (arith, within)) (λ k h. nowhere (suc k) (omega (arith, h)))
+    ∙ none_in_front p xs n (omega (arith, within)) (λ k h. nowhere (suc k) (omega (arith, h)))
 
 pub nowhere_in : (p : ℕ → Bool) (xs : List ℕ)
     → ((k : ℕ) → k < length xs → p (get_or xs k 0) ≡ true → ⊥) → list_any p xs ≡ false

@@ -73,7 +73,7 @@ split_of-piece [] plain = refl
 split_of-piece (b ∷ bytes) plain =
     let parts = or_none (b == newline) (has_newline bytes) plain in
     ap (λ x. split_level x b (split_of bytes)) parts.0
-        ∙ ap (split_level false b) (split_of-piece bytes parts.1)
+    ∙ ap (split_level false b) (split_of-piece bytes parts.1)
 
 split_of-line : (line rest : List ℕ) → IsOneLine line
     → split_of (with_newline line ++ rest) ≡ (line ∷ (split_of rest).0, (split_of rest).1)
@@ -81,7 +81,7 @@ split_of-line [] rest plain = refl
 split_of-line (b ∷ line) rest plain =
     let parts = or_none (b == newline) (has_newline line) plain in
     ap (λ x. split_level x b (split_of (with_newline line ++ rest))) parts.0
-        ∙ ap (split_level false b) (split_of-line line rest parts.1)
+    ∙ ap (split_level false b) (split_of-line line rest parts.1)
 
 split_of-lines : (lines : List (List ℕ)) (last : List ℕ) → AllByRecursion IsOneLine lines
     → IsOneLine last → split_of (flat_map with_newline lines ++ last) ≡ (lines, last)
@@ -115,9 +115,16 @@ split_before byte bytes true here (lines, last, later) = (
     no_newline = later.no_newline;
   },
 )
-split_before byte bytes false here ([], last, later) =
-    ([], byte ∷ last, record { split = ap (λ l. byte ∷ l) later.split; each = tt; no_newline =
-    or_both (byte == newline) (has_newline last) here later.no_newline })
+split_before byte bytes false here ([], last, later) = (
+  [],
+  byte ∷ last,
+  record {
+    split = ap (λ l. byte ∷ l) later.split;
+    each = tt;
+    no_newline =
+        or_both (byte == newline) (has_newline last) here later.no_newline;
+  },
+)
 split_before byte bytes false here (line ∷ lines, last, later) = (
   (byte ∷ line) ∷ lines,
   last,

@@ -54,7 +54,7 @@ pub text_of-append : (before : Container) (run more : List Exchange)
     → text_of before (run ++ more) ≡ text_of before run ++ text_of (after before run) more
 text_of-append before run more =
     ap concat (texts-append before run more)
-        ∙ concat-append (texts before run) (texts (after before run) more)
+    ∙ concat-append (texts before run) (texts (after before run) more)
 
 -- the text of one line is its reply
 pub text_of-one : (before : Container) (line : List ℕ) (outcome : Outcome)

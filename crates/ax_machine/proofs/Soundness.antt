@@ -1,6 +1,6 @@
 -- A step keeps what holds of every container: only an upsert changes it, and only of a document that
 -- a text stands for.
-use Rattle.std.proofs.Common.{◌≡◌, ◌≤◌, ℕ, List, [], ◌∷◌, Bool, true, false, cond, Option, Some}
+use Rattle.std.proofs.Common.{◌≡◌, ℕ, List, [], ◌∷◌, Bool, true, false, cond, Option, Some}
 use Rattle.std.proofs.Common.{None, Result, Ok, Err, IfOk, refl, sym, ap, ◌∙◌}
 use Rattle.ax_tree.specs.declared.tree.Tree.{Tree}
 use Rattle.ax_tree.specs.Document.{document_id}
@@ -14,7 +14,7 @@ use Rattle.ax_lines.specs.declared.line.Line.TheVariants as line
 use Rattle.ax_lines.specs.declared.refusal.Refusal.{Refusal}
 use Rattle.ax_lines.specs.Causes.{Cause, unless}
 use Rattle.ax_lines.specs.Lines.{Form, Upsert, Query, form_of, without_return, with_tree_of}
-use Rattle.ax_lines.specs.Lines.{upsert_causes, query_causes, line_in, of_form, line_of}
+use Rattle.ax_lines.specs.Lines.{upsert_causes, query_causes, of_form, line_of}
 use Rattle.ax_machine.specs.Step.{written, upsert_by, served, step}
 use Rattle.ax_machine.specs.Run.{Exchange, Outcome, Served, OutOfMemory, after_line, after}
 
@@ -36,7 +36,7 @@ unless_holds : {A : Type 0} (P : A → Type 0) (causes : List Cause) (value : A)
 unless_holds P [] value holds = holds
 unless_holds P (cause ∷ causes) value holds =
     unless_case P cause.applies cause.refusal (unless causes value)
-        (unless_holds P causes value holds)
+    (unless_holds P causes value holds)
 
 with_tree_holds : (bytes : List ℕ) (found : Reading) (ask : Tree → Result Line Refusal)
     → reading bytes ≡ found
@@ -50,7 +50,7 @@ form_asks : (form : Option Form) → IfOk (of_form form) AsksForRead
 form_asks None = tt
 form_asks (Some (Upsert text)) =
     with_tree_holds text (reading text)
-        (λ tree. unless (upsert_causes tree) (line.Upsert tree)) refl
+    (λ tree. unless (upsert_causes tree) (line.Upsert tree)) refl
     (λ tree good. unless_holds AsksForRead (upsert_causes tree) (line.Upsert tree) good)
 form_asks (Some (Query text)) =
     with_tree_holds text (reading text) (λ body. unless (query_causes body) line.Query) refl
@@ -74,12 +74,16 @@ upsert_sound before tree None doc good sound = sound
 upsert_sound before tree (Some id) doc good sound =
     written_sound before (upserted id tree before)
     (λ now made. upsert_keeps_soundness before now id tree
-        (λ number own same. stored number own same) sound made) sound
+    (λ number own same. stored number own same) sound made) sound
   where
     stored : (number : ℕ) (own : List ℕ) → own ≡ id
         → IsStored (record { number = number; id = own; tree = tree })
-    stored number own same = record { own_id = doc
-        ∙ ap Some (sym same); well_formed = good.formed; shallow = good.shallow }
+    stored number own same = record {
+      own_id = doc
+          ∙ ap Some (sym same);
+      well_formed = good.formed;
+      shallow = good.shallow;
+    }
 
 served_sound : (before : Container) (asked : Result Line Refusal) → IfOk asked AsksForRead
     → IsSound before → IsSound (served before asked).0
@@ -102,4 +106,4 @@ pub run_sound : (before : Container) (run : List Exchange) → IsSound before
 run_sound before [] sound = sound
 run_sound before (exchange ∷ run) sound =
     run_sound (after_line before exchange.line exchange.outcome) run
-        (line_sound before exchange.line exchange.outcome sound)
+    (line_sound before exchange.line exchange.outcome sound)

@@ -23,9 +23,12 @@ impl Model for PlainDocument {
 
     ghost coded = { entry_code };
 
-    ghost
-        view = { λ document. record { number = document.number; id = document.id; tree =
-        document.tree } };
+    ghost view = { λ document. record {
+      number = document.number;
+      id = document.id;
+      tree =
+          document.tree;
+    } };
 }
 
 impl PlainDocument {

@@ -34,9 +34,11 @@ impl Model for PlainMachine {
 
     ghost coded = { container_code };
 
-    ghost
-        view = { λ machine. record { entries = machine.documents.items; next_number =
-        machine.next_number } };
+    ghost view = { λ machine. record {
+      entries = machine.documents.items;
+      next_number =
+          machine.next_number;
+    } };
 }
 
 impl PlainMachine {

@@ -11,7 +11,7 @@ use Rattle.ax_script.specs.declared.status.Status.{Status}
 use Rattle.ax_script.specs.declared.status.Status.TheVariants as status
 use Rattle.ax_script.specs.Progress.{ServesLines, BeginsLines, ServesLast, BeginsLast, Progress}
 use Rattle.ax_script.specs.Script.{most_input, BeginsToAnswer, IsTextAt, Runs}
-use Rattle.ax_script.specs.Streams.{Streams, Moves}
+use Rattle.ax_script.specs.Streams.{Streams}
 use Rattle.ax_script.proofs.Answering.{Answers-nil, Answers-append, BeginsToAnswer-append}
 use Rattle.ax_script.proofs.Answering.{stands-append, BeginsToAnswer-all, begins_more}
 

@@ -1,21 +1,20 @@
 -- What the serving of lines and of pieces of the input leaves.
-use Rattle.std.proofs.Common.{◌≡◌, ◌==◌, false, true≢false, ℕ, ◌≤◌, List, [], ◌∷◌, ◌++◌, length}
+use Rattle.std.proofs.Common.{◌≡◌, ◌==◌, false, true≢false, ℕ, List, [], ◌∷◌, ◌++◌, length}
 use Rattle.std.proofs.Common.{Option, refl, sym, ap, ◌∙◌, subst, append_assoc, append-nil, take}
 use Rattle.std.proofs.Common.{drop, take-append-drop, arith}
-use Rattle.std.specs.Io.KnownBytes.{Appends}
 use Rattle.std.proofs.KnownBytes.{Appends-nil, Appends-trans}
 use Rattle.ax_container.specs.Container.{Container}
 use Rattle.ax_lines.specs.ScriptLines.{with_newline, IsOneLine, last_line}
 use Rattle.ax_lines.proofs.Splits.{IsOneLine-append, AreLines-more, AreLines-none, AreLines-one}
 use Rattle.ax_lines.proofs.Splits.{there_are_lines}
 use Rattle.ax_machine.specs.ReplyTexts.{reply_text}
-use Rattle.ax_machine.specs.Run.{Served, Exchange, reply_to, text_of}
+use Rattle.ax_machine.specs.Run.{Served, reply_to, text_of}
 use Rattle.ax_machine.proofs.Runs.{text_of-one}
 use Rattle.ax_script.specs.Script.{Answers, BeginsToAnswer}
 use Rattle.ax_script.specs.Progress.{Serves, BeginsToServe, ServesLines, BeginsLines, ServesLast}
 use Rattle.ax_script.specs.Progress.{BeginsLast}
 use Rattle.ax_script.proofs.Answering.{Answers-nil, answers_some, Answers-append}
-use Rattle.ax_script.proofs.Answering.{BeginsToAnswer-append, stands-append, BeginsToAnswer-all}
+use Rattle.ax_script.proofs.Answering.{BeginsToAnswer-append, stands-append}
 use Rattle.ax_script.proofs.Answering.{begins_more}
 
 -- ---- one line

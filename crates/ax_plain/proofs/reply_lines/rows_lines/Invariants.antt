@@ -8,5 +8,5 @@ use Rattle.ax_plain.proofs.reply_lines.rows_lines.Given as goal
 abbrev pub invariant-loop-document : goal.invariant-loop-document
 invariant-loop-document l =
     l.text.items ++ flat_map row_text
-        (map canonical_text (map (λ entry. entry.tree) (drop l.document-index l.documents)))
+    (map canonical_text (map (λ entry. entry.tree) (drop l.document-index l.documents)))
     ≡ flat_map row_text (map canonical_text (map (λ entry. entry.tree) l.documents))

@@ -1,4 +1,4 @@
-use Rattle.std.proofs.Common.{◌≡◌, ◌∙◌, ap, length}
+use Rattle.std.proofs.Common.{◌∙◌, ap}
 use Rattle.std.proofs.Math.ListN.{set}
 use Rattle.ax_script.proofs.Positions.{set-with_tree_at}
 use Rattle.ax_script.proofs.documents.set_tree.Goals as goal

@@ -1,8 +1,7 @@
 -- The first line in the rest is served, or the rest has no newline.
 use Rattle.std.proofs.Common.{ℕ, List, sym, subst, arith}
-use Rattle.ax_script.specs.Progress.{ServesLines}
 use Rattle.ax_script.proofs.ServedLines.{InPiece, piece_begins, piece_goes_on, piece_fails}
-use Rattle.ax_script.proofs.ServedLines.{piece_ends, piece_breaks_off}
+use Rattle.ax_script.proofs.ServedLines.{piece_breaks_off}
 use Rattle.ax_script.proofs.script_lines.serve_piece.Goals as goal
 
 pub lines-init : goal.lines-init

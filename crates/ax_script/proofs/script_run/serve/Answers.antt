@@ -1,8 +1,6 @@
 -- What the serving of the source ensures, by the status that it gives.
 use Rattle.ax_script.proofs.Endings.{streams, runs_nothing, complete_of}
-use Rattle.std.proofs.Common.{subst}
-use Rattle.ax_container.specs.Container.{Container, fresh}
-use Rattle.ax_script.specs.Script.{Runs}
+use Rattle.ax_container.specs.Container.{fresh}
 use Rattle.ax_script.proofs.script_run.serve.Goals as goal
 
 pub returns-in_default-clause-script : goal.returns-in_default-clause-script

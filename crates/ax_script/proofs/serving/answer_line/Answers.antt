@@ -1,5 +1,5 @@
 -- The line is answered by its step, or for want of memory, which changes nothing.
-use Rattle.std.proofs.Common.{◌≡◌, ◌∙◌, subst}
+use Rattle.std.proofs.Common.{◌∙◌, subst}
 use Rattle.std.specs.Io.KnownBytes.{Appends}
 use Rattle.ax_base.specs.Bytes.{AppendsPrefix}
 use Rattle.ax_machine.specs.Run.{Served, OutOfMemory}

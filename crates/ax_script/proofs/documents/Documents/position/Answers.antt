@@ -1,5 +1,4 @@
-use Rattle.std.proofs.Common.{◌≡◌, ◌<◌, ℕ, Option, length, IfSome, sym, subst}
-use Rattle.ax_script.specs.Positions.{position_of}
+use Rattle.std.proofs.Common.{◌<◌, ℕ, Option, length, IfSome, sym, subst}
 use Rattle.ax_script.proofs.Positions.{position_within}
 use Rattle.ax_script.proofs.documents.Documents.position.Goals as goal
 

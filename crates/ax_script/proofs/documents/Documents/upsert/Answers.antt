@@ -1,4 +1,4 @@
-use Rattle.std.proofs.Common.{◌≡◌, List, ℕ, Ok, Some, None, sym, ap, ◌∙◌}
+use Rattle.std.proofs.Common.{◌≡◌, Ok, Some, None, sym, ap, ◌∙◌}
 use Rattle.ax_container.specs.Upsert.{creation}
 use Rattle.ax_script.specs.Positions.{position_of}
 use Rattle.ax_script.proofs.Outcomes.{OnOk-map}
