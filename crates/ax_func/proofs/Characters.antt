@@ -59,7 +59,7 @@ cut_front text front rest e =
 pub last_of : (text rest : List ℕ) (c : ℕ) → IsUtf8 text → IsUtf8 rest → text ≡ rest ++ encode_utf8 c → (chars text ≡ chars rest ++ c ∷ []) × (length rest < length text)
 last_of text rest c u v e =
     let spelt : encode_utf8_all (chars rest ++ c ∷ []) ≡ text =
-        encodes-append (chars rest) (c ∷ []) ∙ ap (λ l. l ++ (encode_utf8 c ++ [])) (encodes-chars rest v) ∙ ap (λ l. rest ++ l) (append-nil (encode_utf8 c)) ∙ sym e in
+    encodes-append (chars rest) (c ∷ []) ∙ ap (λ l. l ++ (encode_utf8 c ++ [])) (encodes-chars rest v) ∙ ap (λ l. rest ++ l) (append-nil (encode_utf8 c)) ∙ sym e in
     (sym (chars_from_encodes (chars rest ++ c ∷ []) text u spelt), omega (arith, ap length e, length-append rest (encode_utf8 c), length-encode_pos c))
 
 -- characters put down from the last on

@@ -82,9 +82,9 @@ module _ (text part : List ℕ) (u : IsUtf8 text) (v : IsUtf8 part) where
         let back = drop j text in
         let whole : front ++ (part ++ back) ≡ text = ap (λ l. front ++ l) (sym finds.1.split) ∙ take-append-drop i text in
         let spelt : chars text ≡ chars front ++ (chars part ++ chars back) =
-            ap chars (sym whole) ∙ chars-append front (part ++ back) before ∙ ap (λ l. chars front ++ l) (chars-append part back v) in
+        ap chars (sym whole) ∙ chars-append front (part ++ back) before ∙ ap (λ l. chars front ++ l) (chars-append part back v) in
         let again : text ≡ encode_utf8_all (chars front ++ (chars part ++ chars back)) = sym (encodes-chars text u) ∙ ap encode_utf8_all spelt in
         let size : length (encode_utf8_all (chars front)) ≤ i = omega (arith, ap length (encodes-chars front before), length-take i text) in
         ap (place_in (chars part)) spelt
         ∙ place_in-some (chars front) (chars part) (chars back) (λ k l rest e.
-            finds.0 k (omega (arith, l, size)) rest (ap (drop k) again ∙ e ∙ ap (λ p. p ++ rest) (encodes-chars part v)))
+        finds.0 k (omega (arith, l, size)) rest (ap (drop k) again ∙ e ∙ ap (λ p. p ++ rest) (encodes-chars part v)))

@@ -7,7 +7,7 @@ mod lists;
 mod numbers;
 mod texts;
 
-use crate::memory::Memory;
+use crate::out_of_memory::Memory;
 use ax_mean::{Func, Value};
 use std::alloc::Global;
 

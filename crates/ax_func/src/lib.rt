@@ -5,7 +5,7 @@
 //! definitions.
 #![tactic(auto)]
 
-mod args;
+mod arguments;
 mod arithmetic;
 mod calls;
 mod chars;
@@ -13,14 +13,16 @@ mod comparison;
 mod like;
 mod lists;
 mod logic;
-mod memory;
 mod operators;
 mod order;
+mod out_of_memory;
 mod same;
+#[cfg(test)]
+mod tests;
 mod texts;
 mod values;
 
 pub use calls::call;
-pub use memory::Memory;
 pub use operators::{binary, unary};
 pub use order::compare;
+pub use out_of_memory::Memory;

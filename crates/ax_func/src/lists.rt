@@ -3,7 +3,7 @@ ghost use Rattle.std.specs.Prelude.{◌≡◌, ◌++◌, IfOk, OnOk, option_map}
 ghost use Rattle.ax_mean.specs.ListFunctions.{has_item as holds_item, contains_item, joined_lists, place_from, slice_from, slice_of};
 ghost use Rattle.ax_mean.specs.Values.{of_truth as truth_value};
 
-use crate::memory::Memory;
+use crate::out_of_memory::Memory;
 use crate::same::same;
 use crate::texts::count;
 use crate::values::{list_of, of_truth};
@@ -60,7 +60,11 @@ pub fn slice(items: &[Tree], start: i64) -> &[Tree]
     ensures { result.now ≡ slice_from items.now start }
 {
     let from = place(items, start);
-    if from < items.len() { &items[from..] } else { &[] }
+    if from < items.len() {
+        &items[from..]
+    } else {
+        &[]
+    }
 }
 
 fn place(items: &[Tree], start: i64) -> usize

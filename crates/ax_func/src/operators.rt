@@ -5,12 +5,11 @@ ghost use Rattle.ax_mean.specs.Like.{is_like as like_test};
 ghost use Rattle.ax_mean.specs.Values.{of_truth as truth_value};
 ghost use Rattle.ax_mean.specs.Operators.{binary as binary_value, unary as unary_value, joined, first_defined};
 
-use crate::arithmetic;
 use crate::comparison::{equality, scalar_order};
 use crate::like::is_like;
-use crate::logic;
-use crate::memory::Memory;
+use crate::out_of_memory::Memory;
 use crate::values::{number_of, of_number, of_string, of_truth, text_of, truth_of};
+use crate::{arithmetic, logic};
 use ax_mean::{BinaryOp, UnaryOp, Value};
 use std::alloc::Global;
 

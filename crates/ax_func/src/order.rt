@@ -5,7 +5,7 @@ ghost use Rattle.ax_mean.specs.CanonicalText.{canonical_text};
 ghost use Rattle.ax_mean.specs.ValueOrder.{value_cmp, tree_rank};
 ghost use Rattle.ax_mean.specs.declared.value.Value.TheVariants.{Defined};
 
-use crate::memory::Memory;
+use crate::out_of_memory::Memory;
 use ax_mean::{Tree, Value, write_tree};
 use std::alloc::Global;
 use std::cmp::Ordering;

@@ -3,7 +3,7 @@ ghost use Rattle.std.specs.Prelude.{◌≡◌, IfOk, pos, string_bytes, option_m
 ghost use Rattle.ax_mean.specs.TextFunctions.{count_of, left as left_text, right as right_text, substring as substring_text, reversed as reversed_text, begins_with, finishes_with, contains_text, place_of, index_of as index_of_text, text_length, joined_texts, shown as shown_text, shown_tree as shown_bytes};
 
 use crate::chars::{after, before, char_count, ending, last};
-use crate::memory::Memory;
+use crate::out_of_memory::Memory;
 use crate::values::text_of;
 use ax_mean::{Tree, Value, write_tree};
 use std::alloc::Global;

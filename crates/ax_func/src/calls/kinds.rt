@@ -4,7 +4,7 @@ ghost use Rattle.ax_mean.specs.Comparison.{is_scalar as scalar_test};
 ghost use Rattle.ax_mean.specs.declared.value.Value.TheVariants.{Defined};
 ghost use Rattle.ax_mean.specs.Functions.{call as call_value, of_one, is_of_kind as kind_test};
 
-use crate::args::only;
+use crate::arguments::only;
 use crate::comparison::kind;
 use crate::values::of_truth;
 use ax_mean::{Func, Tree, Value};

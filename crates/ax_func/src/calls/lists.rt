@@ -4,9 +4,9 @@ ghost use Rattle.ax_mean.specs.Functions.{call as call_value};
 ghost use Rattle.ax_mean.specs.ListFunctions.{on_list_and_number, on_list_and_numbers, slice_from as elements_from, slice_of as elements_of};
 ghost use Rattle.ax_mean.specs.Values.{of_list as list_value};
 
-use crate::args::{only, three, two};
+use crate::arguments::{only, three, two};
 use crate::lists;
-use crate::memory::Memory;
+use crate::out_of_memory::Memory;
 use crate::texts::whole;
 use crate::values::{list_of, number_of, of_number, of_trees};
 use ax_mean::{Func, Value};
@@ -66,12 +66,7 @@ fn slice_from(alloc: Global, list: &Value, start: &Value) -> Result<Value, Memor
     }
 }
 
-fn slice_of(
-    alloc: Global,
-    list: &Value,
-    start: &Value,
-    length: &Value,
-) -> Result<Value, Memory>
+fn slice_of(alloc: Global, list: &Value, start: &Value, length: &Value) -> Result<Value, Memory>
     ensures { IfOk result (λ value. value ≡ list_value (on_list_and_numbers elements_of list.now start.now length.now)) }
 {
     match (list_of(list), number_of(start), number_of(length)) {

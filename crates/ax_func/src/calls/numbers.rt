@@ -2,7 +2,7 @@
 ghost use Rattle.std.specs.Prelude.{◌≡◌};
 ghost use Rattle.ax_mean.specs.Functions.{call as call_value, absolute as absolute_of};
 
-use crate::args::only;
+use crate::arguments::only;
 use crate::values::{number_of, of_number};
 use ax_mean::{Func, Value};
 

@@ -2,8 +2,8 @@
 ghost use Rattle.std.specs.Prelude.{◌≡◌, IfOk};
 ghost use Rattle.ax_mean.specs.Functions.{call as call_value};
 
-use crate::args::{only, three, two};
-use crate::memory::Memory;
+use crate::arguments::{only, three, two};
+use crate::out_of_memory::Memory;
 use crate::texts;
 use crate::values::{number_of, of_number, of_string, of_truth, text_of};
 use ax_mean::{Func, Value};
@@ -40,7 +40,10 @@ pub fn starts_with(args: &[Value]) -> Value
         return Value::Undefined;
     };
     match (text_of(text), text_of(part)) {
-        (Some(text), Some(part)) => of_truth(Some(texts::starts_with(text.as_str(), part.as_str()))),
+        (Some(text), Some(part)) => of_truth(Some(texts::starts_with(
+            text.as_str(),
+            part.as_str(),
+        ))),
         _ => Value::Undefined,
     }
 }
@@ -76,7 +79,10 @@ pub fn index_of(args: &[Value]) -> Result<Value, Memory>
         return Ok(Value::Undefined);
     };
     match (text_of(text), text_of(part)) {
-        (Some(text), Some(part)) => Ok(of_number(Some(texts::index_of(text.as_str(), part.as_str())?))),
+        (Some(text), Some(part)) => Ok(of_number(Some(texts::index_of(
+            text.as_str(),
+            part.as_str(),
+        )?))),
         _ => Ok(Value::Undefined),
     }
 }

@@ -28,12 +28,13 @@ returns-then-not-fits c =
 
 pub loop-wanted-preserved : goal.loop-wanted-preserved
 loop-wanted-preserved c =
-    let rest = chars c.in-Some.pattern_rest.now in
-    (search rules,
-     search rules,
-     c.loop-wanted.invariant.2
-     ∙ ap₂ (λ m l. m l) (ap matches c.in-Some.ensures.0 ∙ at_other c.in-Some.wanted rest c.if-wanted-eq37.false) c.in-Some-first.ensures.0
-     ∙ sym (ap (λ b. b && matches rest (chars c.in-Some-first.text_rest.now)) c.if-not-fits.ensures))
+    let rest = chars c.in-Some.pattern_rest.now in (
+      search rules,
+      search rules,
+      c.loop-wanted.invariant.2
+          ∙ ap₂ (λ m l. m l) (ap matches c.in-Some.ensures.0 ∙ at_other c.in-Some.wanted rest c.if-wanted-eq37.false) c.in-Some-first.ensures.0
+          ∙ sym (ap (λ b. b && matches rest (chars c.in-Some-first.text_rest.now)) c.if-not-fits.ensures),
+    )
 
 pub returns : goal.returns
 returns c =
