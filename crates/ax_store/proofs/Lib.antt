@@ -4,3 +4,4 @@ pub mod MapLens
 pub mod TakingLemmas
 pub mod CanFrames
 pub mod PuttingLemmas
+pub mod LoadLemmas
