@@ -5,3 +5,4 @@ pub mod TakingLemmas
 pub mod CanFrames
 pub mod PuttingLemmas
 pub mod LoadLemmas
+pub mod StoreLemmas
