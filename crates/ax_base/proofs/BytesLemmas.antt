@@ -10,7 +10,8 @@ use Rattle.ax_base.specs.Bytes.{AppendsPrefix}
 -- the slice from `at` on is all that follows `at`
 pub whole_slice : (at : ℕ) (bytes : List ℕ)
     → take (length bytes - at) (drop at bytes) ≡ drop at bytes
-whole_slice at bytes = take_all (length bytes - at) (drop at bytes) (omega (arith, length-drop at bytes))
+whole_slice at bytes =
+    take_all (length bytes - at) (drop at bytes) (omega (arith, length-drop at bytes))
 
 -- what follows `at` is a prefix of it and what follows that
 pub split_slice : (at count : ℕ) (bytes : List ℕ)
@@ -25,7 +26,8 @@ pub Appends-further : (a b c : Option (List ℕ)) (at count : ℕ) (bytes : List
     → Appends b c (take count (take (length bytes - at) (drop at bytes)))
     → Appends a c (take (at + count) bytes)
 Appends-further a b c at count bytes first second =
-    let next = subst (λ (more : List ℕ). Appends b c (take count more)) (whole_slice at bytes) second in
+    let next =
+    subst (λ (more : List ℕ). Appends b c (take count more)) (whole_slice at bytes) second in
     subst (λ (prefix : List ℕ). Appends a c prefix) (sym (take-add at count bytes))
     (Appends-trans a b c _ _ first next)
 

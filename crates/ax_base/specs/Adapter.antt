@@ -3,7 +3,8 @@
 use Rattle.std.specs.Prelude.{ℕ, List}
 use Rattle.std.specs.declared.option.Option.{Option}
 
--- the bytes that remain to the reader or that the writer was given, where it tells them, and the faults that were counted
+-- the bytes that remain to the reader or that the writer was given, where it tells them, and the
+-- faults that were counted
 pub record Adapter : Type 0 where
   pub told : Option (List ℕ)
   pub faults : ℕ

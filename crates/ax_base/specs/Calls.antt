@@ -1,4 +1,5 @@
--- The calls of a source or a sink in memory, of which chosen ones fail, and what contracts see of such a part.
+-- The calls of a source or a sink in memory, of which chosen ones fail, and what contracts see of
+-- such a part.
 -- It is this project's own; it comes from no public document.
 use Rattle.std.specs.Prelude.{ℕ, ◌<◌, ◌≤◌, ◌⊎◌, List, length, Contains}
 use Rattle.ax_faults.specs.Faults.{raised}
@@ -32,8 +33,8 @@ pub record SinkState : Type 0 where
   pub capacity : ℕ
   pub calls : Calls
 
--- the next write of the piece fails: it is one that is to fail, or the piece is not empty and there is
--- room for none of it
+-- the next write of the piece fails: it is one that is to fail, or the piece is not empty and there
+-- is room for none of it
 abbrev pub RefusesPiece : SinkState → List ℕ → Type 0
 RefusesPiece sink piece =
     Contains sink.calls.failing (next_call sink.calls)

@@ -25,7 +25,8 @@ impl Model for MemSink {
 
     ghost Value = { SinkState };
 
-    ghost view = { λ s. record { written = s.bytes.items; capacity = s.capacity; calls = s.calls } };
+    ghost view = { λ s.
+        record { written = s.bytes.items; capacity = s.capacity; calls = s.calls } };
 
     ghost invariant = { λ s. (vec_len s.bytes ≤ s.capacity) × (s.capacity ≤ vec_capacity s.bytes) };
 }
@@ -35,7 +36,8 @@ impl MemSink {
     pub fn make(alloc: Global, room: usize, failing: Vec<u64>) -> Result<MemSink, Memory>
         ensures empty { IfOk result (λ sink. sink.written ≡ []) }
         ensures capacity { IfOk result (λ sink. sink.capacity ≡ room) }
-        ensures calls { IfOk result (λ sink. sink.calls ≡ record { made = 0; faults = 0; failing = failing.items }) }
+        ensures calls { IfOk result (λ sink. sink.calls
+            ≡ record { made = 0; faults = 0; failing = failing.items }) }
     {
         Ok(MemSink {
             bytes: Vec::with_capacity(alloc, room)?,
@@ -59,19 +61,25 @@ impl Sink for MemSink {
 
     /// Takes as many of the bytes as there is room for, unless the call is to fail.
     ///
-    /// `Failed` where the call is to fail, or the piece is not empty and there is room for none of it. Nothing is
-    /// then taken.
+    /// `Failed` where the call is to fail, or the piece is not empty and there is room for none of
+    /// it. Nothing is then taken.
     fn write_some(&mut self, bytes: &[u8]) -> Result<usize, Failed>
         ensures bound { WritesAtMost result bytes.now }
-        ensures added { IfOk result (λ n. Appends (Some self.old.written) (Some self.new.written) (take n bytes.now)) }
-        ensures nothing { IfOk result (λ n. n ≡ 0 → 0 < length bytes.now → Rose self.old.calls.faults self.new.calls.faults) }
-        ensures failed { OnErr result (AppendsPrefix (Some self.old.written) (Some self.new.written) bytes.now) }
+        ensures added { IfOk result (λ n.
+            Appends (Some self.old.written) (Some self.new.written) (take n bytes.now)) }
+        ensures nothing { IfOk result (λ n. n ≡ 0 → 0 < length bytes.now
+            → Rose self.old.calls.faults self.new.calls.faults) }
+        ensures failed { OnErr result
+            (AppendsPrefix (Some self.old.written) (Some self.new.written) bytes.now) }
         ensures cause { HasCause result self.old.calls.faults self.new.calls.faults }
 
         // What this sink adds: how many bytes, and which calls fail.
-        ensures count { IfOk result (λ n. n ≡ min (length bytes.now) (self.old.capacity - length self.old.written)) }
+        ensures count { IfOk result (λ n. n
+            ≡ min (length bytes.now) (self.old.capacity - length self.old.written)) }
         ensures fails { IsErr result ↔ RefusesPiece self.old bytes.now }
-        ensures whole { self.old.calls.failing ≡ [] → length self.old.written + length bytes.now ≤ self.old.capacity → result ≡ Ok (length bytes.now) }
+        ensures whole { self.old.calls.failing ≡ []
+            → length self.old.written + length bytes.now ≤ self.old.capacity
+            → result ≡ Ok (length bytes.now) }
         ensures capacity { self.new.capacity ≡ self.old.capacity }
         ensures unchanged { OnErr result (self.new.written ≡ self.old.written) }
         ensures ok_calls { OnOk result (self.new.calls ≡ after_success self.old.calls) }

@@ -49,8 +49,10 @@ impl Source for MemSource {
     /// Reads as many bytes as there are and `buf` has room for, unless the call is to fail.
     fn read_some(&mut self, buf: &mut [u8]) -> Result<usize, Failed>
         ensures bound { ReadsAtMost result buf.new }
-        ensures taken { IfOk result (λ n. Consumes (Some self.old.remaining) (Some self.new.remaining) (take n buf.new)) }
-        ensures ended { IfOk result (λ n. n ≡ 0 → 0 < length buf.new → IsAtEnd (Some self.new.remaining)) }
+        ensures taken { IfOk result (λ n.
+            Consumes (Some self.old.remaining) (Some self.new.remaining) (take n buf.new)) }
+        ensures ended { IfOk result (λ n. n ≡ 0 → 0 < length buf.new
+            → IsAtEnd (Some self.new.remaining)) }
         ensures failed { OnErr result (Keeps (Some self.old.remaining) (Some self.new.remaining)) }
         ensures cause { HasCause result self.old.calls.faults self.new.calls.faults }
 

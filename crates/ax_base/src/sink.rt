@@ -8,8 +8,8 @@ use crate::Failed;
 
 /// Bytes go here, in pieces and in order.
 pub trait Sink {
-    /// The bytes that it was given: `Some` where the sink tells them, and it then goes on telling. Of
-    /// `None` nothing is said.
+    /// The bytes that it was given: `Some` where the sink tells them, and it then goes on telling.
+    /// Of `None` nothing is said.
     ghost written: { Self → Option (List ℕ) };
 
     /// How often it failed, up to 2^64 - 1.
@@ -22,9 +22,12 @@ pub trait Sink {
     /// prefix of the bytes.
     fn write_some(&mut self, bytes: &[u8]) -> Result<usize, Failed>
         ensures bound { WritesAtMost result bytes.now }
-        ensures added { IfOk result (λ n. Appends (written self.old) (written self.new) (take n bytes.now)) }
-        ensures nothing { IfOk result (λ n. n ≡ 0 → 0 < length bytes.now → Rose (faults self.old) (faults self.new)) }
-        ensures failed { OnErr result (AppendsPrefix (written self.old) (written self.new) bytes.now) }
+        ensures added { IfOk result (λ n.
+            Appends (written self.old) (written self.new) (take n bytes.now)) }
+        ensures nothing { IfOk result (λ n. n ≡ 0 → 0 < length bytes.now
+            → Rose (faults self.old) (faults self.new)) }
+        ensures failed { OnErr result
+            (AppendsPrefix (written self.old) (written self.new) bytes.now) }
         ensures cause { HasCause result (faults self.old) (faults self.new) };
 }
 
@@ -33,7 +36,8 @@ pub trait Sink {
 /// `Failed` where a write failed, or took nothing. The sink has then taken a prefix of the bytes.
 pub fn write_all<K: Sink>(sink: &mut K, bytes: &[u8]) -> Result<(), Failed>
     ensures added { OnOk result (Appends (K.written sink.old) (K.written sink.new) bytes.now) }
-    ensures failed { OnErr result (AppendsPrefix (K.written sink.old) (K.written sink.new) bytes.now) }
+    ensures failed { OnErr result
+        (AppendsPrefix (K.written sink.old) (K.written sink.new) bytes.now) }
     ensures cause { HasCause result (K.faults sink.old) (K.faults sink.new) }
 {
     let mut at = 0;

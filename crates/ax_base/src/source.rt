@@ -20,7 +20,8 @@ pub trait Source {
     /// `Failed` where the source could not read. It has then counted a fault, and no byte is lost.
     fn read_some(&mut self, buf: &mut [u8]) -> Result<usize, Failed>
         ensures bound { ReadsAtMost result buf.new }
-        ensures taken { IfOk result (λ n. Consumes (rest self.old) (rest self.new) (take n buf.new)) }
+        ensures taken { IfOk result (λ n.
+            Consumes (rest self.old) (rest self.new) (take n buf.new)) }
         ensures ended { IfOk result (λ n. n ≡ 0 → 0 < length buf.new → IsAtEnd (rest self.new)) }
         ensures failed { OnErr result (Keeps (rest self.old) (rest self.new)) }
         ensures cause { HasCause result (faults self.old) (faults self.new) };

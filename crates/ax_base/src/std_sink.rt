@@ -54,7 +54,8 @@ impl<W: Write> Sink for StdSink<W> {
     fn write_some(&mut self, bytes: &[u8]) -> Result<usize, Failed>
         ensures bound { WritesAtMost result bytes.now }
         ensures added { IfOk result (λ n. Appends self.old.told self.new.told (take n bytes.now)) }
-        ensures nothing { IfOk result (λ n. n ≡ 0 → 0 < length bytes.now → Rose self.old.faults self.new.faults) }
+        ensures nothing { IfOk result (λ n. n ≡ 0 → 0 < length bytes.now
+            → Rose self.old.faults self.new.faults) }
         ensures failed { OnErr result (AppendsPrefix self.old.told self.new.told bytes.now) }
         ensures cause { HasCause result self.old.faults self.new.faults }
 

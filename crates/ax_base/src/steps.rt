@@ -3,8 +3,8 @@ ghost use Rattle.std.specs.Prelude.{◌≡◌, ◌+◌, ◌<◌};
 use std::marker::Model;
 use std::sync::ledger::{Blank, Book, Ledger, Share};
 
-/// How many steps were taken: contracts see it as a whole number. It takes no bytes when the program
-/// runs, and only `tick` changes it.
+/// How many steps were taken: contracts see it as a whole number. It takes no bytes when the
+/// program runs, and only `tick` changes it.
 #[derive(Drop)]
 pub struct Steps<L: Ledger> {
     book: Book<L>,
@@ -22,9 +22,9 @@ impl<L: Ledger> Model for Steps<L> {
 }
 
 impl<L: Ledger> Steps<L> {
-    /// A counter that stands at 0, on the ledger of `blank`. A caller that has none writes a function
-    /// that is generic in the ledger and takes a `Blank`, calls it with `Blank::new(1)` at `Brand`,
-    /// and picks the ledger in its `Invariants.antt`.
+    /// A counter that stands at 0, on the ledger of `blank`. A caller that has none writes a
+    /// function that is generic in the ledger and takes a `Blank`, calls it with `Blank::new(1)` at
+    /// `Brand`, and picks the ledger in its `Invariants.antt`.
     pub fn begin(blank: Blank) -> Steps<L>
         requires name { blank.name ≡ L.name }
         requires parts { blank.parts ≡ L.parts }

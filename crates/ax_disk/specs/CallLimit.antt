@@ -1,4 +1,5 @@
--- How many calls a disk may still answer, where it has such a limit: `Some` of them, or `None`, of which nothing is said.
+-- How many calls a disk may still answer, where it has such a limit: `Some` of them, or `None`, of
+-- which nothing is said.
 -- It is this project's own; it comes from no public document.
 use Rattle.std.specs.Prelude.{ℕ, ◌-◌, Option, Some, None}
 

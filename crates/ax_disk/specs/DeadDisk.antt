@@ -1,4 +1,5 @@
--- What a `DeadDisk` shows: how many calls it has failed. It tells of no list, so no clause reads what it has instead of a history.
+-- What a `DeadDisk` shows: how many calls it has failed. It tells of no list, so no clause reads
+-- what it has instead of a history.
 use Rattle.std.specs.Prelude.{ℕ, []}
 use Rattle.ax_disk.specs.declared.dead_disk.DeadDisk.{DeadDisk}
 use Rattle.ax_disk.specs.model.Image.{Image}
@@ -12,4 +13,5 @@ abbrev pub no_image : Image
 no_image = record { root = []; a = []; b = [] }
 
 abbrev pub nothing_told : History
-nothing_told = record { reads = no_image; unsynced = all_settled no_image; moment = 0; left_at = λ _ _. ⊥ }
+nothing_told =
+    record { reads = no_image; unsynced = all_settled no_image; moment = 0; left_at = λ _ _. ⊥ }

@@ -19,7 +19,8 @@ impl Model for CallBudget {
 
     ghost Value = { CallBudget };
 
-    ghost view = { λ c. record { remaining = c.remaining; made = c.made; failing = c.failing.items } };
+    ghost view = { λ c.
+        record { remaining = c.remaining; made = c.made; failing = c.failing.items } };
 
     ghost invariant = { λ c. c.made + c.remaining < 2 ^ 64 };
 }

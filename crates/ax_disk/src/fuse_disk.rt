@@ -61,7 +61,7 @@ fn spend(calls_remaining: &mut u64, refusals: &mut FaultCount) -> Result<(), Dis
 }
 
 impl<D: Disk> Disk for FuseDisk<D> {
-    ghost use Rattle.ax_disk.specs.FuseDisk.{inner_of, calls_remaining_of, refusals_of, PassesOn};
+    ghost use Rattle.ax_disk.specs.FuseDisk.{inner_of, history_beneath, all_faults, PassesOn};
 
     ghost faults = { λ fuse. D.Disk.faults fuse.inner + fuse.refusals };
 
@@ -81,10 +81,12 @@ impl<D: Disk> Disk for FuseDisk<D> {
 
     fn attach(&mut self, name: &str) -> Result<(), DiskFailed>
         ensures attached { OnOk result (D.attached (inner_of self.new) ≡ D.store_named name.now) }
-        ensures detached { OnErr result (D.attached (inner_of self.new) ≡ D.attached (inner_of self.old)) }
+        ensures detached { OnErr result
+            (D.attached (inner_of self.new) ≡ D.attached (inner_of self.old)) }
         ensures lists { IsTrue (D.is_honest (inner_of self.old)) → (store : List ℕ)
             → Idles (D.history (inner_of self.old) store) (D.history (inner_of self.new) store) }
-        ensures cause { HasCause result (D.faults (inner_of self.old) + refusals_of self.old) (D.faults (inner_of self.new) + refusals_of self.new) }
+        ensures cause { HasCause result
+            (all_faults D.faults self.old) (all_faults D.faults self.new) }
         ensures honest { D.is_honest (inner_of self.new) ≡ D.is_honest (inner_of self.old) }
 
         // What a fuse adds.
@@ -96,12 +98,15 @@ impl<D: Disk> Disk for FuseDisk<D> {
 
     fn len(&mut self, ext: Extent) -> Result<u64, DiskFailed>
         ensures length { IsTrue (D.is_honest (inner_of self.old))
-            → IfOk result (λ n. n ≡ length (list_of ext (D.history (inner_of self.old) (D.attached (inner_of self.old))).reads)) }
+            → IfOk result (λ n. n
+            ≡ length (list_of ext (history_beneath D.history D.attached self.old).reads)) }
         ensures limit { IfOk result (λ n. n ≤ 2 ^ 62) }
         ensures lists { IsTrue (D.is_honest (inner_of self.old))
-            → Idles (D.history (inner_of self.old) (D.attached (inner_of self.old))) (D.history (inner_of self.new) (D.attached (inner_of self.new))) }
+            → Idles (history_beneath D.history D.attached self.old)
+            (history_beneath D.history D.attached self.new) }
         ensures attached { D.attached (inner_of self.new) ≡ D.attached (inner_of self.old) }
-        ensures cause { HasCause result (D.faults (inner_of self.old) + refusals_of self.old) (D.faults (inner_of self.new) + refusals_of self.new) }
+        ensures cause { HasCause result
+            (all_faults D.faults self.old) (all_faults D.faults self.new) }
         ensures honest { D.is_honest (inner_of self.new) ≡ D.is_honest (inner_of self.old) }
 
         // What a fuse adds.
@@ -113,11 +118,15 @@ impl<D: Disk> Disk for FuseDisk<D> {
 
     fn read(&mut self, ext: Extent, at: u64, buf: &mut [u8]) -> Result<(), DiskFailed>
         ensures bytes { IsTrue (D.is_honest (inner_of self.old))
-            → OnOk result (buf.new ≡ bytes_from (list_of ext (D.history (inner_of self.old) (D.attached (inner_of self.old))).reads) at (length buf.old)) }
+            → OnOk result (buf.new
+            ≡ bytes_from (list_of ext (history_beneath D.history D.attached self.old).reads)
+            at (length buf.old)) }
         ensures lists { IsTrue (D.is_honest (inner_of self.old))
-            → Idles (D.history (inner_of self.old) (D.attached (inner_of self.old))) (D.history (inner_of self.new) (D.attached (inner_of self.new))) }
+            → Idles (history_beneath D.history D.attached self.old)
+            (history_beneath D.history D.attached self.new) }
         ensures attached { D.attached (inner_of self.new) ≡ D.attached (inner_of self.old) }
-        ensures cause { HasCause result (D.faults (inner_of self.old) + refusals_of self.old) (D.faults (inner_of self.new) + refusals_of self.new) }
+        ensures cause { HasCause result
+            (all_faults D.faults self.old) (all_faults D.faults self.new) }
         ensures honest { D.is_honest (inner_of self.new) ≡ D.is_honest (inner_of self.old) }
 
         // What a fuse adds.
@@ -129,12 +138,14 @@ impl<D: Disk> Disk for FuseDisk<D> {
 
     fn write_at(&mut self, ext: Extent, at: u64, bytes: &[u8]) -> Result<(), DiskFailed>
         requires { IsTrue (D.is_honest (inner_of self.old))
-            → at ≤ length (list_of ext (D.history (inner_of self.old) (D.attached (inner_of self.old))).reads) }
+            → at ≤ length (list_of ext (history_beneath D.history D.attached self.old).reads) }
         ensures lists { IsTrue (D.is_honest (inner_of self.old))
-            → Writes ext at bytes.now result (D.history (inner_of self.old) (D.attached (inner_of self.old))) (D.history (inner_of self.new) (D.attached (inner_of self.new))) }
+            → Writes ext at bytes.now result (history_beneath D.history D.attached self.old)
+            (history_beneath D.history D.attached self.new) }
         ensures limit { 2 ^ 62 < at + length bytes.now → IsErr result }
         ensures attached { D.attached (inner_of self.new) ≡ D.attached (inner_of self.old) }
-        ensures cause { HasCause result (D.faults (inner_of self.old) + refusals_of self.old) (D.faults (inner_of self.new) + refusals_of self.new) }
+        ensures cause { HasCause result
+            (all_faults D.faults self.old) (all_faults D.faults self.new) }
         ensures honest { D.is_honest (inner_of self.new) ≡ D.is_honest (inner_of self.old) }
 
         // What a fuse adds.
@@ -146,9 +157,11 @@ impl<D: Disk> Disk for FuseDisk<D> {
 
     fn cut(&mut self, ext: Extent, len: u64) -> Result<(), DiskFailed>
         ensures lists { IsTrue (D.is_honest (inner_of self.old))
-            → Cuts ext len result (D.history (inner_of self.old) (D.attached (inner_of self.old))) (D.history (inner_of self.new) (D.attached (inner_of self.new))) }
+            → Cuts ext len result (history_beneath D.history D.attached self.old)
+            (history_beneath D.history D.attached self.new) }
         ensures attached { D.attached (inner_of self.new) ≡ D.attached (inner_of self.old) }
-        ensures cause { HasCause result (D.faults (inner_of self.old) + refusals_of self.old) (D.faults (inner_of self.new) + refusals_of self.new) }
+        ensures cause { HasCause result
+            (all_faults D.faults self.old) (all_faults D.faults self.new) }
         ensures honest { D.is_honest (inner_of self.new) ≡ D.is_honest (inner_of self.old) }
 
         // What a fuse adds.
@@ -160,9 +173,11 @@ impl<D: Disk> Disk for FuseDisk<D> {
 
     fn sync(&mut self) -> Result<(), DiskFailed>
         ensures lists { IsTrue (D.is_honest (inner_of self.old))
-            → Syncs result (D.history (inner_of self.old) (D.attached (inner_of self.old))) (D.history (inner_of self.new) (D.attached (inner_of self.new))) }
+            → Syncs result (history_beneath D.history D.attached self.old)
+            (history_beneath D.history D.attached self.new) }
         ensures attached { D.attached (inner_of self.new) ≡ D.attached (inner_of self.old) }
-        ensures cause { HasCause result (D.faults (inner_of self.old) + refusals_of self.old) (D.faults (inner_of self.new) + refusals_of self.new) }
+        ensures cause { HasCause result
+            (all_faults D.faults self.old) (all_faults D.faults self.new) }
         ensures honest { D.is_honest (inner_of self.new) ≡ D.is_honest (inner_of self.old) }
 
         // What a fuse adds.

@@ -1,8 +1,10 @@
-//! Disks as Axis sees them. The trait `Disk` says what calls on a store's three lists of bytes do to what reads give, and what a
-//! crash at each moment may leave of them. Each crash theorem of the store stands on it. It stands on `ax_faults` alone.
+//! Disks as Axis sees them. The trait `Disk` says what calls on a store's three lists of bytes do
+//! to what reads give, and what a crash at each moment may leave of them. Each crash theorem of the
+//! store stands on it. It stands on `ax_faults` alone.
 //!
-//! The one contract: after a crash each list has a length that it had since the last sync that succeeded, and each byte that
-//! wasn't written since is the one that a read gave then; after a sync that succeeded a crash leaves what a read gives.
+//! The one contract: after a crash each list has a length that it had since the last sync that
+//! succeeded, and each byte that wasn't written since is the one that a read gave then; after a
+//! sync that succeeded a crash leaves what a read gives.
 #![tactic(auto)]
 
 mod call_budget;

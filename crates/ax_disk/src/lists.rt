@@ -81,7 +81,9 @@ impl Lists {
     pub fn write(&mut self, ext: Extent, at: usize, bytes: &[u8])
         requires offset { at ≤ length (list_of ext (image_of self.old)) }
         requires room { at + length bytes.now ≤ least_capacity self.old }
-        ensures written { image_of self.new ≡ with_list ext (overwritten (list_of ext (image_of self.old)) at bytes.now) (image_of self.old) }
+        ensures written { image_of self.new
+            ≡ with_list ext (overwritten (list_of ext (image_of self.old)) at bytes.now)
+            (image_of self.old) }
         ensures room { least_capacity self.old ≤ least_capacity self.new }
     {
         match ext {
@@ -92,7 +94,8 @@ impl Lists {
     }
 
     pub fn cut(&mut self, ext: Extent, len: usize)
-        ensures cut { image_of self.new ≡ with_list ext (take len (list_of ext (image_of self.old))) (image_of self.old) }
+        ensures cut { image_of self.new
+            ≡ with_list ext (take len (list_of ext (image_of self.old))) (image_of self.old) }
         ensures room { least_capacity self.old ≤ least_capacity self.new }
     {
         match ext {

@@ -1,5 +1,5 @@
-//! The lists of a disk in memory with the log of what was done to them: what reads give, what the last
-//! sync left, and each operation since the lists were made or crashed.
+//! The lists of a disk in memory with the log of what was done to them: what reads give, what the
+//! last sync left, and each operation since the lists were made or crashed.
 ghost use Rattle.std.specs.Prelude.{◌≡◌, ◌+◌, ◌≤◌, ◌<◌, ◌++◌, [], ◌∷◌, ℕ, List, true, false, length, take, Ok, Err, IfOk, if◌then◌else◌};
 ghost use Rattle.ax_disk.specs.declared.disk.DiskFailed.{DiskFailed};
 ghost use Rattle.ax_disk.specs.model.Image.{list_of};
@@ -27,7 +27,9 @@ pub(crate) struct LoggedLists {
     limit: usize,
     /// So many bytes may still be written.
     room: usize,
-    ghost matching: { ListsMatch (state_of (record { first = image_of first; operations = operations_in operations })) (image_of current) (image_of stable) },
+    ghost matching: { ListsMatch
+        (state_of (record { first = image_of first; operations = operations_in operations }))
+        (image_of current) (image_of stable) },
     ghost has_room: { HasRoom first current stable operations limit room },
 }
 
@@ -73,17 +75,21 @@ impl LoggedLists {
         self.current.list(ext)
     }
 
-    /// A write of these bytes, of which the first `done` come to be read: one that succeeds where it
-    /// is all of them, or else one that fails.
+    /// A write of these bytes, of which the first `done` come to be read: one that succeeds where
+    /// it is all of them, or else one that fails.
     pub fn write(&mut self, ext: Extent, at: usize, bytes: &[u8], done: usize)
         requires operations { 0 < operation_room_of self.old }
         requires offset { at ≤ length (list_of ext (lists_history self.old).reads) }
         requires room { length bytes.now ≤ room_of self.old }
         requires done { done ≤ length bytes.now }
-        ensures log { log_of self.new ≡ with_operation (wrote ext at (length bytes.now) (take done bytes.now)) (log_of self.old) }
+        ensures log { log_of self.new
+            ≡ with_operation (wrote ext at (length bytes.now) (take done bytes.now))
+            (log_of self.old) }
         ensures succeeded { done ≡ length bytes.now
-            → Writes {E = DiskFailed} ext at bytes.now (Ok (tt {0})) (lists_history self.old) (lists_history self.new) }
-        ensures failed { Writes {T = Unit {0}} {E = DiskFailed} ext at bytes.now (Err (record {})) (lists_history self.old) (lists_history self.new) }
+            → Writes {E = DiskFailed} ext at bytes.now (Ok (tt {0}))
+            (lists_history self.old) (lists_history self.new) }
+        ensures failed { Writes {T = Unit {0}} {E = DiskFailed} ext at bytes.now (Err (record {}))
+            (lists_history self.old) (lists_history self.new) }
         ensures operations { operation_room_of self.old ≤ operation_room_of self.new + 1 }
         ensures room { room_of self.new + length bytes.now ≡ room_of self.old }
     {
@@ -98,8 +104,10 @@ impl LoggedLists {
         requires { 0 < operation_room_of self.old }
         ensures log { log_of self.new ≡ with_operation (cut ext len done) (log_of self.old) }
         ensures succeeded { done ≡ true
-            → Cuts {E = DiskFailed} ext len (Ok (tt {0})) (lists_history self.old) (lists_history self.new) }
-        ensures failed { Cuts {T = Unit {0}} {E = DiskFailed} ext len (Err (record {})) (lists_history self.old) (lists_history self.new) }
+            → Cuts {E = DiskFailed} ext len (Ok (tt {0}))
+            (lists_history self.old) (lists_history self.new) }
+        ensures failed { Cuts {T = Unit {0}} {E = DiskFailed} ext len (Err (record {}))
+            (lists_history self.old) (lists_history self.new) }
         ensures operations { operation_room_of self.old ≤ operation_room_of self.new + 1 }
         ensures room { room_of self.new ≡ room_of self.old }
     {
@@ -112,7 +120,8 @@ impl LoggedLists {
     pub fn sync(&mut self)
         requires { 0 < operation_room_of self.old }
         ensures log { log_of self.new ≡ with_operation synced (log_of self.old) }
-        ensures succeeded { Syncs {E = DiskFailed} (Ok (tt {0})) (lists_history self.old) (lists_history self.new) }
+        ensures succeeded { Syncs {E = DiskFailed} (Ok (tt {0}))
+            (lists_history self.old) (lists_history self.new) }
         ensures operations { operation_room_of self.old ≤ operation_room_of self.new + 1 }
         ensures room { room_of self.new ≡ room_of self.old }
     {
@@ -123,7 +132,8 @@ impl LoggedLists {
     /// Leaves what reads give or what the last sync left, all of it synced, and nothing of what was
     /// done before.
     pub fn crash(&mut self, keep: bool)
-        ensures log { log_of self.new ≡ new_log (if keep then (lists_history self.old).reads else last_synced (lists_history self.old).unsynced) }
+        ensures log { log_of self.new ≡ new_log (if keep then (lists_history self.old).reads
+            else last_synced (lists_history self.old).unsynced) }
         ensures operations { operation_room_of self.old ≤ operation_room_of self.new }
         ensures room { room_of self.new ≡ room_of self.old }
     {
@@ -137,8 +147,10 @@ impl LoggedLists {
 fn settle(current: &mut Lists, stable: &mut Lists, keep: bool)
     requires current { greatest_length (image_of stable.old) ≤ least_capacity current.old }
     requires stable { greatest_length (image_of current.old) ≤ least_capacity stable.old }
-    ensures current { image_of current.new ≡ (if keep then image_of current.old else image_of stable.old) }
-    ensures stable { image_of stable.new ≡ (if keep then image_of current.old else image_of stable.old) }
+    ensures current { image_of current.new
+        ≡ (if keep then image_of current.old else image_of stable.old) }
+    ensures stable { image_of stable.new
+        ≡ (if keep then image_of current.old else image_of stable.old) }
     ensures current_room { least_capacity current.old ≤ least_capacity current.new }
     ensures stable_room { least_capacity stable.old ≤ least_capacity stable.new }
 {

@@ -22,13 +22,13 @@ const MOST_BYTES: u64 = 1 << 62;
 
 /// A disk in memory. It has the lists of a single store, whatever name is attached.
 ///
-/// It takes room for so many written bytes and so many calls when it is made, and no memory later. A
-/// call past that room fails and does nothing. Calls are numbered from 1, those that fail too, and a
-/// call whose number is among `failing` fails. A write that fails so has written the first half of its
-/// bytes (the smaller half), as reads then tell; what a crash leaves of its whole range is open, and
-/// room for all of it is spent. A cut that fails so has cut nothing as reads tell; a crash may leave it
-/// cut. Any other call that fails so has done nothing. No call fails otherwise, but one that would pass
-/// 2^62 bytes.
+/// It takes room for so many written bytes and so many calls when it is made, and no memory later.
+/// A call past that room fails and does nothing. Calls are numbered from 1, those that fail too,
+/// and a call whose number is among `failing` fails. A write that fails so has written the first
+/// half of its bytes (the smaller half), as reads then tell; what a crash leaves of its whole range
+/// is open, and room for all of it is spent. A cut that fails so has cut nothing as reads tell; a
+/// crash may leave it cut. Any other call that fails so has done nothing. No call fails otherwise,
+/// but one that would pass 2^62 bytes.
 #[derive(Drop)]
 pub struct MemDisk {
     lists: LoggedLists,
@@ -41,7 +41,8 @@ pub struct MemDisk {
 impl MemDisk {
     ghost use Rattle.ax_disk.specs.mem_disk.MemDisk.{operation_log, disk_history, disk_faults, counted_reads, call_budget, disk_room, HasRoomFor};
 
-    /// A disk with these lists, all synced, and room for `room` bytes of writes and for `calls` calls.
+    /// A disk with these lists, all synced, and room for `room` bytes of writes and for `calls`
+    /// calls.
     pub fn make(
         alloc: Global,
         root: Vec<u8>,
@@ -51,8 +52,10 @@ impl MemDisk {
         calls: usize,
         failing: Vec<u64>,
     ) -> Result<MemDisk, Memory>
-        ensures lists { IfOk result (λ disk. operation_log disk ≡ new_log (record { root = root.items; a = a.items; b = b.items })) }
-        ensures calls { IfOk result (λ disk. call_budget disk ≡ record { remaining = calls; made = 0; failing = failing.items }) }
+        ensures lists { IfOk result (λ disk. operation_log disk
+            ≡ new_log (record { root = root.items; a = a.items; b = b.items })) }
+        ensures calls { IfOk result (λ disk. call_budget disk
+            ≡ record { remaining = calls; made = 0; failing = failing.items }) }
         ensures room { IfOk result (λ disk. disk_room disk ≡ room) }
         ensures reads { IfOk result (λ disk. counted_reads disk ≡ 0) }
         ensures faults { IfOk result (λ disk. disk_faults disk ≡ 0) }
@@ -87,10 +90,12 @@ impl MemDisk {
         self.faults.count()
     }
 
-    /// Crashes, and comes back. With `keep` the lists are then what reads gave, else what the last sync that succeeded left, or what the
-    /// disk was made with where none has succeeded. Nothing is then unsynced, and a new clock begins. It is no call, and takes no room.
+    /// Crashes, and comes back. With `keep` the lists are then what reads gave, else what the last
+    /// sync that succeeded left, or what the disk was made with where none has succeeded. Nothing
+    /// is then unsynced, and a new clock begins. It is no call, and takes no room.
     pub fn crash(&mut self, keep: bool)
-        ensures lists { operation_log self.new ≡ new_log (if keep then (disk_history self.old).reads else last_synced (disk_history self.old).unsynced) }
+        ensures lists { operation_log self.new ≡ new_log (if keep then (disk_history self.old).reads
+            else last_synced (disk_history self.old).unsynced) }
         ensures left { MayLeave (disk_history self.old).unsynced (disk_history self.new).reads }
         ensures calls { call_budget self.new ≡ call_budget self.old }
         ensures room { disk_room self.new ≡ disk_room self.old }
@@ -163,7 +168,8 @@ impl Disk for MemDisk {
         ensures untouched { operation_log self.new ≡ operation_log self.old }
         ensures cause { HasCause result (disk_faults self.old) (disk_faults self.new) }
         ensures succeeds { IsOk result
-            ↔ (Allows (call_budget self.old) × (length (list_of ext (disk_history self.old).reads) ≤ 2 ^ 62)) }
+            ↔ (Allows (call_budget self.old)
+            × (length (list_of ext (disk_history self.old).reads) ≤ 2 ^ 62)) }
         ensures counts { CountsOnce result (disk_faults self.old) (disk_faults self.new) }
         ensures calls { call_budget self.new ≡ after_call (call_budget self.old) }
         ensures room { disk_room self.new ≡ disk_room self.old }
@@ -180,7 +186,8 @@ impl Disk for MemDisk {
     }
 
     fn read(&mut self, ext: Extent, at: u64, buf: &mut [u8]) -> Result<(), DiskFailed>
-        ensures bytes { OnOk result (buf.new ≡ bytes_from (list_of ext (disk_history self.old).reads) at (length buf.old)) }
+        ensures bytes { OnOk result (buf.new
+            ≡ bytes_from (list_of ext (disk_history self.old).reads) at (length buf.old)) }
         ensures unread { OnErr result (buf.new ≡ buf.old) }
         ensures lists { Idles (disk_history self.old) (disk_history self.new) }
         ensures untouched { operation_log self.new ≡ operation_log self.old }
@@ -206,16 +213,21 @@ impl Disk for MemDisk {
 
     fn write_at(&mut self, ext: Extent, at: u64, bytes: &[u8]) -> Result<(), DiskFailed>
         requires { at ≤ length (list_of ext (disk_history self.old).reads) }
-        ensures lists { Writes ext at bytes.now result (disk_history self.old) (disk_history self.new) }
+        ensures lists { Writes ext at bytes.now result
+            (disk_history self.old) (disk_history self.new) }
         ensures limit { 2 ^ 62 < at + length bytes.now → IsErr result }
         ensures cause { HasCause result (disk_faults self.old) (disk_faults self.new) }
         ensures counts { CountsOnce result (disk_faults self.old) (disk_faults self.new) }
         ensures succeeds { IsOk result
-            ↔ (HasRoomFor at (length bytes.now) self.old × (fails_next (call_budget self.old) ≡ false)) }
+            ↔ (HasRoomFor at (length bytes.now) self.old
+            × (fails_next (call_budget self.old) ≡ false)) }
 
         // One that has room and is numbered to fail writes the first half of its bytes.
         ensures half { IsErr result → HasRoomFor at (length bytes.now) self.old
-            → operation_log self.new ≡ with_operation (wrote ext at (length bytes.now) (take (length bytes.now / 2) bytes.now)) (operation_log self.old) }
+            → operation_log self.new
+            ≡ with_operation
+            (wrote ext at (length bytes.now) (take (length bytes.now / 2) bytes.now))
+            (operation_log self.old) }
         ensures refused { LacksRoomFor at (length bytes.now) self.old
             → operation_log self.new ≡ operation_log self.old }
 

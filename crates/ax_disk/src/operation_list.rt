@@ -43,7 +43,8 @@ impl OperationList {
     pub fn add_write(&mut self, ext: Extent, at: usize, size: usize, bytes: &[u8])
         requires operations { 0 < spare_operations self.old }
         requires bytes { length bytes.now ≤ spare_bytes self.old }
-        ensures added { operations_in self.new ≡ operations_in self.old ++ wrote ext at size bytes.now ∷ [] }
+        ensures added { operations_in self.new
+            ≡ operations_in self.old ++ wrote ext at size bytes.now ∷ [] }
         ensures operations { spare_operations self.old ≤ spare_operations self.new + 1 }
         ensures bytes { spare_bytes self.old ≤ spare_bytes self.new + length bytes.now }
     {

@@ -1,8 +1,8 @@
 -- What a crash may leave after a call, in terms of what it might have left before, whether the call succeeded or failed.
-use Rattle.std.proofs.Common.{◌≡◌, ◌⊎◌, inl, inr, ⊎_elim, ℕ, List, length, Result, Ok, Err, sym, ◌∙◌, ap, subst}
+use Rattle.std.proofs.Common.{◌≡◌, ⊎_elim, ℕ, List, length, Result, Ok, Err, sym, ◌∙◌, subst}
 use Rattle.ax_disk.specs.declared.extent.Extent.{Extent}
 use Rattle.ax_disk.specs.model.Image.{Image}
-use Rattle.ax_disk.specs.model.Pending.{Unsynced, MayLeave, all_settled, after_write, after_cut}
+use Rattle.ax_disk.specs.model.Pending.{Unsynced, MayLeave, after_write, after_cut}
 use Rattle.ax_disk.specs.laws.PendingLaws.{all_settled_only, after_write_allows, after_cut_allows}
 use Rattle.ax_disk.specs.model.Moments.{History}
 use Rattle.ax_disk.specs.model.Calls.{Idles, Writes, Cuts, Syncs}

@@ -9,7 +9,8 @@ image_of lists = record { root = lists.root.items; a = lists.a.items; b = lists.
 
 -- each list has room for so many bytes
 abbrev pub least_capacity : Lists → ℕ
-least_capacity lists = min (vec_capacity lists.root) (min (vec_capacity lists.a) (vec_capacity lists.b))
+least_capacity lists =
+    min (vec_capacity lists.root) (min (vec_capacity lists.a) (vec_capacity lists.b))
 
 -- the length of the longest list
 abbrev pub greatest_length : Image → ℕ

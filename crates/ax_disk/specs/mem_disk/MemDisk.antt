@@ -1,4 +1,5 @@
--- What a disk in memory shows: what was done to it and the history of that, its counts, and what it may still do.
+-- What a disk in memory shows: what was done to it and the history of that, its counts, and what it
+-- may still do.
 use Rattle.std.specs.Prelude.{◌≡◌, ◌⊎◌, ℕ, ◌+◌, ◌^◌, ◌<◌, ◌≤◌}
 use Rattle.ax_disk.specs.declared.mem_disk.MemDisk.{MemDisk}
 use Rattle.ax_disk.specs.model.Pending.{MayLeave}
@@ -35,10 +36,12 @@ pub record HasRoomFor (at size : ℕ) (disk : MemDisk) : Type 0 where
 
 -- one of these is wanting
 abbrev pub LacksRoomFor : ℕ → ℕ → MemDisk → Type 0
-LacksRoomFor at size disk = ((call_budget disk).remaining ≡ 0) ⊎ (disk_room disk < size) ⊎ (2 ^ 62 < at + size)
+LacksRoomFor at size disk =
+    ((call_budget disk).remaining ≡ 0) ⊎ (disk_room disk < size) ⊎ (2 ^ 62 < at + size)
 
 -- an image as read is one of those that a crash now may leave
-pub disk_reads_may_stay : (disk : MemDisk) → MayLeave (disk_history disk).unsynced (disk_history disk).reads
+pub disk_reads_may_stay : (disk : MemDisk)
+    → MayLeave (disk_history disk).unsynced (disk_history disk).reads
 disk_reads_may_stay disk = reads_may_stay disk.lists
 
 pub disk_is_current : (disk : MemDisk) → IsCurrent (disk_history disk)

@@ -1,4 +1,5 @@
--- The operations whose heads stand in one list and the bytes of whose writes in another, one write after another.
+-- The operations whose heads stand in one list and the bytes of whose writes in another, one write
+-- after another.
 use Rattle.std.specs.Prelude.{ℕ, ◌+◌, List, [], ◌∷◌, take, drop}
 use Rattle.ax_disk.specs.declared.operation_head.OperationHead.{OperationHead}
 use Rattle.ax_disk.specs.declared.operation_head.OperationHead.TheVariants.{Wrote, Cut, Synced}
@@ -13,6 +14,7 @@ written_size (Synced ∷ heads) = written_size heads
 
 abbrev pub operations_of : List OperationHead → List ℕ → List Operation
 operations_of [] bytes = []
-operations_of (Wrote ext at size done ∷ heads) bytes = wrote ext at size (take done bytes) ∷ operations_of heads (drop done bytes)
+operations_of (Wrote ext at size done ∷ heads) bytes =
+    wrote ext at size (take done bytes) ∷ operations_of heads (drop done bytes)
 operations_of (Cut ext len done ∷ heads) bytes = cut ext len done ∷ operations_of heads bytes
 operations_of (Synced ∷ heads) bytes = synced ∷ operations_of heads bytes

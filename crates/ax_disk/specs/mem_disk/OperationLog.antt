@@ -29,7 +29,8 @@ after_operation (wrote ext at size bytes) state = record {
   unsynced = after_write ext at size state.unsynced;
 }
 after_operation (cut ext len done) state = record {
-  reads = if done then with_list ext (take len (list_of ext state.reads)) state.reads else state.reads;
+  reads =
+      if done then with_list ext (take len (list_of ext state.reads)) state.reads else state.reads;
   unsynced = after_cut ext len state.unsynced;
 }
 after_operation synced state = synced_state state.reads
@@ -37,7 +38,8 @@ after_operation synced state = synced_state state.reads
 -- after these operations, the oldest first
 abbrev pub after_operations : State → List Operation → State
 after_operations state [] = state
-after_operations state (operation ∷ operations) = after_operations (after_operation operation state) operations
+after_operations state (operation ∷ operations) =
+    after_operations (after_operation operation state) operations
 
 -- what was done to lists that were all synced at first, the oldest operation first
 pub record OperationLog : Type 0 where

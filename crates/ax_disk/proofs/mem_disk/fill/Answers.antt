@@ -10,5 +10,6 @@ returns c =
     let count = c.min-count.result in
     let start_is : start ≡ min c.args.at (length list) = c.min-start.ensures in
     let count_is : count ≡ min (length buffer) (length list - start) = c.min-count.ensures in
-    let copied_is : c.copy_from_slice.new.self ≡ take count (drop start list) = c.copy_from_slice.ensures.after ∙ ap (λ n. take n (drop start list)) (omega arith) in
+    let copied_is : c.copy_from_slice.new.self ≡ take count (drop start list) =
+    c.copy_from_slice.ensures.after ∙ ap (λ n. take n (drop start list)) (omega arith) in
     filled_buffer list buffer c.copy_from_slice.new.self c.fill.new.self c.args.at start count start_is count_is copied_is (c.fill.ensures.after (λ y is. is))

@@ -4,7 +4,8 @@ use Rattle.ax_disk.specs.mem_disk.Lists.{image_of, IsOfBytes, greatest_length}
 use Rattle.ax_disk.proofs.Matching.{match_anew}
 use Rattle.ax_disk.proofs.logged_lists.LoggedLists.crash.Goals as goal
 
-shorter : (keep : Bool) (x y : Image) → greatest_length (if keep then x else y) ≤ max (greatest_length x) (greatest_length y)
+shorter : (keep : Bool) (x y : Image)
+    → greatest_length (if keep then x else y) ≤ max (greatest_length x) (greatest_length y)
 shorter true x y = omega arith
 shorter false x y = omega arith
 
@@ -26,7 +27,9 @@ invariant_of-self-clause-has_room c =
       first_room = omega (arith, m.has_room.first_room, c.set.ensures.room);
       current_room = omega (arith, m.has_room.current_room, c.settle.ensures.current_room);
       stable_room = omega (arith, m.has_room.stable_room, c.settle.ensures.stable_room);
-      current_length = omega (arith, m.has_room.current_length, m.has_room.stable_length, chosen, current);
-      stable_length = omega (arith, m.has_room.current_length, m.has_room.stable_length, chosen, stable);
+      current_length =
+          omega (arith, m.has_room.current_length, m.has_room.stable_length, chosen, current);
+      stable_length =
+          omega (arith, m.has_room.current_length, m.has_room.stable_length, chosen, stable);
       bytes = omega (arith, m.has_room.bytes, c.clear.ensures.bytes);
     }

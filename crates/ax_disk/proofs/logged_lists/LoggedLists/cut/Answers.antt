@@ -10,7 +10,10 @@ use Rattle.ax_disk.proofs.logged_lists.LoggedLists.cut.Goals as goal
 pub invariant_of-self-clause-matching : goal.invariant_of-self-clause-matching
 invariant_of-self-clause-matching c =
     let m = c.args.self.now in
-    let added = c.add_cut.ensures.added ∙ ap (λ done. operations_in m.operations ++ cut c.args.ext c.args.len done ∷ []) c.if-done.true in
+    let added = c.add_cut.ensures.added
+    ∙ ap
+    (λ done. operations_in m.operations
+    ++ cut c.args.ext c.args.len done ∷ []) c.if-done.true in
     match_as _ _ _ _ _ _ _ added c.cut.ensures.cut refl
     (match_cut (log_of m) (image_of m.current) (image_of m.stable) c.args.ext c.args.len m.matching)
 
@@ -31,9 +34,13 @@ invariant_of-self-clause-has_room c =
 pub invariant_of-self-else-done-clause-matching : goal.invariant_of-self-else-done-clause-matching
 invariant_of-self-else-done-clause-matching c =
     let m = c.args.self.now in
-    let added = c.add_cut.ensures.added ∙ ap (λ done. operations_in m.operations ++ cut c.args.ext c.args.len done ∷ []) c.if-done.false in
+    let added = c.add_cut.ensures.added
+    ∙ ap
+    (λ done. operations_in m.operations
+    ++ cut c.args.ext c.args.len done ∷ []) c.if-done.false in
     match_as _ _ _ _ _ _ _ added refl refl
-    (match_no_cut (log_of m) (image_of m.current) (image_of m.stable) c.args.ext c.args.len m.matching)
+    (match_no_cut (log_of m) (image_of m.current)
+    (image_of m.stable) c.args.ext c.args.len m.matching)
 
 pub invariant_of-self-else-done-clause-has_room : goal.invariant_of-self-else-done-clause-has_room
 invariant_of-self-else-done-clause-has_room c =
@@ -50,17 +57,24 @@ invariant_of-self-else-done-clause-has_room c =
 pub returns-then-done-clause-succeeded : goal.returns-then-done-clause-succeeded
 returns-then-done-clause-succeeded c =
     let m = c.args.self.now in
-    let added = ap (λ operations. record { first = image_of m.first; operations = operations }) c.add_cut.ensures.added in
-    λ done. cuts_done c.args.ext c.args.len (tt {0}) (log_of m) _ (added ∙ ap (λ is. with_operation (cut c.args.ext c.args.len is) (log_of m)) done)
+    let added =
+    ap (λ operations. record
+    { first = image_of m.first; operations = operations }) c.add_cut.ensures.added in
+    λ done. cuts_done c.args.ext c.args.len (tt {0}) (log_of m) _
+    (added ∙ ap (λ is. with_operation (cut c.args.ext c.args.len is) (log_of m)) done)
 
 pub returns-then-done-clause-failed : goal.returns-then-done-clause-failed
 returns-then-done-clause-failed c =
     let m = c.args.self.now in
-    let added = ap (λ operations. record { first = image_of m.first; operations = operations }) c.add_cut.ensures.added in
+    let added =
+    ap (λ operations. record
+    { first = image_of m.first; operations = operations }) c.add_cut.ensures.added in
     cuts_failed c.args.ext c.args.len c.args.done (record {}) (log_of m) _ added (reads_may_stay m)
 
 pub returns-else-done-clause-failed : goal.returns-else-done-clause-failed
 returns-else-done-clause-failed c =
     let m = c.args.self.now in
-    let added = ap (λ operations. record { first = image_of m.first; operations = operations }) c.add_cut.ensures.added in
+    let added =
+    ap (λ operations. record
+    { first = image_of m.first; operations = operations }) c.add_cut.ensures.added in
     cuts_failed c.args.ext c.args.len c.args.done (record {}) (log_of m) _ added (reads_may_stay m)

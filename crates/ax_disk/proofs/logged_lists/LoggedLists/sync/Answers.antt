@@ -8,7 +8,8 @@ use Rattle.ax_disk.proofs.logged_lists.LoggedLists.sync.Goals as goal
 pub invariant_of-self-clause-matching : goal.invariant_of-self-clause-matching
 invariant_of-self-clause-matching c =
     let m = c.args.self.now in
-    match_as _ _ _ _ _ _ _ c.add_sync.ensures.added refl c.set.ensures.same (match_sync (log_of m) (image_of m.current) (image_of m.stable) m.matching)
+    match_as _ _ _ _ _ _ _ c.add_sync.ensures.added refl c.set.ensures.same
+    (match_sync (log_of m) (image_of m.current) (image_of m.stable) m.matching)
 
 pub invariant_of-self-clause-has_room : goal.invariant_of-self-clause-has_room
 invariant_of-self-clause-has_room c =
@@ -26,5 +27,7 @@ invariant_of-self-clause-has_room c =
 pub returns-clause-succeeded : goal.returns-clause-succeeded
 returns-clause-succeeded c =
     let m = c.args.self.now in
-    let added = ap (λ operations. record { first = image_of m.first; operations = operations }) c.add_sync.ensures.added in
+    let added =
+    ap (λ operations. record
+    { first = image_of m.first; operations = operations }) c.add_sync.ensures.added in
     syncs_done (tt {0}) (log_of m) _ added (reads_may_stay m)
