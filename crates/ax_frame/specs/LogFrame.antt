@@ -18,7 +18,8 @@ open_frame body = open_head (length body) ++ body
 abbrev pub frame_bytes : List PartValue → List ℕ
 frame_bytes ps = open_frame (parts_bytes ps)
 
--- what a log frame can have: at least one part, each with a spelling, and no more bytes than its length can say
+-- what a log frame can have: at least one part, each with a spelling, and no more bytes than its
+-- length can say
 pub record CanFrame (ps : List PartValue) : Type 0 where
   pub some : ps ≢ []
   pub fit : AllFit ps

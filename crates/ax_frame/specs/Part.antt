@@ -1,5 +1,6 @@
--- Parts, the unit of what a store writes: a kind, a key and a payload, and the one spelling of each list of them.
--- From the store's own file format (docs/FORMAT.md, "Parts"); no other document has it.
+-- Parts, the unit of what a store writes: a kind, a key and a payload, and the one spelling of each
+-- list of them. From the store's own file format (docs/FORMAT.md, "Parts"); no other document has
+-- it.
 use Rattle.std.specs.Prelude.{◌≡◌, ℕ, ◌<◌, ◌≤◌, ◌^◌, List, ◌∷◌, ◌++◌, length}
 use Rattle.std.specs.List.{flat_map, AllByRecursion}
 use Rattle.std.specs.Int.{w32, to_le_bytes}
@@ -28,7 +29,8 @@ part_bytes p = head_bytes p.kind p.key (length p.payload) ++ p.payload
 abbrev pub parts_bytes : List PartValue → List ℕ
 parts_bytes ps = flat_map part_bytes ps
 
--- What has a spelling. That kind and payload are bytes needs no saying: they stand in the spelling as they are.
+-- What has a spelling. That kind and payload are bytes needs no saying: they stand in the spelling
+-- as they are.
 pub record Fits (p : PartValue) : Type 0 where
   pub key_fits : p.key < 2 ^ 32
   pub payload_fits : length p.payload ≤ 65536
@@ -51,7 +53,8 @@ pub record BeginsWithPart (bytes : List ℕ) (p : PartValue) (rest : List ℕ) :
 abbrev pub NoPart : List ℕ → Type 0
 NoPart bytes = (p : PartValue) (rest : List ℕ) → BeginsWithPart bytes p rest → ⊥
 
--- nine bytes are the head of a part: they say this kind, key and length, whether or not so long a payload is allowed
+-- nine bytes are the head of a part: they say this kind, key and length, whether or not so long a
+-- payload is allowed
 pub record IsPartHead (bytes : List ℕ) (head : PartHead) : Type 0 where
   pub spelled : bytes ≡ head_bytes head.kind head.key head.len
   pub key_fits : head.key < 2 ^ 32

@@ -1,4 +1,5 @@
--- A frame read in pieces, its head and each part's head on their own, as a layer does that spells only a little of a file.
+-- A log frame read in pieces, its head and each part's head on their own, as a layer does that
+-- reads only a little of a file at a time.
 -- From the store's own file format (docs/FORMAT.md, "Frames"); no other document has it.
 use Rattle.std.specs.Prelude.{◌≡◌, ℕ, ◌≤◌, List, [], ◌∷◌, length, take, drop}
 use Rattle.ax_frame.specs.declared.part.PartHead.{PartHead}
@@ -10,8 +11,8 @@ use Rattle.ax_frame.specs.LogFrame.{IsFrameHead}
 abbrev pub head_of_part : PartValue → PartHead
 head_of_part p = record { kind = p.kind; key = p.key; len = length p.payload }
 
--- The first nine bytes are the head of the first part, its payload follows, and the next part behind it,
--- to the last byte.
+-- The first nine bytes are the head of the first part, its payload follows, and the next part
+-- behind it, to the last byte.
 abbrev pub PartsInPieces : List ℕ → List PartValue → Type 0
 PartsInPieces bytes [] = bytes ≡ []
 PartsInPieces bytes (p ∷ ps) =
@@ -19,7 +20,8 @@ PartsInPieces bytes (p ∷ ps) =
     × (take (length p.payload) (drop 9 bytes) ≡ p.payload)
     × PartsInPieces (drop (length p.payload) (drop 9 bytes)) ps
 
--- The first nine bytes are the head of a log frame. The bytes that it spans are the parts, and the rest follows them.
+-- The first nine bytes are the head of a log frame. The bytes that it spans are the parts, and the
+-- rest follows them.
 pub record FrameInPieces (bytes : List ℕ) (ps : List PartValue) (rest : List ℕ) : Type 0 where
   pub len : ℕ
   pub head : IsFrameHead (take 9 bytes) (Frame len)

@@ -1,6 +1,6 @@
--- The parts that bytes spell, as contracts see a `PartsText` and a `FrameParts`.
--- It is the inverse of the spelling in Part (docs/FORMAT.md, "Parts"): of any other bytes it says nothing, and no clause
--- cites it.
+-- The parts that bytes spell, as contracts see a `PartsText` and a `FrameParts`. It is the inverse
+-- of the spelling in Part (docs/FORMAT.md, "Parts"): of any other bytes it says nothing, and no
+-- clause cites it.
 use Rattle.std.specs.Prelude.{◌≡◌, ℕ, zero, suc, List, [], ◌∷◌, length, take, drop}
 use Rattle.std.specs.Int.{w32, from_le_bytes}
 use Rattle.ax_frame.specs.Part.{PartValue, parts_bytes, AllFit}

@@ -13,7 +13,8 @@ pub fn one_slot()
     ensures { (bytes : List ℕ) (one other : RootSlot) → IsSlot bytes one → IsSlot bytes other → one ≡ other }
 {}
 
-/// Two parts with which the same bytes begin are the same, and so is what follows: no part is a prefix of another.
+/// Two parts with which the same bytes begin are the same, and so is what follows: no part is a
+/// prefix of another.
 pub fn one_part()
     ensures { (one other : PartValue) (x y : List ℕ) → Fits one → Fits other
         → part_bytes one ++ x ≡ part_bytes other ++ y → (one ≡ other) × (x ≡ y) }
@@ -30,7 +31,8 @@ pub fn one_frame()
         → BeginsWithFrame bytes one x → BeginsWithFrame bytes other y → (one ≡ other) × (x ≡ y) }
 {}
 
-/// Reading a log frame in pieces, by `frame_head` and then `part_head`, gives its parts and no others.
+/// Reading a log frame in pieces, by `frame_head` and then `part_head`, gives its parts and no
+/// others.
 pub fn frame_in_pieces()
     ensures gives { (bytes : List ℕ) (ps : List PartValue) (rest : List ℕ)
         → BeginsWithFrame bytes ps rest → FrameInPieces bytes ps rest }
@@ -44,7 +46,8 @@ pub fn parts_in_pieces()
         → PartsInPieces bytes ps ↔ (AllFit ps × (bytes ≡ parts_bytes ps)) }
 {}
 
-/// Whether bytes are parts, from the first part on: exactly where what follows it is, and not where no part begins them.
+/// Whether bytes are parts, from the first part on: exactly where what follows it is, and not where
+/// no part begins them.
 pub fn part_by_part()
     ensures first { (bytes : List ℕ) (p : PartValue) (rest : List ℕ)
         → BeginsWithPart bytes p rest → AreParts bytes ↔ AreParts rest }
@@ -53,8 +56,8 @@ pub fn part_by_part()
         → bytes ≡ parts_bytes ps ++ rest → AreParts bytes ↔ AreParts rest }
 {}
 
-/// Where some parts are followed by what no part begins, both are known: so bytes that are not parts are so from one
-/// offset on.
+/// Where some parts are followed by what no part begins, both are known: so bytes that are not
+/// parts are so from one offset on.
 pub fn one_end()
     ensures { (one other : List PartValue) (x y : List ℕ) → AllFit one → AllFit other → NoPart x → NoPart y
         → parts_bytes one ++ x ≡ parts_bytes other ++ y → (one ≡ other) × (x ≡ y) }
@@ -65,8 +68,8 @@ pub fn one_head()
     ensures { (bytes : List ℕ) (one other : FrameHead) → IsFrameHead bytes one → IsFrameHead bytes other → one ≡ other }
 {}
 
-/// The five ways in which bytes begin with no log frame. Where none of them is so, they begin with one, by
-/// `frame_by_head`.
+/// The five ways in which bytes begin with no log frame. Where none of them is so, they begin with
+/// one, by `frame_by_head`.
 pub fn no_frame()
     ensures short { (bytes : List ℕ) → length bytes < 9 → NoFrame bytes }
     ensures closed { (bytes : List ℕ) → slice_index bytes 0 ≢ 1 → NoFrame bytes }

@@ -1,10 +1,11 @@
 //! The byte formats of a store's root and log: root slots, log frames, and the parts in log frames.
 //!
-//! A root slot names the area that counts. An area is one log frame after another, up to a closed gate. A log frame is
-//! one change of the store, written whole: a list of parts, each a kind, a key and a payload.
+//! A root slot names the area that counts. An area is one log frame after another, up to a closed
+//! gate. A log frame is one change of the store, written whole: a list of parts, each a kind, a key
+//! and a payload.
 //!
-//! It stands on no other crate. Its one contract: bytes and values are related by one spelling for each value, what is
-//! read is spelled so, and what is spelled so is read, whatever follows it.
+//! It stands on no other crate. Its one contract: bytes and values are related by one spelling for
+//! each value, what is read is spelled so, and what is spelled so is read, whatever follows it.
 #![tactic(auto)]
 
 pub mod laws;

@@ -74,8 +74,9 @@ impl<'a> FrameParts<'a> {
         Some(part)
     }
 
-    /// How many bytes the remaining parts take. Before the first `next` that is what the frame's head says, and the frame
-    /// ends nine bytes later: `frame_bytes` of the list has nine bytes before those of its parts.
+    /// How many bytes the remaining parts take. Before the first `next` that is what the frame's
+    /// head says, and the frame ends nine bytes later: `frame_bytes` of the list has nine bytes
+    /// before those of its parts.
     pub fn remaining_len(&self) -> usize
         ensures { result ≡ length (parts_bytes self.now) }
     {
@@ -83,8 +84,8 @@ impl<'a> FrameParts<'a> {
     }
 }
 
-/// The bytes that the open frame at the beginning spans, and the bytes after it. `None` exactly where no open frame of at
-/// least one byte stands there whole.
+/// The bytes that the open frame at the beginning spans, and the bytes after it. `None` exactly
+/// where no open frame of at least one byte stands there whole.
 #[tactic(auto, using(crate::proofs::Frames::body_found))]
 fn frame_body(bytes: &[u8]) -> Option<(&[u8], &[u8])>
     ensures fits { IfSome result (λ x. (0 < length x.0.now) × (length x.0.now < 2 ^ 64)) }
@@ -101,8 +102,8 @@ fn frame_body(bytes: &[u8]) -> Option<(&[u8], &[u8])>
 
 /// The parts of the open frame with which the bytes begin, whatever follows it. It takes no memory.
 ///
-/// `NotFrame` exactly where they begin with none: the gate is not 1, the length is 0 or runs past the end of the bytes,
-/// or what it spans is not one well-formed part after another.
+/// `NotFrame` exactly where they begin with none: the gate is not 1, the length is 0 or runs past
+/// the end of the bytes, or what it spans is not one well-formed part after another.
 pub fn read_frame(bytes: &[u8]) -> Result<FrameParts<'_>, NotFrame>
     ensures found { IfOk result (λ ps. (rest : List ℕ) × BeginsWithFrame bytes.now ps rest) }
     ensures only { (ps : List PartValue) (rest : List ℕ) → BeginsWithFrame bytes.now ps rest
@@ -120,7 +121,8 @@ pub fn read_frame(bytes: &[u8]) -> Result<FrameParts<'_>, NotFrame>
 
 /// The frame of these parts without its own gate: length, parts, and the closed gate that follows.
 ///
-/// The gate is written apart, as the last step of a commit. `Memory` where there is no room for the bytes.
+/// The gate is written apart, as the last step of a commit. `Memory` where there is no room for the
+/// bytes.
 pub fn write_frame(alloc: Global, parts: &PartsText) -> Result<Vec<u8>, Memory>
     requires { parts.now ≢ [] }
     ensures spelled { IfOk result (λ bytes. 1 ∷ bytes.items ≡ frame_bytes parts.now ++ 0 ∷ []) }

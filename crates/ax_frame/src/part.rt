@@ -7,7 +7,8 @@ ghost use Rattle.ax_frame.specs.declared.part.PartHead.{PartHead};
 /// The most bytes that a payload may have.
 pub const MOST_PAYLOAD: usize = 65_536;
 
-/// One part of a frame. What kinds there are, and what their payloads mean, is for the layers above.
+/// One part of a frame. What kinds there are, and what their payloads mean, is for the layers
+/// above.
 #[derive(Clone, Copy, Debug)]
 pub struct Part<'a> {
     /// What the payload is.
@@ -29,7 +30,8 @@ pub struct PartHead {
     pub len: u32,
 }
 
-/// The head of a part. It is the first nine bytes of one exactly where the length is at most 65,536.
+/// The head of a part. It is the first nine bytes of one exactly where the length is at most
+/// 65,536.
 pub fn part_head(bytes: &[u8; 9]) -> PartHead
     ensures is { IsPartHead bytes.now result }
     ensures only { (head : PartHead) → IsPartHead bytes.now head → head ≡ result }
@@ -51,11 +53,11 @@ pub(crate) fn head_of(kind: u8, key: u32, len: u32) -> [u8; 9]
     [kind, k0, k1, k2, k3, l0, l1, l2, l3]
 }
 
-/// The part at the beginning of the bytes, and the bytes after it. `None` exactly where no part stands there: fewer than
-/// nine bytes, a length above 65,536, or one that runs past the end.
+/// The part at the beginning of the bytes, and the bytes after it. `None` exactly where no part
+/// stands there: fewer than nine bytes, a length above 65,536, or one that runs past the end.
 ///
-/// A layer that goes from part to part by this call knows of each the offset at which it stands, and of bytes that are
-/// not parts the offset of the first that is none.
+/// A layer that goes from part to part by this call knows of each the offset at which it stands,
+/// and of bytes that are not parts the offset of the first that is none.
 pub fn split_part(bytes: &[u8]) -> Option<(Part<'_>, &[u8])>
     ensures found { IfSome result (λ x. BeginsWithPart bytes.now (part_value x.0) x.1.now) }
     ensures only { (p : PartValue) (rest : List ℕ) → BeginsWithPart bytes.now p rest

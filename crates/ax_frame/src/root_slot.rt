@@ -17,7 +17,8 @@ pub enum RootSlot {
         /// Of two open slots the one with the greater generation counts.
         generation: u64,
     },
-    /// The gate is open, and the bytes name nothing: version 0, an area other than 1 and 2, or a wrong mark.
+    /// The gate is open, and the bytes name nothing: version 0, an area other than 1 and 2, or a
+    /// wrong mark.
     Bad,
 }
 

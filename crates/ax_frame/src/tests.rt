@@ -10,8 +10,8 @@ const OPEN_SLOT: [u8; 16] = [
     0x01, 0x01, 0x00, 0x01, 0x01, 0x00, 0x00, 0x00, 0x00, 0x00, 0x00, 0x00, 0x41, 0x58, 0x44, 0x42,
 ];
 
-/// The area of a store with the one document `{"id":"a"}`: a frame of a document, of the next number and of a change of a
-/// page of terms, and the closed gate.
+/// The area of a store with the one document `{"id":"a"}`: a frame of a document, of the next
+/// number and of a change of a page of terms, and the closed gate.
 const AREA: [u8; 64] = [
     0x01, 0x36, 0x00, 0x00, 0x00, 0x00, 0x00, 0x00, 0x00, // an open frame of 54 bytes
     0x03, 0x01, 0x00, 0x00, 0x00, 0x0B, 0x00, 0x00, 0x00, // kind 3, key 1, 11 bytes

@@ -5,7 +5,8 @@ use Rattle.std.proofs.lemmas.List.{at_drop_more}
 use Rattle.std.proofs.lemmas.Nat.{mul-le}
 use Rattle.ax_gap.specs.Reading.{first_varint, longer, at_most}
 
--- what is read where so many groups came before, which stand for `low`, and the next group counts `scale`
+-- what is read where so many groups came before, which stand for `low`, and the next group counts
+-- `scale`
 abbrev pub placed : ℕ → ℕ → ℕ → Option (ℕ × List ℕ) → Option (ℕ × List ℕ)
 placed low scale taken None = None
 placed low scale taken (Some found) =

@@ -1,4 +1,5 @@
--- The set operations on lists that rise strictly, as functions on lists, and what each step of a merge does to them.
+-- The set operations on lists that rise strictly, as functions on lists, and what each step of a
+-- merge does to them.
 use Rattle.std.proofs.Common.{◌≡◌, ℕ, ◌+◌, ◌<◌, ◌≤◌, ◌==◌, ◌||◌, List, [], ◌∷◌, ◌++◌, length, get_or, drop, arith, refl, ap, ◌∙◌, sym, Bool, true, false, not, nat_lt, if◌then◌else◌, filter, ⊎_elim, ◌⊎◌}
 use Rattle.std.proofs.lemmas.Bool.{lt-ltb, le-ltb, ne_eqb, eq-eqb, cases_order}
 use Rattle.std.proofs.lemmas.List.{drop_more, drop_all, append_assoc, append-nil}

@@ -1,4 +1,5 @@
--- Lists that rise strictly, by recursion: no number is below `least`, and each later one is above the one before.
+-- Lists that rise strictly, by recursion: no number is below `least`, and each later one is above
+-- the one before.
 use Rattle.std.proofs.Common.{◌≡◌, ℕ, ◌+◌, ◌<◌, ◌≤◌, List, [], ◌∷◌, zero, suc, length, get_or, arith, refl, All}
 use Rattle.std.specs.List.Sorted.{IsStrictlyIncreasing}
 use Rattle.std.proofs.lemmas.List.Elements.{All-head, All-tail, All-nil, All-cons}

@@ -1,4 +1,5 @@
--- How the fields of a cursor stand for the numbers that it has still to give. Callers see `RemainingGaps` alone.
+-- How the fields of a cursor stand for the numbers that it has still to give. Callers see
+-- `RemainingGaps` alone.
 use Rattle.std.specs.Prelude.{ℕ, ◌≤◌, ◌^◌, List, [], Option, Some, None, IsSome}
 use Rattle.ax_gap.specs.Reading.{first_gaps}
 use Rattle.ax_gap.specs.Remaining.{RemainingGaps}

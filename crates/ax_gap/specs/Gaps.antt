@@ -1,6 +1,7 @@
--- Gap lists: a list of numbers that rise strictly, as the varint of their count and then a varint for each number. The
--- first is the number; each later one is its difference from the number before, less 1. Delta coding of sorted
--- numbers as in the posting lists of text indexes (Zobel and Moffat, "Inverted files for text search engines", 2006).
+-- Gap lists: a list of numbers that rise strictly, as the varint of their count and then a varint
+-- for each number. The first is the number; each later one is its difference from the number
+-- before, less 1. Delta coding of sorted numbers as in the posting lists of text indexes (Zobel and
+-- Moffat, "Inverted files for text search engines", 2006).
 use Rattle.std.specs.Prelude.{◌≡◌, ℕ, ◌+◌, ◌-◌, ◌<◌, ◌≤◌, ◌^◌, List, [], ◌∷◌, ◌++◌, length, All}
 use Rattle.std.specs.List.Sorted.{IsStrictlyIncreasing}
 use Rattle.ax_gap.specs.Varint.{IsVarint, varint}
@@ -10,8 +11,9 @@ pub record IsRisingList (list : List ℕ) : Type 0 where
   pub rising : IsStrictlyIncreasing list
   pub numbers : All (λ n. n < 2 ^ 32) list
 
--- The bytes are the gaps of these numbers, none of which is below `least`. A gap is how far a number is above the least
--- one that may stand there: 0 at first, and then the number before, plus 1.
+-- The bytes are the gaps of these numbers, none of which is below `least`. A gap is how far a
+-- number is above the least one that may stand there: 0 at first, and then the number before, plus
+-- 1.
 abbrev pub AreGaps : ℕ → List ℕ → List ℕ → Type 0
 AreGaps least [] bytes = bytes ≡ []
 AreGaps least (n ∷ list) bytes =

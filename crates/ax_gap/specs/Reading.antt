@@ -1,5 +1,6 @@
--- Reading the varint, or the gaps, with which bytes begin, as functions on lists. Only the clauses of private functions
--- and the view of a cursor cite these: what is read is said by the grammars of `Varint` and `Gaps`.
+-- Reading the varint, or the gaps, with which bytes begin, as functions on lists. Only the clauses
+-- of private functions and the view of a cursor cite these: what is read is said by the grammars of
+-- `Varint` and `Gaps`.
 use Rattle.std.specs.Prelude.{ℕ, ◌+◌, ◌-◌, ◌*◌, ◌^◌, ◌==◌, List, [], ◌∷◌, Option, Some, None, nat_lt, nat_le, option_and_then, zero, suc, if◌then◌else◌}
 
 -- a byte before a varint that was read
@@ -29,7 +30,8 @@ abbrev pub before : ℕ → Option (List ℕ × List ℕ) → Option (List ℕ �
 before n None = None
 before n (Some found) = Some (n ∷ found.0, found.1)
 
--- so many numbers from the gaps with which the bytes begin, none below `least`, and the bytes after them
+-- so many numbers from the gaps with which the bytes begin, none below `least`, and the bytes after
+-- them
 unfoldable pub first_gaps : ℕ → ℕ → List ℕ → Option (List ℕ × List ℕ)
 first_gaps least zero bytes = Some ([], bytes)
 first_gaps least (suc count) bytes =

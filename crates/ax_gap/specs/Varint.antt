@@ -1,9 +1,11 @@
--- Varints: a whole number as bytes, seven bits in each, the low ones first, and the top bit set in each byte but the
--- last. This is the base-128 varint of the Protocol Buffers encoding (unsigned LEB128), in its shortest form alone.
+-- Varints: a whole number as bytes, seven bits in each, the low ones first, and the top bit set in
+-- each byte but the last. This is the base-128 varint of the Protocol Buffers encoding (unsigned
+-- LEB128), in its shortest form alone.
 use Rattle.std.specs.Prelude.{◌≡◌, ℕ, ◌+◌, ◌/◌, ◌%◌, ◌<◌, ◌≤◌, List, [], ◌∷◌, nat_lt, zero, suc, if◌then◌else◌}
 
--- The grammar, by cases on the bytes: a last byte is the number. A byte before others has the number's low seven bits,
--- and only a number that has more bits than those goes on: so `84 00` is not a varint of 4.
+-- The grammar, by cases on the bytes: a last byte is the number. A byte before others has the
+-- number's low seven bits, and only a number that has more bits than those goes on: so `84 00` is
+-- not a varint of 4.
 abbrev pub IsVarint : List ℕ → ℕ → Type 0
 IsVarint [] n = ⊥
 IsVarint (byte ∷ []) n = (byte < 128) × (byte ≡ n)

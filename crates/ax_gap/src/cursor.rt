@@ -1,4 +1,5 @@
-//! Reading gap lists: the one with which bytes begin is checked whole, and then given number by number.
+//! Reading gap lists: the one with which bytes begin is checked whole, and then given number by
+//! number.
 
 ghost use Rattle.std.specs.Prelude.{◌≡◌, ℕ, ◌++◌, ◌≤◌, ◌^◌, List, Some, length, drop, slice_get, IsSome, IfSome, IsSomeAnd};
 ghost use Rattle.std.specs.Option.{option_map};
@@ -72,8 +73,8 @@ impl<'a> GapCursor<'a> {
     }
 }
 
-/// The gap list with which the bytes begin, its cursor before the first number. `None` exactly where they begin with
-/// none. Anything may follow it.
+/// The gap list with which the bytes begin, its cursor before the first number. `None` exactly
+/// where they begin with none. Anything may follow it.
 pub fn read_gaps(bytes: &[u8]) -> Option<GapCursor<'_>>
     // What is read is the gap list of the cursor's numbers.
     ensures found { IfSome result (λ cursor. bytes.now ≡ gaps cursor.numbers ++ drop cursor.used bytes.now) }
@@ -94,8 +95,8 @@ pub fn read_gaps(bytes: &[u8]) -> Option<GapCursor<'_>>
     })
 }
 
-/// The count of the gap list with which the bytes begin, the bytes from its first gap on, and those after its last.
-/// `None` exactly where they begin with none.
+/// The count of the gap list with which the bytes begin, the bytes from its first gap on, and those
+/// after its last. `None` exactly where they begin with none.
 fn split_list(bytes: &[u8]) -> Option<(usize, &[u8], &[u8])>
     ensures found { IfSome result (λ x.
         bytes.now ≡ gaps (numbers_of (first_gaps 0 x.0 x.1.now)) ++ x.2.now) }
@@ -129,8 +130,8 @@ fn skip_gaps(bytes: &[u8], count: usize) -> Option<&[u8]>
     Some(remaining)
 }
 
-/// The number whose gap comes first, where none below `least` may stand, and the bytes after the gap. `None` exactly
-/// where no gap comes first, or that of a number above 2^32 - 1.
+/// The number whose gap comes first, where none below `least` may stand, and the bytes after the
+/// gap. `None` exactly where no gap comes first, or that of a number above 2^32 - 1.
 #[inline]
 #[tactic(auto, using(crate::proofs::CursorLaws::number_past, crate::proofs::CursorLaws::number_high, crate::proofs::CursorLaws::number_found))]
 fn split_number(bytes: &[u8], least: u64) -> Option<(u64, &[u8])>

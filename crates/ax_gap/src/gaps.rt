@@ -52,8 +52,9 @@ fn push_gaps(out: &mut Vec<u8>, list: &[u32]) -> Result<(), Memory>
     Ok(())
 }
 
-/// Writes one gap at the end, behind the bytes that are gathered for it, and answers how many are gathered then. Most
-/// gaps take one byte or two, and are gathered, so that the vector is asked for room once for many of them.
+/// Writes one gap at the end, behind the bytes that are gathered for it, and answers how many are
+/// gathered then. Most gaps take one byte or two, and are gathered, so that the vector is asked for
+/// room once for many of them.
 #[inline]
 fn push_gap(
     out: &mut Vec<u8>,
@@ -74,7 +75,8 @@ fn push_gap(
     Ok(gather(gathered, count, gap))
 }
 
-/// Gathers a gap of one byte or two, without a branch on which it is: how many bytes are gathered then.
+/// Gathers a gap of one byte or two, without a branch on which it is: how many bytes are gathered
+/// then.
 #[inline]
 fn gather(gathered: &mut [u8; 256], count: usize, gap: u64) -> usize
     requires room { count ≤ 254 }

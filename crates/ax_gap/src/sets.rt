@@ -1,4 +1,5 @@
-//! Lists of numbers that rise strictly, as sets: what two have in common, have together, and have apart.
+//! Lists of numbers that rise strictly, as sets: what two have in common, have together, and have
+//! apart.
 
 ghost use Rattle.std.specs.Prelude.{◌≡◌, ℕ, ◌↔◌, ◌⊎◌, IfOk, IsTrue, Contains};
 ghost use Rattle.std.specs.List.Sorted.{IsStrictlyIncreasing};

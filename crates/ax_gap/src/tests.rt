@@ -113,8 +113,8 @@ fn lists_are_met_joined_and_parted(rt: HostRuntime) -> Result<(), Fail> {
     Ok(())
 }
 
-// Gaps of one, two and three bytes in turn: 100,000 numbers, in three bytes for their count, one for the first number,
-// and 33,333 times six.
+// Gaps of one, two and three bytes in turn: 100,000 numbers, in three bytes for their count, one
+// for the first number, and 33,333 times six.
 #[test]
 fn lists_of_100_000_numbers_are_written_read_and_joined(rt: HostRuntime) -> Result<(), Fail> {
     let mut list = Vec::new(rt.alloc());

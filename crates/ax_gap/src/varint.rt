@@ -23,8 +23,8 @@ pub fn put_varint(out: &mut Vec<u8>, number: u32) -> Result<(), Memory>
     put
 }
 
-/// Reads the varint with which the bytes begin: its number, and how many bytes it takes. `None` where they begin with no
-/// varint of a number below 2^32. Anything may follow it.
+/// Reads the varint with which the bytes begin: its number, and how many bytes it takes. `None`
+/// where they begin with no varint of a number below 2^32. Anything may follow it.
 pub fn read_varint(bytes: &[u8]) -> Option<(u32, usize)>
     // What is read is spelled so.
     ensures found { IfSome result (λ found. bytes.now ≡ varint found.0 ++ drop found.1 bytes.now) }
@@ -55,9 +55,11 @@ pub(crate) fn push_varint(out: &mut Vec<u8>, number: u64) -> Result<(), Memory>
     Ok(())
 }
 
-/// Takes the first varint off, where its number is at most `MOST`: the number, and the bytes after it.
+/// Takes the first varint off, where its number is at most `MOST`: the number, and the bytes after
+/// it.
 ///
-/// One byte or two are read without a branch on which it is, since in a mixture of both it could not be guessed.
+/// One byte or two are read without a branch on which it is, since in a mixture of both it could
+/// not be guessed.
 #[inline]
 pub(crate) fn split_varint(bytes: &[u8]) -> Option<(u64, &[u8])>
     ensures { option_map (λ found. (found.0, found.1.now)) result ≡ at_most (2 ^ 32) (first_varint bytes.now) }
@@ -67,8 +69,8 @@ pub(crate) fn split_varint(bytes: &[u8]) -> Option<(u64, &[u8])>
     }
     let first = bytes[0] as u64;
     let more = first / 128;
-    // What the second byte adds to the number is 128 times this. It is above 126 where that byte does not end the varint,
-    // or is 0 and should not be there.
+    // What the second byte adds to the number is 128 times this. It is above 126 where that byte
+    // does not end the varint, or is 0 and should not be there.
     let above = more * bytes[1].wrapping_sub(1) as u64;
     if above > 126 {
         return split_longer(bytes);
