@@ -3,6 +3,7 @@ pub mod Agreement
 pub mod AgreementLaws
 pub mod Faults
 pub mod Commit
+pub mod CommitLaws
 pub mod Forming
 pub mod Walk
 pub mod Opening

@@ -18,3 +18,6 @@ mod window;
 
 pub use fault::LogFault;
 pub use log::Log;
+
+#[cfg(test)]
+mod tests;
