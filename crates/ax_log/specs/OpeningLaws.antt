@@ -1,7 +1,7 @@
 -- Laws of what opening answers: since an image is one thing alone, a damaged store is answered as
 -- damaged at its place, one of a later version as that, and any other never so; but that the disk may
 -- fail, and memory run out.
-use Rattle.std.proofs.Common.{◌≡◌, ◌⊎◌, inl, inr, ⊎_elim, ℕ, List, [], Result, Ok, Err, refl, sym, ◌∙◌, ap, subst}
+use Rattle.std.proofs.Common.{◌≡◌, inl, inr, ⊎_elim, ℕ, Result, Ok, Err, refl, ◌∙◌, ap}
 use Rattle.ax_disk.specs.declared.extent.Extent.{Extent}
 use Rattle.ax_disk.specs.model.Image.{Image}
 use Rattle.ax_disk.specs.model.Moments.{History}
@@ -11,7 +11,7 @@ use Rattle.ax_log.specs.declared.log.Log.{Log}
 use Rattle.ax_log.specs.declared.fault.LogFault.{LogFault}
 use Rattle.ax_log.specs.declared.fault.LogFault.TheVariants.{Disk, Damaged, Newer, Memory}
 use Rattle.ax_log.specs.Log.{log_area, log_generation}
-use Rattle.ax_log.specs.Opening.{IsOpened, IsDamagedAt, Tells, IsAnswer}
+use Rattle.ax_log.specs.Opening.{IsOpened, Tells, IsAnswer}
 
 -- a log that was opened has frames, and the image before had them
 pub opened_frames : (log : Log) (image : Image) (history : History) → (opened : IsOpened log image history) → HasFrames opened.frames image
