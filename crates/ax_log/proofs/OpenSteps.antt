@@ -24,77 +24,106 @@ use Rattle.ax_log.specs.Opening.{IsOpened, IsDamagedAt, Tells, Keeps}
 
 -- ---- a live store
 
-pub found_log : (log : Log) (old new : History) → IsRoot old.reads.root (Counts 1 (log_area log) (log_generation log)) → EndsAt (list_of (log_area log) old.reads) (log_end log)
+pub found_log : (log : Log) (old new : History)
+    → IsRoot old.reads.root (Counts 1 (log_area log) (log_generation log))
+    → EndsAt (list_of (log_area log) old.reads) (log_end log)
     → old.unsynced ≡ all_settled old.reads → Idles old new → IsOpened log old.reads new
 found_log log old new counts ends settled idle =
-    let rests = settled_rests old (HasLog old.reads.root (log_area log) ends.frames) settled (record { root_is = refl; has = ends.area }) in
+    let rests = settled_rests old (HasLog old.reads.root (log_area log) ends.frames) settled
+    (record { root_is = refl; has = ends.area }) in
     record {
       frames = ends.frames;
       agrees = record {
-        counts = subst (λ (i : Image). IsRoot i.root (Counts 1 (log_area log) (log_generation log))) (sym idle.reads) counts;
+        counts = subst (λ (i : Image). IsRoot i.root (Counts 1 (log_area log) (log_generation log)))
+            (sym idle.reads) counts;
         end_is = ends.place;
-        rests = subst (λ (i : Image). Rests new (HasLog i.root (log_area log) ends.frames)) (sym idle.reads) (idles_rest old new (HasLog old.reads.root (log_area log) ends.frames) rests idle);
+        rests = subst (λ (i : Image). Rests new (HasLog i.root (log_area log) ends.frames))
+            (sym idle.reads) (idles_rest old new
+            (HasLog old.reads.root (log_area log) ends.frames) rests idle);
       };
       from = inr (record { counts = counts; has = ends.area });
     }
 
-damaged_area : (image : Image) (area : Extent) (at : ℕ) → area ≢ Root → IsBrokenArea image area at → IsDamaged image area at
+damaged_area : (image : Image) (area : Extent) (at : ℕ) → area ≢ Root → IsBrokenArea image area at
+    → IsDamaged image area at
 damaged_area image Root at apart broken = absurd (apart refl)
 damaged_area image A at apart broken = broken
 damaged_area image B at apart broken = broken
 
-pub broken_told : (area : Extent) (generation : ℕ) (image : Image) (history : History) (fault : LogFault) → IsRoot image.root (Counts 1 area generation) → IsEndOf area (list_of area image) (Err fault)
+pub broken_told : (area : Extent) (generation : ℕ) (image : Image) (history : History)
+    (fault : LogFault) → IsRoot image.root (Counts 1 area generation)
+    → IsEndOf area (list_of area image) (Err fault)
     → Tells (Err fault) image history
 broken_told area generation image history Disk counts is = tt
 broken_told area generation image history (Damaged extent at) counts is = record {
   list = area;
   number = is.0;
-  damaged = damaged_area image area at (counts_named image.root 1 area generation counts).1 (record { generation = generation; counts = counts; broken = is.1 });
+  damaged = damaged_area image area at (counts_named image.root 1 area generation counts).1
+      (record { generation = generation; counts = counts; broken = is.1 });
 }
 broken_told area generation image history (Newer version) counts is = absurd is
 broken_told area generation image history Memory counts is = tt
 
 -- ---- a fresh store
 
-pub formed_log : (log : Log) (before : Image) (new : History) → IsFresh before → Agrees log [] new → IsOpened log before new
-formed_log log before new fresh agrees = record { frames = []; agrees = agrees; from = inl (fresh, refl) }
+pub formed_log : (log : Log) (before : Image) (new : History) → IsFresh before → Agrees log [] new
+    → IsOpened log before new
+formed_log log before new fresh agrees = record {
+  frames = [];
+  agrees = agrees;
+  from = inl (fresh, refl);
+}
 
 -- ---- recovery, once the root was read
 
-module _ (old mid : History) (settled : old.unsynced ≡ all_settled old.reads) (idle : Idles old mid) where
+module _ (old mid : History) (settled : old.unsynced ≡ all_settled old.reads)
+    (idle : Idles old mid) where
   pub settled_then : mid.unsynced ≡ all_settled mid.reads
   settled_then = idle.unsynced ∙ settled ∙ ap all_settled (sym idle.reads)
 
-  pub root_then : (choice : RootChoice) → IsRoot old.reads.root choice → IsRoot mid.reads.root choice
+  pub root_then : (choice : RootChoice) → IsRoot old.reads.root choice
+      → IsRoot mid.reads.root choice
   root_then choice is = subst (λ (i : Image). IsRoot i.root choice) (sym idle.reads) is
 
-  pub first_version : (version : ℕ) (area : Extent) (generation : ℕ) → version ≤ 1 → IsRoot old.reads.root (Counts version area generation) → IsRoot mid.reads.root (Counts 1 area generation)
+  pub first_version : (version : ℕ) (area : Extent) (generation : ℕ) → version ≤ 1
+      → IsRoot old.reads.root (Counts version area generation)
+      → IsRoot mid.reads.root (Counts 1 area generation)
   first_version version area generation low is =
       let from = (counts_named old.reads.root version area generation is).0 in
       let one : version ≡ 1 = omega (arith, low, from) in
-      root_then (Counts 1 area generation) (subst (λ (v : ℕ). IsRoot old.reads.root (Counts v area generation)) one is)
+      root_then (Counts 1 area generation) (subst
+      (λ (v : ℕ). IsRoot old.reads.root (Counts v area generation)) one is)
 
-  pub told_then : (result : Result Log LogFault) (new : History) → Tells result mid.reads new → Tells result old.reads new
+  pub told_then : (result : Result Log LogFault) (new : History) → Tells result mid.reads new
+      → Tells result old.reads new
   told_then result new tells = subst (λ (i : Image). Tells result i new) idle.reads tells
 
-  pub frames_stay : (frames : List (List ℕ)) → HasFrames frames old.reads → Stays old mid (HasFrames frames)
-  frames_stay frames has = idles_stay old mid (HasFrames frames) (settled_rests old (HasFrames frames) settled has) idle
+  pub frames_stay : (frames : List (List ℕ)) → HasFrames frames old.reads
+      → Stays old mid (HasFrames frames)
+  frames_stay frames has = idles_stay old mid (HasFrames frames)
+      (settled_rests old (HasFrames frames) settled has) idle
 
-  pub frames_stay_on : (new : History) (frames : List (List ℕ)) → HasFrames frames old.reads → Idles mid new → Stays old new (HasFrames frames)
+  pub frames_stay_on : (new : History) (frames : List (List ℕ)) → HasFrames frames old.reads
+      → Idles mid new → Stays old new (HasFrames frames)
   frames_stay_on new frames has on =
       let first = frames_stay frames has in
-      stays_join old mid new (HasFrames frames) first (idles_stay mid new (HasFrames frames) first.rests on)
+      stays_join old mid new (HasFrames frames) first
+      (idles_stay mid new (HasFrames frames) first.rests on)
 
-  pub fresh_frames_stay : (new : History) (frames : List (List ℕ)) → HasFrames frames old.reads → IsFresh old.reads → Stays mid new (HasFrames []) → Stays old new (HasFrames frames)
+  pub fresh_frames_stay : (new : History) (frames : List (List ℕ)) → HasFrames frames old.reads
+      → IsFresh old.reads → Stays mid new (HasFrames []) → Stays old new (HasFrames frames)
   fresh_frames_stay new frames has fresh formed =
       let none : frames ≡ [] = one_frames old.reads frames [] has (inl (fresh, refl)) in
-      stays_join old mid new (HasFrames frames) (frames_stay frames has) (subst (λ (fs : List (List ℕ)). Stays mid new (HasFrames fs)) (sym none) formed)
+      stays_join old mid new (HasFrames frames) (frames_stay frames has)
+      (subst (λ (fs : List (List ℕ)). Stays mid new (HasFrames fs)) (sym none) formed)
 
 pub root_damaged : (image : Image) (at : ℕ) → IsDamaged image Root at → IsDamagedAt image 0 at
 root_damaged image at damaged = record { list = Root; number = refl; damaged = damaged }
 
-pub newer_told : (image : Image) (version : ℕ) (area : Extent) (generation : ℕ) → 1 < version → IsRoot image.root (Counts version area generation) → IsNewer image version
-newer_told image version area generation later counts = record { area = area; generation = generation; counts = counts; later = later }
+pub newer_told : (image : Image) (version : ℕ) (area : Extent) (generation : ℕ) → 1 < version
+    → IsRoot image.root (Counts version area generation) → IsNewer image version
+newer_told image version area generation later counts =
+    record { area = area; generation = generation; counts = counts; later = later }
 
 -- ---- the barrier
 
@@ -103,15 +132,21 @@ entry_rests old = record { each = λ image may. may }
 
 module _ {T E : Type 0} (old mid : History) (stays : MayLeave old.unsynced old.reads) where
   pub sync_keeps : (result : Result T E) → Syncs result old mid → Keeps old mid
-  sync_keeps result sync = record { reads = sync.reads; stays = syncs_stay result old mid (MayLeave old.unsynced) (entry_rests old) stays sync }
+  sync_keeps result sync = record {
+    reads = sync.reads;
+    stays = syncs_stay result old mid (MayLeave old.unsynced) (entry_rests old) stays sync;
+  }
 
-  pub sync_keeps_on : (result : Result T E) (new : History) → Syncs result old mid → Idles mid new → Keeps old new
+  pub sync_keeps_on : (result : Result T E) (new : History) → Syncs result old mid → Idles mid new
+      → Keeps old new
   sync_keeps_on result new sync idle =
       let first = sync_keeps result sync in
       record {
         reads = idle.reads ∙ first.reads;
-        stays = stays_join old mid new (MayLeave old.unsynced) first.stays (idles_stay mid new (MayLeave old.unsynced) first.stays.rests idle);
+        stays = stays_join old mid new (MayLeave old.unsynced) first.stays
+            (idles_stay mid new (MayLeave old.unsynced) first.stays.rests idle);
       }
 
-pub told_since : (one other : Image) (result : Result Log LogFault) (new : History) → one ≡ other → Tells result one new → Tells result other new
+pub told_since : (one other : Image) (result : Result Log LogFault) (new : History) → one ≡ other
+    → Tells result one new → Tells result other new
 told_since one other result new same tells = subst (λ (i : Image). Tells result i new) same tells

@@ -1,7 +1,7 @@
 -- When a log agrees with a disk by a list of frames: each image that a crash now may leave has the
--- root that reads give, in which the log's area and generation count, and in that area these frames,
--- with a closed gate at the log's end.
--- It is this project's own; it comes from no public document.
+-- root that reads give, in which the log's area and generation count, and in that area these
+-- frames, with a closed gate at the log's end. It is this project's own; it comes from no public
+-- document.
 use Rattle.std.specs.Prelude.{◌≡◌, ℕ, List, length}
 use Rattle.ax_disk.specs.declared.extent.Extent.{Extent}
 use Rattle.ax_disk.specs.model.Image.{Image, list_of}
@@ -14,7 +14,8 @@ use Rattle.ax_log.specs.declared.log.Log.{Log}
 use Rattle.ax_log.specs.Log.{log_area, log_generation, log_end}
 
 -- an image has this root, and in this area these frames
-pub record HasLog (root : List ℕ) (area : Extent) (frames : List (List ℕ)) (image : Image) : Type 0 where
+pub record HasLog (root : List ℕ) (area : Extent) (frames : List (List ℕ))
+    (image : Image) : Type 0 where
   pub root_is : image.root ≡ root
   pub has : IsArea (list_of area image) frames
 

@@ -1,5 +1,6 @@
--- Laws of a log's agreement with a disk, for the layers above it: all images have its frames, it has
--- one list of frames, a call that changes no list keeps it, and what a read of the frames gives.
+-- Laws of a log's agreement with a disk, for the layers above it: all images have its frames, it
+-- has one list of frames, a call that changes no list keeps it, and what a read of the frames
+-- gives.
 use Rattle.std.proofs.Common.{◌≡◌, inr, ℕ, ◌+◌, ◌≤◌, List, length, take, drop, Result, Ok, Err, OnOk, sym, ◌∙◌, ap, subst, arith, length-append}
 use Rattle.std.proofs.lemmas.List.{drop-append-le, take-append-le, length-drop}
 use Rattle.ax_disk.specs.model.Image.{Image, list_of}
@@ -19,57 +20,78 @@ use Rattle.ax_log.specs.Log.{log_area, log_generation, log_end}
 use Rattle.ax_log.specs.Agreement.{HasLog, Agrees}
 
 -- a call that changes no list keeps agreement
-pub agrees_idles : (log : Log) (frames : List (List ℕ)) (old new : History) → Agrees log frames old → Idles old new
+pub agrees_idles : (log : Log) (frames : List (List ℕ)) (old new : History) → Agrees log frames old
+    → Idles old new
     → Agrees log frames new
 agrees_idles log frames old new agrees idle = record {
-  counts = subst (λ (i : Image). IsRoot i.root (Counts 1 (log_area log) (log_generation log))) (sym idle.reads) agrees.counts;
+  counts = subst (λ (i : Image). IsRoot i.root (Counts 1 (log_area log) (log_generation log)))
+      (sym idle.reads) agrees.counts;
   end_is = agrees.end_is;
   rests = subst (λ (i : Image). Rests new (HasLog i.root (log_area log) frames)) (sym idle.reads)
       (idles_rest old new (HasLog old.reads.root (log_area log) frames) agrees.rests idle);
 }
 
 -- each image that a crash now may leave is live with the log's area, generation and frames
-pub agrees_live : (log : Log) (frames : List (List ℕ)) (history : History) → Agrees log frames history
+pub agrees_live : (log : Log) (frames : List (List ℕ)) (history : History)
+    → Agrees log frames history
     → Rests history (IsLive (log_area log) (log_generation log) frames)
 agrees_live log frames history agrees = record {
   each = λ image may.
       let has = agrees.rests.each image may in
       record {
-        counts = subst (λ (r : List ℕ). IsRoot r (Counts 1 (log_area log) (log_generation log))) (sym has.root_is) agrees.counts;
+        counts = subst (λ (r : List ℕ). IsRoot r (Counts 1 (log_area log) (log_generation log)))
+            (sym has.root_is) agrees.counts;
         has = has.has;
       };
 }
 
 -- so it has these frames
-pub agrees_rests : (log : Log) (frames : List (List ℕ)) (history : History) → Agrees log frames history
+pub agrees_rests : (log : Log) (frames : List (List ℕ)) (history : History)
+    → Agrees log frames history
     → Rests history (HasFrames frames)
 agrees_rests log frames history agrees = record {
-  each = λ image may. inr (log_area log, log_generation log, (agrees_live log frames history agrees).each image may);
+  each = λ image may. inr (
+    log_area log,
+    log_generation log,
+    (agrees_live log frames history agrees).each image may,
+  );
 }
 
 -- a log agrees by one list of frames
-pub one_agreement : (log : Log) (one other : List (List ℕ)) (history : History) → MayLeave history.unsynced history.reads
+pub one_agreement : (log : Log) (one other : List (List ℕ)) (history : History)
+    → MayLeave history.unsynced history.reads
     → Agrees log one history → Agrees log other history → one ≡ other
 one_agreement log one other history may a b =
-    one_area (list_of (log_area log) history.reads) one other (a.rests.each history.reads may).has (b.rests.each history.reads may).has
+    one_area (list_of (log_area log) history.reads) one other (a.rests.each history.reads may).has
+    (b.rests.each history.reads may).has
 
 -- what a read within the frames gives
-pub frames_read : (log : Log) (frames : List (List ℕ)) (history : History) (at size : ℕ) → MayLeave history.unsynced history.reads
+pub frames_read : (log : Log) (frames : List (List ℕ)) (history : History) (at size : ℕ)
+    → MayLeave history.unsynced history.reads
     → Agrees log frames history → at + size ≤ log_end log
-    → bytes_from (list_of (log_area log) history.reads) at size ≡ take size (drop at (frames_bytes frames))
+    → bytes_from (list_of (log_area log) history.reads) at size ≡ take size
+    (drop at (frames_bytes frames))
 frames_read log frames history at size may agrees within =
     let list = list_of (log_area log) history.reads in
     let text = frames_bytes frames in
     let area = (agrees.rests.each history.reads may).has in
     let end = agrees.end_is in
-    bytes_from-within list at size (omega (arith, end, ap length area.spelled, length-append text area.rest))
+    bytes_from-within list at size (omega (
+      arith,
+      end,
+      ap length area.spelled,
+      length-append text area.rest,
+    ))
     ∙ ap (λ (l : List ℕ). take size (drop at l)) area.spelled
     ∙ ap (take size) (drop-append-le at text area.rest (omega (arith, end)))
     ∙ take-append-le size (drop at text) area.rest (omega (arith, end, length-drop at text))
 
 -- of a call that may fail
-pub frames_read_at_ok : {E : Type 0} (log : Log) (frames : List (List ℕ)) (history : History) (at size : ℕ) (bytes : List ℕ) (result : Result (Unit {0}) E)
+pub frames_read_at_ok : {E : Type 0} (log : Log) (frames : List (List ℕ)) (history : History)
+    (at size : ℕ) (bytes : List ℕ) (result : Result (Unit {0}) E)
     → MayLeave history.unsynced history.reads → Agrees log frames history → at + size ≤ log_end log
-    → OnOk result (bytes ≡ bytes_from (list_of (log_area log) history.reads) at size) → OnOk result (bytes ≡ take size (drop at (frames_bytes frames)))
-frames_read_at_ok log frames history at size bytes (Ok value) may agrees within is = is ∙ frames_read log frames history at size may agrees within
+    → OnOk result (bytes ≡ bytes_from (list_of (log_area log) history.reads) at size)
+    → OnOk result (bytes ≡ take size (drop at (frames_bytes frames)))
+frames_read_at_ok log frames history at size bytes (Ok value) may agrees within is = is
+    ∙ frames_read log frames history at size may agrees within
 frames_read_at_ok log frames history at size bytes (Err error) may agrees within is = tt

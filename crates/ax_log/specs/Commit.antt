@@ -1,5 +1,5 @@
--- The two halves of a commit: the frame is written and synced behind a closed gate, then its gate is
--- opened and synced.
+-- The two halves of a commit: the frame is written and synced behind a closed gate, then its gate
+-- is opened and synced.
 -- From the store's own file format (docs/FORMAT.md, "Frames"); no other document has it.
 use Rattle.std.specs.Prelude.{◌≡◌, ◌≢◌, ℕ, ◌+◌, List, [], ◌∷◌, ◌++◌}
 use Rattle.ax_disk.specs.declared.extent.Extent.{Extent}
@@ -18,7 +18,8 @@ pub record IsFrameText (text span : List ℕ) : Type 0 where
 
 -- The first half has written the text behind the gate, and synced it.
 pub record IsStaged (area : Extent) (end : ℕ) (text : List ℕ) (old new : History) : Type 0 where
-  pub reads : new.reads ≡ with_list area (overwritten (list_of area old.reads) (end + 1) text) old.reads
+  pub reads : new.reads ≡ with_list area (overwritten (list_of area old.reads) (end + 1) text)
+      old.reads
   pub settled : new.unsynced ≡ all_settled new.reads
 
 -- Frames, a closed gate, and behind it a frame that counts once this gate is open, with a closed

@@ -1,5 +1,5 @@
--- When a call of the log may answer that the disk failed: only where the disk's count of faults rose
--- in that call. It is this project's own; it comes from no public document.
+-- When a call of the log may answer that the disk failed: only where the disk's count of faults
+-- rose in that call. It is this project's own; it comes from no public document.
 use Rattle.std.specs.Prelude.{◌≤◌, ℕ, Result, Ok, Err}
 use Rattle.ax_faults.specs.Faults.{Rose}
 use Rattle.ax_log.specs.declared.fault.LogFault.{LogFault}

@@ -1,5 +1,5 @@
--- The images through which a fresh store is formed: three empty lists; a closed gate in area A and 32
--- bytes of root, which are none yet; and the whole root.
+-- The images through which a fresh store is formed: three empty lists; a closed gate in area A and
+-- 32 bytes of root, which are none yet; and the whole root.
 -- From the store's own file format (docs/FORMAT.md, "Forming"); no other document has it.
 use Rattle.std.specs.Prelude.{◌≡◌, List, ℕ, [], ◌∷◌, ◌++◌, replicate}
 use Rattle.ax_disk.specs.model.Image.{Image}

@@ -1,7 +1,7 @@
--- What opening a log answers, by what reads give of the store when it begins: a log that agrees with
--- the disk by the frames that were there, the place that is damaged, or the later version. A fresh
--- store is formed; of any other nothing is changed.
--- It is this project's own; it comes from no public document.
+-- What opening a log answers, by what reads give of the store when it begins: a log that agrees
+-- with the disk by the frames that were there, the place that is damaged, or the later version. A
+-- fresh store is formed; of any other nothing is changed. It is this project's own; it comes from
+-- no public document.
 use Rattle.std.specs.Prelude.{◌≡◌, ◌⊎◌, ℕ, List, [], Result, Ok, Err}
 use Rattle.ax_disk.specs.declared.extent.Extent.{Extent}
 use Rattle.ax_disk.specs.model.Image.{Image}
@@ -20,7 +20,8 @@ use Rattle.ax_log.specs.Agreement.{Agrees}
 pub record IsOpened (log : Log) (before : Image) (history : History) : Type 0 where
   pub frames : List (List ℕ)
   pub agrees : Agrees log frames history
-  pub from : (IsFresh before × (frames ≡ [])) ⊎ IsLive (log_area log) (log_generation log) frames before
+  pub from : (IsFresh before × (frames ≡ [])) ⊎ IsLive (log_area log)
+      (log_generation log) frames before
 
 -- the image before is damaged at this place
 pub record IsDamagedAt (before : Image) (extent at : ℕ) : Type 0 where

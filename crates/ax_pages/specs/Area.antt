@@ -34,8 +34,8 @@ pub record IsArea (bytes : List ℕ) (frames : List (List ℕ)) : Type 0 where
   pub spelled : bytes ≡ frames_bytes frames ++ rest
   pub closed : IsClosed rest
 
--- Log frames lead up to the place, and there the bytes end, or an open gate stands and no frame: its
--- length is 0, or runs past the end.
+-- Log frames lead up to the place, and there the bytes end, or an open gate stands and no frame:
+-- its length is 0, or runs past the end.
 pub record IsBroken (bytes : List ℕ) (at : ℕ) : Type 0 where
   pub frames : List (List ℕ)
   pub spans : AreSpans frames

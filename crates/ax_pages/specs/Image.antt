@@ -1,5 +1,5 @@
--- What an image of a store is, below any meaning of its frames: fresh, live with its log frames, of a
--- later version, or damaged at a place. The layers above ask only which frames it has.
+-- What an image of a store is, below any meaning of its frames: fresh, live with its log frames, of
+-- a later version, or damaged at a place. The layers above ask only which frames it has.
 -- From the store's own file format (docs/FORMAT.md); no other document has it.
 use Rattle.std.specs.Prelude.{◌≡◌, ◌⊎◌, ℕ, ◌<◌, List, []}
 use Rattle.ax_disk.specs.declared.extent.Extent.{Extent}
@@ -14,7 +14,8 @@ abbrev pub IsFresh : Image → Type 0
 IsFresh image = IsRoot image.root Fresh
 
 -- A live store: a slot of version 1 counts, and the area that it names has these log frames.
-pub record IsLive (area : Extent) (generation : ℕ) (frames : List (List ℕ)) (image : Image) : Type 0 where
+pub record IsLive (area : Extent) (generation : ℕ) (frames : List (List ℕ))
+    (image : Image) : Type 0 where
   pub counts : IsRoot image.root (Counts 1 area generation)
   pub has : IsArea (list_of area image) frames
 
@@ -46,4 +47,5 @@ extent_number B = 2
 -- The image has these log frames: it is live with them, or it is fresh and they are none.
 abbrev pub HasFrames : List (List ℕ) → Image → Type 0
 HasFrames frames image =
-    (IsFresh image × (frames ≡ [])) ⊎ ((area : Extent) × (generation : ℕ) × IsLive area generation frames image)
+    (IsFresh image × (frames ≡ [])) ⊎ ((area : Extent) ×
+    (generation : ℕ) × IsLive area generation frames image)

@@ -25,7 +25,8 @@ chosen Closed (Live version area generation) = Counts version (area_numbered are
 chosen (Live v a g) Bad = Damaged 16
 chosen (Live version area generation) Closed = Counts version (area_numbered area) generation
 chosen (Live v a g) (Live w b h) =
-    if g == h then Damaged 16 else (if nat_lt h g then Counts v (area_numbered a) g else Counts w (area_numbered b) h)
+    if g == h then Damaged 16 else (if nat_lt h g then Counts v (area_numbered a) g else Counts w
+    (area_numbered b) h)
 
 -- A root of at least 33 bytes is whole. Its first 32 bytes are two root slots.
 pub record IsWholeRoot (root : List ℕ) (choice : RootChoice) : Type 0 where

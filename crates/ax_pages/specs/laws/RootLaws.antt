@@ -12,22 +12,27 @@ use Rattle.ax_pages.specs.declared.root.RootChoice.TheVariants.{Fresh, Counts, D
 use Rattle.ax_pages.specs.Root.{area_numbered, chosen, IsRoot, IsWholeRoot}
 
 -- a root says one thing alone
-pub one_root : (root : List ℕ) (one other : RootChoice) → IsRoot root one → IsRoot root other → one ≡ other
+pub one_root : (root : List ℕ) (one other : RootChoice) → IsRoot root one → IsRoot root other
+    → one ≡ other
 one_root root one other (inl a) (inl b) = a.1 ∙ sym b.1
 one_root root one other (inl a) (inr b) = absurd (omega (arith, a.0, b.whole))
 one_root root one other (inr a) (inl b) = absurd (omega (arith, a.whole, b.0))
 one_root root one other (inr a) (inr b) =
-    let first : a.first ≡ b.first = one_slot (take 16 root) a.first b.first a.first_slot b.first_slot in
+    let first : a.first ≡ b.first = one_slot (take 16 root) a.first b.first a.first_slot
+    b.first_slot in
     let second : a.second ≡ b.second =
     one_slot (take 16 (drop 16 root)) a.second b.second a.second_slot b.second_slot in
     a.choice_is ∙ ap (λ (s : RootSlot). chosen s a.second) first
     ∙ ap (λ (s : RootSlot). chosen b.first s) second ∙ sym b.choice_is
 
 -- Bytes that are the same up to 32, and as many as a whole root has, say the same.
-pub whole_by_prefix : (root other : List ℕ) (choice : RootChoice) → 33 ≤ length root → take 32 root ≡ take 32 other → IsWholeRoot other choice → IsWholeRoot root choice
+pub whole_by_prefix : (root other : List ℕ) (choice : RootChoice) → 33 ≤ length root
+    → take 32 root ≡ take 32 other → IsWholeRoot other choice → IsWholeRoot root choice
 whole_by_prefix root other choice long same whole =
-    let first : take 16 root ≡ take 16 other = sym (take-take 16 32 root (omega arith)) ∙ ap (take 16) same ∙ take-take 16 32 other (omega arith) in
-    let second : take 16 (drop 16 root) ≡ take 16 (drop 16 other) = sym (drop-take 16 16 root) ∙ ap (drop 16) same ∙ drop-take 16 16 other in
+    let first : take 16 root ≡ take 16 other = sym (take-take 16 32 root (omega arith))
+    ∙ ap (take 16) same ∙ take-take 16 32 other (omega arith) in
+    let second : take 16 (drop 16 root) ≡ take 16 (drop 16 other) = sym (drop-take 16 16 root)
+    ∙ ap (drop 16) same ∙ drop-take 16 16 other in
     record {
       first = whole.first;
       second = whole.second;
@@ -41,12 +46,15 @@ short_or_whole : (n : ℕ) → (n < 33) ⊎ (33 ≤ n)
 short_or_whole n = grind arith
 
 -- A prefix of a fresh root is a fresh one.
-pub fresh_prefix : (root prefix : List ℕ) → prefix ≡ take (length prefix) root → IsRoot root Fresh → IsRoot prefix Fresh
-fresh_prefix root prefix is (inl short) = inl (omega (arith, ap length is, length-take (length prefix) root, short.0), refl)
+pub fresh_prefix : (root prefix : List ℕ) → prefix ≡ take (length prefix) root → IsRoot root Fresh
+    → IsRoot prefix Fresh
+fresh_prefix root prefix is (inl short) = inl
+    (omega (arith, ap length is, length-take (length prefix) root, short.0), refl)
 fresh_prefix root prefix is (inr whole) =
     ⊎_elim
     (λ short. inl (short, refl))
-    (λ long. inr (whole_by_prefix prefix root Fresh long (ap (take 32) is ∙ take-take 32 (length prefix) root (omega arith)) whole))
+    (λ long. inr (whole_by_prefix prefix root Fresh long
+    (ap (take 32) is ∙ take-take 32 (length prefix) root (omega arith)) whole))
     (short_or_whole (length prefix))
 
 -- The slot that counts names an area, and a version from 1 on.
@@ -68,7 +76,8 @@ two_named true less v w g h a b p q r s = tt
 two_named false true v w g h a b p q r s = (p, r)
 two_named false false v w g h a b p q r s = (q, s)
 
-chosen_named : (root other : List ℕ) (first second : RootSlot) → IsSlot root first → IsSlot other second → IsNamed (chosen first second)
+chosen_named : (root other : List ℕ) (first second : RootSlot) → IsSlot root first
+    → IsSlot other second → IsNamed (chosen first second)
 chosen_named root other Bad second p q = tt
 chosen_named root other Closed Bad p q = tt
 chosen_named root other Closed Closed p q = tt
@@ -76,9 +85,12 @@ chosen_named root other Closed (Live w b h) p q = (q.0.version_from, not_root b)
 chosen_named root other (Live v a g) Bad p q = tt
 chosen_named root other (Live v a g) Closed p q = (p.0.version_from, not_root a)
 chosen_named root other (Live v a g) (Live w b h) p q =
-    two_named (g == h) (nat_lt h g) v w g h (area_numbered a) (area_numbered b) p.0.version_from q.0.version_from (not_root a) (not_root b)
+    two_named (g == h) (nat_lt h g) v w g h (area_numbered a)
+    (area_numbered b) p.0.version_from q.0.version_from (not_root a) (not_root b)
 
-pub counts_named : (root : List ℕ) (version : ℕ) (area : Extent) (generation : ℕ) → IsRoot root (Counts version area generation) → (1 ≤ version) × (area ≢ Root)
+pub counts_named : (root : List ℕ) (version : ℕ) (area : Extent) (generation : ℕ)
+    → IsRoot root (Counts version area generation) → (1 ≤ version) × (area ≢ Root)
 counts_named root version area generation (inl short) = absurd (cc short.1)
 counts_named root version area generation (inr whole) =
-    subst IsNamed (sym whole.choice_is) (chosen_named (take 16 root) (take 16 (drop 16 root)) whole.first whole.second whole.first_slot whole.second_slot)
+    subst IsNamed (sym whole.choice_is) (chosen_named (take 16 root)
+    (take 16 (drop 16 root)) whole.first whole.second whole.first_slot whole.second_slot)

@@ -21,25 +21,32 @@ returns-in-Damaged-clause-any_moment g c = λ honest frames has.
 pub returns-in-Fresh-clause-unchanged : goal.returns-in-Fresh-clause-unchanged
 returns-in-Fresh-clause-unchanged g c = λ honest not_fresh.
     let root = (g.D.Disk.history c.args.disk.now (g.D.Disk.attached c.args.disk.now)).reads.root in
-    absurd (not_fresh (subst (λ (choice : RootChoice). IsRoot root choice) c.in-Fresh.is (c.in-Ok.ensures.is honest)))
+    absurd (not_fresh (subst (λ (choice : RootChoice). IsRoot root choice) c.in-Fresh.is
+    (c.in-Ok.ensures.is honest)))
 
 pub returns-in-Fresh-clause-any_moment : goal.returns-in-Fresh-clause-any_moment
 returns-in-Fresh-clause-any_moment g c = λ honest frames has.
     let root = (g.D.Disk.history c.args.disk.now (g.D.Disk.attached c.args.disk.now)).reads.root in
-    let fresh = subst (λ (choice : RootChoice). IsRoot root choice) c.in-Fresh.is (c.in-Ok.ensures.is honest) in
-    fresh_frames_stay _ _ (c.requires.settled honest) (c.read_root.ensures.lists honest) _ frames has fresh (c.form_log.ensures.any_moment (c.read_root.ensures.honest ∙ honest))
+    let fresh = subst (λ (choice : RootChoice). IsRoot root choice) c.in-Fresh.is
+    (c.in-Ok.ensures.is honest) in
+    fresh_frames_stay _ _ (c.requires.settled honest)
+    (c.read_root.ensures.lists honest) _ frames has fresh
+    (c.form_log.ensures.any_moment (c.read_root.ensures.honest ∙ honest))
 
 pub returns-else-version-gt-NEWEST_VERSION-clause-unchanged :
     goal.returns-else-version-gt-NEWEST_VERSION-clause-unchanged
 returns-else-version-gt-NEWEST_VERSION-clause-unchanged g c = λ honest not_fresh.
-    idles_join _ _ _ (c.read_root.ensures.lists honest) (c.find_log.ensures.lists (c.read_root.ensures.honest ∙ honest))
+    idles_join _ _ _ (c.read_root.ensures.lists honest)
+    (c.find_log.ensures.lists (c.read_root.ensures.honest ∙ honest))
 
 pub returns-else-version-gt-NEWEST_VERSION-clause-refused :
     goal.returns-else-version-gt-NEWEST_VERSION-clause-refused
 returns-else-version-gt-NEWEST_VERSION-clause-refused g c = λ honest refused.
-    idles_join _ _ _ (c.read_root.ensures.lists honest) (c.find_log.ensures.lists (c.read_root.ensures.honest ∙ honest))
+    idles_join _ _ _ (c.read_root.ensures.lists honest)
+    (c.find_log.ensures.lists (c.read_root.ensures.honest ∙ honest))
 
 pub returns-else-version-gt-NEWEST_VERSION-clause-any_moment :
     goal.returns-else-version-gt-NEWEST_VERSION-clause-any_moment
 returns-else-version-gt-NEWEST_VERSION-clause-any_moment g c = λ honest frames has.
-    frames_stay_on _ _ (c.requires.settled honest) (c.read_root.ensures.lists honest) _ frames has (c.find_log.ensures.lists (c.read_root.ensures.honest ∙ honest))
+    frames_stay_on _ _ (c.requires.settled honest) (c.read_root.ensures.lists honest) _ frames has
+    (c.find_log.ensures.lists (c.read_root.ensures.honest ∙ honest))

@@ -7,7 +7,11 @@ use Rattle.ax_log.proofs.root.read_root.Goals as goal
 pub returns-clause-is : goal.returns-clause-is
 returns-clause-is g c = λ honest.
     let root = (g.D.Disk.history c.args.disk.now (g.D.Disk.attached c.args.disk.now)).reads.root in
-    let long : 33 ≤ length root = omega (arith, c.in_ok-len.ensures.length honest, c.if-branch-lt-WHOLE_ROOT.false) in
+    let long : 33 ≤ length root = omega (
+      arith,
+      c.in_ok-len.ensures.length honest,
+      c.if-branch-lt-WHOLE_ROOT.false,
+    ) in
     let honest1 = c.len.ensures.honest ∙ honest in
     let honest2 = c.read_slot_at.ensures.honest ∙ honest1 in
     let same1 = ap (λ (i : Image). i.root) (c.len.ensures.lists honest).reads in

@@ -10,10 +10,14 @@ commit-requires-clause-agrees c = λ honest.
     let log = c.in_ok-log.log in
     let frames = (c.in_ok-log.ensures.tells refl).frames in (
       frames,
-      subst (λ (disk : MemDisk). Agrees log frames (disk_history disk)) (sym c.make-fuse.ensures.inner) (c.in_ok-log.ensures.tells refl).agrees,
+      subst (λ (disk : MemDisk). Agrees log frames (disk_history disk))
+          (sym c.make-fuse.ensures.inner) (c.in_ok-log.ensures.tells refl).agrees,
     )
 
 pub commit-requires-clause-frame : goal.commit-requires-clause-frame
 commit-requires-clause-frame c =
-    let span = c.in_ok-text.ensures.0 in
-    (span, subst (λ (text : List ℕ). IsFrameText text span) (sym c.deref.ensures.value) c.in_ok-text.ensures.1)
+    let span = c.in_ok-text.ensures.0 in (
+      span,
+      subst (λ (text : List ℕ). IsFrameText text span)
+          (sym c.deref.ensures.value) c.in_ok-text.ensures.1,
+    )

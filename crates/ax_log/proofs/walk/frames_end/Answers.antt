@@ -11,8 +11,11 @@ loop-at-init g c =
     record {
       within = omega arith;
       led = λ honest. leads_start _;
-      shows = λ honest. shows_of c.show.new.window c.args.area _ _ (c.len.ensures.lists honest).reads (c.in-Ok-show.ensures.shows (c.len.ensures.honest ∙ honest));
-      idle = λ honest. idles_join _ _ _ (c.len.ensures.lists honest) (c.show.ensures.lists (c.len.ensures.honest ∙ honest));
+      shows = λ honest. shows_of c.show.new.window c.args.area _ _
+          (c.len.ensures.lists honest).reads (c.in-Ok-show.ensures.shows
+          (c.len.ensures.honest ∙ honest));
+      idle = λ honest. idles_join _ _ _ (c.len.ensures.lists honest)
+          (c.show.ensures.lists (c.len.ensures.honest ∙ honest));
       same_store = c.show.ensures.attached ∙ c.len.ensures.attached;
       same_honesty = c.show.ensures.honest ∙ c.len.ensures.honest;
       faults = omega (arith, c.len.ensures.cause.never_falls, c.show.ensures.cause.never_falls);
@@ -26,31 +29,44 @@ reach-requires-clause-shows g c = λ honest1.
 
 pub returns-in_default-reach-clause-lists : goal.returns-in_default-reach-clause-lists
 returns-in_default-reach-clause-lists g c = λ honest.
-    idles_join _ _ _ (c.loop-at.invariant.idle honest) (c.reach.ensures.lists (c.loop-at.invariant.same_honesty ∙ honest))
+    idles_join _ _ _ (c.loop-at.invariant.idle honest)
+    (c.reach.ensures.lists (c.loop-at.invariant.same_honesty ∙ honest))
 
 pub returns-in_default-reach-clause-cause : goal.returns-in_default-reach-clause-cause
 returns-in_default-reach-clause-cause g c =
     let rises = c.loop-at.invariant.faults in
     record {
       never_falls = omega (arith, rises, c.reach.ensures.cause.never_falls);
-      failed = λ by_disk. rose_since _ _ _ _ rises (omega arith) (c.in_default-reach.ensures.cause.failed refl);
+      failed = λ by_disk. rose_since _ _ _ _ rises (omega arith)
+          (c.in_default-reach.ensures.cause.failed refl);
     }
 
 pub returns-in-Closed-clause-is : goal.returns-in-Closed-clause-is
 returns-in-Closed-clause-is g c = λ honest.
     let inv = c.loop-at.invariant in
-    let list = list_of c.args.area (g.D.Disk.history c.args.disk.now (g.D.Disk.attached c.args.disk.now)).reads in
-    let shows = shows_of c.reach.new.window c.args.area _ _ (inv.idle honest).reads (c.in-Ok-reach.ensures.shows (inv.same_honesty ∙ honest)) in
+    let list = list_of c.args.area (g.D.Disk.history c.args.disk.now
+    (g.D.Disk.attached c.args.disk.now)).reads in
+    let shows = shows_of c.reach.new.window c.args.area _ _ (inv.idle honest).reads
+    (c.in-Ok-reach.ensures.shows (inv.same_honesty ∙ honest)) in
     ends_there list c.loop-at.at (inv.led honest)
-    (follows_there list c.loop-at.at c.in-Ok-len.len c.head.result Closed (c.in-Ok-len.ensures.length honest) (c.head.ensures list shows) c.in-Closed.ensures.is)
+    (follows_there list c.loop-at.at c.in-Ok-len.len c.head.result Closed
+    (c.in-Ok-len.ensures.length honest) (c.head.ensures list shows) c.in-Closed.ensures.is)
 
 pub returns-in-Closed-clause-lists : goal.returns-in-Closed-clause-lists
 returns-in-Closed-clause-lists g c = λ honest.
-    idles_join _ _ _ (c.loop-at.invariant.idle honest) (c.reach.ensures.lists (c.loop-at.invariant.same_honesty ∙ honest))
+    idles_join _ _ _ (c.loop-at.invariant.idle honest)
+    (c.reach.ensures.lists (c.loop-at.invariant.same_honesty ∙ honest))
 
 pub returns-in-Closed-clause-cause : goal.returns-in-Closed-clause-cause
 returns-in-Closed-clause-cause g c =
-    record { never_falls = omega (arith, c.loop-at.invariant.faults, c.reach.ensures.cause.never_falls); failed = λ by_disk. absurd by_disk }
+    record {
+      never_falls = omega (
+        arith,
+        c.loop-at.invariant.faults,
+        c.reach.ensures.cause.never_falls,
+      );
+      failed = λ by_disk. absurd by_disk;
+    }
 
 pub loop-at-preserved : goal.loop-at-preserved
 loop-at-preserved g c =
@@ -58,12 +74,18 @@ loop-at-preserved g c =
     record {
       within = omega (arith, c.in-Frame.ensures.advances.1);
       led = λ honest.
-          let list = list_of c.args.area (g.D.Disk.history c.args.disk.now (g.D.Disk.attached c.args.disk.now)).reads in
-          let shows = shows_of c.reach.new.window c.args.area _ _ (inv.idle honest).reads (c.in-Ok-reach.ensures.shows (inv.same_honesty ∙ honest)) in
+          let list = list_of c.args.area (g.D.Disk.history c.args.disk.now
+          (g.D.Disk.attached c.args.disk.now)).reads in
+          let shows = shows_of c.reach.new.window c.args.area _ _ (inv.idle honest).reads
+          (c.in-Ok-reach.ensures.shows (inv.same_honesty ∙ honest)) in
           leads_on list c.loop-at.at c.in-Frame.size (inv.led honest)
-          (follows_there list c.loop-at.at c.in-Ok-len.len c.head.result (Frame c.in-Frame.size) (c.in-Ok-len.ensures.length honest) (c.head.ensures list shows) c.in-Frame.ensures.is);
-      shows = λ honest. shows_of c.reach.new.window c.args.area _ _ (inv.idle honest).reads (c.in-Ok-reach.ensures.shows (inv.same_honesty ∙ honest));
-      idle = λ honest. idles_join _ _ _ (inv.idle honest) (c.reach.ensures.lists (inv.same_honesty ∙ honest));
+          (follows_there list c.loop-at.at c.in-Ok-len.len c.head.result (Frame c.in-Frame.size)
+          (c.in-Ok-len.ensures.length honest)
+          (c.head.ensures list shows) c.in-Frame.ensures.is);
+      shows = λ honest. shows_of c.reach.new.window c.args.area _ _ (inv.idle honest).reads
+          (c.in-Ok-reach.ensures.shows (inv.same_honesty ∙ honest));
+      idle = λ honest. idles_join _ _ _ (inv.idle honest)
+          (c.reach.ensures.lists (inv.same_honesty ∙ honest));
       same_store = c.reach.ensures.attached ∙ inv.same_store;
       same_honesty = c.reach.ensures.honest ∙ inv.same_honesty;
       faults = omega (arith, inv.faults, c.reach.ensures.cause.never_falls);
@@ -72,28 +94,37 @@ loop-at-preserved g c =
 pub returns-in-Broken-clause-is : goal.returns-in-Broken-clause-is
 returns-in-Broken-clause-is g c = λ honest.
     let inv = c.loop-at.invariant in
-    let list = list_of c.args.area (g.D.Disk.history c.args.disk.now (g.D.Disk.attached c.args.disk.now)).reads in
-    let shows = shows_of c.reach.new.window c.args.area _ _ (inv.idle honest).reads (c.in-Ok-reach.ensures.shows (inv.same_honesty ∙ honest)) in
-    let broken = follows_there list c.loop-at.at c.in-Ok-len.len c.head.result Broken (c.in-Ok-len.ensures.length honest) (c.head.ensures list shows) c.in-Broken.ensures.is in
-    damaged_told c.args.area list c.loop-at.at c.damaged.result c.damaged.ensures (broken_there list c.loop-at.at (inv.led honest) broken.0 broken.1)
+    let list = list_of c.args.area (g.D.Disk.history c.args.disk.now
+    (g.D.Disk.attached c.args.disk.now)).reads in
+    let shows = shows_of c.reach.new.window c.args.area _ _ (inv.idle honest).reads
+    (c.in-Ok-reach.ensures.shows (inv.same_honesty ∙ honest)) in
+    let broken = follows_there list c.loop-at.at c.in-Ok-len.len c.head.result Broken
+    (c.in-Ok-len.ensures.length honest) (c.head.ensures list shows) c.in-Broken.ensures.is in
+    damaged_told c.args.area list c.loop-at.at c.damaged.result c.damaged.ensures
+    (broken_there list c.loop-at.at (inv.led honest) broken.0 broken.1)
 
 pub returns-in-Broken-clause-lists : goal.returns-in-Broken-clause-lists
 returns-in-Broken-clause-lists g c = λ honest.
-    idles_join _ _ _ (c.loop-at.invariant.idle honest) (c.reach.ensures.lists (c.loop-at.invariant.same_honesty ∙ honest))
+    idles_join _ _ _ (c.loop-at.invariant.idle honest)
+    (c.reach.ensures.lists (c.loop-at.invariant.same_honesty ∙ honest))
 
 pub returns-in-Broken-clause-cause : goal.returns-in-Broken-clause-cause
 returns-in-Broken-clause-cause g c =
-    no_disk_cause c.damaged.result _ _ _ _ c.damaged.ensures (omega (arith, c.loop-at.invariant.faults, c.reach.ensures.cause.never_falls))
+    no_disk_cause c.damaged.result _ _ _ _ c.damaged.ensures
+    (omega (arith, c.loop-at.invariant.faults, c.reach.ensures.cause.never_falls))
 
 pub returns-clause-is : goal.returns-clause-is
 returns-clause-is g c = λ honest.
     let inv = c.loop-at.invariant in
-    let list = list_of c.args.area (g.D.Disk.history c.args.disk.now (g.D.Disk.attached c.args.disk.now)).reads in
+    let list = list_of c.args.area (g.D.Disk.history c.args.disk.now
+    (g.D.Disk.attached c.args.disk.now)).reads in
     damaged_told c.args.area list c.loop-at.at c.damaged-2.result c.damaged-2.ensures
-    (broken_at_end list c.loop-at.at (inv.led honest) (omega (arith, c.in-Ok-len.ensures.length honest, c.loop-at-test.false)))
+    (broken_at_end list c.loop-at.at (inv.led honest)
+    (omega (arith, c.in-Ok-len.ensures.length honest, c.loop-at-test.false)))
 
 pub returns-clause-lists : goal.returns-clause-lists
 returns-clause-lists g c = c.loop-at.invariant.idle
 
 pub returns-clause-cause : goal.returns-clause-cause
-returns-clause-cause g c = no_disk_cause c.damaged-2.result _ _ _ _ c.damaged-2.ensures c.loop-at.invariant.faults
+returns-clause-cause g c = no_disk_cause c.damaged-2.result _ _ _ _ c.damaged-2.ensures
+    c.loop-at.invariant.faults
