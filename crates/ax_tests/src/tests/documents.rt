@@ -37,7 +37,10 @@ fn documents_are_replaced_in_their_position(rt: HostRuntime) -> Result<(), Fail>
     for (document, (number, id, text)) in documents.as_slice().iter().zip(expected) {
         assert_eq!(rt; document.number(), number);
         assert_eq!(rt; document.id().as_str(), id);
-        assert_eq!(rt; write_tree(alloc, document.tree())?.as_slice(), text.as_bytes());
+        assert_eq!(rt;
+            write_tree(alloc, document.tree())?.as_slice(),
+            text.as_bytes()
+        );
     }
     Ok(())
 }

@@ -103,7 +103,11 @@ fn ids_are_counted_by_bytes(rt: HostRuntime) -> Result<(), Fail> {
         ("é", 128, "json"),
     ] {
         let line = with_id(alloc, letter, count)?;
-        assert_eq!(rt; word_of(alloc, line.as_str()), expected, "{count} times {letter}");
+        assert_eq!(rt;
+            word_of(alloc, line.as_str()),
+            expected,
+            "{count} times {letter}"
+        );
     }
     Ok(())
 }

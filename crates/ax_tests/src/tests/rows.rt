@@ -8,10 +8,7 @@ const ROWS: [(&str, &str); 11] = [
     ("UPSERT {\"id\":\"a\"}", "ok\n"),
     ("UPSERT {\"id\":\"a\"}\r\n", "ok\n"),
     ("UPSERT {\"id\":\"a\"}\r\r\n", "ok\n"),
-    (
-        "\n\r\n\r",
-        "err 2 command\nerr 2 command\nerr 2 command\n",
-    ),
+    ("\n\r\n\r", "err 2 command\nerr 2 command\nerr 2 command\n"),
     (
         "UPSERT {\"id\":\"a\",\"b\":1}\nUPSERT {\"id\":\"a\",\"a\":2}\nQUERY {\"query\":\"SELECT * FROM c\"}\n",
         "ok\nok\nrow {\"a\":2,\"id\":\"a\"}\nend 1\n",
@@ -32,7 +29,10 @@ const ROWS: [(&str, &str); 11] = [
         "UPSERT {\"id\":\"b\"}\nUPSERT {\"id\":\"a\"}\nUPSERT {\"id\":\"b\",\"x\":null}\nQUERY {\"query\":\"SELECT * FROM c\"}\n",
         "ok\nok\nok\nrow {\"id\":\"b\",\"x\":null}\nrow {\"id\":\"a\"}\nend 2\n",
     ),
-    ("QUERY {\"query\":\"SELECT * FROM c\"}\nFOO", "end 0\nerr 2 command\n"),
+    (
+        "QUERY {\"query\":\"SELECT * FROM c\"}\nFOO",
+        "end 0\nerr 2 command\n",
+    ),
 ];
 
 #[test]
@@ -63,6 +63,9 @@ fn one_byte_a_read_is_the_same(rt: HostRuntime) -> Result<(), Fail> {
 fn one_row(rt: HostRuntime) -> Result<(), Fail> {
     let script = b"UPSERT {\"id\":\"a\"}\nQUERY {\"query\":\"SELECT * FROM c\"}\n";
     let (_, output) = output_of(rt.alloc(), script, &[], &[], ROOM)?;
-    assert_eq!(rt; output.as_slice(), b"ok\nrow {\"id\":\"a\"}\nend 1\n".as_slice());
+    assert_eq!(rt;
+        output.as_slice(),
+        b"ok\nrow {\"id\":\"a\"}\nend 1\n".as_slice()
+    );
     Ok(())
 }

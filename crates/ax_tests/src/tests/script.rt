@@ -62,13 +62,7 @@ pub fn run_words<S: Source>(
     for word in words {
         list.push(String::from_str(alloc, word)?)?;
     }
-    Ok(run_counted::<S, Brand>(
-        alloc,
-        list.as_slice(),
-        source,
-        sink,
-        Blank::new(1),
-    ))
+    Ok(run_counted::<S, Brand>(alloc, list.as_slice(), source, sink, Blank::new(1)))
 }
 
 /// The status and the output of a script, with the reads and writes that are to fail and the bytes
