@@ -1,26 +1,24 @@
 -- The store and its log: agreement, opening, a commit.
-use Rattle.std.proofs.Common.{◌≡◌, ℕ, zero, suc, ⊎_elim, ◌+◌, ◌^◌, ◌<◌, ◌≤◌, false, List, [], ◌∷◌, ◌++◌, length, Result, Ok, Err, Some, refl, sym, ap, subst, ◌∙◌, inl, inr, length-append, arith}
-use Rattle.std.specs.Prelude.{◌≢◌, ◌⊎◌}
-use Rattle.ax_disk.specs.declared.extent.Extent.{Extent}
-use Rattle.ax_disk.specs.model.Image.{Image, list_of}
+use Rattle.std.proofs.Common.{◌≡◌, ℕ, zero, suc, ⊎_elim, ◌+◌, ◌≤◌, false, List, [], ◌∷◌, ◌++◌, length, Err, Some, refl, sym, ap, subst, ◌∙◌, inl, inr, length-append, arith}
+use Rattle.ax_disk.specs.model.Image.{Image}
 use Rattle.ax_disk.specs.model.Pending.{MayLeave}
 use Rattle.ax_disk.specs.model.Moments.{History}
 use Rattle.ax_disk.specs.model.Calls.{Idles}
-use Rattle.ax_disk.specs.model.Stays.{Rests, Stays, Turns, SinceBarrier, BarrierStage}
+use Rattle.ax_disk.specs.model.Stays.{Rests, Turns, SinceBarrier, BarrierStage}
 use Rattle.ax_disk.specs.laws.StaysLaws.{idles_rest, idles_stay, rests_weaken, stays_join, turns_weaken}
 use Rattle.ax_disk.specs.laws.StageLaws.{progress_weaken, barrier_goes_on}
-use Rattle.ax_frame.specs.Part.{PartValue, AllFit, parts_bytes}
-use Rattle.ax_frame.specs.LogFrame.{open_frame, frame_bytes, CanFrame}
+use Rattle.ax_frame.specs.Part.{PartValue, parts_bytes}
+use Rattle.ax_frame.specs.LogFrame.{frame_bytes, CanFrame}
 use Rattle.ax_frame.proofs.Frames.{parts_take_bytes}
 use Rattle.ax_pages.specs.declared.root.RootChoice.TheVariants.{Counts}
 use Rattle.ax_pages.specs.Root.{IsRoot}
-use Rattle.ax_pages.specs.Area.{IsSpan, frames_bytes}
-use Rattle.ax_pages.specs.Image.{IsFresh, IsLive, IsNewer, HasFrames, extent_number}
+use Rattle.ax_pages.specs.Area.{IsSpan}
+use Rattle.ax_pages.specs.Image.{IsFresh, IsLive, HasFrames}
 use Rattle.ax_pages.specs.laws.ImageLaws.{one_frames, fresh_not_live}
 use Rattle.ax_pages.specs.Contents.{Contents, no_contents}
 use Rattle.ax_pages.specs.AfterPart.{after_parts}
-use Rattle.ax_pages.specs.Leads.{LeadOn, AreSpoiled}
-use Rattle.ax_pages.specs.HasContents.{HasContents, IsSpoiledImage}
+use Rattle.ax_pages.specs.Leads.{AreSpoiled}
+use Rattle.ax_pages.specs.HasContents.{HasContents}
 use Rattle.ax_log.specs.declared.log.Log.{Log}
 use Rattle.ax_log.specs.Log.{log_area, log_generation, log_end}
 use Rattle.ax_log.specs.Agreement as log
@@ -38,7 +36,7 @@ use Rattle.ax_store.specs.Change.{IsFrameOf}
 use Rattle.ax_store.specs.Faults.{IsRefused, HasDiskCause}
 use Rattle.ax_store.specs.Loading.{nothing_kept, TakesOn, TellsLoad}
 use Rattle.ax_store.specs.Putting.{Puts}
-use Rattle.ax_store.specs.Store.{Agrees, SameButRoom, IsOpened, IsDamagedStore, TellsStore, of_log, store_contents}
+use Rattle.ax_store.specs.Store.{Agrees, SameButRoom, IsOpened, TellsStore, of_log, store_contents}
 use Rattle.ax_store.proofs.LoadLemmas.{one_frame_more, lead_on_of}
 
 -- ---- the log agrees

@@ -51,7 +51,7 @@ impl Store {
         ensures any_moment { IsTrue (D.is_honest disk.old) → store_failed self.old ≡ false → (new : Contents)
             → after_parts (batch_parts batch) (store_contents self.old) ≡ Some new
             → Turns (D.history disk.old (D.attached disk.old)) (D.history disk.new (D.attached disk.new))
-                (HasContents (store_contents self.old)) (HasContents new) }
+            (HasContents (store_contents self.old)) (HasContents new) }
 
         ensures works { OnOk result (store_failed self.new ≡ false) }
         ensures fails { OnErr result (store_failed self.new ≡ true) }
