@@ -1,7 +1,5 @@
 -- The frames of an area are read and taken, one after another.
-use Rattle.std.proofs.Common.{◌≡◌, ℕ, ◌+◌, ◌-◌, ◌^◌, ◌<◌, ◌≤◌, List, [], ◌∷◌, ◌++◌, length, take, drop, Result, Ok, Err, refl, sym, ap, subst, ◌∙◌, length-append, arith}
-use Rattle.std.specs.List.{flat_map, AllByRecursion}
-use Rattle.std.specs.Global.{Vec}
+use Rattle.std.proofs.Common.{◌≡◌, ℕ, ◌+◌, ◌<◌, ◌≤◌, List, [], ◌∷◌, ◌++◌, length, take, drop, Err, refl, sym, ap, subst, ◌∙◌, length-append, arith}
 use Rattle.std.proofs.lemmas.List.{take_at, drop_at, append_assoc, append-nil}
 use Rattle.std.proofs.lemmas.List.Concat.{flat_map-append}
 use Rattle.ax_disk.specs.declared.extent.Extent.{Extent}
@@ -11,11 +9,9 @@ use Rattle.ax_frame.specs.LogFrame.{open_frame, open_head, IsFrameHead}
 use Rattle.ax_frame.specs.declared.log_frame.FrameHead.{FrameHead}
 use Rattle.ax_frame.specs.declared.log_frame.FrameHead.TheVariants.{Closed, Frame, Bad}
 use Rattle.ax_pages.specs.Area.{IsSpan, AreSpans, frames_bytes}
-use Rattle.ax_pages.specs.Image.{extent_number}
-use Rattle.ax_pages.specs.Contents.{Contents, no_contents}
+use Rattle.ax_pages.specs.Contents.{no_contents}
 use Rattle.ax_pages.specs.Leads.{Leads, IsSpoiled, LeadOn, AreSpoiled}
 use Rattle.ax_log.specs.declared.log.Log.{Log}
-use Rattle.ax_log.specs.Log.{log_end}
 use Rattle.ax_log.specs.Agreement.{Agrees}
 use Rattle.ax_store.specs.declared.fault.StoreFault.{StoreFault}
 use Rattle.ax_store.specs.declared.fault.StoreFault.TheVariants.{Disk, Damaged, Newer, Memory}
@@ -68,7 +64,9 @@ not_bad head n e is = cc
 
 same_before : (bytes : List ℕ) (at : ℕ) (old mid new : Kept) → mid.contents ≡ old.contents → mid.offsets ≡ old.offsets → Takes bytes at mid new → Takes bytes at old new
 same_before bytes at old mid new contents offsets takes = record {
-  parts = takes.parts; fit = takes.fit; spelled = takes.spelled;
+  parts = takes.parts;
+  fit = takes.fit;
+  spelled = takes.spelled;
   lead = ap (λ c. after_parts takes.parts c) (sym contents) ∙ takes.lead;
   offsets = takes.offsets ∙ ap (λ o. offsets_after_parts takes.parts at o) offsets;
 }

@@ -1,5 +1,5 @@
 -- How many numbers a map has, after one is put or taken away.
-use Rattle.std.proofs.Common.{◌≡◌, ℕ, zero, suc, ◌+◌, ◌-◌, ◌<◌, ◌≤◌, Bool, true, false, List, [], ◌∷◌, length, Option, Some, None, is_some, refl, sym, ap, subst, ◌∙◌, arith, inl, inr}
+use Rattle.std.proofs.Common.{◌≡◌, ℕ, suc, ◌+◌, ◌-◌, ◌≤◌, Bool, true, false, List, [], ◌∷◌, length, Some, None, is_some, refl, sym, ap, ◌∙◌, arith, inl, inr}
 use Rattle.std.specs.Prelude.{option_map, if◌then◌else◌}
 use Rattle.std.specs.Ordering.{nat_cmp}
 use Rattle.std.specs.Cmp.{nat_cmp_total}
@@ -21,15 +21,15 @@ module _ {X : Type 0} where
 
   pub some_held : (m : map.FinMap nat_cmp X) (k : ℕ) → map.contains_key m k ≡ true → 1 ≤ map.len m
   some_held m k held = elim (cases_lt 0 (map.len m)) [
-      | inl above ↦ omega (arith, above)
-      | inr none ↦ absurd (true_or_false (sym held ∙ ap is_some (ap (λ n. map.get n k) (map.empty_of_len m (omega (arith, none))) ∙ map.get-empty nat_cmp k)))
-    ]
+    | inl above ↦ omega (arith, above)
+    | inr none ↦ absurd (true_or_false (sym held ∙ ap is_some (ap (λ n. map.get n k) (map.empty_of_len m (omega (arith, none))) ∙ map.get-empty nat_cmp k)))
+  ]
 
   insert_longer : (m : map.FinMap nat_cmp X) (k n : ℕ) (x : X) → map.len m ≤ n → map.len (map.insert m k x) ≤ n + 1
   insert_longer m k n x le = elim (map.contains_key m k) as (λ b. map.contains_key m k ≡ b → map.len (map.insert m k x) ≤ n + 1) [
-      | true ↦ λ e. omega (arith, le, len_put m k x true (sym e))
-      | false ↦ λ e. omega (arith, le, len_put m k x false (sym e))
-    ] refl
+    | true ↦ λ e. omega (arith, le, len_put m k x true (sym e))
+    | false ↦ λ e. omega (arith, le, len_put m k x false (sym e))
+  ] refl
 
 module _ {X : Type 0} (shown : KeptPart → X) where
   pub len_of_rows : (rows : List Row) → map.len (map_of shown rows) ≤ length rows

@@ -1,12 +1,10 @@
 -- The least number above another that rows hold.
-use Rattle.std.proofs.Common.{◌≡◌, ℕ, zero, suc, ◌+◌, ◌<◌, ◌≤◌, Bool, true, false, List, [], ◌∷◌, length, get_or, Option, Some, None, is_some, refl, sym, ap, subst, ◌∙◌, inl, inr, arith}
-use Rattle.std.specs.Prelude.{option_map, ◌⊎◌, ◌≢◌, IsTrue}
-use Rattle.std.specs.Ordering.{nat_cmp, eq_by_cmp}
+use Rattle.std.proofs.Common.{◌≡◌, ℕ, suc, ◌+◌, ◌<◌, ◌≤◌, true, List, [], ◌∷◌, length, get_or, None, is_some, refl, ap, ◌∙◌, inl, inr, arith}
+use Rattle.std.specs.Prelude.{◌⊎◌}
 use Rattle.std.specs.FinMap as map
 use Rattle.std.proofs.lemmas.Bool.{cases_lt}
 use Rattle.ax_store.specs.declared.row.Row.{Row}
-use Rattle.ax_store.specs.declared.row.KeptPart.{KeptPart}
-use Rattle.ax_store.specs.Rows.{no_row, row_at, number_at, AreRising, IsAt, IsGapFor, IsFirstAbove, map_of, payload_kept}
+use Rattle.ax_store.specs.Rows.{row_at, number_at, AreRising, IsAt, IsGapFor, IsFirstAbove, map_of, payload_kept}
 use Rattle.ax_store.specs.Listed.{IsNextAfter}
 use Rattle.ax_store.proofs.RowMaps.{found, found_cons_none, got, held_at, row_is}
 

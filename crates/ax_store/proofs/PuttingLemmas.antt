@@ -1,12 +1,11 @@
 -- Parts are put one after another.
-use Rattle.std.proofs.Common.{◌≡◌, ℕ, ◌+◌, ◌≤◌, List, [], ◌∷◌, ◌++◌, length, Some, refl, sym, ap, subst, ◌∙◌, length-append, arith}
+use Rattle.std.proofs.Common.{◌≡◌, ℕ, ◌+◌, ◌≤◌, List, ◌∷◌, length, Some, refl, sym, ap, subst, ◌∙◌, length-append, arith}
 use Rattle.std.specs.Prelude.{option_and_then}
 use Rattle.ax_frame.specs.Part.{PartValue, part_bytes, parts_bytes}
-use Rattle.ax_pages.specs.Contents.{Contents}
 use Rattle.ax_pages.specs.AfterPart.{after_part, after_parts, kind_of}
 use Rattle.ax_pages.proofs.OneContents.{StepsBy, first_step, same_some}
 use Rattle.ax_store.specs.Kept.{Kept, offsets_after, offsets_after_parts}
-use Rattle.ax_store.specs.Putting.{AreWithin, IsWithin, Puts, IsPutTo}
+use Rattle.ax_store.specs.Putting.{AreWithin, IsWithin, IsPutTo}
 
 pub none_put : (parts rest : List PartValue) (at : ℕ) (old : Kept) → AreWithin parts old.contents → length parts ≤ old.spare → rest ≡ parts → IsPutTo parts at old old rest at
 none_put parts rest at old within room same = subst (λ ps. IsPutTo parts at old old ps at) (sym same) (record { within = within; lead = refl; offsets = refl; room = room; len = refl })

@@ -1,26 +1,24 @@
 -- The store and its log: agreement, opening, a commit.
-use Rattle.std.proofs.Common.{◌≡◌, ℕ, zero, suc, ⊎_elim, ◌+◌, ◌^◌, ◌<◌, ◌≤◌, false, List, [], ◌∷◌, ◌++◌, length, Result, Ok, Err, Some, refl, sym, ap, subst, ◌∙◌, inl, inr, length-append, arith}
-use Rattle.std.specs.Prelude.{◌≢◌, ◌⊎◌}
-use Rattle.ax_disk.specs.declared.extent.Extent.{Extent}
-use Rattle.ax_disk.specs.model.Image.{Image, list_of}
+use Rattle.std.proofs.Common.{◌≡◌, ℕ, zero, suc, ⊎_elim, ◌+◌, ◌≤◌, false, List, [], ◌∷◌, ◌++◌, length, Err, Some, refl, sym, ap, subst, ◌∙◌, inl, inr, length-append, arith}
+use Rattle.ax_disk.specs.model.Image.{Image}
 use Rattle.ax_disk.specs.model.Pending.{MayLeave}
 use Rattle.ax_disk.specs.model.Moments.{History}
 use Rattle.ax_disk.specs.model.Calls.{Idles}
-use Rattle.ax_disk.specs.model.Stays.{Rests, Stays, Turns, SinceBarrier, BarrierStage}
+use Rattle.ax_disk.specs.model.Stays.{Rests, Turns, SinceBarrier, BarrierStage}
 use Rattle.ax_disk.specs.laws.StaysLaws.{idles_rest, idles_stay, rests_weaken, stays_join, turns_weaken}
 use Rattle.ax_disk.specs.laws.StageLaws.{progress_weaken, barrier_goes_on}
-use Rattle.ax_frame.specs.Part.{PartValue, AllFit, parts_bytes}
-use Rattle.ax_frame.specs.LogFrame.{open_frame, frame_bytes, CanFrame}
+use Rattle.ax_frame.specs.Part.{PartValue, parts_bytes}
+use Rattle.ax_frame.specs.LogFrame.{frame_bytes, CanFrame}
 use Rattle.ax_frame.proofs.Frames.{parts_take_bytes}
 use Rattle.ax_pages.specs.declared.root.RootChoice.TheVariants.{Counts}
 use Rattle.ax_pages.specs.Root.{IsRoot}
-use Rattle.ax_pages.specs.Area.{IsSpan, frames_bytes}
-use Rattle.ax_pages.specs.Image.{IsFresh, IsLive, IsNewer, HasFrames, extent_number}
+use Rattle.ax_pages.specs.Area.{IsSpan}
+use Rattle.ax_pages.specs.Image.{IsFresh, IsLive, HasFrames}
 use Rattle.ax_pages.specs.laws.ImageLaws.{one_frames, fresh_not_live}
 use Rattle.ax_pages.specs.Contents.{Contents, no_contents}
 use Rattle.ax_pages.specs.AfterPart.{after_parts}
-use Rattle.ax_pages.specs.Leads.{LeadOn, AreSpoiled}
-use Rattle.ax_pages.specs.HasContents.{HasContents, IsSpoiledImage}
+use Rattle.ax_pages.specs.Leads.{AreSpoiled}
+use Rattle.ax_pages.specs.HasContents.{HasContents}
 use Rattle.ax_log.specs.declared.log.Log.{Log}
 use Rattle.ax_log.specs.Log.{log_area, log_generation, log_end}
 use Rattle.ax_log.specs.Agreement as log
@@ -38,7 +36,7 @@ use Rattle.ax_store.specs.Change.{IsFrameOf}
 use Rattle.ax_store.specs.Faults.{IsRefused, HasDiskCause}
 use Rattle.ax_store.specs.Loading.{nothing_kept, TakesOn, TellsLoad}
 use Rattle.ax_store.specs.Putting.{Puts}
-use Rattle.ax_store.specs.Store.{Agrees, IsOpened, IsDamagedStore, TellsStore, of_log, store_contents}
+use Rattle.ax_store.specs.Store.{Agrees, SameButRoom, IsOpened, TellsStore, of_log, store_contents}
 use Rattle.ax_store.proofs.LoadLemmas.{one_frame_more, lead_on_of}
 
 -- ---- the log agrees
@@ -69,6 +67,22 @@ pub agrees_rests : (store : Store) (history : History) → Agrees store history 
 agrees_rests store history agrees =
     rests_weaken history (HasFrames agrees.frames) (HasContents (store_contents store))
     (contents_of agrees.frames store.pages agrees.takes) (rests_of store.log agrees.frames history agrees.logged)
+
+-- it agrees still where no list changed
+pub agrees_still : (store : Store) (old new : History) → Agrees store old → Idles old new → Agrees store new
+agrees_still store old new agrees idles = record { frames = agrees.frames; logged = agrees_idle store.log agrees.frames old new agrees.logged idles; takes = agrees.takes }
+
+-- and where nothing of it changed but the room
+last_same : (frames : List (List ℕ)) (at : ℕ) (old mid new : Kept) → TakesOn frames at old mid → new.contents ≡ mid.contents → new.offsets ≡ mid.offsets → TakesOn frames at old new
+last_same [] at old mid new on contents offsets = (contents ∙ on.0, offsets ∙ on.1)
+last_same (frame ∷ frames) at old mid new (between, first, others) contents offsets = (between, first, last_same frames (at + 9 + length frame) between mid new others contents offsets)
+
+pub agrees_same : (old new : Store) (history : History) → SameButRoom old new → Agrees old history → Agrees new history
+agrees_same old new history same agrees = record {
+  frames = agrees.frames;
+  logged = subst (λ l. log.Agrees l agrees.frames history) (sym same.logged) agrees.logged;
+  takes = last_same agrees.frames 0 nothing_kept old.pages new.pages agrees.takes same.contents same.offsets;
+}
 
 -- ---- barriers
 

@@ -1,12 +1,12 @@
 -- Parts are taken one after another.
-use Rattle.std.proofs.Common.{◌≡◌, ℕ, ◌+◌, ◌-◌, Bool, true, false, List, [], ◌∷◌, ◌++◌, length, Result, Ok, Err, Some, None, refl, sym, ap, subst, ◌∙◌, length-append, arith}
+use Rattle.std.proofs.Common.{◌≡◌, ℕ, ◌+◌, ◌-◌, Bool, true, false, List, [], ◌∷◌, ◌++◌, length, Result, Err, None, refl, sym, ap, subst, ◌∙◌, length-append, arith}
 use Rattle.std.specs.Prelude.{◌≢◌, ◌==◌, option_and_then}
 use Rattle.std.proofs.lemmas.List.{append_assoc}
 use Rattle.ax_frame.specs.Part.{PartValue, part_bytes, parts_bytes, BeginsWithPart, NoPart}
 use Rattle.ax_frame.proofs.Parts as parts
 use Rattle.ax_pages.specs.AfterPart.{after_part, after_parts, kind_of}
 use Rattle.ax_pages.specs.Leads.{IsSpoiled}
-use Rattle.ax_store.specs.Kept.{Kept, Takes, offsets_after, offsets_after_parts, PageOffsets}
+use Rattle.ax_store.specs.Kept.{Kept, Takes, offsets_after, offsets_after_parts}
 use Rattle.ax_store.specs.declared.take_parts.TakeFault.{TakeFault}
 use Rattle.ax_store.specs.declared.take_parts.TakeFault.TheVariants.{Spoiled, Memory}
 use Rattle.ax_store.specs.Taking.{TakesPart, TellsPart, TellsParts, IsTakenTo}
@@ -34,23 +34,33 @@ module _ (bytes : List ℕ) (at : ℕ) (old now : Kept) (rest : List ℕ) (taken
   -- no part stands there
   pub spoiled_by_none : rest ≢ [] → NoPart rest → IsSpoiled bytes old.contents (taken.done + 0)
   spoiled_by_none some none = taken.spoiled 0 (record {
-      parts = []; fit = tt; reached = now.contents; lead = refl; rest = rest; some = some; spelled = refl;
-      refused = λ part follows begins. absurd (none part follows begins);
-      offset = refl;
-    })
+    parts = [];
+    fit = tt;
+    reached = now.contents;
+    lead = refl;
+    rest = rest;
+    some = some;
+    spelled = refl;
+    refused = λ part follows begins. absurd (none part follows begins);
+    offset = refl;
+  })
 
   module _ (part : PartValue) (after : List ℕ) (begins : BeginsWithPart rest part after) where
     -- a part stands there that is outside the format
     pub spoiled_by_part : after_part part now.contents ≡ None → IsSpoiled bytes old.contents (taken.done + 0)
     spoiled_by_part none = taken.spoiled 0 (record {
-        parts = []; fit = tt; reached = now.contents; lead = refl; rest = rest;
-        some = λ e. some_bytes (sym begins.spelled ∙ e);
-        spelled = refl;
-        refused = λ other follows is.
-            let same = parts.one_part part other after follows begins.fit is.fit (sym begins.spelled ∙ is.spelled) in
-            ap (λ p. after_part p now.contents) (sym same.0) ∙ none;
-        offset = refl;
-      })
+      parts = [];
+      fit = tt;
+      reached = now.contents;
+      lead = refl;
+      rest = rest;
+      some = λ e. some_bytes (sym begins.spelled ∙ e);
+      spelled = refl;
+      refused = λ other follows is.
+          let same = parts.one_part part other after follows begins.fit is.fit (sym begins.spelled ∙ is.spelled) in
+          ap (λ p. after_part p now.contents) (sym same.0) ∙ none;
+      offset = refl;
+    })
       where
         some_bytes : part_bytes part ++ after ≡ [] → ⊥
         some_bytes e = cc

@@ -1,6 +1,6 @@
 -- A batch as contracts see it: the parts that it changes pages by, and whether it was sealed.
 -- It is this project's own; it comes from no public document.
-use Rattle.std.specs.Prelude.{◌≡◌, ℕ, Bool, List, map}
+use Rattle.std.specs.Prelude.{Bool, List}
 use Rattle.ax_frame.specs.Part.{PartValue}
 use Rattle.ax_store.specs.declared.batch.Batch.{Batch}
 

@@ -1,13 +1,12 @@
 -- A directory as contracts see it: the payloads and the offsets of the numbers that are held, and how
 -- many numbers may still be put without memory.
 -- It is this project's own; it comes from no public document.
-use Rattle.std.specs.Prelude.{◌≡◌, ℕ, ◌-◌, ◌<◌, List, Option, Some, None, refl, IsTrue}
+use Rattle.std.specs.Prelude.{◌≡◌, ℕ, ◌<◌, None, refl, IsTrue}
 use Rattle.std.specs.Coded.{Coded, code_by, coded×, coded_ℕ}
 use Rattle.std.specs.FinMap as map
 use Rattle.ax_pages.specs.Contents.{Numbered}
 use Rattle.ax_pages.specs.ContentsCode.{numbered_code}
-use Rattle.ax_store.specs.declared.row.Row.{Row}
-use Rattle.ax_store.specs.Rows.{Offsets, map_of, payload_kept, offset_kept}
+use Rattle.ax_store.specs.Rows.{Offsets}
 
 pub record Listed : Type 0 where
   pub payloads : Numbered

@@ -32,9 +32,9 @@ impl Model for Directory {
     ghost coded = { listed_code };
 
     ghost view = { λ d. record {
-        payloads = map_of payload_kept d.rows.items;
-        offsets = map_of offset_kept d.rows.items;
-        spare = vec_capacity d.rows - vec_len d.rows;
+      payloads = map_of payload_kept d.rows.items;
+      offsets = map_of offset_kept d.rows.items;
+      spare = vec_capacity d.rows - vec_len d.rows;
     } };
 
     ghost invariant = { λ d. AreRising d.rows.items × (d.held ≡ map.len (map_of payload_kept d.rows.items)) };

@@ -1,4 +1,14 @@
-//! The pages of a store over its log.
+//! The page store: a map from each page to the part that counts, kept in memory and, by the log, on a
+//! disk. It knows kinds, keys and lengths of parts; what a payload means is for the layers above.
+//!
+//! It stands on `ax_log` for the frames, on `ax_frame` for parts, and on `ax_pages` for what an image
+//! of the disk has. Its one contract: until a call answers that the disk failed, each image that a
+//! crash may leave has the store's contents; a commit changes them whole or not at all, at each
+//! moment; and a store that is damaged is refused at exactly the offset where it is.
+//!
+//! Upper layers speak of `HasContents` before a call and after it. That a store which agrees with a
+//! disk has its contents there, and that it agrees still where nothing changed, are the lemmas
+//! `agrees_rests`, `agrees_still` and `agrees_same` of `proofs/StoreLemmas.antt`.
 #![tactic(auto)]
 
 mod batch;

@@ -20,11 +20,7 @@ use std::alloc::Global;
 const HEAD_BYTES: u64 = 9;
 
 /// The pages to which the frames of a log lead.
-pub(crate) fn load<D: Disk>(
-    alloc: Global,
-    disk: &mut D,
-    log: &Log,
-) -> Result<Pages, StoreFault>
+pub(crate) fn load<D: Disk>(alloc: Global, disk: &mut D, log: &Log) -> Result<Pages, StoreFault>
     requires { IsTrue (D.is_honest disk.old)
         → (frames : List (List ℕ)) × Agrees log.now frames (D.history disk.old (D.attached disk.old)) }
     ensures tells { IsTrue (D.is_honest disk.old) → (frames : List (List ℕ))

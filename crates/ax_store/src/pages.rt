@@ -50,17 +50,17 @@ impl Model for Pages {
     ghost coded = { kept_code };
 
     ghost view = { λ p. record {
-        contents = record {
-            meta = option_map payload_kept p.meta;
-            policies = p.policies.payloads;
-            documents = p.documents.payloads;
-        };
-        offsets = record {
-            meta = option_map offset_kept p.meta;
-            policies = p.policies.offsets;
-            documents = p.documents.offsets;
-        };
-        spare = min p.policies.spare p.documents.spare;
+      contents = record {
+        meta = option_map payload_kept p.meta;
+        policies = p.policies.payloads;
+        documents = p.documents.payloads;
+      };
+      offsets = record {
+        meta = option_map offset_kept p.meta;
+        policies = p.policies.offsets;
+        documents = p.documents.offsets;
+      };
+      spare = min p.policies.spare p.documents.spare;
     } };
 
     ghost invariant = { λ p. (p.numbers.next ≡ next_of (option_map payload_kept p.meta))

@@ -1,15 +1,19 @@
 //! What a store answers of its pages.
 
-ghost use Rattle.std.specs.Prelude.{◌≡◌, ◌+◌, ◌<◌, ℕ, true, false, Err, IsTrue, None, IfOk, IfSome, IfNone, option_map, length, drop, slice_index};
+ghost use Rattle.std.specs.Prelude.{◌≡◌, ◌+◌, ◌<◌, ℕ, true, false, Err, IsTrue, Some, None, IfOk, IfSome, IfNone, option_map, length, drop, slice_index};
 ghost use Rattle.std.specs.FinMap as map;
 ghost use Rattle.ax_disk.specs.model.Calls.{Idles};
 ghost use Rattle.ax_pages.specs.Contents.{next_number, policy_now, parts_of};
 ghost use Rattle.ax_store.specs.Faults.{HasDiskCause};
 ghost use Rattle.ax_store.specs.Listed.{IsNextAfter};
-ghost use Rattle.ax_store.specs.Store.{store_contents, store_failed};
+ghost use Rattle.ax_pages.specs.Image.{extent_number};
+ghost use Rattle.ax_store.specs.Rows.{offset_kept};
+ghost use Rattle.ax_store.specs.Kept.{offset_of};
+ghost use Rattle.ax_store.specs.Store.{store_contents, store_offsets, store_area, store_failed};
 
-use crate::fault::StoreFault;
+use crate::fault::{StoreFault, number_of};
 use crate::pages::Meta;
+use crate::row::KeptPart;
 use crate::store::Store;
 use ax_base::Steps;
 use ax_disk::Disk;
@@ -49,6 +53,24 @@ impl Store {
             Some(_) => 1,
             None => 0,
         }
+    }
+
+    /// Where a part of a page stands: the extent as a number, and the offset in it.
+    pub fn place(&self, page: Page, i: usize) -> (u8, u64)
+        requires { i < length (parts_of page (store_contents self.now)) }
+        ensures extent { result.0 ≡ extent_number (store_area self.now) }
+        ensures offset { offset_of page (store_offsets self.now) ≡ Some result.1 }
+    {
+        // A page has one part.
+        let _ = i;
+        let extent = number_of(self.log.area());
+        let at = match page {
+            Page::Meta => offset(self.pages.meta_part()),
+            Page::Policy(number) => offset(self.pages.policy(u32::from(number))),
+            Page::Document(number) => offset(self.pages.document(number)),
+            Page::Term(_) => 0,
+        };
+        (extent, at)
     }
 
     /// What the part of a document says in front of its text. `None` exactly where the number is not
@@ -107,6 +129,16 @@ impl Store {
             Ok(text) => Ok(Some(text)),
             Err(_) => Err(StoreFault::Memory),
         }
+    }
+}
+
+/// The offset of a part that is kept, or 0.
+fn offset(part: Option<&KeptPart>) -> u64
+    ensures { IfSome part.entry (λ part. result ≡ offset_kept part.now) }
+{
+    match part {
+        Some(part) => part.at,
+        None => 0,
     }
 }
 

@@ -48,12 +48,7 @@ pub(crate) fn take_parts(
 }
 
 /// Takes one part, which stands at an offset of the area.
-fn take_part(
-    alloc: Global,
-    pages: &mut Pages,
-    part: Part<'_>,
-    at: u64,
-) -> Result<(), TakeFault>
+fn take_part(alloc: Global, pages: &mut Pages, part: Part<'_>, at: u64) -> Result<(), TakeFault>
     ensures { TellsPart result (part_value part.entry) at pages.old pages.new }
 {
     let Some(kind) = kind_of_number(part.kind) else {

@@ -1,4 +1,4 @@
-use Rattle.std.proofs.Common.{ap, ◌∙◌, length}
+use Rattle.std.proofs.Common.{◌∙◌, length}
 use Rattle.ax_frame.specs.declared.log_frame.FrameHead.TheVariants.{Frame}
 use Rattle.ax_store.proofs.LoadLemmas.{head_at, span_of, head_of_span, not_bad, not_closed}
 use Rattle.ax_store.proofs.load.read_len.Goals as goal

@@ -1,7 +1,7 @@
-use Rattle.std.proofs.Common.{ap, sym, subst, ◌∙◌, ◌++◌, length, take, drop, arith}
+use Rattle.std.proofs.Common.{ap, sym, subst, ◌∙◌, ◌++◌, length, take, drop}
 use Rattle.std.specs.Prelude.{IsTrue}
 use Rattle.std.proofs.lemmas.List.{take_at}
-use Rattle.ax_store.proofs.LoadLemmas.{span_at, refused_span}
+use Rattle.ax_store.proofs.LoadLemmas.{span_at}
 use Rattle.ax_store.proofs.load.read_span.Goals as goal
 
 pub returns-clause-tells : goal.returns-clause-tells

@@ -1,4 +1,4 @@
-use Rattle.std.proofs.Common.{ℕ, ◌-◌, ◌≤◌, length}
+use Rattle.std.proofs.Common.{◌-◌, ◌≤◌, length}
 use Rattle.ax_store.proofs.NextHeld.{NonePart}
 use Rattle.ax_store.proofs.row.first_held.Given as goal
 

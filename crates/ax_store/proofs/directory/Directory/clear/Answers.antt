@@ -13,14 +13,14 @@ pub invariant_of-self : goal.invariant_of-self
 invariant_of-self c = (
   c.clear_row.ensures.rising,
   ap (λ n. n - 1) c.self.invariant.1
-  ∙ sym (len_cleared (map_of payload_kept c.self.inside.rows.items) c.args.number true (sym c.if-clear_row.true ∙ c.clear_row.ensures.held))
-  ∙ ap map.len (sym c.clear_row.ensures.payloads),
+      ∙ sym (len_cleared (map_of payload_kept c.self.inside.rows.items) c.args.number true (sym c.if-clear_row.true ∙ c.clear_row.ensures.held))
+      ∙ ap map.len (sym c.clear_row.ensures.payloads),
 )
 
 pub invariant_of-self-else-clear_row : goal.invariant_of-self-else-clear_row
 invariant_of-self-else-clear_row c = (
   c.clear_row.ensures.rising,
   c.self.invariant.1
-  ∙ sym (len_cleared (map_of payload_kept c.self.inside.rows.items) c.args.number false (sym c.if-clear_row.false ∙ c.clear_row.ensures.held))
-  ∙ ap map.len (sym c.clear_row.ensures.payloads),
+      ∙ sym (len_cleared (map_of payload_kept c.self.inside.rows.items) c.args.number false (sym c.if-clear_row.false ∙ c.clear_row.ensures.held))
+      ∙ ap map.len (sym c.clear_row.ensures.payloads),
 )

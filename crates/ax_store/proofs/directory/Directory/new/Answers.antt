@@ -1,4 +1,4 @@
-use Rattle.std.proofs.Common.{ap, sym, ◌∙◌, ℕ, List, length, subst, arith}
+use Rattle.std.proofs.Common.{ap, sym, ◌∙◌, ℕ, List, length, arith}
 use Rattle.std.specs.Ordering.{nat_cmp}
 use Rattle.std.specs.FinMap as map
 use Rattle.ax_store.specs.Rows.{map_of, payload_kept}
