@@ -75,6 +75,9 @@ pub enum QueryStep {
 }
 
 pub type ExprList = Items<Expr>;
+
 pub type OpChain = Items<Chained<Expr>>;
+
 pub type MemberList = Items<Member<Expr>>;
+
 pub type StepList = Items<QueryStep>;

@@ -12,9 +12,9 @@ mod operator;
 mod query;
 mod value;
 
-pub use ax_tree::laws as tree_laws;
 pub use ax_tree::{
-    Items, Member, Members, Memory, Text, Tree, append_tree, id_of, may_be_id, write_tree,
+    Items, Member, Members, Memory, Text, Tree, append_tree, id_of, laws as tree_laws, may_be_id,
+    write_tree,
 };
 pub use boxed::Boxed;
 pub use expr::{Chained, Expr, ExprList, MemberList, OpChain, QueryStep, StepList};

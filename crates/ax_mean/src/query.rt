@@ -76,7 +76,11 @@ pub struct KeyedRow {
 }
 
 pub type NamedList = Items<Named>;
+
 pub type FromList = Items<FromItem>;
+
 pub type OrderList = Items<Order>;
+
 pub type Path = Items<Step>;
+
 pub type PlaceList = Items<u32>;
