@@ -1,6 +1,6 @@
 -- Arithmetic on whole numbers: the exact result, and none where it does not fit 64 bits, where the
 -- divisor is 0, or where a quotient is not whole. A remainder has the sign of the left operand.
-use Rattle.std.specs.Prelude.{ℤ, pos, ◌+ℤ◌, ◌-ℤ◌, ◌*ℤ◌, neg_ℤ, int_div, int_rem, Bool, Option, Some, None, option_and_then, if◌then◌else◌}
+use Rattle.std.specs.Prelude.{ℤ, pos, ◌+ℤ◌, ◌-ℤ◌, ◌*ℤ◌, neg_ℤ, int_div, int_rem, Option, Some, None, option_and_then, if◌then◌else◌}
 use Rattle.std.specs.Ordering.{int_eq}
 use Rattle.ax_tree.specs.WellFormed.{is_of_64_bits}
 use Rattle.ax_mean.specs.declared.value.Value.{Value}
@@ -19,7 +19,9 @@ abbrev pub product_of : ℤ → ℤ → Option ℤ
 product_of a b = in_64_bits (a *ℤ b)
 
 abbrev pub quotient_of : ℤ → ℤ → Option ℤ
-quotient_of a b = if int_eq b (pos 0) then None else if int_eq (int_rem a b) (pos 0) then in_64_bits (int_div a b) else None
+quotient_of a b =
+    if int_eq b (pos 0) then None else if int_eq (int_rem a b) (pos 0) then in_64_bits (int_div a b)
+    else None
 
 abbrev pub remainder_of : ℤ → ℤ → Option ℤ
 remainder_of a b = if int_eq b (pos 0) then None else Some (int_rem a b)
@@ -29,7 +31,8 @@ negative_of a = in_64_bits (neg_ℤ a)
 
 -- an operation on two numbers, undefined of other values
 abbrev pub arithmetic : (ℤ → ℤ → Option ℤ) → Value → Value → Value
-arithmetic operation a b = of_number (option_and_then (λ x. option_and_then (operation x) (number_of b)) (number_of a))
+arithmetic operation a b =
+    of_number (option_and_then (λ x. option_and_then (operation x) (number_of b)) (number_of a))
 
 -- an operation on one number, undefined of another value
 abbrev pub on_number : (ℤ → Option ℤ) → Value → Value

@@ -1,7 +1,7 @@
 -- Comparing two values, as in the query language of Azure Cosmos DB for NoSQL: across kinds, and with
 -- undefined, every comparison is undefined. False and true are of one kind. Two lists, or two maps,
 -- have no order: of those only `=` is defined.
-use Rattle.std.specs.Prelude.{ℕ, Bool, true, false, ◌&&◌, nat_le, Option, Some, None, if◌then◌else◌}
+use Rattle.std.specs.Prelude.{Bool, true, false, ◌&&◌, nat_le, Option, Some, None, if◌then◌else◌}
 use Rattle.std.specs.declared.cmp.Ordering.{Ordering}
 use Rattle.std.specs.Ordering.{is_ne, is_lt, is_le, is_gt, is_ge}
 use Rattle.ax_mean.specs.declared.value.Value.{Value}
@@ -26,7 +26,8 @@ is_scalar value = nat_le 1 (kind value) && nat_le (kind value) 4
 
 -- a comparison by the order of values
 abbrev pub comparison : (Ordering → Bool) → Value → Value → Option Bool
-comparison test a b = if are_of_one_kind a b && is_scalar a then Some (test (value_cmp a b)) else None
+comparison test a b =
+    if are_of_one_kind a b && is_scalar a then Some (test (value_cmp a b)) else None
 
 abbrev pub is_not_equal : Value → Value → Option Bool
 is_not_equal = comparison is_ne

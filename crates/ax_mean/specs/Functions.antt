@@ -1,11 +1,11 @@
 -- What each function makes of its arguments' values, and how many it takes.
-use Rattle.std.specs.Prelude.{ℕ, ℤ, pos, negsuc, neg_ℤ, unsigned_abs, List, [], ◌∷◌, length, Bool, true, false, ◌&&◌, ◌||◌, nat_le, nat_eq, ◌==◌, Option, Some, None, option_map, if◌then◌else◌}
+use Rattle.std.specs.Prelude.{ℕ, ℤ, pos, unsigned_abs, List, [], ◌∷◌, Bool, ◌&&◌, ◌||◌, nat_le, ◌==◌, Option, Some, None, option_map, if◌then◌else◌}
 use Rattle.std.specs.Option.{is_some}
 use Rattle.std.specs.Int.{int_signum}
 use Rattle.ax_mean.specs.declared.operator.Func.{Func}
 use Rattle.ax_mean.specs.declared.operator.Func.TheVariants as func
 use Rattle.ax_mean.specs.declared.value.Value.{Value}
-use Rattle.ax_mean.specs.declared.value.Value.TheVariants.{Undefined, Defined}
+use Rattle.ax_mean.specs.declared.value.Value.TheVariants.{Undefined}
 use Rattle.ax_mean.specs.Arithmetic.{in_64_bits, on_number}
 use Rattle.ax_mean.specs.Comparison.{is_scalar}
 use Rattle.ax_mean.specs.ListFunctions.{list_length, contains_item, joined_lists, slice_from, slice_of, on_list_and_number, on_list_and_numbers}

@@ -8,6 +8,7 @@ pub use Rattle.ax_tree.specs.WellFormed
 pub mod Arithmetic
 pub mod Building
 pub mod Comparison
+pub mod Fitting
 pub mod Functions
 pub mod Like
 pub mod ListFunctions

@@ -34,8 +34,10 @@ abbrev pub has_bracket : List ℕ → Bool
 has_bracket = list_any (λ c. c == 91)
 
 abbrev pub text_is_like : List ℕ → List ℕ → Option Bool
-text_is_like text pattern = if has_bracket (chars pattern) then None else Some (matches (chars pattern) (chars text))
+text_is_like text pattern =
+    if has_bracket (chars pattern) then None else Some (matches (chars pattern) (chars text))
 
 -- `text LIKE pattern`
 abbrev pub is_like : Value → Value → Option Bool
-is_like text pattern = option_and_then (λ t. option_and_then (text_is_like t) (text_of pattern)) (text_of text)
+is_like text pattern =
+    option_and_then (λ t. option_and_then (text_is_like t) (text_of pattern)) (text_of text)

@@ -1,11 +1,11 @@
 -- The functions of lists. Places count from 0.
-use Rattle.std.specs.Prelude.{ℕ, ℤ, pos, negsuc, List, [], ◌∷◌, ◌++◌, length, take, drop, Bool, true, false, ◌-◌, ◌+◌, Option, Some, None, option_map, option_and_then, if◌then◌else◌}
+use Rattle.std.specs.Prelude.{ℕ, ℤ, pos, negsuc, List, [], ◌∷◌, ◌++◌, length, take, drop, Bool, ◌-◌, ◌+◌, Option, Some, None, option_map, option_and_then}
 use Rattle.std.specs.List.{list_any}
 use Rattle.ax_tree.specs.declared.tree.Tree.{Tree}
 use Rattle.ax_mean.specs.declared.value.Value.{Value}
 use Rattle.ax_mean.specs.declared.value.Value.TheVariants.{Undefined, Defined}
 use Rattle.ax_mean.specs.Sameness.{is_same}
-use Rattle.ax_mean.specs.TextFunctions.{count_of, is_negative}
+use Rattle.ax_mean.specs.TextFunctions.{count_of}
 use Rattle.ax_mean.specs.Values.{list_of, number_of}
 
 -- ARRAY_LENGTH
@@ -23,7 +23,9 @@ contains_item list (Defined tree) = option_map (λ items. has_item items tree) (
 -- ARRAY_CONCAT: the lists joined; none where one is no list
 abbrev pub joined_lists : List Value → Option (List Tree)
 joined_lists [] = Some []
-joined_lists (value ∷ values) = option_and_then (λ items. option_map (λ rest. items ++ rest) (joined_lists values)) (list_of value)
+joined_lists (value ∷ values) =
+    option_and_then (λ items. option_map (λ rest. items ++ rest) (joined_lists values))
+    (list_of value)
 
 -- a place from the start, or from the end where it is negative, and then at least 0
 abbrev pub place_from : List Tree → ℤ → ℕ
@@ -42,5 +44,8 @@ slice_of items start count = take (count_of count) (slice_from items start)
 abbrev pub on_list_and_number : (List Tree → ℤ → List Tree) → Value → Value → Option (List Tree)
 on_list_and_number f a b = option_and_then (λ items. option_map (f items) (number_of b)) (list_of a)
 
-abbrev pub on_list_and_numbers : (List Tree → ℤ → ℤ → List Tree) → Value → Value → Value → Option (List Tree)
-on_list_and_numbers f a b c = option_and_then (λ items. option_and_then (λ x. option_map (f items x) (number_of c)) (number_of b)) (list_of a)
+abbrev pub on_list_and_numbers : (List Tree → ℤ → ℤ → List Tree) → Value → Value → Value
+    → Option (List Tree)
+on_list_and_numbers f a b c =
+    option_and_then
+    (λ items. option_and_then (λ x. option_map (f items x) (number_of c)) (number_of b)) (list_of a)

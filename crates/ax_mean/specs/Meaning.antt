@@ -2,7 +2,6 @@
 -- are literals. An aggregate has its meaning over the rows of a group, and is undefined here.
 use Rattle.std.specs.Prelude.{ℕ, List, [], ◌∷◌, map, Bool, true, false, Option, if◌then◌else◌}
 use Rattle.std.specs.Str.{bytes_eq}
-use Rattle.ax_tree.specs.declared.members.Member.{Member}
 use Rattle.ax_tree.specs.declared.tree.Tree as tree
 use Rattle.ax_mean.specs.declared.expr.Chained.{Chained}
 use Rattle.ax_mean.specs.declared.expr.Expr.{Expr, fold-Expr}
@@ -54,7 +53,8 @@ among left items = chain disjunction (map (λ item. binary op.Equal left item) i
 
 -- `a BETWEEN b AND c`: `a >= b AND a <= c`
 abbrev pub between : Value → Value → Value → Value
-between left low high = conjunction (binary op.GreaterEqual left low) (binary op.LessEqual left high)
+between left low high =
+    conjunction (binary op.GreaterEqual left low) (binary op.LessEqual left high)
 
 -- with NOT written before the operator
 abbrev pub negated_where : Bool → Value → Value
@@ -73,8 +73,10 @@ meaning_level env (Expr-F.And items) = chain conjunction items
 meaning_level env (Expr-F.Not a) = negation a
 meaning_level env (Expr-F.Compare operator a b) = binary operator a b
 meaning_level env (Expr-F.Among negated left items) = negated_where negated (among left items)
-meaning_level env (Expr-F.Between negated left low high) = negated_where negated (between left low high)
-meaning_level env (Expr-F.Like negated left pattern) = negated_where negated (binary op.Like left pattern)
+meaning_level env (Expr-F.Between negated left low high) =
+    negated_where negated (between left low high)
+meaning_level env (Expr-F.Like negated left pattern) =
+    negated_where negated (binary op.Like left pattern)
 meaning_level env (Expr-F.Join items) = chain joined items
 meaning_level env (Expr-F.Sum first rest) = operated first rest
 meaning_level env (Expr-F.Product first rest) = operated first rest

@@ -1,5 +1,5 @@
 -- What the operators make of their operands' values.
-use Rattle.std.specs.Prelude.{List, ◌++◌, ℕ, Bool, true, false, Option, Some, None, option_map, option_and_then}
+use Rattle.std.specs.Prelude.{◌++◌, Some, option_map, option_and_then}
 use Rattle.ax_mean.specs.declared.operator.BinaryOp.{BinaryOp}
 use Rattle.ax_mean.specs.declared.operator.BinaryOp.TheVariants as op
 use Rattle.ax_mean.specs.declared.operator.UnaryOp.{UnaryOp}

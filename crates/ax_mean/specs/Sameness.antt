@@ -1,5 +1,5 @@
 -- Whether two trees are the same: a tree is seen as the test that the same trees pass.
-use Rattle.std.specs.Prelude.{ℕ, ℤ, List, [], ◌∷◌, Bool, true, false, ◌&&◌, ◌==◌}
+use Rattle.std.specs.Prelude.{List, [], ◌∷◌, Bool, true, false, ◌&&◌}
 use Rattle.std.specs.Ordering.{int_eq}
 use Rattle.std.specs.Bool.{beq}
 use Rattle.std.specs.Str.{bytes_eq}
@@ -19,7 +19,8 @@ abbrev pub all_members_pass : List (Member (Tree → Bool)) → List (Member Tre
 all_members_pass [] [] = true
 all_members_pass [] (m ∷ ms) = false
 all_members_pass (test ∷ tests) [] = false
-all_members_pass (test ∷ tests) (m ∷ ms) = bytes_eq test.name m.name && test.value m.value && all_members_pass tests ms
+all_members_pass (test ∷ tests) (m ∷ ms) =
+    bytes_eq test.name m.name && test.value m.value && all_members_pass tests ms
 
 abbrev pub same_level : Tree-F (Tree → Bool) → Tree-F Tree → Bool
 same_level Tree-F.Null Tree-F.Null = true

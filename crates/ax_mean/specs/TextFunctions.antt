@@ -1,16 +1,15 @@
 -- The functions of texts. Lengths and places count characters, which are Unicode scalar values, from
 -- 0. A text is seen as its bytes in UTF-8, and `chars` is the list of its characters.
-use Rattle.std.specs.Prelude.{ℕ, ℤ, pos, negsuc, neg_ℤ, List, [], ◌∷◌, ◌++◌, length, take, drop, reverse, Bool, true, false, ◌&&◌, ◌||◌, ◌-◌, ◌+◌, Option, Some, None, option_map, option_and_then, if◌then◌else◌}
+use Rattle.std.specs.Prelude.{ℕ, ℤ, pos, negsuc, neg_ℤ, List, [], ◌∷◌, ◌++◌, nat_eq, length, take, drop, reverse, Bool, true, false, ◌||◌, ◌-◌, ◌+◌, Option, Some, None, option_map, option_and_then, if◌then◌else◌}
 use Rattle.std.specs.List.{starts_with, ends_with}
 use Rattle.std.specs.Option.{is_some}
 use Rattle.std.specs.Str.{chars, encode_utf8_all}
-use Rattle.std.specs.Prelude.{nat_eq}
 use Rattle.ax_tree.specs.CanonicalText.{canonical_text}
 use Rattle.ax_tree.specs.declared.tree.Tree.{Tree, out-Tree}
 use Rattle.ax_tree.specs.declared.tree.Tree.TheOpen.{Tree-F}
 use Rattle.ax_mean.specs.declared.value.Value.{Value}
 use Rattle.ax_mean.specs.declared.value.Value.TheVariants.{Undefined, Defined}
-use Rattle.ax_mean.specs.Values.{text_of, number_of, of_text, of_number, of_truth}
+use Rattle.ax_mean.specs.Values.{text_of, number_of}
 
 -- a number of characters or elements: none where it is negative
 abbrev pub count_of : ℤ → ℕ
@@ -35,7 +34,9 @@ right text n = encode_utf8_all (drop (length (chars text) - count_of n) (chars t
 
 -- SUBSTRING: the characters from a place on, at most so many; none where a number is negative
 abbrev pub substring : List ℕ → ℤ → ℤ → List ℕ
-substring text start count = if is_negative start || is_negative count then [] else encode_utf8_all (take (count_of count) (drop (count_of start) (chars text)))
+substring text start count =
+    if is_negative start || is_negative count then []
+    else encode_utf8_all (take (count_of count) (drop (count_of start) (chars text)))
 
 -- REVERSE: the characters from the last to the first
 abbrev pub reversed : List ℕ → List ℕ
@@ -51,7 +52,8 @@ finishes_with = ends_with nat_eq
 -- the least place of a list at which the other begins
 abbrev pub place_in : List ℕ → List ℕ → Option ℕ
 place_in part [] = if begins_with [] part then Some 0 else None
-place_in part (c ∷ cs) = if begins_with (c ∷ cs) part then Some 0 else option_map (λ place. place + 1) (place_in part cs)
+place_in part (c ∷ cs) =
+    if begins_with (c ∷ cs) part then Some 0 else option_map (λ place. place + 1) (place_in part cs)
 
 abbrev pub place_of : List ℕ → List ℕ → Option ℕ
 place_of text part = place_in (chars part) (chars text)
@@ -71,7 +73,9 @@ index_of text part = place_or_none (place_of text part)
 -- CONCAT: the texts joined; none where one is no text
 abbrev pub joined_texts : List Value → Option (List ℕ)
 joined_texts [] = Some []
-joined_texts (value ∷ values) = option_and_then (λ text. option_map (λ rest. text ++ rest) (joined_texts values)) (text_of value)
+joined_texts (value ∷ values) =
+    option_and_then (λ text. option_map (λ rest. text ++ rest) (joined_texts values))
+    (text_of value)
 
 -- TOSTRING: a text itself, else the canonical text
 abbrev pub shown_level : Tree → Tree-F Tree → List ℕ
@@ -100,5 +104,8 @@ on_texts f a b = option_and_then (λ s. option_map (f s) (text_of b)) (text_of a
 abbrev pub on_text_and_number : {X : Type 0} → (List ℕ → ℤ → X) → Value → Value → Option X
 on_text_and_number f a b = option_and_then (λ s. option_map (f s) (number_of b)) (text_of a)
 
-abbrev pub on_text_and_numbers : {X : Type 0} → (List ℕ → ℤ → ℤ → X) → Value → Value → Value → Option X
-on_text_and_numbers f a b c = option_and_then (λ s. option_and_then (λ x. option_map (f s x) (number_of c)) (number_of b)) (text_of a)
+abbrev pub on_text_and_numbers : {X : Type 0} → (List ℕ → ℤ → ℤ → X) → Value → Value → Value
+    → Option X
+on_text_and_numbers f a b c =
+    option_and_then (λ s. option_and_then (λ x. option_map (f s x) (number_of c)) (number_of b))
+    (text_of a)

@@ -1,6 +1,6 @@
 -- The order of values, which sorts the rows of an answer: undefined, null, false, true, numbers by
 -- value, texts by their bytes, lists and then maps by the bytes of their canonical texts.
-use Rattle.std.specs.Prelude.{ℕ, ℤ, pos, List, [], Bool, true, false}
+use Rattle.std.specs.Prelude.{ℕ, ℤ, pos, List, [], true, false}
 use Rattle.std.specs.declared.cmp.Ordering.{Ordering}
 use Rattle.std.specs.Ordering.{nat_cmp, int_cmp, on, then_cmp}
 use Rattle.std.specs.Cmp.Lexicographic.{slice_cmp}
@@ -54,4 +54,5 @@ bytes_key Undefined = []
 bytes_key (Defined tree) = bytes_key_level tree (out-Tree tree)
 
 abbrev pub value_cmp : Value → Value → Ordering
-value_cmp = then_cmp (on rank nat_cmp) (then_cmp (on number_key int_cmp) (on bytes_key (slice_cmp nat_cmp)))
+value_cmp =
+    then_cmp (on rank nat_cmp) (then_cmp (on number_key int_cmp) (on bytes_key (slice_cmp nat_cmp)))

@@ -1,10 +1,9 @@
 -- A value, undefined or a tree, by its kind and by what it holds.
-use Rattle.std.specs.Prelude.{ℕ, ℤ, List, Bool, not, ◌==◌, ◌&&◌, Option, Some, None}
+use Rattle.std.specs.Prelude.{ℕ, ℤ, List, Bool, ◌==◌, ◌&&◌, Option, Some, None}
 use Rattle.ax_tree.specs.declared.members.Member.{Member}
 use Rattle.ax_tree.specs.declared.tree.Tree as tree
 use Rattle.ax_tree.specs.declared.tree.Tree.{Tree, out-Tree}
 use Rattle.ax_tree.specs.declared.tree.Tree.TheOpen.{Tree-F}
-use Rattle.ax_tree.specs.WellFormed.{is_of_64_bits}
 use Rattle.ax_mean.specs.declared.value.Value.{Value}
 use Rattle.ax_mean.specs.declared.value.Value.TheVariants.{Undefined, Defined}
 

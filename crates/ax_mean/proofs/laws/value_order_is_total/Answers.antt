@@ -4,4 +4,6 @@ use Rattle.ax_mean.specs.ValueOrder.{rank, number_key, bytes_key}
 use Rattle.ax_mean.proofs.laws.value_order_is_total.Goals as goal
 
 pub returns : goal.returns
-returns c = then_total (on_total rank nat_cmp_total) (then_total (on_total number_key int_cmp_total) (on_total bytes_key nat_list_cmp_total))
+returns c =
+    then_total (on_total rank nat_cmp_total)
+    (then_total (on_total number_key int_cmp_total) (on_total bytes_key nat_list_cmp_total))
