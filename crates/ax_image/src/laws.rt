@@ -31,5 +31,5 @@ pub fn an_upsert_is_written_by_its_parts()
         → ContentsStandFor contents before → document_id tree ≡ Some id → IsWellFormed tree → nesting tree ≤ 127
         → upserted id tree before ≡ Ok after
         → (new : Contents) × (after_parts (upsert_parts id tree (policy_now contents) before) contents ≡ Some new)
-            × ContentsStandFor new after }
+        × ContentsStandFor new after }
 {}
