@@ -1,12 +1,11 @@
 -- An image stands for one container at most, and the files of a fresh store for the fresh one.
-use Rattle.std.proofs.Common.{◌≡◌, ℕ, List, [], ◌∷◌, length, refl, sym, ap, subst, ◌∙◌, arith, inl}
+use Rattle.std.proofs.Common.{◌≡◌, ℕ, List, [], ◌∷◌, length, refl, sym, subst, ◌∙◌, arith, inl}
 use Rattle.std.specs.Ordering.{nat_cmp}
 use Rattle.std.specs.FinMap as finite
 use Rattle.ax_disk.specs.model.Image.{Image}
 use Rattle.ax_container.specs.Container.{Container, fresh}
 use Rattle.ax_pages.specs.Image.{IsFresh}
 use Rattle.ax_pages.specs.Contents.{Contents, Numbered, no_contents}
-use Rattle.ax_pages.specs.HasContents.{HasContents}
 use Rattle.ax_pages.proofs.ImageContents.{one_contents}
 use Rattle.ax_image.specs.StandsFor.{AreShown, ContentsStandFor, StandsFor}
 use Rattle.ax_image.proofs.Shown.{one_list}

@@ -1,12 +1,11 @@
 -- Pages that show entries: they show one list alone, and what a page put in place makes of them.
-use Rattle.std.proofs.Common.{◌≡◌, ℕ, zero, suc, ◌+◌, ◌<◌, ◌≤◌, Bool, true, false, List, [], ◌∷◌, ◌++◌, length, map, find, drop, Option, Some, None, is_some, Ordering, refl, sym, ap, subst, ◌∙◌, arith}
+use Rattle.std.proofs.Common.{◌≡◌, ℕ, suc, ◌<◌, true, false, List, [], ◌∷◌, ◌++◌, length, map, find, drop, Some, is_some, refl, sym, ap, subst, ◌∙◌, arith}
 use Rattle.std.specs.Prelude.{if◌then◌else◌}
 use Rattle.std.specs.List.{list_any, AllByRecursion}
-use Rattle.std.specs.Str.{bytes_eq}
 use Rattle.std.specs.Option.{unwrap_or}
 use Rattle.std.specs.Ordering.{nat_cmp, eq_by_cmp}
 use Rattle.std.specs.Cmp.{nat_cmp_is}
-use Rattle.std.specs.declared.cmp.Ordering.TheVariants.{Less, Equal, Greater}
+use Rattle.std.specs.declared.cmp.Ordering.TheVariants.{Equal, Greater}
 use Rattle.std.specs.FinMap.{put}
 use Rattle.std.specs.FinMap as finite
 use Rattle.ax_pages.proofs.LastPart.{same_number}
@@ -16,7 +15,7 @@ use Rattle.ax_tree.specs.CanonicalText.{canonical_text}
 use Rattle.ax_tree.specs.Document.{document_id}
 use Rattle.ax_tree.proofs.OneText.{one_text}
 use Rattle.ax_tree.proofs.Fitting.{numbers_fit-well_formed}
-use Rattle.ax_container.specs.Container.{Entry, Container, has_id, NumbersRise, IdsAreDistinct, IsStored, IsSound}
+use Rattle.ax_container.specs.Container.{Entry, has_id, NumbersRise, IdsAreDistinct, IsStored}
 use Rattle.ax_container.specs.Upsert.{with_tree}
 use Rattle.ax_container.proofs.Ids.{same_from_eq}
 use Rattle.ax_container.proofs.Upserts.{or_none, with_tree-own, with_tree-other}

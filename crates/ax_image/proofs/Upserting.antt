@@ -1,9 +1,8 @@
 -- The parts of an upsert lead to the upserted container.
-use Rattle.std.proofs.Common.{◌≡◌, ℕ, ◌+◌, ◌^◌, ◌<◌, ◌≤◌, Bool, true, false, List, [], ◌∷◌, ◌++◌, length, map, find, Option, Some, None, Ok, is_some, refl, sym, ap, subst, ◌∙◌, arith}
-use Rattle.std.specs.Prelude.{◌&&◌, ◌||◌, ◌==◌, nat_lt, nat_le, if◌then◌else◌, option_and_then}
+use Rattle.std.proofs.Common.{◌≡◌, ℕ, ◌+◌, ◌^◌, ◌<◌, ◌≤◌, Bool, true, false, List, [], ◌∷◌, length, find, Option, Some, None, Ok, is_some, refl, sym, ap, subst, ◌∙◌, arith}
+use Rattle.std.specs.Prelude.{◌&&◌, ◌||◌, nat_lt, nat_le, if◌then◌else◌, option_and_then}
 use Rattle.std.specs.List.{list_any}
 use Rattle.std.specs.Option.{option_map_or}
-use Rattle.std.specs.Int.{w32}
 use Rattle.std.specs.Ordering.{nat_cmp}
 use Rattle.std.specs.Cmp.{nat_cmp_total}
 use Rattle.std.specs.FinMap as finite
@@ -15,10 +14,10 @@ use Rattle.ax_tree.specs.CanonicalText.{canonical_text}
 use Rattle.ax_container.specs.Container.{Entry, Container, has_id, contains, entry_of, most_documents, last_number, IsSound}
 use Rattle.ax_container.specs.Upsert.{replaced, created, is_full, upserted}
 use Rattle.ax_container.proofs.Upserts.{or_none, upsert_cases}
-use Rattle.ax_pages.specs.Contents.{Contents, Numbered, meta_bytes, next_in, now_in, next_number, policy_now, is_given}
+use Rattle.ax_pages.specs.Contents.{Contents, meta_bytes, next_in, now_in, policy_now, is_given}
 use Rattle.ax_pages.specs.AfterPart.{is_meta, is_document, has_room, after_part, after_parts, last_policy}
 use Rattle.ax_image.specs.StandsFor.{AreShown, ContentsStandFor}
-use Rattle.ax_image.specs.UpsertParts.{document_part, meta_part, replacing_parts, creating_parts, upsert_parts}
+use Rattle.ax_image.specs.UpsertParts.{document_part, replacing_parts, creating_parts, upsert_parts}
 use Rattle.ax_image.proofs.Shown.{as_many, rises_to, found_above, found_page, shown_behind, shown_over}
 
 both : (a b : Bool) → a ≡ true → b ≡ true → (a && b) ≡ true

@@ -1,5 +1,5 @@
 -- An image has one contents, or is spoiled at one offset, and not both.
-use Rattle.std.proofs.Common.{◌≡◌, ℕ, List, sym, subst, inr}
+use Rattle.std.proofs.Common.{◌≡◌, ℕ, sym, subst, inr}
 use Rattle.ax_disk.specs.declared.extent.Extent.{Extent}
 use Rattle.ax_disk.specs.model.Image.{Image}
 use Rattle.ax_pages.specs.Image.{HasFrames}

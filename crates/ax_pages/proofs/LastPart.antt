@@ -1,6 +1,6 @@
 -- Of each page the last part counts.
-use Rattle.std.proofs.Common.{◌≡◌, ℕ, Bool, true, false, List, [], ◌∷◌, ◌++◌, Option, Ordering, refl, sym, ap, subst, ◌∙◌}
-use Rattle.std.specs.Prelude.{◌≢◌, Some, None, option_and_then, if◌then◌else◌}
+use Rattle.std.proofs.Common.{◌≡◌, ℕ, Bool, true, false, List, [], ◌∷◌, ◌++◌, Option, Ordering, refl, sym, ap, ◌∙◌}
+use Rattle.std.specs.Prelude.{◌≢◌, Some, None, if◌then◌else◌}
 use Rattle.std.specs.List.{AllByRecursion}
 use Rattle.std.specs.Ordering.{nat_cmp, eq_by_cmp, is_eq}
 use Rattle.std.specs.declared.cmp.Ordering.TheVariants.{Less, Equal, Greater}
@@ -12,8 +12,8 @@ use Rattle.ax_pages.specs.declared.page.Page.TheVariants.{Meta, Policy, Document
 use Rattle.ax_pages.specs.declared.page.Kind.{Kind}
 use Rattle.ax_pages.specs.declared.page.Kind.TheVariants as kind
 use Rattle.ax_pages.specs.Contents.{Contents, Numbered, payload_of}
-use Rattle.ax_pages.specs.AfterPart.{kind_of, after_kind, after_part, after_parts, page_of_kind, page_of, left_by_kind, left_by}
-use Rattle.ax_pages.proofs.OneContents.{same_some, StepsBy, first_step}
+use Rattle.ax_pages.specs.AfterPart.{kind_of, after_kind, after_parts, page_of_kind, page_of, left_by_kind, left_by}
+use Rattle.ax_pages.proofs.OneContents.{same_some, first_step}
 
 passed : (test : Bool) (x y : Contents) → (if test then Some x else None) ≡ Some y → y ≡ x
 passed true x y e = sym (same_some x y e)

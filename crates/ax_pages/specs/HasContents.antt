@@ -1,7 +1,7 @@
 -- What contents an image of a store has: those to which its log frames lead from nothing.
 -- This is all that the layers above the log ask of an image.
 -- From the store's own file format (docs/FORMAT.md); no other document has it.
-use Rattle.std.specs.Prelude.{◌≡◌, ℕ, List}
+use Rattle.std.specs.Prelude.{ℕ, List}
 use Rattle.ax_disk.specs.model.Image.{Image}
 use Rattle.ax_disk.specs.declared.extent.Extent.{Extent}
 use Rattle.ax_pages.specs.Image.{IsLive, HasFrames}

@@ -1,7 +1,7 @@
 -- Which bytes lead from contents to contents, and where bytes are spoiled: of what one log frame
 -- spans, and of one log frame after another.
 -- From the store's own file format (docs/FORMAT.md, "Parts"); no other document has it.
-use Rattle.std.specs.Prelude.{◌≡◌, ◌≢◌, ℕ, ◌+◌, List, [], ◌∷◌, ◌++◌, length, Option, Some, None}
+use Rattle.std.specs.Prelude.{◌≡◌, ◌≢◌, ℕ, ◌+◌, List, [], ◌∷◌, ◌++◌, length, Some, None}
 use Rattle.std.specs.List.{flat_map}
 use Rattle.ax_frame.specs.Part.{PartValue, AllFit, parts_bytes, BeginsWithPart}
 use Rattle.ax_frame.specs.LogFrame.{open_frame}
