@@ -32,3 +32,6 @@ pub use memory::Memory;
 pub use pages::Meta;
 pub use reads::Head;
 pub use store::Store;
+
+#[cfg(test)]
+mod tests;
