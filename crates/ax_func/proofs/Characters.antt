@@ -12,9 +12,10 @@ length-encode_pos c = search (rules, length-encode c)
 
 pub first_of : (text rest : List ℕ) (c : ℕ) → IsUtf8 text → text ≡ encode_utf8 c ++ rest
     → (chars text ≡ c ∷ chars rest) × (length rest < length text)
-first_of text rest c u e =
-    (chars_past_char text rest c u e,
-    omega (arith, ap length e, length-append (encode_utf8 c) rest, length-encode_pos c))
+first_of text rest c u e = (
+  chars_past_char text rest c u e,
+  omega (arith, ap length e, length-append (encode_utf8 c) rest, length-encode_pos c),
+)
 
 not_zero : (n : ℕ) → 1 ≤ n → false ≡ (n == 0)
 not_zero zero h = absurd (omega (arith, h))
@@ -24,8 +25,12 @@ end_of : (text cs : List ℕ) → encode_utf8_all cs ≡ text → is_end cs ≡ 
 end_of text [] e = ap (λ l. length l == 0) e
 end_of text (c ∷ cs) e =
     not_zero (length text)
-    (omega (arith, ap length e, length-append (encode_utf8 c) (encode_utf8_all cs),
-    length-encode_pos c))
+    (omega (
+      arith,
+      ap length e,
+      length-append (encode_utf8 c) (encode_utf8_all cs),
+      length-encode_pos c,
+    ))
 
 pub is_end-chars : (text : List ℕ) → IsUtf8 text → is_end (chars text) ≡ (length text == 0)
 is_end-chars text u = end_of text (chars text) (encodes-chars text u)
@@ -66,7 +71,7 @@ pub cut_front : (text front rest : List ℕ) → text ≡ front ++ rest
     → take (length text - length rest) text ≡ front
 cut_front text front rest e =
     ap (λ n. take n text) (sym (front_length text front rest e)) ∙ ap (take (length front)) e
-        ∙ take-append_seam front rest
+    ∙ take-append_seam front rest
 
 -- The last character of a text, and what comes before it.
 pub last_of : (text rest : List ℕ) (c : ℕ) → IsUtf8 text → IsUtf8 rest
@@ -75,10 +80,11 @@ pub last_of : (text rest : List ℕ) (c : ℕ) → IsUtf8 text → IsUtf8 rest
 last_of text rest c u v e =
     let spelt : encode_utf8_all (chars rest ++ c ∷ []) ≡ text =
     encodes-append (chars rest) (c ∷ [])
-        ∙ ap (λ l. l ++ (encode_utf8 c ++ [])) (encodes-chars rest v)
-        ∙ ap (λ l. rest ++ l) (append-nil (encode_utf8 c)) ∙ sym e in
-    (sym (chars_from_encodes (chars rest ++ c ∷ []) text u spelt),
-        omega (arith, ap length e, length-append rest (encode_utf8 c), length-encode_pos c))
+    ∙ ap (λ l. l ++ (encode_utf8 c ++ [])) (encodes-chars rest v)
+    ∙ ap (λ l. rest ++ l) (append-nil (encode_utf8 c)) ∙ sym e in (
+      sym (chars_from_encodes (chars rest ++ c ∷ []) text u spelt),
+      omega (arith, ap length e, length-append rest (encode_utf8 c), length-encode_pos c),
+    )
 
 -- characters put down from the last on
 pub put_last : (rest : List ℕ) (c : ℕ) (cs : List ℕ) → cs ≡ rest ++ c ∷ []

@@ -79,9 +79,12 @@ pub record Fares (whole : Bool) (tried from pattern text : List ℕ) : Type 0 wh
 
 pub begins : (tried from : List ℕ) → Fares (some_rest (matches tried) from) tried from tried from
 begins tried from =
-    record { answer = refl; here = refl;
-    later = λ c cs e h. subst (λ l. some_rest (matches tried) l ≡ true) (sym e)
-    (or_right (matches tried (c ∷ cs)) h) }
+    record {
+      answer = refl;
+      here = refl;
+      later = λ c cs e h. subst (λ l. some_rest (matches tried) l ≡ true) (sym e)
+          (or_right (matches tried (c ∷ cs)) h);
+    }
 
 is_no_percent : (p : ℕ) → p ≢ 37 → (p == 37) ≡ false
 is_no_percent p other = ⊎_elim (λ h. absurd (other h.1)) (λ h. h.0) (eqb_tells p 37)
@@ -111,63 +114,63 @@ ends [] h = refl
 ends (c ∷ cs) h = false_true h
 
 module _ {whole : Bool} {tried from pattern text : List ℕ} (f : Fares whole tried from pattern text)
-    where
-  -- at a `%` all before it has its place
-  pub past_percent : (p : ℕ) (ps : List ℕ) → pattern ≡ p ∷ ps → p ≡ 37 → Fares whole ps text ps text
-  past_percent p ps e percent =
-      let is : matches pattern ≡ some_rest (matches ps) = ap matches e ∙ at_percent p ps percent in
-      let settled =
-          settled_at from f
-          (λ h. ap (λ m. m text) is
-          ∙ some_rest-nested (matches ps) text (sym (ap (λ m. some_rest m text) is) ∙ h)) in
-      record { answer = settled ∙ ap (λ m. m text) is; here = refl; later = (begins ps text).later }
+  where
+    -- at a `%` all before it has its place
+    pub past_percent : (p : ℕ) (ps : List ℕ) → pattern ≡ p ∷ ps → p ≡ 37 → Fares whole ps text ps text
+    past_percent p ps e percent =
+        let is : matches pattern ≡ some_rest (matches ps) = ap matches e ∙ at_percent p ps percent in
+        let settled =
+        settled_at from f
+        (λ h. ap (λ m. m text) is
+        ∙ some_rest-nested (matches ps) text (sym (ap (λ m. some_rest m text) is) ∙ h)) in
+        record { answer = settled ∙ ap (λ m. m text) is; here = refl; later = (begins ps text).later }
 
-  -- a character that fits has its place
-  pub past_character : (p : ℕ) (ps : List ℕ) (c : ℕ) (cs : List ℕ) → pattern ≡ p ∷ ps → p ≢ 37
-      → text ≡ c ∷ cs → fits p c ≡ true → Fares whole tried from ps cs
-  past_character p ps c cs e other t fit =
-      let is : matches pattern ≡ first_and_rest (fits p) (matches ps) = ap matches e
-          ∙ at_other p ps other in
-      record {
-        answer = f.answer;
-        here = f.here ∙ ap₂ (λ m l. m l) is t ∙ ap (λ b. b && matches ps cs) fit;
-        later =
-            λ d ds at h. some_rest-next (fits p) (matches ps) c cs
-            (sym (ap₂ (λ m l. some_rest m l) is t) ∙ f.later d ds at h);
-      }
+    -- a character that fits has its place
+    pub past_character : (p : ℕ) (ps : List ℕ) (c : ℕ) (cs : List ℕ) → pattern ≡ p ∷ ps → p ≢ 37
+        → text ≡ c ∷ cs → fits p c ≡ true → Fares whole tried from ps cs
+    past_character p ps c cs e other t fit =
+        let is : matches pattern ≡ first_and_rest (fits p) (matches ps) = ap matches e
+        ∙ at_other p ps other in
+        record {
+          answer = f.answer;
+          here = f.here ∙ ap₂ (λ m l. m l) is t ∙ ap (λ b. b && matches ps cs) fit;
+          later =
+              λ d ds at h. some_rest-next (fits p) (matches ps) c cs
+              (sym (ap₂ (λ m l. some_rest m l) is t) ∙ f.later d ds at h);
+        }
 
-  -- no character is left for one that is wanted
-  pub at_text_end : (p : ℕ) (ps : List ℕ) → pattern ≡ p ∷ ps → p ≢ 37 → text ≡ [] → whole ≡ false
-  at_text_end p ps e other t =
-      let is : matches pattern ≡ first_and_rest (fits p) (matches ps) = ap matches e
-          ∙ at_other p ps other in
-      let at_end : matches pattern text ≡ false = ap₂ (λ m l. m l) is t in
-      settled_at from f (λ h. ap (matches pattern) t ∙ sym (ap (some_rest (matches pattern)) t) ∙ h)
-          ∙ at_end
+    -- no character is left for one that is wanted
+    pub at_text_end : (p : ℕ) (ps : List ℕ) → pattern ≡ p ∷ ps → p ≢ 37 → text ≡ [] → whole ≡ false
+    at_text_end p ps e other t =
+        let is : matches pattern ≡ first_and_rest (fits p) (matches ps) = ap matches e
+        ∙ at_other p ps other in
+        let at_end : matches pattern text ≡ false = ap₂ (λ m l. m l) is t in
+        settled_at from f (λ h. ap (matches pattern) t ∙ sym (ap (some_rest (matches pattern)) t) ∙ h)
+        ∙ at_end
 
-  pub at_both_ends : pattern ≡ [] → is_end text ≡ true → whole ≡ true
-  at_both_ends e ended =
-      let t = ends text ended in settled_at from f
-      (λ h. ap (matches pattern) t ∙ sym (ap (some_rest (matches pattern)) t) ∙ h) ∙ ap₂ matches e t
+    pub at_both_ends : pattern ≡ [] → is_end text ≡ true → whole ≡ true
+    at_both_ends e ended =
+        let t = ends text ended in settled_at from f
+        (λ h. ap (matches pattern) t ∙ sym (ap (some_rest (matches pattern)) t) ∙ h) ∙ ap₂ matches e t
 
-  -- a character that does not fit, and one for which no place is left
-  pub misfits : (p : ℕ) (ps : List ℕ) (c : ℕ) (cs : List ℕ) → pattern ≡ p ∷ ps → p ≢ 37
-      → text ≡ c ∷ cs → fits p c ≡ false → matches pattern text ≡ false
-  misfits p ps c cs e other t misfit = ap₂ (λ m l. m l) (ap matches e ∙ at_other p ps other) t
-      ∙ ap (λ b. b && matches ps cs) misfit
+    -- a character that does not fit, and one for which no place is left
+    pub misfits : (p : ℕ) (ps : List ℕ) (c : ℕ) (cs : List ℕ) → pattern ≡ p ∷ ps → p ≢ 37
+        → text ≡ c ∷ cs → fits p c ≡ false → matches pattern text ≡ false
+    misfits p ps c cs e other t misfit = ap₂ (λ m l. m l) (ap matches e ∙ at_other p ps other) t
+        ∙ ap (λ b. b && matches ps cs) misfit
 
-  -- what does not match is begun again one character later, where there is one
-  pub back : matches pattern text ≡ false → (c : ℕ) (cs : List ℕ) → from ≡ c ∷ cs
-      → Fares whole tried cs tried cs
-  back fails c cs e =
-      let not_here : matches tried (c ∷ cs) ≡ false = sym (ap (matches tried) e) ∙ f.here ∙ fails in
-      record {
-        answer = f.answer ∙ ap (some_rest (matches tried)) e
-            ∙ ap (λ b. b || some_rest (matches tried) cs) not_here;
-        here = refl;
-        later = (begins tried cs).later;
-      }
+    -- what does not match is begun again one character later, where there is one
+    pub back : matches pattern text ≡ false → (c : ℕ) (cs : List ℕ) → from ≡ c ∷ cs
+        → Fares whole tried cs tried cs
+    back fails c cs e =
+        let not_here : matches tried (c ∷ cs) ≡ false = sym (ap (matches tried) e) ∙ f.here ∙ fails in
+        record {
+          answer = f.answer ∙ ap (some_rest (matches tried)) e
+              ∙ ap (λ b. b || some_rest (matches tried) cs) not_here;
+          here = refl;
+          later = (begins tried cs).later;
+        }
 
-  pub nowhere : matches pattern text ≡ false → from ≡ [] → whole ≡ false
-  nowhere fails e = f.answer ∙ ap (some_rest (matches tried)) e ∙ sym (ap (matches tried) e)
-      ∙ f.here ∙ fails
+    pub nowhere : matches pattern text ≡ false → from ≡ [] → whole ≡ false
+    nowhere fails e = f.answer ∙ ap (some_rest (matches tried)) e ∙ sym (ap (matches tried) e)
+        ∙ f.here ∙ fails

@@ -52,11 +52,11 @@ place_in-none [] ds lacks =
     ap (λ b. cond b (Some 0) None) (lacks_here [] ds (lacks 0 (omega arith)))
 place_in-none (c ∷ cs) ds lacks =
     ap₂ (λ b p. cond b (Some 0) (option_map (λ n. n + 1) p))
-        (lacks_here (c ∷ cs) ds (lacks 0 (omega arith)))
+    (lacks_here (c ∷ cs) ds (lacks 0 (omega arith)))
     (place_in-none cs ds
-        (λ i l. lacks_later c cs (encode_utf8_all ds) i
-        (lacks (length (encode_utf8 c) + i)
-        (omega (arith, l, length-append (encode_utf8 c) (encode_utf8_all cs))))))
+    (λ i l. lacks_later c cs (encode_utf8_all ds) i
+    (lacks (length (encode_utf8 c) + i)
+    (omega (arith, l, length-append (encode_utf8 c) (encode_utf8_all cs))))))
 
 place_in-some : (front ds back : List ℕ)
     → ((i : ℕ) → i < length (encode_utf8_all front)
@@ -70,14 +70,17 @@ place_in-some [] ds back lacks = here (ds ++ back) (begins-append ds back)
 place_in-some (c ∷ front) ds back lacks =
     let cs = front ++ (ds ++ back) in
     ap₂ (λ b p. cond b (Some 0) (option_map (λ n. n + 1) p))
-        (lacks_here (c ∷ cs) ds
-        (lacks 0
-        (omega (arith, length-append (encode_utf8 c) (encode_utf8_all front),
-        length-encode_pos c))))
+    (lacks_here (c ∷ cs) ds
+    (lacks 0
+    (omega (
+      arith,
+      length-append (encode_utf8 c) (encode_utf8_all front),
+      length-encode_pos c,
+    ))))
     (place_in-some front ds back
-        (λ i l. lacks_later c cs (encode_utf8_all ds) i
-        (lacks (length (encode_utf8 c) + i)
-        (omega (arith, l, length-append (encode_utf8 c) (encode_utf8_all front))))))
+    (λ i l. lacks_later c cs (encode_utf8_all ds) i
+    (lacks (length (encode_utf8 c) + i)
+    (omega (arith, l, length-append (encode_utf8 c) (encode_utf8_all front))))))
     ∙ ap Some (omega arith)
 
 module _ (text part : List ℕ) (u : IsUtf8 text) (v : IsUtf8 part) where
@@ -109,15 +112,15 @@ module _ (text part : List ℕ) (u : IsUtf8 text) (v : IsUtf8 part) where
         let front = take i text in
         let back = drop j text in
         let whole : front ++ (part ++ back) ≡ text = ap (λ l. front ++ l) (sym finds.1.split)
-            ∙ take-append-drop i text in
+        ∙ take-append-drop i text in
         let spelt : chars text ≡ chars front ++ (chars part ++ chars back) =
         ap chars (sym whole) ∙ chars-append front (part ++ back) before
-            ∙ ap (λ l. chars front ++ l) (chars-append part back v) in
+        ∙ ap (λ l. chars front ++ l) (chars-append part back v) in
         let again : text ≡ encode_utf8_all (chars front ++ (chars part ++ chars back)) =
-            sym (encodes-chars text u) ∙ ap encode_utf8_all spelt in
+        sym (encodes-chars text u) ∙ ap encode_utf8_all spelt in
         let size : length (encode_utf8_all (chars front)) ≤ i =
-            omega (arith, ap length (encodes-chars front before), length-take i text) in
+        omega (arith, ap length (encodes-chars front before), length-take i text) in
         ap (place_in (chars part)) spelt
         ∙ place_in-some (chars front) (chars part) (chars back) (λ k l rest e.
         finds.0 k (omega (arith, l, size)) rest
-            (ap (drop k) again ∙ e ∙ ap (λ p. p ++ rest) (encodes-chars part v)))
+        (ap (drop k) again ∙ e ∙ ap (λ p. p ++ rest) (encodes-chars part v)))

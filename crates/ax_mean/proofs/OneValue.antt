@@ -125,16 +125,16 @@ one a b keys bytes fit_a fit_b (inl p) (inr q) = some_is_not a (sym p ∙ keys �
 one a b keys bytes fit_a fit_b (inr p) (inl q) = some_is_not b (sym q ∙ sym keys ∙ p.apart)
 one a b keys bytes fit_a fit_b (inr p) (inr q) =
     p.is
-        ∙ ap Defined
-        (one_text p.whole q.whole (fits_along a p.whole p.is fit_a)
-        (fits_along b q.whole q.is fit_b) (sym p.text ∙ bytes ∙ q.text)) ∙ sym q.is
+    ∙ ap Defined
+    (one_text p.whole q.whole (fits_along a p.whole p.is fit_a)
+    (fits_along b q.whole q.is fit_b) (sym p.text ∙ bytes ∙ q.text)) ∙ sym q.is
 
 pub one_value : (a b : Value) → NumbersOfFit a → NumbersOfFit b → value_cmp a b ≡ Equal → a ≡ b
 one_value a b fit_a fit_b h =
     let ranks = both_equal (nat_cmp (rank a) (rank b)) _ h in
     let rest = both_equal (int_cmp (number_key a) (number_key b)) _ ranks.1 in
     let bytes =
-        slice_cmp-IsAntisymmetric nat_cmp-IsAntisymmetric (bytes_key a) (bytes_key b) rest.1 in
+    slice_cmp-IsAntisymmetric nat_cmp-IsAntisymmetric (bytes_key a) (bytes_key b) rest.1 in
     one a b
     (ap (λ r. scalar_of r (number_key a) (bytes_key a)) (nat_cmp-IsAntisymmetric _ _ ranks.0)
     ∙ ap (λ z. scalar_of (rank b) z (bytes_key a)) (int_cmp-IsAntisymmetric _ _ rest.0)

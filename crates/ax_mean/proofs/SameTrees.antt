@@ -68,16 +68,16 @@ members_same (m ∷ ms) (x ∷ xs) h =
     let p = and_parts (bytes_eq m.name x.name && is_same m.value.0 x.value) _ h in
     let q = and_parts (bytes_eq m.name x.name) (is_same m.value.0 x.value) p.0 in
     ap₂ (λ y ys. y ∷ ys)
-        (ap₂ member ((bytes_eq-Decides m.name x.name).0 q.0) (m.value.1.same x.value q.1))
-        (members_same ms xs p.1)
+    (ap₂ member ((bytes_eq-Decides m.name x.name).0 q.0) (m.value.1.same x.value q.1))
+    (members_same ms xs p.1)
 
 members_themselves : (ms : List (Member Kept))
     → all_members_pass (map member_test (map member_of ms)) (map member_of ms) ≡ true
 members_themselves [] = refl
 members_themselves (m ∷ ms) =
     ap₂ (λ a b. a && b)
-        (ap₂ (λ a b. a && b) ((bytes_eq-Decides m.name m.name).1 refl) m.value.1.itself)
-        (members_themselves ms)
+    (ap₂ (λ a b. a && b) ((bytes_eq-Decides m.name m.name).1 refl) m.value.1.itself)
+    (members_themselves ms)
 
 level_same : (y : Tree-F Kept) (z : Tree-F Tree)
     → same_level (map-Tree Tree (Tree → Bool) is_same (map-Tree Kept Tree tree_of y)) z ≡ true

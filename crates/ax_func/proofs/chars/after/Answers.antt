@@ -5,7 +5,8 @@ use Rattle.ax_func.proofs.Characters.{drop_next}
 use Rattle.ax_func.proofs.chars.after.Goals as goal
 
 pub loop-done-preserved : goal.loop-done-preserved
-loop-done-preserved c =
-    (search rules,
-        drop_next (chars c.args.text.now) (chars c.in-Some.tail.now) c.loop-done.done
-        c.in-Some.field-0-0 (sym c.in-Some.ensures.0 ∙ c.loop-done.invariant.1))
+loop-done-preserved c = (
+  search rules,
+  drop_next (chars c.args.text.now) (chars c.in-Some.tail.now) c.loop-done.done
+      c.in-Some.field-0-0 (sym c.in-Some.ensures.0 ∙ c.loop-done.invariant.1),
+)

@@ -7,14 +7,14 @@ use Rattle.ax_func.proofs.chars.before.Goals as goal
 pub overflow_sub-text : goal.overflow_sub-text
 overflow_sub-text c =
     rest_is_short c.args.text.now _ c.after-rest.result.now
-        (front_and_rest c.args.text.now c.after-rest.result.now c.args.count c.utf8.text
-        c.after-rest.utf8 c.after-rest.ensures)
+    (front_and_rest c.args.text.now c.after-rest.result.now c.args.count c.utf8.text
+    c.after-rest.utf8 c.after-rest.ensures)
 
 pub range-requires-clause-end_boundary : goal.range-requires-clause-end_boundary
 range-requires-clause-end_boundary c =
     cut_boundary c.args.text.now _ c.after-rest.result.now c.after-rest.utf8
-        (front_and_rest c.args.text.now c.after-rest.result.now c.args.count c.utf8.text
-        c.after-rest.utf8 c.after-rest.ensures)
+    (front_and_rest c.args.text.now c.after-rest.result.now c.args.count c.utf8.text
+    c.after-rest.utf8 c.after-rest.ensures)
 
 pub returns : goal.returns
 returns c =

@@ -8,4 +8,4 @@ pub returns : goal.returns
 returns c =
     first_of c.args.text.now c.as_str.result.now c.in_ok-character.character c.utf8.text
     (sym c.chars-left.ensures.rest ∙ c.in_ok-character.ensures.steps.0
-        ∙ ap (λ r. encode_utf8 c.in_ok-character.character ++ r) (sym c.as_str.ensures))
+    ∙ ap (λ r. encode_utf8 c.in_ok-character.character ++ r) (sym c.as_str.ensures))

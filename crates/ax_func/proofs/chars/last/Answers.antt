@@ -8,7 +8,7 @@ pub returns : goal.returns
 returns c =
     last_of c.args.text.now c.as_str.result.now c.in-Some.character c.utf8.text c.as_str.utf8
     (sym c.chars-left.ensures.rest ∙ c.in-Some.ensures.steps
-        ∙ ap (λ r. r ++ encode_utf8 c.in-Some.character) (sym c.as_str.ensures))
+    ∙ ap (λ r. r ++ encode_utf8 c.in-Some.character) (sym c.as_str.ensures))
 
 pub returns-in_default : goal.returns-in_default
 returns-in_default c =

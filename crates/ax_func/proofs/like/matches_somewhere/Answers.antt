@@ -28,8 +28,8 @@ returns-in_default c =
     let s = c.in-Some in
     let l = c.loop-pattern_rest in
     sym
-        (at_text_end l.invariant.4 s.wanted (chars s.pattern_rest.now) s.ensures.0 s.wanted-test.1
-        c.in_default.ensures)
+    (at_text_end l.invariant.4 s.wanted (chars s.pattern_rest.now) s.ensures.0 s.wanted-test.1
+    c.in_default.ensures)
 
 pub loop-pattern_rest-preserved-then-fits : goal.loop-pattern_rest-preserved-then-fits
 loop-pattern_rest-preserved-then-fits c =
@@ -51,14 +51,14 @@ pub returns-then-is_empty : goal.returns-then-is_empty
 returns-then-is_empty c =
     let l = c.loop-pattern_rest in
     sym
-        (at_both_ends l.invariant.4 c.in-None.ensures
-        (is_end-chars l.text_left.now l.invariant.2 ∙ sym c.if-is_empty.ensures))
+    (at_both_ends l.invariant.4 c.in-None.ensures
+    (is_end-chars l.text_left.now l.invariant.2 ∙ sym c.if-is_empty.ensures))
 
 pub returns-in_default-first : goal.returns-in_default-first
 returns-in_default-first c =
     let l = c.loop-pattern_rest in
     let fails : matches (chars l.pattern_left.now) (chars l.text_left.now) ≡ false =
-        elim c.match-first.branch [
+    elim c.match-first.branch [
       | in-Some+in-Some-first+else-fits w ↦ misfits l.invariant.4 w.in-Some.wanted
           (chars w.in-Some.pattern_rest.now) w.in-Some-first.found
           (chars w.in-Some-first.text_rest.now) w.in-Some.ensures.0 w.in-Some.wanted-test.1
@@ -73,7 +73,7 @@ loop-pattern_rest-preserved c =
     let l = c.loop-pattern_rest in
     let s = c.in-Some-first-2 in
     let fails : matches (chars l.pattern_left.now) (chars l.text_left.now) ≡ false =
-        elim c.match-first.branch [
+    elim c.match-first.branch [
       | in-Some+in-Some-first+else-fits w ↦ misfits l.invariant.4 w.in-Some.wanted
           (chars w.in-Some.pattern_rest.now) w.in-Some-first.found
           (chars w.in-Some-first.text_rest.now) w.in-Some.ensures.0 w.in-Some.wanted-test.1

@@ -11,9 +11,9 @@ use Rattle.ax_func.proofs.like.matches_somewhere.Given as goal
 abbrev pub invariant-loop-pattern_rest : goal.invariant-loop-pattern_rest
 invariant-loop-pattern_rest l =
     shadow (Utf8 l.tried_text) × shadow (Utf8 l.tried_pattern) × shadow (Utf8 l.text_left) × shadow
-        (Utf8 l.pattern_left)
+    (Utf8 l.pattern_left)
     × Fares (some_rest (matches (chars l.pattern)) (chars l.text)) (chars l.tried_pattern)
-        (chars l.tried_text) (chars l.pattern_left) (chars l.text_left)
+    (chars l.tried_text) (chars l.pattern_left) (chars l.text_left)
     × (length l.text_left ≤ length l.tried_text)
     × (length l.tried_text ≤ length l.text)
     × (length l.pattern_left ≤ length l.tried_pattern)

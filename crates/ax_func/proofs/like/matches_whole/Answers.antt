@@ -19,10 +19,10 @@ returns-then-wanted-eq37 c =
 pub returns-in_default-first : goal.returns-in_default-first
 returns-in_default-first c =
     sym
-        (ap₂ (λ m l. m l)
-        (ap matches c.in-Some.ensures.0
-        ∙ at_other c.in-Some.wanted (chars c.in-Some.pattern_rest.now) c.if-wanted-eq37.false)
-        c.in_default-first.ensures)
+    (ap₂ (λ m l. m l)
+    (ap matches c.in-Some.ensures.0
+    ∙ at_other c.in-Some.wanted (chars c.in-Some.pattern_rest.now) c.if-wanted-eq37.false)
+    c.in_default-first.ensures)
     ∙ sym c.loop-wanted.invariant.2
 
 pub returns-then-not-fits : goal.returns-then-not-fits

@@ -7,7 +7,7 @@ use Rattle.ax_func.proofs.same.+same.Goals as goal
 pub same_items-returns-then-left-right : goal.same_items-returns-then-left-right
 same_items-returns-then-left-right t c =
     sym (items_pass-uneven _ _ c.if-left-right.true)
-        ∙ ap₂ items_pass c.as_slice-left.ensures c.as_slice-right.ensures
+    ∙ ap₂ items_pass c.as_slice-left.ensures c.as_slice-right.ensures
 
 pub same_items-returns-then-not-same : goal.same_items-returns-then-not-same
 same_items-returns-then-not-same t c =
@@ -38,15 +38,15 @@ same_items-returns t c =
     let ys = c.as_slice-right.result.now in
     let i = c.loop-at.at in
     sym
-        (ap₂ items_pass (drop_all i xs (omega (arith, c.loop-at-test.false)))
-        (drop_all i ys (omega (arith, c.loop-at-test.false, c.if-left-right.false))))
+    (ap₂ items_pass (drop_all i xs (omega (arith, c.loop-at-test.false)))
+    (drop_all i ys (omega (arith, c.loop-at-test.false, c.if-left-right.false))))
     ∙ c.loop-at.invariant
     ∙ ap₂ items_pass c.as_slice-left.ensures c.as_slice-right.ensures
 
 pub same_members-returns-then-left-right : goal.same_members-returns-then-left-right
 same_members-returns-then-left-right t c =
     sym (members_pass-uneven _ _ c.if-left-right.true)
-        ∙ ap₂ members_pass c.as_slice-left.ensures.members c.as_slice-right.ensures.members
+    ∙ ap₂ members_pass c.as_slice-left.ensures.members c.as_slice-right.ensures.members
 
 pub same_members-returns : goal.same_members-returns
 same_members-returns t c =
@@ -54,7 +54,7 @@ same_members-returns t c =
     let ys = c.as_slice-right.result.now in
     let i = c.loop-at.at in
     sym
-        (ap₂ members_pass (drop_all i xs (omega (arith, c.loop-at-test.false)))
-        (drop_all i ys (omega (arith, c.loop-at-test.false, c.if-left-right.false))))
+    (ap₂ members_pass (drop_all i xs (omega (arith, c.loop-at-test.false)))
+    (drop_all i ys (omega (arith, c.loop-at-test.false, c.if-left-right.false))))
     ∙ c.loop-at.invariant
     ∙ ap₂ members_pass c.as_slice-left.ensures.members c.as_slice-right.ensures.members

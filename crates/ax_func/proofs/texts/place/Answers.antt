@@ -14,6 +14,6 @@ returns-in-Some c =
     let text = c.args.text.now in
     let found = c.in-Some.ensures.cases in
     ap Some
-        (c.char_count.ensures
-        ∙ ap (λ t. length (chars t)) (c.range.ensures.value ∙ ap (λ n. take n text) (omega arith)))
+    (c.char_count.ensures
+    ∙ ap (λ t. length (chars t)) (c.range.ensures.value ∙ ap (λ n. take n text) (omega arith)))
     ∙ sym (place_of-some text c.args.part.now c.utf8.text c.utf8.part c.in-Some.at found.0 found.1)

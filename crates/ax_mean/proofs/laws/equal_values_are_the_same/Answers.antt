@@ -13,5 +13,7 @@ total =
 
 pub returns : goal.returns
 returns c =
-    λ a b fit_a fit_b. (one_value a b fit_a fit_b,
-    λ e. ap (λ v. value_cmp a v) (sym e) ∙ tied_itself total a)
+    λ a b fit_a fit_b. (
+      one_value a b fit_a fit_b,
+      λ e. ap (λ v. value_cmp a v) (sym e) ∙ tied_itself total a,
+    )
