@@ -17,8 +17,6 @@ mod operators;
 mod order;
 mod out_of_memory;
 mod same;
-#[cfg(test)]
-mod tests;
 mod texts;
 mod values;
 

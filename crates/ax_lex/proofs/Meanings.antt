@@ -23,7 +23,7 @@ use Rattle.ax_lex.specs.Tokens.HasTokens.{ended, space, token}
 use Rattle.ax_lex.proofs.Texts.{inside_complete, inside_front, InsideFront}
 use Rattle.ax_lex.proofs.Utf8.{Parts, ascii_parts, inside_utf8, quote_ascii}
 use Rattle.ax_lex.proofs.Values.{text_read, value_found}
-use Rattle.ax_lex.proofs.Words.{run_front, word_front}
+use Rattle.ax_lex.proofs.Words.{stretch_front, word_front}
 
 -- the bytes of a token, and what they say
 record FrontIs (lexeme : Lexeme) (before after : List ℕ) : Type 0 where
@@ -62,10 +62,10 @@ token_front (at_and_word {at} {word} c w) early u = record {
   says = refl;
 }
 token_front (quoted {quote} c i) early u = quoted_front quote c i early u
-token_front (digits {first} {value} {run} c r s v) early u =
+token_front (digits {first} {value} {stretch} c r s v) early u =
     record {
-      front = first ∷ run;
-      whole = ap (λ bs. first ∷ bs) (run_front r);
+      front = first ∷ stretch;
+      whole = ap (λ bs. first ∷ bs) (stretch_front r);
       says = ap number
           (sym v);
     }

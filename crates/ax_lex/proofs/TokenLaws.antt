@@ -13,14 +13,14 @@ use Rattle.ax_lex.specs.Bytes.{class_of, is_letter_class, is_digit}
 use Rattle.ax_lex.specs.Keywords.{keyword_of}
 use Rattle.ax_lex.specs.Lexeme.{Lexeme, kind_of}
 use Rattle.ax_lex.specs.Lexeme.Lexeme.{parameter, text, number, symbol}
-use Rattle.ax_lex.specs.Reading.{run_of, after_run, read_word, read_inside, word_says, sign_or, read_symbol, read_number, read_by, read_token, with_kind}
+use Rattle.ax_lex.specs.Reading.{stretch_of, after_stretch, read_word, read_inside, word_says, sign_or, read_symbol, read_number, read_by, read_token, with_kind}
 use Rattle.ax_lex.specs.Symbols.{pair_symbol, single_symbol, begins_pair}
 use Rattle.ax_lex.specs.Tokens.{IsWord, number_of, spoils_number, IsToken, Stands, HasTokens}
 use Rattle.ax_lex.specs.Tokens.IsToken.{word_as_name, word_as_keyword, at_and_word, quoted, digits, two_signs, one_sign}
 use Rattle.ax_lex.specs.Tokens.HasTokens.{ended, space, token}
 use Rattle.ax_lex.proofs.Options.{else_chosen, MapFound, map_found}
 use Rattle.ax_lex.proofs.Texts.{inside_sound, inside_complete, inside_shorter}
-use Rattle.ax_lex.proofs.Words.{run_sound, RunIs, run_complete, run_shorter, word_sound, word_complete, word_shorter, WordBegins, word_begins}
+use Rattle.ax_lex.proofs.Words.{stretch_sound, StretchIs, stretch_complete, stretch_shorter, word_sound, word_complete, word_shorter, WordBegins, word_begins}
 
 abbrev pub token_found : Lexeme → List ℕ → Option (Lexeme × List ℕ)
 token_found lexeme after = Some (lexeme, after)
@@ -66,13 +66,13 @@ quote_sound first rest found c e =
 digit_sound : (first : ℕ) (rest : List ℕ) (found : Lexeme × List ℕ) → class_of first ≡ Digit
     → read_number first rest ≡ Some found → IsToken found.0 (first ∷ rest) found.1
 digit_sound first rest found c e =
-    let m : (spoils_number (after_run is_digit rest) ≡ false) × ((
+    let m : (spoils_number (after_stretch is_digit rest) ≡ false) × ((
       number (number_of
-          (first ∷ run_of is_digit rest)),
-      after_run is_digit rest,
+          (first ∷ stretch_of is_digit rest)),
+      after_stretch is_digit rest,
     ) ≡ found) = else_chosen _ _ _ e in
     subst (λ (f : Lexeme × List ℕ). IsToken f.0 (first ∷ rest) f.1) m.1
-    (digits c (run_sound is_digit rest) m.0 refl)
+    (digits c (stretch_sound is_digit rest) m.0 refl)
 
 single_sound : (first : ℕ) (rest : List ℕ) (found : Lexeme × List ℕ) → class_of first ≡ Sign
     → begins_pair first rest ≡ false → option_map (λ which. (symbol which, rest))
@@ -164,8 +164,8 @@ token_complete (at_and_word {at} {word} {before} {after} c w) =
 token_complete (quoted {quote} {value} {before} {after} c i) =
     rw c (ap (option_map (λ (found : List ℕ × List ℕ). (text found.0, found.1)))
     (inside_complete quote i (length before) (omega arith)))
-token_complete (digits {first} {value} {run} {before} {after} c r s v) =
-    let was : RunIs is_digit run before after = run_complete is_digit r in
+token_complete (digits {first} {value} {stretch} {before} {after} c r s v) =
+    let was : StretchIs is_digit stretch before after = stretch_complete is_digit r in
     rw (c, was.front, was.rest, s) (ap (λ n. token_found (number n) after) (sym v))
 token_complete (two_signs {which} {sign} {next} {after} c p) = rw (c, p) refl
 token_complete (one_sign {which} {sign} {after} c p s) = rw c (sign_complete sign which after p s)
@@ -176,7 +176,7 @@ token_shorter (word_as_name w k) = word_shorter w
 token_shorter (word_as_keyword w k) = word_shorter w
 token_shorter (at_and_word c w) = omega (arith, word_shorter w)
 token_shorter (quoted c i) = omega (arith, inside_shorter i)
-token_shorter (digits c r s v) = omega (arith, run_shorter r)
+token_shorter (digits c r s v) = omega (arith, stretch_shorter r)
 token_shorter (two_signs c p) = omega arith
 token_shorter (one_sign c p s) = omega arith
 

@@ -31,20 +31,20 @@ abbrev pub is_space : ℕ → Bool
 is_space byte = is_space_class (class_of byte)
 
 -- the longest front of bytes of a class, and what comes after it
-abbrev pub run_of : (ℕ → Bool) → List ℕ → List ℕ
-run_of is_in [] = []
-run_of is_in (byte ∷ rest) = if is_in byte then byte ∷ run_of is_in rest else []
+abbrev pub stretch_of : (ℕ → Bool) → List ℕ → List ℕ
+stretch_of is_in [] = []
+stretch_of is_in (byte ∷ rest) = if is_in byte then byte ∷ stretch_of is_in rest else []
 
-abbrev pub after_run : (ℕ → Bool) → List ℕ → List ℕ
-after_run is_in [] = []
-after_run is_in (byte ∷ rest) = if is_in byte then after_run is_in rest else byte ∷ rest
+abbrev pub after_stretch : (ℕ → Bool) → List ℕ → List ℕ
+after_stretch is_in [] = []
+after_stretch is_in (byte ∷ rest) = if is_in byte then after_stretch is_in rest else byte ∷ rest
 
 -- the word at the front
 abbrev pub read_word : List ℕ → Option (List ℕ × List ℕ)
 read_word [] = None
 read_word (first ∷ rest) =
-    if is_letter first && nat_le (length (first ∷ run_of is_word_byte rest)) 255
-    then Some (first ∷ run_of is_word_byte rest, after_run is_word_byte rest) else None
+    if is_letter first && nat_le (length (first ∷ stretch_of is_word_byte rest)) 255
+    then Some (first ∷ stretch_of is_word_byte rest, after_stretch is_word_byte rest) else None
 
 -- the bytes that a piece stands for
 abbrev pub piece_bytes : Piece → List ℕ
@@ -140,8 +140,8 @@ read_symbol sign (next ∷ rest) = sign_or (pair_symbol sign next) sign (next �
 -- the number at the front
 abbrev pub read_number : ℕ → List ℕ → Option (Lexeme × List ℕ)
 read_number first rest =
-    if spoils_number (after_run is_digit rest) then None
-    else Some (number (number_of (first ∷ run_of is_digit rest)), after_run is_digit rest)
+    if spoils_number (after_stretch is_digit rest) then None
+    else Some (number (number_of (first ∷ stretch_of is_digit rest)), after_stretch is_digit rest)
 
 -- the token that a byte of this class begins
 abbrev pub read_by : ByteClass → ℕ → List ℕ → Option (Lexeme × List ℕ)

@@ -20,26 +20,26 @@ abbrev pub begins : (ℕ → Bool) → List ℕ → Bool
 begins is_in [] = false
 begins is_in (byte ∷ rest) = is_in byte
 
--- a run: bytes of a class, as many as there are
-pub data IsRun (is_in : ℕ → Bool) : (run before after : List ℕ) → Type 0 where
-  ended : {after : List ℕ} → begins is_in after ≡ false → IsRun is_in [] after after
-  more : {byte : ℕ} {run before after : List ℕ} → is_in byte ≡ true → IsRun is_in run before after
-      → IsRun is_in (byte ∷ run) (byte ∷ before) after
+-- a stretch: bytes of a class, as many as there are
+pub data IsStretch (is_in : ℕ → Bool) : (stretch before after : List ℕ) → Type 0 where
+  ended : {after : List ℕ} → begins is_in after ≡ false → IsStretch is_in [] after after
+  more : {byte : ℕ} {stretch before after : List ℕ} → is_in byte ≡ true → IsStretch is_in stretch before after
+      → IsStretch is_in (byte ∷ stretch) (byte ∷ before) after
 
 abbrev pub most_of_a_word : ℕ
 most_of_a_word = 255
 
 -- word = letter {letter | digit}, of at most 255 bytes
 pub data IsWord : (word before after : List ℕ) → Type 0 where
-  word : {first : ℕ} {run before after : List ℕ} → is_letter first ≡ true
-      → IsRun is_word_byte run before after
-      → length (first ∷ run) ≤ most_of_a_word → IsWord (first ∷ run) (first ∷ before) after
+  word : {first : ℕ} {stretch before after : List ℕ} → is_letter first ≡ true
+      → IsStretch is_word_byte stretch before after
+      → length (first ∷ stretch) ≤ most_of_a_word → IsWord (first ∷ stretch) (first ∷ before) after
 
 -- the value of decimal digits
 abbrev pub number_of : List ℕ → ℕ
 number_of digits = fold (λ value digit. 10 * value + (digit - 48)) 0 digits
 
--- a letter, or a point and a digit: neither may stand directly behind a run of digits
+-- a letter, or a point and a digit: neither may stand directly behind a stretch of digits
 abbrev pub spoils_number : List ℕ → Bool
 spoils_number [] = false
 spoils_number (byte ∷ rest) = is_letter byte || (byte == 46 && begins is_digit rest)
@@ -60,9 +60,9 @@ pub data IsToken : (lexeme : Lexeme) (before after : List ℕ) → Type 0 where
       → IsInside quote value before after
       → IsToken (text value) (quote ∷ before) after
   -- number = digit {digit}, with nothing behind it that spoils it
-  digits : {first value : ℕ} {run before after : List ℕ} → class_of first ≡ class.Digit
-      → IsRun is_digit run before after
-      → spoils_number after ≡ false → value ≡ number_of (first ∷ run)
+  digits : {first value : ℕ} {stretch before after : List ℕ} → class_of first ≡ class.Digit
+      → IsStretch is_digit stretch before after
+      → spoils_number after ≡ false → value ≡ number_of (first ∷ stretch)
       → IsToken (number value) (first ∷ before) after
   -- symbol = sign sign
   two_signs : {which : Symbol} {sign next : ℕ} {after : List ℕ} → class_of sign ≡ class.Sign

@@ -9,7 +9,7 @@ pub enum TokenKind {
     Parameter,
     /// A text in single or double quotes: `text_value` says what stands in it.
     Text,
-    /// A run of digits: `number` says its value.
+    /// A stretch of digits: `number` says its value.
     Number,
     /// A sign or two: `Symbol::of` says which.
     Symbol,

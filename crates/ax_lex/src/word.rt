@@ -1,9 +1,9 @@
-//! Words and runs of digits.
+//! Words and stretches of digits.
 
 ghost use Rattle.std.specs.Prelude.{◌≡◌, ◌≤◌, length, nat_lt};
 ghost use Rattle.std.specs.Option.{option_map};
 ghost use Rattle.ax_lex.specs.Bytes.{is_digit, is_word_byte};
-ghost use Rattle.ax_lex.specs.Reading.{after_run, read_word};
+ghost use Rattle.ax_lex.specs.Reading.{after_stretch, read_word};
 ghost use Rattle.ax_lex.specs.Tokens.{most_of_a_word, spoils_number};
 
 use crate::class::{is_digit, is_letter, is_word_byte};
@@ -39,7 +39,7 @@ fn is_too_long(length: usize) -> bool
 /// The bytes after those at the front that go on a word.
 #[inline]
 fn after_word(bytes: &[u8]) -> &[u8]
-    ensures after { result.now ≡ after_run is_word_byte bytes.now }
+    ensures after { result.now ≡ after_stretch is_word_byte bytes.now }
     ensures within { length result.now ≤ length bytes.now }
 {
     let mut rest = bytes;
@@ -55,7 +55,7 @@ fn after_word(bytes: &[u8]) -> &[u8]
 /// The bytes after the digits at the front.
 #[inline]
 pub(crate) fn after_digits(bytes: &[u8]) -> &[u8]
-    ensures after { result.now ≡ after_run is_digit bytes.now }
+    ensures after { result.now ≡ after_stretch is_digit bytes.now }
     ensures within { length result.now ≤ length bytes.now }
 {
     let mut rest = bytes;
@@ -68,7 +68,7 @@ pub(crate) fn after_digits(bytes: &[u8]) -> &[u8]
     rest
 }
 
-/// May a run of digits not stand directly before these bytes?
+/// May a stretch of digits not stand directly before these bytes?
 #[inline]
 pub(crate) fn spoils_number(bytes: &[u8]) -> bool
     ensures { result ≡ spoils_number bytes.now }

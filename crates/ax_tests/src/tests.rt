@@ -1,5 +1,6 @@
 mod documents;
 mod faults;
+mod functions;
 mod lines;
 mod plain_machine;
 mod rows;
