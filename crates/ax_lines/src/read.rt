@@ -9,11 +9,14 @@ ghost use Rattle.ax_lines.specs.Lines as spec;
 use crate::line::{Line, LineFault};
 use crate::refusal::Refusal;
 use ax_text::{TextFault, nesting, read_tree};
-use ax_tree::{Tree, id_of};
+use ax_tree::{Tree, id_of, write_tree};
 use std::alloc::Global;
 
 /// The deepest that the argument of a line may nest.
 const DEEPEST: u32 = 100;
+
+/// The most bytes that the canonical text of a document has.
+const MOST_BYTES: usize = 60_000;
 
 /// The one query that is served.
 const ALL_DOCUMENTS: &str = "SELECT * FROM c";
@@ -54,7 +57,7 @@ fn upsert_line(alloc: Global, json: &[u8]) -> Result<Line, LineFault>
     ensures document { IfOk result AsksForDocument }
 {
     let tree = tree_of(alloc, json)?;
-    Ok(upsert(tree)?)
+    upsert(alloc, tree)
 }
 
 fn query_line(alloc: Global, body: &[u8]) -> Result<Line, LineFault>
@@ -79,15 +82,21 @@ fn tree_of(alloc: Global, json: &[u8]) -> Result<Tree, LineFault>
     }
 }
 
-fn upsert(tree: Tree) -> Result<Line, Refusal>
-    ensures answers { result ≡ unless (spec.upsert_causes tree) (Line.Upsert tree) }
+fn upsert(alloc: Global, tree: Tree) -> Result<Line, LineFault>
+    ensures answers { Answers result (unless (spec.upsert_causes tree) (Line.Upsert tree)) }
     ensures document { IfOk result AsksForDocument }
 {
     if nesting(&tree) > DEEPEST {
-        return Err(Refusal::Json);
+        return Err(LineFault::Refused(Refusal::Json));
     }
     if id_of(&tree).is_none() {
-        return Err(Refusal::Json);
+        return Err(LineFault::Refused(Refusal::Json));
+    }
+    let Ok(text) = write_tree(alloc, &tree) else {
+        return Err(LineFault::Memory);
+    };
+    if text.len() > MOST_BYTES {
+        return Err(LineFault::Refused(Refusal::Large));
     }
     Ok(Line::Upsert(tree))
 }
