@@ -1,5 +1,5 @@
 mod Answering
+mod DiskMoments
 mod Endings
 mod Outcomes
-mod Positions
 mod ServedLines

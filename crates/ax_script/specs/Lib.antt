@@ -1,6 +1,6 @@
 pub mod CommandLine
+pub mod DiskScript
 pub mod Documents
-pub mod Positions
 pub mod Progress
 pub mod Script
 pub mod Statuses
