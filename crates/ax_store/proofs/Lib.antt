@@ -4,3 +4,5 @@ pub mod MapLens
 pub mod TakingLemmas
 pub mod CanFrames
 pub mod PuttingLemmas
+pub mod LoadLemmas
+pub mod StoreLemmas

@@ -7,3 +7,4 @@ pub mod Batch
 pub mod Putting
 pub mod Faults
 pub mod Loading
+pub mod Store

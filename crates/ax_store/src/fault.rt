@@ -2,6 +2,7 @@
 
 ghost use Rattle.std.specs.Prelude.{◌≡◌};
 ghost use Rattle.ax_pages.specs.Image.{extent_number};
+ghost use Rattle.ax_store.specs.Store.{of_log};
 
 use ax_disk::Extent;
 use ax_log::LogFault;
@@ -37,4 +38,16 @@ pub(crate) fn damaged(area: Extent, at: u64) -> StoreFault
         Extent::B => 2,
     };
     StoreFault::Damaged { extent, at }
+}
+
+/// A fault of the log as one of the store.
+pub(crate) fn store_fault(fault: LogFault) -> StoreFault
+    ensures { result ≡ of_log fault }
+{
+    match fault {
+        LogFault::Disk => StoreFault::Disk,
+        LogFault::Damaged { extent, at } => StoreFault::Damaged { extent, at },
+        LogFault::Newer { version } => StoreFault::Newer { version },
+        LogFault::Memory => StoreFault::Memory,
+    }
 }

@@ -3,16 +3,20 @@
 
 mod batch;
 mod change;
+mod commit;
 mod directory;
 mod fault;
 mod load;
 mod memory;
+mod open;
 mod pages;
 mod put_changes;
 mod row;
+mod store;
 mod take_parts;
 
 pub use batch::Batch;
 pub use fault::StoreFault;
 pub use memory::Memory;
 pub use pages::Meta;
+pub use store::Store;

@@ -1,0 +1,71 @@
+-- A store as contracts see it, when it agrees with a disk, and what opening it answers.
+-- It is this project's own; it comes from no public document.
+use Rattle.std.specs.Prelude.{◌≡◌, ◌⊎◌, ℕ, Bool, false, List, Result, Ok, Err}
+use Rattle.ax_disk.specs.declared.extent.Extent.{Extent}
+use Rattle.ax_disk.specs.model.Image.{Image}
+use Rattle.ax_disk.specs.model.Moments.{History}
+use Rattle.ax_pages.specs.Image.{IsNewer, extent_number}
+use Rattle.ax_pages.specs.Contents.{Contents}
+use Rattle.ax_pages.specs.HasContents.{HasContents, IsSpoiledImage}
+use Rattle.ax_log.specs.Log.{log_area}
+use Rattle.ax_log.specs.Agreement as log
+use Rattle.ax_log.specs.Opening.{IsDamagedAt}
+use Rattle.ax_log.specs.declared.fault.LogFault.{LogFault}
+use Rattle.ax_log.specs.declared.fault.LogFault.TheVariants as by_log
+use Rattle.ax_store.specs.declared.store.Store.{Store}
+use Rattle.ax_store.specs.declared.fault.StoreFault.{StoreFault}
+use Rattle.ax_store.specs.declared.fault.StoreFault.TheVariants.{Disk, Damaged, Newer, Memory}
+use Rattle.ax_store.specs.Kept.{PageOffsets}
+use Rattle.ax_store.specs.Loading.{nothing_kept, TakesOn}
+
+-- what the pages have
+abbrev pub store_contents : Store → Contents
+store_contents store = store.pages.contents
+
+-- where the part of each page stands in the area
+abbrev pub store_offsets : Store → PageOffsets
+store_offsets store = store.pages.offsets
+
+-- how many parts may be committed without memory
+abbrev pub store_spare : Store → ℕ
+store_spare store = store.pages.spare
+
+-- a call answered that the disk failed
+abbrev pub store_failed : Store → Bool
+store_failed store = store.failed
+
+-- the area that counts
+abbrev pub store_area : Store → Extent
+store_area store = log_area store.log
+
+-- The log agrees with the disk by some frames, and these lead from nothing to the store's pages.
+pub record Agrees (store : Store) (history : History) : Type 0 where
+  pub frames : List (List ℕ)
+  pub logged : log.Agrees store.log frames history
+  pub takes : TakesOn frames 0 nothing_kept store.pages
+
+-- The store agrees with the disk by the contents that the image before has.
+pub record IsOpened (store : Store) (before : Image) (history : History) : Type 0 where
+  pub agrees : Agrees store history
+  pub has : HasContents (store_contents store) before
+  pub works : store_failed store ≡ false
+
+-- the image is damaged at this place of this list: in its root, in a frame, or in a part
+abbrev pub IsDamagedStore : Image → ℕ → ℕ → Type 0
+IsDamagedStore before extent at =
+    IsDamagedAt before extent at ⊎ ((area : Extent) × (extent ≡ extent_number area) × IsSpoiledImage before area at)
+
+-- what each answer says
+abbrev pub TellsStore : Result Store StoreFault → Image → History → Type 0
+TellsStore (Ok store) before history = IsOpened store before history
+TellsStore (Err Disk) before history = Unit {0}
+TellsStore (Err (Damaged extent at)) before history = IsDamagedStore before extent at
+TellsStore (Err (Newer version)) before history = IsNewer before version
+TellsStore (Err Memory) before history = Unit {0}
+
+-- a fault of the log as one of the store
+abbrev pub of_log : LogFault → StoreFault
+of_log by_log.Disk = Disk
+of_log (by_log.Damaged extent at) = Damaged extent at
+of_log (by_log.Newer version) = Newer version
+of_log by_log.Memory = Memory
