@@ -6,3 +6,4 @@ pub mod CanFrames
 pub mod PuttingLemmas
 pub mod LoadLemmas
 pub mod StoreLemmas
+pub mod NextHeld

@@ -86,6 +86,9 @@ module _ {X : Type 0} where
   look_same number k None es e none = none
   look_same number k (Some x) es e none = ap (λ n. if eq_by_cmp nat_cmp k n then Some x else look k es) e ∙ ap (λ b. if b then Some x else look k es) (same_number k)
 
+none_is_some : {A : Type 0} (x : A) → None ≡ Some x → ⊥
+none_is_some x e = cc
+
 module _ {X : Type 0} (shown : KeptPart → X) where
   abbrev pub found : ℕ → List Row → Option X
   found q rows = map.find nat_cmp q (entries_of shown rows)
@@ -105,6 +108,18 @@ module _ {X : Type 0} (shown : KeptPart → X) where
   found_none (row ∷ rows) k none =
       looked k row rows ∙ look_other row.number k (shown_of row) (entries_of shown rows) (none 0 (omega arith))
       ∙ found_none rows k (λ j lt. none (suc j) (omega arith))
+
+  -- a row of another number, or with no part, is passed over
+  passed : (row : Row) (q : ℕ) (o : Option X) (es : List (ℕ × X)) → shown_of row ≡ o → (row.number ≡ q → row.part ≡ None) → look q es ≡ None → look q (add row.number o es) ≡ None
+  passed row q None es is none rest = rest
+  passed row q (Some x) es is none rest =
+      elim (eq_by_cmp nat_cmp q row.number) as (λ b. eq_by_cmp nat_cmp q row.number ≡ b → (if b then Some x else look q es) ≡ None) [
+        | true ↦ λ same. absurd (none_is_some x (sym (ap (option_map shown) (none (sym (equal_numbers q row.number same)))) ∙ is))
+        | false ↦ λ other. rest
+      ] refl
+
+  pub found_cons_none : (row : Row) (rows : List Row) (q : ℕ) → (row.number ≡ q → row.part ≡ None) → found q rows ≡ None → found q (row ∷ rows) ≡ None
+  found_cons_none row rows q none rest = looked q row rows ∙ passed row q (shown_of row) (entries_of shown rows) refl none rest
 
   found_at : (rows : List Row) (i k : ℕ) → i < length rows → number_at rows i ≡ k → NotBefore rows k i → NotBehind rows k i → found k rows ≡ shown_of (row_at rows i)
   found_at [] i k lt at none behind = absurd (omega arith)
@@ -162,7 +177,7 @@ module _ {X : Type 0} (shown : KeptPart → X) where
 
   -- ---- the same of maps
 
-  got : (rows : List Row) (q : ℕ) → map.get (map_of shown rows) q ≡ found q rows
+  pub got : (rows : List Row) (q : ℕ) → map.get (map_of shown rows) q ≡ found q rows
   got rows q = map.get-from_entries nat_cmp_total (entries_of shown rows) q
 
   map_put : (rows new : List Row) (k : ℕ) (x : X) → ((q : ℕ) → found q new ≡ put_over q k (Some x) (found q rows)) → map_of shown new ≡ map.insert (map_of shown rows) k x

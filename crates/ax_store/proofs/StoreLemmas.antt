@@ -38,7 +38,7 @@ use Rattle.ax_store.specs.Change.{IsFrameOf}
 use Rattle.ax_store.specs.Faults.{IsRefused, HasDiskCause}
 use Rattle.ax_store.specs.Loading.{nothing_kept, TakesOn, TellsLoad}
 use Rattle.ax_store.specs.Putting.{Puts}
-use Rattle.ax_store.specs.Store.{Agrees, IsOpened, IsDamagedStore, TellsStore, of_log, store_contents}
+use Rattle.ax_store.specs.Store.{Agrees, SameButRoom, IsOpened, IsDamagedStore, TellsStore, of_log, store_contents}
 use Rattle.ax_store.proofs.LoadLemmas.{one_frame_more, lead_on_of}
 
 -- ---- the log agrees
@@ -69,6 +69,22 @@ pub agrees_rests : (store : Store) (history : History) → Agrees store history 
 agrees_rests store history agrees =
     rests_weaken history (HasFrames agrees.frames) (HasContents (store_contents store))
     (contents_of agrees.frames store.pages agrees.takes) (rests_of store.log agrees.frames history agrees.logged)
+
+-- it agrees still where no list changed
+pub agrees_still : (store : Store) (old new : History) → Agrees store old → Idles old new → Agrees store new
+agrees_still store old new agrees idles = record { frames = agrees.frames; logged = agrees_idle store.log agrees.frames old new agrees.logged idles; takes = agrees.takes }
+
+-- and where nothing of it changed but the room
+last_same : (frames : List (List ℕ)) (at : ℕ) (old mid new : Kept) → TakesOn frames at old mid → new.contents ≡ mid.contents → new.offsets ≡ mid.offsets → TakesOn frames at old new
+last_same [] at old mid new on contents offsets = (contents ∙ on.0, offsets ∙ on.1)
+last_same (frame ∷ frames) at old mid new (between, first, others) contents offsets = (between, first, last_same frames (at + 9 + length frame) between mid new others contents offsets)
+
+pub agrees_same : (old new : Store) (history : History) → SameButRoom old new → Agrees old history → Agrees new history
+agrees_same old new history same agrees = record {
+  frames = agrees.frames;
+  logged = subst (λ l. log.Agrees l agrees.frames history) (sym same.logged) agrees.logged;
+  takes = last_same agrees.frames 0 nothing_kept old.pages new.pages agrees.takes same.contents same.offsets;
+}
 
 -- ---- barriers
 

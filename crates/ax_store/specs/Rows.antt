@@ -54,3 +54,9 @@ pub record IsGapFor (rows : List Row) (number i : ℕ) : Type 0 where
   pub in_range : i ≤ length rows
   pub before : (j : ℕ) → j < i → number_at rows j < number
   pub behind : (j : ℕ) → i ≤ j → j < length rows → number < number_at rows j
+
+-- the rows before the position have numbers up to `after`, the others greater ones
+pub record IsFirstAbove (rows : List Row) (after i : ℕ) : Type 0 where
+  pub in_range : i ≤ length rows
+  pub before : (j : ℕ) → j < i → number_at rows j ≤ after
+  pub behind : (j : ℕ) → i ≤ j → j < length rows → after < number_at rows j

@@ -44,6 +44,13 @@ pub record Agrees (store : Store) (history : History) : Type 0 where
   pub logged : log.Agrees store.log frames history
   pub takes : TakesOn frames 0 nothing_kept store.pages
 
+-- nothing changed but the room
+pub record SameButRoom (old new : Store) : Type 0 where
+  pub logged : new.log ≡ old.log
+  pub contents : store_contents new ≡ store_contents old
+  pub offsets : store_offsets new ≡ store_offsets old
+  pub works : store_failed new ≡ store_failed old
+
 -- The store agrees with the disk by the contents that the image before has.
 pub record IsOpened (store : Store) (before : Image) (history : History) : Type 0 where
   pub agrees : Agrees store history

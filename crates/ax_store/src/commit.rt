@@ -9,7 +9,7 @@ ghost use Rattle.ax_pages.specs.AfterPart.{after_parts};
 ghost use Rattle.ax_store.specs.Batch.{batch_parts, is_sealed};
 ghost use Rattle.ax_store.specs.Faults.{HasDiskCause};
 ghost use Rattle.ax_store.specs.Putting.{AreWithin};
-ghost use Rattle.ax_store.specs.Store.{Agrees, store_contents, store_area, store_spare, store_failed};
+ghost use Rattle.ax_store.specs.Store.{Agrees, SameButRoom, store_contents, store_area, store_spare, store_failed};
 
 use crate::batch::Batch;
 use crate::fault::StoreFault;
@@ -27,9 +27,7 @@ impl Store {
     pub fn reserve(&mut self, parts: usize) -> Result<(), Memory>
         ensures room { OnOk result (parts ≤ store_spare self.new) }
         ensures never_less { store_spare self.old ≤ store_spare self.new }
-        ensures contents { store_contents self.new ≡ store_contents self.old }
-        ensures area { store_area self.new ≡ store_area self.old }
-        ensures failed { store_failed self.new ≡ store_failed self.old }
+        ensures same { SameButRoom self.old self.new }
     {
         self.pages.reserve(parts)
     }

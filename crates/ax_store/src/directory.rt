@@ -1,12 +1,12 @@
 //! A directory: the parts that count, by number.
 
-ghost use Rattle.std.specs.Prelude.{◌≡◌, ℕ, ◌+◌, ◌<◌, ◌≤◌, Some, OnOk, IfSome, IfNone, option_map};
+ghost use Rattle.std.specs.Prelude.{◌≡◌, ℕ, ◌+◌, ◌<◌, ◌≤◌, None, OnOk, IfSome, IfNone, option_map};
 ghost use Rattle.std.specs.FinMap as map;
 ghost use Rattle.ax_store.specs.Rows.{payload_kept, offset_kept};
 ghost use Rattle.ax_store.specs.Listed.{IsNextAfter};
 
 use crate::memory::Memory;
-use crate::row::{KeptPart, Row, clear_row, put_row, search};
+use crate::row::{KeptPart, Row, clear_row, first_held, put_row, search};
 use std::alloc::Global;
 use std::marker::Model;
 
@@ -60,6 +60,17 @@ impl Directory {
         match search(&self.rows, number) {
             Ok(at) => self.rows[at].part.as_ref(),
             Err(_) => None,
+        }
+    }
+
+    /// The least number above another that is held. Rows that were cleared are passed over.
+    pub(crate) fn next_after(&self, after: u32) -> Option<u32>
+        ensures found { IfSome result (IsNextAfter self.now.payloads after) }
+        ensures none { IfNone result ((number : ℕ) → after < number → map.get self.now.payloads number ≡ None) }
+    {
+        match search(&self.rows, after) {
+            Ok(at) => first_held(&self.rows, after, at + 1),
+            Err(at) => first_held(&self.rows, after, at),
         }
     }
 

@@ -32,12 +32,19 @@ pub enum StoreFault {
 pub(crate) fn damaged(area: Extent, at: u64) -> StoreFault
     ensures { result ≡ StoreFault.Damaged (extent_number area) at }
 {
-    let extent = match area {
+    let extent = number_of(area);
+    StoreFault::Damaged { extent, at }
+}
+
+/// An extent as a number.
+pub(crate) fn number_of(extent: Extent) -> u8
+    ensures { result ≡ extent_number extent }
+{
+    match extent {
         Extent::Root => 0,
         Extent::A => 1,
         Extent::B => 2,
-    };
-    StoreFault::Damaged { extent, at }
+    }
 }
 
 /// A fault of the log as one of the store.

@@ -1,6 +1,8 @@
 //! The pages of a store in memory, changed part by part.
 
-ghost use Rattle.std.specs.Prelude.{◌≡◌, ℕ, ◌+◌, ◌≤◌, ◌<◌, ◌==◌, length, IsTrue, OnOk, IfSome, is_some, Some, take, drop};
+ghost use Rattle.std.specs.Prelude.{◌≡◌, ℕ, ◌+◌, ◌≤◌, ◌<◌, ◌==◌, length, IsTrue, OnOk, IfSome, IfNone, is_some, Some, None, option_map};
+ghost use Rattle.ax_store.specs.Listed.{IsNextAfter};
+ghost use Rattle.std.specs.FinMap as map;
 ghost use Rattle.ax_pages.specs.Contents.{next_number, policy_now, is_given, next_in, now_in};
 ghost use Rattle.ax_pages.specs.AfterPart.{after_kind, is_meta, is_document, is_gone, has_room};
 ghost use Rattle.ax_store.specs.Rows.{payload_kept, offset_kept};
@@ -84,6 +86,38 @@ impl Pages {
         ensures now { result.now ≡ policy_now self.now.contents }
     {
         self.numbers
+    }
+
+    /// The part of the meta that counts.
+    pub(crate) fn meta_part(&self) -> Option<&KeptPart>
+        ensures payload { option_map (λ part. payload_kept part.now) result ≡ self.now.contents.meta }
+        ensures offset { option_map (λ part. offset_kept part.now) result ≡ self.now.offsets.meta }
+    {
+        self.meta.as_ref()
+    }
+
+    /// The part of a policy that counts.
+    pub(crate) fn policy(&self, number: u32) -> Option<&KeptPart>
+        ensures payload { option_map (λ part. payload_kept part.now) result ≡ map.get self.now.contents.policies number }
+        ensures offset { option_map (λ part. offset_kept part.now) result ≡ map.get self.now.offsets.policies number }
+    {
+        self.policies.get(number)
+    }
+
+    /// The part of a document that counts.
+    pub(crate) fn document(&self, number: u32) -> Option<&KeptPart>
+        ensures payload { option_map (λ part. payload_kept part.now) result ≡ map.get self.now.contents.documents number }
+        ensures offset { option_map (λ part. offset_kept part.now) result ≡ map.get self.now.offsets.documents number }
+    {
+        self.documents.get(number)
+    }
+
+    /// The least number of a document above another.
+    pub(crate) fn next_document(&self, after: u32) -> Option<u32>
+        ensures found { IfSome result (IsNextAfter self.now.contents.documents after) }
+        ensures none { IfNone result ((number : ℕ) → after < number → map.get self.now.contents.documents number ≡ None) }
+    {
+        self.documents.next_after(after)
     }
 
     /// Makes room for so many parts.

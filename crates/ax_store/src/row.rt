@@ -1,9 +1,10 @@
 //! The rows of a directory, and how one is found and changed.
 
-ghost use Rattle.std.specs.Prelude.{◌≡◌, ◌+◌, ◌<◌, ◌≤◌, IfOk, IfErr, vec_len, vec_capacity};
+ghost use Rattle.std.specs.Prelude.{◌≡◌, ◌+◌, ◌<◌, ◌≤◌, ℕ, None, IfOk, IfErr, IfSome, IfNone, vec_len, vec_capacity};
 ghost use Rattle.std.specs.List.{insert};
 ghost use Rattle.std.specs.FinMap as map;
-ghost use Rattle.ax_store.specs.Rows.{AreRising, IsAt, IsGapFor, map_of, payload_kept, offset_kept};
+ghost use Rattle.ax_store.specs.Rows.{AreRising, IsAt, IsGapFor, IsFirstAbove, map_of, payload_kept, offset_kept};
+ghost use Rattle.ax_store.specs.Listed.{IsNextAfter};
 
 /// A part that counts, kept in memory.
 #[derive(Drop)]
@@ -27,6 +28,25 @@ pub(crate) fn search(rows: &[Row], number: u32) -> Result<usize, usize>
     ensures absent { IfErr result (IsGapFor rows.now number) }
 {
     rows.binary_search_by_key(&number, |row| row.number)
+}
+
+/// The number of the first row from a position on that has a part, where that is the first position of a number above
+/// `after`.
+pub(crate) fn first_held(rows: &[Row], after: u32, from: usize) -> Option<u32>
+    requires rising { AreRising rows.now }
+    requires position { IsFirstAbove rows.now after from }
+    ensures found { IfSome result (IsNextAfter (map_of payload_kept rows.now) after) }
+    ensures none { IfNone result ((number : ℕ) → after < number → map.get (map_of payload_kept rows.now) number ≡ None) }
+{
+    let mut at = from;
+    while at < rows.len() {
+        let row = &rows[at];
+        if row.part.is_some() {
+            return Some(row.number);
+        }
+        at += 1;
+    }
+    None
 }
 
 /// Puts a part under a number, in the room that there is. Answers whether the number was held.
