@@ -1,5 +1,7 @@
-ghost use Rattle.std.specs.Prelude.{◌≡◌, Some, Result, IfOk, IfErr, option_map};
+ghost use Rattle.std.specs.Prelude.{◌≡◌, ◌≤◌, Some, Result, IfOk, IfErr, option_map};
 ghost use Rattle.ax_tree.specs.declared.tree.Tree.{Tree as TreeOf};
+ghost use Rattle.ax_tree.specs.Nesting.{nesting as nesting_of};
+ghost use Rattle.ax_tree.specs.WellFormed.{IsWellFormed};
 ghost use Rattle.ax_text.specs.Reading.{reading, Stands};
 ghost use Rattle.ax_lines.specs.Answers.{Answers, IsRefusedBy};
 ghost use Rattle.ax_lines.specs.Asked.{AsksForDocument};
@@ -71,6 +73,8 @@ fn query_line(alloc: Global, body: &[u8]) -> Result<Line, LineFault>
 /// The tree that an argument stands for.
 fn tree_of(alloc: Global, json: &[u8]) -> Result<Tree, LineFault>
     ensures tree { IfOk result (λ tree. reading json.now ≡ Stands tree) }
+    ensures well_formed { IfOk result IsWellFormed }
+    ensures shallow { IfOk result (λ tree. nesting_of tree ≤ 127) }
     ensures refused { IfErr result
         (λ fault. (ask : TreeOf → Result Line Refusal)
         → IsRefusedBy fault (spec.with_tree_of (reading json.now) ask)) }
@@ -83,6 +87,8 @@ fn tree_of(alloc: Global, json: &[u8]) -> Result<Tree, LineFault>
 }
 
 fn upsert(alloc: Global, tree: Tree) -> Result<Line, LineFault>
+    requires well_formed { IsWellFormed tree }
+    requires shallow { nesting_of tree ≤ 127 }
     ensures answers { Answers result (unless (spec.upsert_causes tree) (Line.Upsert tree)) }
     ensures document { IfOk result AsksForDocument }
 {
