@@ -2,22 +2,27 @@
 use Rattle.std.proofs.Common.{◌≡◌, ◌⊎◌, inl, inr, ⊎_elim, ℕ, zero, suc, ◌+◌, ◌-◌, ◌<◌, ◌≤◌, List, [], ◌∷◌, ◌++◌}
 use Rattle.std.proofs.Common.{length, take, refl, sym, ap, ◌∙◌, subst, length-append, arith}
 use Rattle.std.proofs.lemmas.List.{take_all, take-append-le}
-use Rattle.std.specs.List.{concat}
+use Rattle.std.specs.List.{concat, flat_map}
 use Rattle.ax_disk.specs.model.Image.{Image}
 use Rattle.ax_disk.specs.model.Moments.{History, Progresses}
 use Rattle.ax_disk.specs.model.Stays.{Rests, Turns}
-use Rattle.ax_disk.specs.laws.MomentLaws.{up_to_or_after, elapses_start, elapses_weaken, progress_stays}
+use Rattle.ax_disk.specs.laws.MomentLaws.{elapses_start, elapses_weaken, progress_stays}
 use Rattle.ax_disk.specs.laws.MomentLaws.{progress_within, progress_join}
 use Rattle.ax_disk.specs.laws.StageLaws.{progress_weaken}
 use Rattle.ax_disk.specs.laws.StaysLaws.{rests_weaken}
 use Rattle.ax_container.specs.Container.{Container}
 use Rattle.ax_image.specs.StandsFor.{StandsFor}
 use Rattle.ax_machine.specs.Reply as reply
-use Rattle.ax_machine.specs.ReplyTexts.{reply_text}
+use Rattle.std.specs.Prelude.{codes, decimal}
+use Rattle.ax_lines.specs.Refusals.{number_of, word_of}
+use Rattle.ax_machine.specs.ReplyTexts.{reply_text, row_text, end_text}
 use Rattle.ax_machine.specs.Run.{Outcome, Exchange, after_line, after_lines, reply_to, after, texts, text_of}
 use Rattle.ax_machine.proofs.Runs.{text_of-append}
 use Rattle.ax_script.specs.DiskScript.{StandsAfter, AreAcknowledged, KeepsAcknowledged}
 use Rattle.ax_script.specs.Progress.{Shows, Reaches, Passes, BreaksOff}
+
+up_to_or_after : (t m : ℕ) → (t ≤ m) ⊎ (m < t)
+up_to_or_after t m = grind arith
 
 -- ---- the first lines of a run, and of one that goes on
 
@@ -41,13 +46,19 @@ len_past : (a : Container) (run later : List Exchange) (m : ℕ)
     → length (concat (take (length run + m) (texts a (run ++ later))))
     ≡ length (text_of a run) + length (concat (take m (texts (after a run) later)))
 len_past a [] later m =
-    ap (λ k. length (concat (take k (texts a later)))) (omega arith) ∙ omega arith
+    let none : length {A = Exchange} [] + m ≡ m = omega arith in
+    let same : length (concat (take (length {A = Exchange} [] + m) (texts a later)))
+    ≡ length (concat (take m (texts a later))) =
+    ap (λ k. length (concat (take k (texts a later)))) none in
+    omega (arith, same)
 len_past a (x ∷ xs) later m =
     let more : length (x ∷ xs) + m ≡ suc (length xs + m) = omega arith in
     let next : Container = after_line a x.line x.outcome in
     let first = reply_text (reply_to a x.line x.outcome) in
-    ap (λ k. length (concat (take k (texts a (x ∷ xs ++ later))))) more
-    ∙ omega (arith, length-append first (concat (take (length xs + m) (texts next (xs ++ later)))),
+    let same : length (concat (take (length (x ∷ xs) + m) (texts a (x ∷ xs ++ later))))
+    ≡ length (first ++ concat (take (length xs + m) (texts next (xs ++ later)))) =
+    ap (λ k. length (concat (take k (texts a (x ∷ xs ++ later))))) more in
+    omega (arith, same, length-append first (concat (take (length xs + m) (texts next (xs ++ later)))),
         length-append first (text_of next xs), len_past next xs later m)
 
 len_within : (a : Container) (run later : List Exchange) (m : ℕ) → m ≤ length run
@@ -65,11 +76,16 @@ some_bytes : (xs ys : List ℕ) → 0 < length ys → 0 < length (xs ++ ys)
 some_bytes xs ys some = omega (arith, length-append xs ys)
 
 reply_some : (r : reply.Reply) → 0 < length (reply_text r)
-reply_some reply.Ok = some_bytes _ (10 ∷ []) (omega arith)
-reply_some (reply.Rows rows reply.End) = some_bytes _ _ (some_bytes _ (10 ∷ []) (omega arith))
+reply_some reply.Ok = some_bytes (codes "ok") (10 ∷ []) (omega arith)
+reply_some (reply.Rows rows reply.End) =
+    some_bytes (flat_map row_text rows) (end_text reply.End (length rows))
+    (some_bytes (codes "end " ++ decimal (length rows)) (10 ∷ []) (omega arith))
 reply_some (reply.Rows rows (reply.More token)) =
-    some_bytes _ _ (some_bytes _ (10 ∷ []) (omega arith))
-reply_some (reply.Refused why) = some_bytes _ (10 ∷ []) (omega arith)
+    some_bytes (flat_map row_text rows) (end_text (reply.More token) (length rows))
+    (some_bytes (codes "more " ++ decimal (length rows) ++ codes " " ++ token) (10 ∷ []) (omega arith))
+reply_some (reply.Refused why) =
+    some_bytes (codes "err " ++ decimal (number_of why) ++ codes " " ++ word_of why) (10 ∷ [])
+    (omega arith)
 
 some_text : (b : Container) (more : List Exchange) (m : ℕ) → 0 < m → 0 < length more
     → 0 < length (concat (take m (texts b more)))
