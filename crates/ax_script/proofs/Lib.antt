@@ -1,5 +1,7 @@
 mod Answering
 mod DiskMoments
 mod Endings
+mod Holding
 mod Outcomes
 mod ServedLines
+mod Writing

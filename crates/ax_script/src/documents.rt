@@ -1,24 +1,19 @@
 //! The documents of an open store, and how one is upserted.
 
-ghost use Rattle.std.specs.Prelude.{◌≡◌, ◌≢◌, ◌≤◌, ℕ, List, [], ◌∷◌, length, Err, IsTrue, IfSome, None, Some, true};
+ghost use Rattle.std.specs.Prelude.{◌≡◌, ◌<◌, ◌≤◌, ℕ, List, Err, IsTrue, IfSome, None, Some, true};
 ghost use Rattle.std.specs.BTreeMap.{get_by_text};
 ghost use Rattle.ax_faults.specs.Faults.{Rose};
-ghost use Rattle.ax_disk.specs.model.Stays.{Turns};
+ghost use Rattle.std.specs.FinMap as map;
 ghost use Rattle.ax_tree.specs.Document.{document_id};
 ghost use Rattle.ax_lines.specs.Asked.{IsStorable};
 ghost use Rattle.ax_container.specs.Container.{Container};
-ghost use Rattle.ax_pages.specs.Contents.{Contents, next_number, policy_now, is_given};
-ghost use Rattle.ax_pages.specs.AfterPart.{after_parts};
-ghost use Rattle.ax_pages.specs.HasContents.{HasContents};
-ghost use Rattle.ax_image.specs.UpsertParts.{replacing_parts, creating_parts};
-ghost use Rattle.ax_store.specs.Batch.{batch_parts, is_sealed};
-ghost use Rattle.ax_store.specs.Putting.{AreWithin};
+ghost use Rattle.ax_pages.specs.Contents.{policy_now, is_given};
 ghost use Rattle.ax_script.specs.Documents.{contents_in, Holds, Works, is_full_of, TellsUpsert, WorksAfterUpsert};
 
 use crate::batches::{creating, replacing};
 use ax_disk::Disk;
 use ax_pages::Page;
-use ax_store::{Batch, Store};
+use ax_store::Store;
 use ax_tree::{Tree, id_of};
 use std::alloc::Global;
 use std::collections::BTreeMap;
@@ -91,6 +86,14 @@ impl Documents {
         self.store.documents() >= MOST_DOCUMENTS || self.store.meta().next >= LAST_NUMBER
     }
 
+    /// Whether the number is that of a document that is held.
+    fn is_held(&self, number: u32) -> bool
+        ensures some { result ≡ true → 0 < number }
+        ensures held { result ≡ true → map.contains_key (contents_in self.now).documents number ≡ true }
+    {
+        number > 0 && self.store.text_of(number).is_some()
+    }
+
     /// The number of the policy now, which a part gave.
     fn policy(&self) -> Option<u8>
         ensures now { IfSome result (λ policy. policy ≡ policy_now (contents_in self.now)) }
@@ -131,7 +134,7 @@ impl Documents {
         let Some(policy) = self.policy() else {
             return Err(UpsertFault::Memory);
         };
-        if number == 0 || self.store.text_of(number).is_none() {
+        if !self.is_held(number) {
             return Err(UpsertFault::Memory);
         }
         let Ok(batch) = replacing(self.alloc, number, policy, tree) else {

@@ -85,6 +85,7 @@ fn serve_piece<D: Disk, K: Sink>(
         (outlets (K.written sink.old) (D.history disk.old (D.attached disk.old)))
         (outlets (K.written sink.new) (D.history disk.new (D.attached disk.new)))) }
     ensures works { OnOk result (Works (IsTrue (D.is_honest disk.old)) documents.new (D.history disk.new (D.attached disk.new))) }
+    ensures line { OnOk result (IsOneLine pending.new.items) }
     ensures only { IfErr result BreaksOffWith }
     ensures disk_cause { result ≡ Err Status.DiskFault → Rose (D.faults disk.old) (D.faults disk.new) }
     ensures sink_cause { result ≡ Err Status.WriteFault → Rose (K.faults sink.old) (K.faults sink.new) }
