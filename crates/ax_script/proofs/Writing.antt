@@ -16,7 +16,7 @@ use Rattle.ax_container.specs.Upsert.{Full, with_tree, replaced, created, creati
 use Rattle.ax_container.proofs.Ids.{same_from_eq, bytes_eq-false_sym}
 use Rattle.ax_container.proofs.Upserts.{or_none, upsert_keeps_soundness}
 use Rattle.ax_frame.specs.Part.{PartValue}
-use Rattle.ax_pages.specs.Contents.{Contents, meta_bytes, policy_now, is_given}
+use Rattle.ax_pages.specs.Contents.{Contents, meta_bytes, next_number, policy_now, is_given}
 use Rattle.ax_pages.specs.AfterPart.{after_parts, last_policy}
 use Rattle.ax_image.specs.StandsFor.{ContentsStandFor}
 use Rattle.ax_image.specs.UpsertParts.{document_part, replacing_parts, creating_parts, upsert_parts}
@@ -171,3 +171,47 @@ numbers_stay other id tree (e ∷ es) =
 pub numbers_replaced : (other id : List ℕ) (tree : Tree) (before : Container)
     → number_in other (replaced id tree before) ≡ number_in other before
 numbers_replaced other id tree before = numbers_stay other id tree before.entries
+
+created_step : (b new : Bool) (n : ℕ) (e : Entry) (o p : Option Entry) → (b ≡ true → new ≡ false)
+    → option_map (λ (e : Entry). e.number) o ≡ cond new (Some n) (option_map (λ (e : Entry). e.number) p)
+    → option_map (λ (e : Entry). e.number) (if b then Some e else o)
+    ≡ cond new (Some n) (option_map (λ (e : Entry). e.number) (if b then Some e else p))
+created_step true false n e o p other rest = refl
+created_step true true n e o p other rest = absurd (let same : true ≡ false = other refl in cc)
+created_step false new n e o p other rest = rest
+
+last_number_is : (b : Bool) (new : Entry)
+    → option_map (λ (e : Entry). e.number) (if b then Some new else None) ≡ cond b (Some new.number) None
+last_number_is true new = refl
+last_number_is false new = refl
+
+numbers_behind : (other : List ℕ) (new : Entry) (es : List Entry) → list_any (has_id new.id) es ≡ false
+    → option_map (λ (e : Entry). e.number) (find (has_id other) (es ++ new ∷ []))
+    ≡ cond (bytes_eq new.id other) (Some new.number)
+    (option_map (λ (e : Entry). e.number) (find (has_id other) es))
+numbers_behind other new [] none = last_number_is (has_id other new) new
+numbers_behind other new (e ∷ es) none =
+    let parts = or_none (has_id new.id e) (list_any (has_id new.id) es) none in
+    created_step (has_id other e) (bytes_eq new.id other) new.number e
+    (find (has_id other) (es ++ new ∷ [])) (find (has_id other) es)
+    (λ own. ap (bytes_eq new.id) (sym (same_from_eq e.id other own))
+    ∙ bytes_eq-false_sym e.id new.id parts.0)
+    (numbers_behind other new es parts.1)
+
+pub numbers_created : (other id : List ℕ) (tree : Tree) (before : Container)
+    → number_in id before ≡ None
+    → number_in other (created id tree before)
+    ≡ cond (bytes_eq id other) (Some before.next_number) (number_in other before)
+numbers_created other id tree before at =
+    numbers_behind other (record { number = before.next_number; id = id; tree = tree }) before.entries
+    (any_found id before.entries ∙ ap is_some (no_entry (entry_of id before) at))
+
+pub within_next : (next policy : ℕ) (tree : Tree) (contents : Contents) → 0 < next
+    → is_full_of contents ≡ false → next ≡ next_number contents → policy ≤ 8
+    → is_given policy contents ≡ true → AreWithin (creating_parts next policy tree) contents
+within_next next policy tree contents some full is small given =
+    let parts = or_none (nat_le most_documents (finite.len contents.documents))
+        (nat_le last_number (next_number contents)) full in
+    within_creating next policy tree contents some full refl small given
+    (leb-false most_documents (finite.len contents.documents) parts.0)
+    (omega (arith, leb-false last_number (next_number contents) parts.1, is))

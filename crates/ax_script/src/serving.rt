@@ -1,4 +1,6 @@
 ghost use Rattle.std.specs.Prelude.{◌≡◌, ◌≤◌, ◌⊎◌, map, Err, IsTrue, IfOk, IfErr, OnOk, OnErr};
+ghost use Rattle.std.specs.Io.KnownBytes.{Appends};
+ghost use Rattle.ax_base.specs.Bytes.{AppendsPrefix};
 ghost use Rattle.ax_faults.specs.Faults.{Rose};
 ghost use Rattle.ax_container.specs.Container.{Container, trees};
 ghost use Rattle.ax_tree.specs.CanonicalText.{canonical_text};
@@ -57,12 +59,21 @@ pub fn serve_line<D: Disk, K: Sink>(
     ensures attached { D.attached disk.new ≡ D.attached disk.old }
     ensures honest { D.is_honest disk.new ≡ D.is_honest disk.old }
 {
-    let written = match answer(alloc, documents, disk, line) {
-        Ok(text) => write_all(sink, text.as_slice()),
-        Err(AnswerFault::Memory) => write_all(sink, out_of_memory_line()),
-        Err(AnswerFault::Disk) => return Err(Status::DiskFault),
-    };
-    match written {
+    match answer(alloc, documents, disk, line) {
+        Ok(text) => write_reply(sink, text.as_slice()),
+        Err(AnswerFault::Memory) => write_reply(sink, out_of_memory_line()),
+        Err(AnswerFault::Disk) => Err(Status::DiskFault),
+    }
+}
+
+fn write_reply<K: Sink>(sink: &mut K, reply: &[u8]) -> Result<(), Status>
+    ensures added { OnOk result (Appends (K.written sink.old) (K.written sink.new) reply.now) }
+    ensures failed { OnErr result (AppendsPrefix (K.written sink.old) (K.written sink.new) reply.now) }
+    ensures only { IfErr result (λ status. status ≡ Status.WriteFault) }
+    ensures cause { OnErr result (Rose (K.faults sink.old) (K.faults sink.new)) }
+    ensures never_falls { K.faults sink.old ≤ K.faults sink.new }
+{
+    match write_all(sink, reply) {
         Ok(()) => Ok(()),
         Err(Failed) => Err(Status::WriteFault),
     }

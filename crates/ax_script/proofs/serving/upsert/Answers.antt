@@ -1,32 +1,44 @@
-use Rattle.std.proofs.Common.{rules, ◌≡◌, ◌≤◌, ◌⊎◌, map, Err, IsTrue, IfOk, IfErr, OnOk, OnErr, ℕ, ◌+◌, ◌-◌, ◌*◌, ◌<◌, length, ◌/◌, ◌%◌, Bool, true, false, nat_eq, nat_lt, List, [], ◌∷◌, ◌++◌, slice_index_or, slice_set, bit_and, bit_or, Fits, w8, w32, w64, Bor, MutBor}
-use Rattle.ax_faults.specs.Faults.{Rose}
-use Rattle.ax_container.specs.Container.{Container, trees}
-use Rattle.ax_tree.specs.CanonicalText.{canonical_text}
-use Rattle.ax_tree.specs.Document.{document_id}
-use Rattle.ax_machine.specs.Reply as reply
-use Rattle.ax_machine.specs.ReplyTexts.{reply_text}
-use Rattle.ax_machine.specs.Step.{step, upsert_by}
-use Rattle.ax_lines.specs.Asked.{IsStorable}
-use Rattle.ax_script.specs.Documents.{Holds, Works, TellsBy, WorksAfterAnswer}
-use Rattle.ax_script.specs.Progress.{outlets, Serves, BeginsToServe}
+-- What the documents tell of an upsert, as the answer to its line.
+use Rattle.std.proofs.Common.{◌≡◌, Err, subst, IsTrue}
+use Rattle.ax_script.specs.declared.documents.UpsertFault.{UpsertFault}
+use Rattle.ax_script.specs.Documents.{TellsUpsert}
+use Rattle.ax_script.proofs.Holding.{still, some_id, tells_made, tells_refused, tells_disk}
 use Rattle.ax_script.proofs.serving.upsert.Goals as goal
 
--- src/serving.rt:117:9
 pub returns-in_default-clause-tells : goal.returns-in_default-clause-tells
-returns-in_default-clause-tells g c = ?
+returns-in_default-clause-tells g c = λ before holds.
+    (holds, still _ c.args.documents.now _ before before c.requires.works holds)
 
--- src/serving.rt:115:1
 pub returns-in-Ok-upsert-clause-tells : goal.returns-in-Ok-upsert-clause-tells
-returns-in-Ok-upsert-clause-tells g c = ?
+returns-in-Ok-upsert-clause-tells g c = λ before holds.
+    let id = some_id _ c.requires.storable.document in
+    let told = c.in-Ok-upsert.ensures.tells before id.0 holds id.1 in
+    tells_made _ before id.0 c.args.tree.now c.upsert.new.self _ _ id.1 c.in-Ok.text told.0 c.in-Ok.ensures
+    told.1 told.2 told.3
 
--- src/serving.rt:115:1
 pub returns-in-Err-Full-clause-tells : goal.returns-in-Err-Full-clause-tells
-returns-in-Err-Full-clause-tells g c = ?
+returns-in-Err-Full-clause-tells g c = λ before holds.
+    let id = some_id _ c.requires.storable.document in
+    let P : UpsertFault → Type 0 = λ fault. TellsUpsert (IsTrue (g.D.Disk.is_honest c.args.disk.now)) before id.0
+    c.args.tree.now (Err fault) c.upsert.new.self (g.D.Disk.history c.args.disk.now (g.D.Disk.attached c.args.disk.now))
+    (g.D.Disk.history c.upsert.new.disk (g.D.Disk.attached c.upsert.new.disk)) in
+    let told = subst P c.in-Err-Full.field-0-is (c.in-Err-Full.ensures.tells before id.0 holds id.1) in
+    tells_refused _ before id.0 c.args.tree.now c.upsert.new.self _ _ id.1 c.refused.result
+    c.refused.ensures.text c.refused.ensures.only told.0 told.1 told.2
 
--- src/serving.rt:115:1
 pub returns-in-Err-Memory-clause-tells : goal.returns-in-Err-Memory-clause-tells
-returns-in-Err-Memory-clause-tells g c = ?
+returns-in-Err-Memory-clause-tells g c = λ before holds.
+    let id = some_id _ c.requires.storable.document in
+    let P : UpsertFault → Type 0 = λ fault. TellsUpsert (IsTrue (g.D.Disk.is_honest c.args.disk.now)) before id.0
+    c.args.tree.now (Err fault) c.upsert.new.self (g.D.Disk.history c.args.disk.now (g.D.Disk.attached c.args.disk.now))
+    (g.D.Disk.history c.upsert.new.disk (g.D.Disk.attached c.upsert.new.disk)) in
+    subst P c.in-Err-Memory.field-0-is (c.in-Err-Memory.ensures.tells before id.0 holds id.1)
 
--- src/serving.rt:98:1
 pub returns-clause-tells : goal.returns-clause-tells
-returns-clause-tells g c = ?
+returns-clause-tells g c = λ before holds.
+    let id = some_id _ c.requires.storable.document in
+    let P : UpsertFault → Type 0 = λ fault. TellsUpsert (IsTrue (g.D.Disk.is_honest c.args.disk.now)) before id.0
+    c.args.tree.now (Err fault) c.upsert.new.self (g.D.Disk.history c.args.disk.now (g.D.Disk.attached c.args.disk.now))
+    (g.D.Disk.history c.upsert.new.disk (g.D.Disk.attached c.upsert.new.disk)) in
+    let told = subst P c.in-Err-Disk.field-0-is (c.in-Err-Disk.ensures.tells before id.0 holds id.1) in
+    tells_disk _ before id.0 c.args.tree.now c.upsert.new.self _ _ id.1 told.0 told.1 told.2
