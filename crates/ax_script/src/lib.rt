@@ -9,13 +9,14 @@
 mod batches;
 mod command_line;
 mod documents;
+mod opening;
 mod reply_lines;
 mod script_lines;
-// mod script_run;
+mod script_run;
 mod serving;
 mod status;
 
 pub use documents::{Documents, UpsertFault};
-// pub use script_run::run;
+pub use script_run::run;
 pub use serving::serve_line;
 pub use status::Status;

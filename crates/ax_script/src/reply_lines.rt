@@ -31,16 +31,14 @@ pub fn rows_lines(alloc: Global, documents: &Documents) -> Result<Vec<u8>, Memor
         ≡ reply_text (reply.Rows (map canonical_text (trees container)) reply.End)) }
 {
     let mut text = Vec::new(alloc);
-    let mut count = 0;
     let mut number = 0;
     while let Some(next) = documents.store.next_document(number) {
         number = next;
         if let Some(row) = documents.store.text_of(number) {
             push_row(&mut text, row)?;
-            count += 1;
         }
     }
-    push_end(alloc, &mut text, count)?;
+    push_end(alloc, &mut text, documents.store.documents())?;
     Ok(text)
 }
 

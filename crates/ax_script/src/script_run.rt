@@ -1,12 +1,11 @@
-ghost use Rattle.std.specs.Prelude.{◌≡◌, ◌≢◌, ◌↔◌, ◌≤◌, ◌⊎◌, List, ℕ, IsTrue, true, false};
+ghost use Rattle.std.specs.Prelude.{◌≡◌, ◌≢◌, ◌↔◌, ◌≤◌, ◌⊎◌, IsTrue, true, false};
 ghost use Rattle.ax_faults.specs.Faults.{Rose};
 ghost use Rattle.ax_container.specs.Container.{Container};
 ghost use Rattle.ax_script.specs.CommandLine.{is_run as is_run_lem, store_word};
 ghost use Rattle.ax_script.specs.DiskScript.{IsStore, RunsOnDisk};
 ghost use Rattle.ax_script.specs.Opening.{Refuses};
-ghost use Rattle.ax_script.specs.Progress.{IsOfServing};
 
-use crate::command_line::store_name;
+use crate::command_line::{is_run, store_name};
 use crate::opening::open_documents;
 use crate::script_lines::serve_source;
 use crate::status::Status;
@@ -74,8 +73,46 @@ pub fn run<D: Disk, S: Source, K: Sink, L: Ledger>(
     // No step is counted yet.
     ensures steps { steps.new ≡ steps.old }
 {
-    let Some(name) = store_name(words) else {
+    if !is_run(words) {
         return Status::Words;
+    }
+    serve(alloc, store_name(words), disk, source, sink)
+}
+
+/// Opens the store of a name, and serves the source over it.
+fn serve<D: Disk, S: Source, K: Sink>(
+    alloc: Global,
+    name: &str,
+    disk: &mut D,
+    source: &mut S,
+    sink: &mut K,
+) -> Status
+    ensures script { IsTrue (D.is_honest disk.old) → (before : Container)
+        → IsStore before (D.history disk.old (D.store_named name.now))
+        → RunsOnDisk before result
+        (record { remaining = S.rest source.old; written = K.written sink.old })
+        (record { remaining = S.rest source.new; written = K.written sink.new })
+        (D.history disk.old (D.store_named name.now)) (D.history disk.new (D.store_named name.now)) }
+    ensures disk_fault { result ≡ Status.DiskFault → Rose (D.faults disk.old) (D.faults disk.new) }
+    ensures read_fault { result ≡ Status.ReadFault
+        → Rose (S.faults source.old) (S.faults source.new) }
+    ensures write_fault { result ≡ Status.WriteFault
+        → Rose (K.faults sink.old) (K.faults sink.new) }
+    ensures refused { IsTrue (D.is_honest disk.old) → Refuses result
+        (D.history disk.old (D.store_named name.now)) (D.history disk.new (D.store_named name.now)) }
+    ensures disk_faults { D.faults disk.old ≤ D.faults disk.new }
+    ensures source_faults { S.faults source.old ≤ S.faults source.new }
+    ensures sink_faults { K.faults sink.old ≤ K.faults sink.new }
+    ensures honest { D.is_honest disk.new ≡ D.is_honest disk.old }
+    ensures not_words { result ≢ Status.Words }
+{
+    let Ok(mut buffer) = vec![in alloc; 0u8; PIECE] else {
+        return Status::Memory;
     };
-    serve(alloc, name, disk, source, sink)
+    match open_documents(alloc, disk, name) {
+        Ok(mut documents) => {
+            serve_source(alloc, &mut documents, disk, source, sink, buffer.as_mut_slice())
+        }
+        Err(status) => status,
+    }
 }
