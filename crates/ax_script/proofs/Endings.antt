@@ -60,19 +60,41 @@ no_text_early status.ReadFault before remaining early = absurd early
 no_text_early status.WriteFault before remaining early = absurd early
 no_text_early status.Long before remaining early = absurd early
 
-pub runs_nothing : (before : Container) (ended : Status) (old : Streams) → EndsEarly ended
-    → Runs before ended old old
-runs_nothing before ended old early = record {
-  taken = [];
-  lines = [];
-  last = [];
-  run = [];
-  text = [];
-  moves = record { consumed = Consumes-nil old.remaining; appended = Appends-nil old.written };
-  split = AreLines-none [] refl;
-  is_text = no_text_early ended before old.remaining early;
-  long = not_long ended [] (omega arith) (not_long_early ended early);
+-- a run that took no line, and wrote nothing
+pub record EarlyRun (before : Container) (ended : Status) (at : Streams) : Type 0 where
+  pub script : Runs before ended at at
+  pub no_line : script.run ≡ []
+  pub no_text : script.text ≡ []
+
+runs_nothing : (before : Container) (ended : Status) (at : Streams)
+    → IsTextAt ended before at.remaining [] [] [] [] → (ended ≡ status.Long → ⊥)
+    → EarlyRun before ended at
+runs_nothing before ended at is_text other = record {
+  script = record {
+    taken = [];
+    lines = [];
+    last = [];
+    run = [];
+    text = [];
+    moves = record { consumed = Consumes-nil at.remaining; appended = Appends-nil at.written };
+    split = AreLines-none [] refl;
+    is_text = is_text;
+    long = not_long ended [] (omega arith) other;
+  };
+  no_line = refl;
+  no_text = refl;
 }
+
+-- the store was not opened
+pub runs_early : (before : Container) (ended : Status) (at : Streams) → EndsEarly ended
+    → EarlyRun before ended at
+runs_early before ended at early =
+    runs_nothing before ended at (no_text_early ended before at.remaining early)
+    (not_long_early ended early)
+
+-- the words were not those of a run
+pub runs_words : (before : Container) (at : Streams) → EarlyRun before status.Words at
+runs_words before at = runs_nothing before status.Words at (refl, refl) (λ e. cc)
 
 module _ (honest : Type 0) where
   -- ---- the run begins

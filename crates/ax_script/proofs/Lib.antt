@@ -2,6 +2,8 @@ mod Answering
 mod DiskMoments
 mod Endings
 mod Holding
+mod OnDisk
+mod Opened
 mod Outcomes
 mod ServedLines
 mod Writing
