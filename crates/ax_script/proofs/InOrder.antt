@@ -171,6 +171,10 @@ abbrev pub number_or : Option Entry → Option ℕ → Option ℕ
 number_or None known = known
 number_or (Some e) known = Some e.number
 
+pub number_or-none : (found : Option Entry) → number_or found None ≡ option_map (λ (e : Entry). e.number) found
+number_or-none None = refl
+number_or-none (Some e) = refl
+
 absent : (id : List ℕ) (es : List Entry) → list_any (has_id id) es ≡ false → find (has_id id) es ≡ None
 absent id [] none = refl
 absent id (e ∷ es) none =
