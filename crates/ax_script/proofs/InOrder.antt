@@ -1,19 +1,21 @@
 -- The documents in the order of their numbers: those that are still to come behind a number.
-use Rattle.std.proofs.Common.{◌≡◌, ℕ, ◌+◌, ◌<◌, ◌≤◌, Bool, true, false, cond, List, [], ◌∷◌, ◌++◌, map, length}
-use Rattle.std.proofs.Common.{find, Option, Some, None, is_some, refl, sym, ap, subst, ◌∙◌, inl, inr, arith}
+use Rattle.std.proofs.Common.{◌≡◌, ℕ, ◌<◌, ◌≤◌, true, false, cond, List, [], ◌∷◌, ◌++◌, map, length}
+use Rattle.std.proofs.Common.{find, Option, Some, None, is_some, refl, sym, ap, subst, ◌∙◌}
+use Rattle.std.proofs.Common.{inl, inr, arith}
 use Rattle.std.proofs.Common.{append_assoc, drop}
 use Rattle.std.proofs.lemmas.List.{length-map}
-use Rattle.std.specs.Prelude.{◌≢◌, option_map, nat_lt, if◌then◌else◌, IsTrue}
+use Rattle.std.specs.Prelude.{◌≢◌, option_map, nat_lt, if◌then◌else◌}
 use Rattle.std.specs.List.{list_any, flat_map, AllByRecursion}
 use Rattle.std.specs.Ordering.{nat_cmp, eq_by_cmp}
 use Rattle.std.specs.Str.{bytes_eq}
 use Rattle.std.specs.FinMap as finite
 use Rattle.std.proofs.lemmas.Bool.{cases_lt, lt-ltb, le-ltb}
 use Rattle.ax_tree.specs.CanonicalText.{canonical_text}
-use Rattle.ax_container.specs.Container.{Entry, Container, has_id, trees, NumbersRise, IdsAreDistinct, IsStored}
+use Rattle.ax_container.specs.Container.{Entry, Container, has_id, trees}
+use Rattle.ax_container.specs.Container.{NumbersRise, IdsAreDistinct, IsStored}
 use Rattle.ax_container.proofs.Ids.{same_from_eq}
 use Rattle.ax_container.proofs.Upserts.{or_none}
-use Rattle.ax_pages.specs.Contents.{Contents, Numbered}
+use Rattle.ax_pages.specs.Contents.{Contents}
 use Rattle.ax_pages.proofs.LastPart.{same_number, other_number}
 use Rattle.ax_image.specs.StandsFor.{AreShown, ContentsStandFor}
 use Rattle.ax_image.proofs.Shown.{as_many}
@@ -31,7 +33,7 @@ stops n e es lt = ap (λ b. if b then e ∷ es else above n es) (lt-ltb n e.numb
 skips : (n : ℕ) (e : Entry) (es : List Entry) → e.number ≤ n → above n (e ∷ es) ≡ above n es
 skips n e es le = ap (λ b. if b then e ∷ es else above n es) (le-ltb n e.number le)
 
-pub all_above : (n before next : ℕ) (es : List Entry) → n ≤ before → NumbersRise before es next
+all_above : (n before next : ℕ) (es : List Entry) → n ≤ before → NumbersRise before es next
     → above n es ≡ es
 all_above n before next [] le rise = refl
 all_above n before next (e ∷ es) le rise = stops n e es (omega (arith, rise.0))
@@ -72,8 +74,8 @@ pub record Next (n k : ℕ) (pages : List (ℕ × List ℕ)) (entries : List Ent
   pub policy : ℕ
   pub payload : finite.find nat_cmp k pages ≡ Some (policy ∷ canonical_text entry.tree)
 
-behind : (n k : ℕ) (p : ℕ × List ℕ) (ps : List (ℕ × List ℕ)) (e : Entry) (es : List Entry) → e.number ≤ n
-    → n < k → p.0 ≡ e.number → Next n k ps es → Next n k (p ∷ ps) (e ∷ es)
+behind : (n k : ℕ) (p : ℕ × List ℕ) (ps : List (ℕ × List ℕ)) (e : Entry) (es : List Entry)
+    → e.number ≤ n → n < k → p.0 ≡ e.number → Next n k ps es → Next n k (p ∷ ps) (e ∷ es)
 behind n k p ps e es le lt same found =
     let apart : k ≢ p.0 = omega arith in
     record {
@@ -87,8 +89,8 @@ behind n k p ps e es le lt same found =
     }
 
 module _ (n k next : ℕ) (p : ℕ × List ℕ) (ps : List (ℕ × List ℕ)) (e : Entry) (es : List Entry)
-    (rise : NumbersRise e.number es next) (shown : AreShown (p ∷ ps) (e ∷ es)) (below : n < e.number)
-    (lt : n < k) (held : is_some (finite.find nat_cmp k (p ∷ ps)) ≡ true)
+    (rise : NumbersRise e.number es next) (shown : AreShown (p ∷ ps) (e ∷ es))
+    (below : n < e.number) (lt : n < k) (held : is_some (finite.find nat_cmp k (p ∷ ps)) ≡ true)
     (least : (b : ℕ) → n < b → b < k → finite.find nat_cmp b (p ∷ ps) ≡ None) where
   not_above : k ≤ e.number
   not_above = elim (cases_lt e.number k) as (λ _. k ≤ e.number) [
@@ -118,7 +120,7 @@ module _ (n k next : ℕ) (p : ℕ × List ℕ) (ps : List (ℕ × List ℕ)) (e
         payload = found_here k p ps (omega (arith, shown.0.number_is)) ∙ ap Some shown.0.payload_is;
       }
 
-pub next_of : (n k before next : ℕ) (pages : List (ℕ × List ℕ)) (entries : List Entry)
+next_of : (n k before next : ℕ) (pages : List (ℕ × List ℕ)) (entries : List Entry)
     → NumbersRise before entries next → AreShown pages entries → n < k
     → is_some (finite.find nat_cmp k pages) ≡ true
     → ((b : ℕ) → n < b → b < k → finite.find nat_cmp b pages ≡ None) → Next n k pages entries
@@ -138,7 +140,7 @@ next_of n k before next (p ∷ ps) (e ∷ es) rise shown lt held least =
           sym (found_later b p ps other) ∙ least b low high))
     ]
 
-pub none_above : (n : ℕ) (pages : List (ℕ × List ℕ)) (entries : List Entry) → AreShown pages entries
+none_above : (n : ℕ) (pages : List (ℕ × List ℕ)) (entries : List Entry) → AreShown pages entries
     → ((b : ℕ) → n < b → finite.find nat_cmp b pages ≡ None) → above n entries ≡ []
 none_above n [] [] shown none = refl
 none_above n [] (e ∷ es) shown none = absurd shown
@@ -158,7 +160,7 @@ none_above n (p ∷ ps) (e ∷ es) shown none =
 abbrev pub rows_of : List Entry → List ℕ
 rows_of es = flat_map row_text (map canonical_text (map (λ (entry : Entry). entry.tree) es))
 
-pub one_row : (text row : List ℕ) (e : Entry) (later : List Entry) → row ≡ canonical_text e.tree
+one_row : (text row : List ℕ) (e : Entry) (later : List Entry) → row ≡ canonical_text e.tree
     → text ++ rows_of (e ∷ later) ≡ (text ++ row_text row) ++ rows_of later
 one_row text row e later is =
     ap (λ r. text ++ (row_text r ++ rows_of later)) (sym is)
@@ -171,18 +173,20 @@ abbrev pub number_or : Option Entry → Option ℕ → Option ℕ
 number_or None known = known
 number_or (Some e) known = Some e.number
 
-pub number_or-none : (found : Option Entry) → number_or found None ≡ option_map (λ (e : Entry). e.number) found
+pub number_or-none : (found : Option Entry)
+    → number_or found None ≡ option_map (λ (e : Entry). e.number) found
 number_or-none None = refl
 number_or-none (Some e) = refl
 
-absent : (id : List ℕ) (es : List Entry) → list_any (has_id id) es ≡ false → find (has_id id) es ≡ None
+absent : (id : List ℕ) (es : List Entry) → list_any (has_id id) es ≡ false
+    → find (has_id id) es ≡ None
 absent id [] none = refl
 absent id (e ∷ es) none =
     let parts = or_none (has_id id e) (list_any (has_id id) es) none in
     ap (λ b. if b then Some e else find (has_id id) es) parts.0 ∙ absent id es parts.1
 
-pub one_number : (id : List ℕ) (e : Entry) (later : List Entry) (k : ℕ) (known : Option ℕ) → k ≡ e.number
-    → IdsAreDistinct (e ∷ later)
+one_number : (id : List ℕ) (e : Entry) (later : List Entry) (k : ℕ) (known : Option ℕ)
+    → k ≡ e.number → IdsAreDistinct (e ∷ later)
     → number_or (find (has_id id) (e ∷ later)) known
     ≡ number_or (find (has_id id) later) (cond (bytes_eq e.id id) (Some k) known)
 one_number id e later k known is distinct =
@@ -196,7 +200,7 @@ one_number id e later k known is distinct =
       | false ↦ λ _. refl
     ] refl
 
-pub distinct_above : (n : ℕ) (es : List Entry) → IdsAreDistinct es → IdsAreDistinct (above n es)
+distinct_above : (n : ℕ) (es : List Entry) → IdsAreDistinct es → IdsAreDistinct (above n es)
 distinct_above n [] distinct = tt
 distinct_above n (e ∷ es) distinct =
     elim (nat_lt n e.number) as (λ b. IdsAreDistinct (if b then e ∷ es else above n es)) [
@@ -204,7 +208,7 @@ distinct_above n (e ∷ es) distinct =
       | false ↦ distinct_above n es distinct.1
     ]
 
-pub stored_above : (n : ℕ) (es : List Entry) → AllByRecursion IsStored es
+stored_above : (n : ℕ) (es : List Entry) → AllByRecursion IsStored es
     → AllByRecursion IsStored (above n es)
 stored_above n [] stored = tt
 stored_above n (e ∷ es) stored =
@@ -215,13 +219,15 @@ stored_above n (e ∷ es) stored =
 
 -- ---- of what stands for a container
 
-module _ (contents : Contents) (container : Container) (stand : ContentsStandFor contents container) where
+module _ (contents : Contents) (container : Container)
+    (stand : ContentsStandFor contents container) where
   abbrev pages : List (ℕ × List ℕ)
   pages = finite.entries contents.documents
 
   pub next_entry : (n k : ℕ) → IsNextAfter contents.documents n k → Next n k pages container.entries
-  next_entry n k next = next_of n k 0 container.next_number pages container.entries stand.sound.numbers
-      stand.shown next.above (ap is_some (sym (finite.get-entries contents.documents k)) ∙ next.held)
+  next_entry n k next = next_of n k 0 container.next_number pages container.entries
+      stand.sound.numbers stand.shown next.above
+      (ap is_some (sym (finite.get-entries contents.documents k)) ∙ next.held)
       (λ b low high. sym (finite.get-entries contents.documents b) ∙ next.least b low high)
 
   pub at_the_end : (n : ℕ) → ((b : ℕ) → n < b → finite.get contents.documents b ≡ None)
@@ -230,7 +236,8 @@ module _ (contents : Contents) (container : Container) (stand : ContentsStandFor
       (λ b low. sym (finite.get-entries contents.documents b) ∙ none b low)
 
   pub at_the_start : above 0 container.entries ≡ container.entries
-  at_the_start = all_above 0 0 container.next_number container.entries (omega arith) stand.sound.numbers
+  at_the_start = all_above 0 0 container.next_number container.entries (omega arith)
+      stand.sound.numbers
 
   pub as_many_rows : finite.len contents.documents ≡ length (map canonical_text (trees container))
   as_many_rows =
@@ -265,7 +272,8 @@ module _ (contents : Contents) (container : Container) (stand : ContentsStandFor
       ∙ ap (λ es. (text ++ row_text row) ++ rows_of es) (sym next.left)
 
   -- one id more
-  pub numbers_on : (n k : ℕ) (id : List ℕ) (old new meant : Option ℕ) (next : Next n k pages container.entries)
+  pub numbers_on : (n k : ℕ) (id : List ℕ) (old new meant : Option ℕ)
+      (next : Next n k pages container.entries)
       → new ≡ cond (bytes_eq next.entry.id id) (Some k) old
       → number_or (find (has_id id) (above n container.entries)) old ≡ meant
       → number_or (find (has_id id) (above k container.entries)) new ≡ meant

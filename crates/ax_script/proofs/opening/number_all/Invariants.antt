@@ -12,6 +12,7 @@ decreases-loop-next l = 2 ^ 32 - l.number
 
 -- the map has the ids of the documents up to the number
 abbrev pub invariant-loop-next : goal.invariant-loop-next
-invariant-loop-next l = (container : Container) → ContentsStandFor (store_contents l.store) container
-    → (id : List ℕ) → number_or (find (has_id id) (above l.number container.entries)) (get_by_text l.numbers id)
+invariant-loop-next l = (container : Container)
+    → ContentsStandFor (store_contents l.store) container → (id : List ℕ)
+    → number_or (find (has_id id) (above l.number container.entries)) (get_by_text l.numbers id)
     ≡ number_in id container
