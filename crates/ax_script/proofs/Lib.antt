@@ -2,6 +2,7 @@ mod Answering
 mod DiskMoments
 mod Endings
 mod Holding
+mod InOrder
 mod OnDisk
 mod Opened
 mod Outcomes

@@ -1,5 +1,5 @@
 -- The id of the document that the text stands for is put into the map.
-use Rattle.std.proofs.Common.{◌≡◌, List, ℕ, Some, cond, string_bytes, sym, ap, ◌∙◌}
+use Rattle.std.proofs.Common.{◌≡◌, Some, cond, string_bytes, sym, ap, ◌∙◌}
 use Rattle.std.specs.BTreeMap.{get_by_text}
 use Rattle.std.specs.Str.{bytes_eq}
 use Rattle.std.proofs.lemmas.Map.Text.{btree_map_updates_text}
