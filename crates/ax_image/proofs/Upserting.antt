@@ -23,10 +23,10 @@ use Rattle.ax_image.proofs.Shown.{as_many, rises_to, found_above, found_page, sh
 both : (a b : Bool) → a ≡ true → b ≡ true → (a && b) ≡ true
 both a b x y = λ i. x i && y i
 
-first_or : (a b : Bool) → a ≡ true → (a || b) ≡ true
+pub first_or : (a b : Bool) → a ≡ true → (a || b) ≡ true
 first_or a b x = ap (λ c. c || b) x
 
-second_or : (a b : Bool) → b ≡ true → (a || b) ≡ true
+pub second_or : (a b : Bool) → b ≡ true → (a || b) ≡ true
 second_or true b x = refl
 second_or false b x = x
 
@@ -37,26 +37,26 @@ next_in-meta next policy fits = from_le_bytes-to_le_bytes_4 next fits
 now_in-meta : (next policy : ℕ) → policy < 2 ^ 32 → now_in (meta_bytes next policy) ≡ policy
 now_in-meta next policy fits = from_le_bytes-to_le_bytes_4 policy fits
 
-meta_fits : (next policy : ℕ) (contents : Contents) → 0 < next → next < 2 ^ 32 → policy ≤ last_policy → is_given policy contents ≡ true → is_meta 0 (meta_bytes next policy) contents ≡ true
+pub meta_fits : (next policy : ℕ) (contents : Contents) → 0 < next → next < 2 ^ 32 → policy ≤ last_policy → is_given policy contents ≡ true → is_meta 0 (meta_bytes next policy) contents ≡ true
 meta_fits next policy contents some fits small given =
     let next_is = next_in-meta next policy fits in
     let now_is = now_in-meta next policy (omega (arith, small)) in
     both _ _ (both _ _ (both _ _ refl (lt-ltb 0 (next_in (meta_bytes next policy)) (omega (arith, some, next_is)))) (le-leb (now_in (meta_bytes next policy)) last_policy (omega (arith, small, now_is))))
     (ap (λ n. is_given n contents) now_is ∙ given)
 
-document_fits : (number policy : ℕ) (text : List ℕ) (contents : Contents) → 0 < number → is_given policy contents ≡ true → has_room number contents ≡ true → is_document number (policy ∷ text) contents ≡ true
+pub document_fits : (number policy : ℕ) (text : List ℕ) (contents : Contents) → 0 < number → is_given policy contents ≡ true → has_room number contents ≡ true → is_document number (policy ∷ text) contents ≡ true
 document_fits number policy text contents some given room =
     both _ _ (both _ _ (both _ _ (lt-ltb 0 number some) (lt-ltb 0 (length (policy ∷ text)) (omega arith))) given) room
 
-abbrev with_document : Contents → ℕ → ℕ → Tree → Contents
+abbrev pub with_document : Contents → ℕ → ℕ → Tree → Contents
 with_document contents number policy tree = record contents { documents = finite.insert contents.documents number (policy ∷ canonical_text tree) }
 
-after_document : (number policy : ℕ) (tree : Tree) (contents : Contents) → 0 < number → is_given policy contents ≡ true → has_room number contents ≡ true
+pub after_document : (number policy : ℕ) (tree : Tree) (contents : Contents) → 0 < number → is_given policy contents ≡ true → has_room number contents ≡ true
     → after_part (document_part number policy tree) contents ≡ Some (with_document contents number policy tree)
 after_document number policy tree contents some given room =
     ap (λ b. if b then Some (with_document contents number policy tree) else None) (document_fits number policy (canonical_text tree) contents some given room)
 
-any_found : (id : List ℕ) (entries : List Entry) → list_any (has_id id) entries ≡ is_some (find (has_id id) entries)
+pub any_found : (id : List ℕ) (entries : List Entry) → list_any (has_id id) entries ≡ is_some (find (has_id id) entries)
 any_found id [] = refl
 any_found id (e ∷ es) = elim (has_id id e) as (λ b. (b || list_any (has_id id) es) ≡ is_some (if b then Some e else find (has_id id) es)) [ true ↦ refl | false ↦ any_found id es ]
 

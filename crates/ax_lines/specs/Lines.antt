@@ -7,6 +7,7 @@ use Rattle.std.specs.Prelude.{Err, codes}
 use Rattle.std.specs.Option.{option_map_or}
 use Rattle.std.specs.Str.{bytes_eq}
 use Rattle.ax_tree.specs.declared.tree.Tree.{Tree}
+use Rattle.ax_tree.specs.CanonicalText.{canonical_text}
 use Rattle.ax_tree.specs.Nesting.{nesting}
 use Rattle.ax_tree.specs.Document.{text_member, document_id}
 use Rattle.ax_text.specs.Reading.{Reading, Stands, NotJson, NotWhole, reading}
@@ -53,10 +54,16 @@ form_of command =
 abbrev pub deepest : ℕ
 deepest = 100
 
+-- the most bytes that the canonical text of a document has
+abbrev pub most_bytes : ℕ
+most_bytes = 60000
+
 abbrev pub upsert_causes : Tree → List Cause
 upsert_causes tree =
     record { applies = nat_lt deepest (nesting tree); refusal = refusal.Json } ∷
-    record { applies = not (is_some (document_id tree)); refusal = refusal.Json } ∷ []
+    record { applies = not (is_some (document_id tree)); refusal = refusal.Json } ∷
+    record { applies = nat_lt most_bytes (length (canonical_text tree)); refusal = refusal.Large } ∷
+    []
 
 -- the one query that is served
 abbrev pub all_documents : List ℕ

@@ -1,5 +1,7 @@
-ghost use Rattle.std.specs.Prelude.{◌≡◌, Some, Result, IfOk, IfErr, option_map};
+ghost use Rattle.std.specs.Prelude.{◌≡◌, ◌≤◌, Some, Result, IfOk, IfErr, option_map};
 ghost use Rattle.ax_tree.specs.declared.tree.Tree.{Tree as TreeOf};
+ghost use Rattle.ax_tree.specs.Nesting.{nesting as nesting_of};
+ghost use Rattle.ax_tree.specs.WellFormed.{IsWellFormed};
 ghost use Rattle.ax_text.specs.Reading.{reading, Stands};
 ghost use Rattle.ax_lines.specs.Answers.{Answers, IsRefusedBy};
 ghost use Rattle.ax_lines.specs.Asked.{AsksForDocument};
@@ -9,11 +11,14 @@ ghost use Rattle.ax_lines.specs.Lines as spec;
 use crate::line::{Line, LineFault};
 use crate::refusal::Refusal;
 use ax_text::{TextFault, nesting, read_tree};
-use ax_tree::{Tree, id_of};
+use ax_tree::{Tree, id_of, write_tree};
 use std::alloc::Global;
 
 /// The deepest that the argument of a line may nest.
 const DEEPEST: u32 = 100;
+
+/// The most bytes that the canonical text of a document has.
+const MOST_BYTES: usize = 60_000;
 
 /// The one query that is served.
 const ALL_DOCUMENTS: &str = "SELECT * FROM c";
@@ -54,7 +59,7 @@ fn upsert_line(alloc: Global, json: &[u8]) -> Result<Line, LineFault>
     ensures document { IfOk result AsksForDocument }
 {
     let tree = tree_of(alloc, json)?;
-    Ok(upsert(tree)?)
+    upsert(alloc, tree)
 }
 
 fn query_line(alloc: Global, body: &[u8]) -> Result<Line, LineFault>
@@ -68,6 +73,8 @@ fn query_line(alloc: Global, body: &[u8]) -> Result<Line, LineFault>
 /// The tree that an argument stands for.
 fn tree_of(alloc: Global, json: &[u8]) -> Result<Tree, LineFault>
     ensures tree { IfOk result (λ tree. reading json.now ≡ Stands tree) }
+    ensures well_formed { IfOk result IsWellFormed }
+    ensures shallow { IfOk result (λ tree. nesting_of tree ≤ 127) }
     ensures refused { IfErr result
         (λ fault. (ask : TreeOf → Result Line Refusal)
         → IsRefusedBy fault (spec.with_tree_of (reading json.now) ask)) }
@@ -79,15 +86,23 @@ fn tree_of(alloc: Global, json: &[u8]) -> Result<Tree, LineFault>
     }
 }
 
-fn upsert(tree: Tree) -> Result<Line, Refusal>
-    ensures answers { result ≡ unless (spec.upsert_causes tree) (Line.Upsert tree) }
+fn upsert(alloc: Global, tree: Tree) -> Result<Line, LineFault>
+    requires well_formed { IsWellFormed tree }
+    requires shallow { nesting_of tree ≤ 127 }
+    ensures answers { Answers result (unless (spec.upsert_causes tree) (Line.Upsert tree)) }
     ensures document { IfOk result AsksForDocument }
 {
     if nesting(&tree) > DEEPEST {
-        return Err(Refusal::Json);
+        return Err(LineFault::Refused(Refusal::Json));
     }
     if id_of(&tree).is_none() {
-        return Err(Refusal::Json);
+        return Err(LineFault::Refused(Refusal::Json));
+    }
+    let Ok(text) = write_tree(alloc, &tree) else {
+        return Err(LineFault::Memory);
+    };
+    if text.len() > MOST_BYTES {
+        return Err(LineFault::Refused(Refusal::Large));
     }
     Ok(Line::Upsert(tree))
 }

@@ -9,6 +9,8 @@ pub enum Refusal {
     /// `err 3 json`: the argument is no JSON, or holds a number that is not whole, or nests deeper
     /// than 100, or, for UPSERT, is no document.
     Json,
+    /// `err 6 large`: the canonical text of the document has more than 60,000 bytes.
+    Large,
     /// `err 9 memory`: out of memory.
     Memory,
     /// `err 10 query`: the query body is no map with the text member `query` that is served.
@@ -28,6 +30,7 @@ impl Refusal {
         match self {
             Refusal::Command => 2,
             Refusal::Json => 3,
+            Refusal::Large => 6,
             Refusal::Memory => 9,
             Refusal::Query => 10,
             Refusal::Full => 15,
@@ -41,6 +44,7 @@ impl Refusal {
         match self {
             Refusal::Command => "command",
             Refusal::Json => "json",
+            Refusal::Large => "large",
             Refusal::Memory => "memory",
             Refusal::Query => "query",
             Refusal::Full => "full",

@@ -1,8 +1,8 @@
 -- What runs of lines are answered, one after another.
-use Rattle.std.proofs.Common.{◌≡◌, ℕ, List, [], ◌++◌, refl, sym, ap, ◌∙◌, subst, append_assoc}
-use Rattle.std.proofs.Common.{append-nil}
+use Rattle.std.proofs.Common.{◌≡◌, ℕ, List, [], ◌∷◌, ◌++◌, refl, sym, ap, ◌∙◌, subst, append_assoc}
+use Rattle.std.proofs.Common.{append-nil, ◌≤◌, length, length-append, arith}
 use Rattle.ax_container.specs.Container.{Container}
-use Rattle.ax_machine.specs.Run.{Exchange, after, text_of}
+use Rattle.ax_machine.specs.Run.{Exchange, lines_of, after, text_of}
 use Rattle.ax_machine.proofs.Runs.{there_is_a_run, lines_of-append, after-append, text_of-append}
 use Rattle.ax_script.specs.Script.{Answers, BeginsToAnswer}
 
@@ -60,12 +60,12 @@ BeginsToAnswer-all a lines run text answers = record {
 
 -- what begins to answer some lines begins to answer more
 pub begins_more : (a : Container) (lines more : List (List ℕ)) (run : List Exchange) (text : List ℕ)
-    → BeginsToAnswer a lines run text → (longer : List Exchange)
-    × BeginsToAnswer a (lines ++ more) longer text
+    → BeginsToAnswer a lines run text → (later : List Exchange)
+    × BeginsToAnswer a (lines ++ more) (run ++ later) text
 begins_more a lines more run text begun =
     let now : Container = after a run in
     let some = answers_some now more in (
-      run ++ some.0,
+      some.0,
       record {
         rest = begun.rest ++ text_of now some.0;
         answers = subst (Answers a (lines ++ more) (run ++ some.0))
@@ -74,3 +74,9 @@ begins_more a lines more run text begun =
             (text_of now some.0) begun.answers refl some.1);
       },
     )
+
+-- a prefix of the text of a run is no longer than it
+pub prefix_len : (a : Container) (lines : List (List ℕ)) (run : List Exchange) (text : List ℕ)
+    → BeginsToAnswer a lines run text → length text ≤ length (text_of a run)
+prefix_len a lines run text begun =
+    omega (arith, ap length begun.answers.replies, length-append text begun.rest)

@@ -1,6 +1,6 @@
 -- How a run goes on from piece to piece, and how it ends.
 use Rattle.std.proofs.Common.{◌≡◌, ℕ, ◌+◌, ◌<◌, ◌≤◌, ◌⊎◌, ◌↔◌, List, [], ◌++◌, length, Option, inl}
-use Rattle.std.proofs.Common.{inr, refl, sym, subst, append-nil, length-append, arith}
+use Rattle.std.proofs.Common.{inr, refl, sym, ap, subst, append-nil, length-append, arith}
 use Rattle.std.specs.Io.KnownBytes.{Consumes, Keeps, IsAtEnd}
 use Rattle.std.proofs.KnownBytes.{Consumes-nil, Consumes-trans, Consumes-kept, Appends-nil}
 use Rattle.std.proofs.KnownBytes.{Appends-trans}
@@ -9,11 +9,17 @@ use Rattle.ax_lines.specs.ScriptLines.{last_line}
 use Rattle.ax_lines.proofs.Splits.{AreLines-more, AreLines-none, there_are_lines}
 use Rattle.ax_script.specs.declared.status.Status.{Status}
 use Rattle.ax_script.specs.declared.status.Status.TheVariants as status
+use Rattle.ax_disk.specs.model.Moments.{History}
+use Rattle.ax_disk.specs.model.Stays.{Rests}
+use Rattle.ax_machine.specs.Run.{text_of}
 use Rattle.ax_script.specs.Progress.{ServesLines, BeginsLines, ServesLast, BeginsLast, Progress}
+use Rattle.ax_script.specs.Progress.{Shows, BreaksOff, Ends, BreaksOffWith, EndsEarly, IsOfServing, outlets}
 use Rattle.ax_script.specs.Script.{most_input, BeginsToAnswer, IsTextAt, Runs}
-use Rattle.ax_script.specs.Streams.{Streams}
+use Rattle.ax_script.specs.Streams.{Streams, Moves}
 use Rattle.ax_script.proofs.Answering.{Answers-nil, Answers-append, BeginsToAnswer-append}
 use Rattle.ax_script.proofs.Answering.{stands-append, BeginsToAnswer-all, begins_more}
+use Rattle.ax_script.proofs.DiskMoments.{passes_nothing, passes_on}
+use Rattle.ax_script.proofs.DiskMoments.{breaks_off_after, breaks_off_longer, breaks_off_behind}
 
 -- the streams, of which the source or the sink has gone on
 abbrev pub streams : Option (List ℕ) → Option (List ℕ) → Streams
@@ -25,183 +31,245 @@ not_long : (ended : Status) (taken : List ℕ) → length taken ≤ most_input �
 not_long ended taken within other =
     ((λ e. absurd (other e)), (λ more. absurd (omega (arith, more, within))))
 
--- ---- the run begins
+-- ---- nothing was taken, and nothing was written
 
-pub progress_begins : (before : Container) (old : Streams) → Progress before old old before [] 0
-progress_begins before old = record {
-  taken = [];
-  lines = [];
-  run = [];
-  text = [];
-  moves = record { consumed = Consumes-nil old.remaining; appended = Appends-nil old.written };
-  split = AreLines-none [] refl;
-  answers = Answers-nil before;
-  stands = refl;
-  counted = refl;
+not_long_early : (ended : Status) → EndsEarly ended → ended ≡ status.Long → ⊥
+not_long_early status.DiskFault early e = cc
+not_long_early (status.Damaged extent at) early e = cc
+not_long_early (status.Newer version) early e = cc
+not_long_early status.Memory early e = cc
+not_long_early status.Done early e = absurd early
+not_long_early status.Words early e = absurd early
+not_long_early status.ReadFault early e = absurd early
+not_long_early status.WriteFault early e = absurd early
+not_long_early status.Long early e = absurd early
+
+no_text_early : (ended : Status) (before : Container) (remaining : Option (List ℕ)) → EndsEarly ended
+    → IsTextAt ended before remaining [] [] [] []
+no_text_early status.DiskFault before remaining early =
+    inl (BeginsToAnswer-all before [] [] [] (Answers-nil before))
+no_text_early (status.Damaged extent at) before remaining early =
+    inl (BeginsToAnswer-all before [] [] [] (Answers-nil before))
+no_text_early (status.Newer version) before remaining early =
+    inl (BeginsToAnswer-all before [] [] [] (Answers-nil before))
+no_text_early status.Memory before remaining early =
+    inl (BeginsToAnswer-all before [] [] [] (Answers-nil before))
+no_text_early status.Done before remaining early = absurd early
+no_text_early status.Words before remaining early = absurd early
+no_text_early status.ReadFault before remaining early = absurd early
+no_text_early status.WriteFault before remaining early = absurd early
+no_text_early status.Long before remaining early = absurd early
+
+-- a run that took no line, and wrote nothing
+pub record EarlyRun (before : Container) (ended : Status) (at : Streams) : Type 0 where
+  pub script : Runs before ended at at
+  pub no_line : script.run ≡ []
+  pub no_text : script.text ≡ []
+
+runs_nothing : (before : Container) (ended : Status) (at : Streams)
+    → IsTextAt ended before at.remaining [] [] [] [] → (ended ≡ status.Long → ⊥)
+    → EarlyRun before ended at
+runs_nothing before ended at is_text other = record {
+  script = record {
+    taken = [];
+    lines = [];
+    last = [];
+    run = [];
+    text = [];
+    moves = record { consumed = Consumes-nil at.remaining; appended = Appends-nil at.written };
+    split = AreLines-none [] refl;
+    is_text = is_text;
+    long = not_long ended [] (omega arith) other;
+  };
+  no_line = refl;
+  no_text = refl;
 }
 
--- nothing was taken, and nothing was written
-pub runs_nothing : (before : Container) (old : Streams) → Runs before status.Memory old old
-runs_nothing before old = record {
-  taken = [];
-  lines = [];
-  last = [];
-  run = [];
-  text = [];
-  moves = record { consumed = Consumes-nil old.remaining; appended = Appends-nil old.written };
-  split = AreLines-none [] refl;
-  is_text = inl (BeginsToAnswer-all before [] [] [] (Answers-nil before));
-  long = not_long status.Memory [] (omega arith) (λ e. cc);
-}
+-- the store was not opened
+pub runs_early : (before : Container) (ended : Status) (at : Streams) → EndsEarly ended
+    → EarlyRun before ended at
+runs_early before ended at early =
+    runs_nothing before ended at (no_text_early ended before at.remaining early)
+    (not_long_early ended early)
 
-pub runs_no_script : (before : Container) (old : Streams) → Runs before status.Words old old
-runs_no_script before old = record {
-  taken = [];
-  lines = [];
-  last = [];
-  run = [];
-  text = [];
-  moves = record { consumed = Consumes-nil old.remaining; appended = Appends-nil old.written };
-  split = AreLines-none [] refl;
-  is_text = (refl, refl);
-  long = not_long status.Words [] (omega arith) (λ e. cc);
-}
+-- the words were not those of a run
+pub runs_words : (before : Container) (at : Streams) → EarlyRun before status.Words at
+runs_words before at = runs_nothing before status.Words at (refl, refl) (λ e. cc)
 
-module _ (before : Container) (old new : Streams) (now : Container) (pending : List ℕ) (count : ℕ)
-    (p : Progress before old new now pending count) where
-  -- a piece was read and served
-  pub progress_goes_on : (remaining written : Option (List ℕ)) (later : Container)
-      (piece rest : List ℕ) (n : ℕ) → Consumes new.remaining remaining piece
-      → length piece ≡ n → ServesLines now (pending ++ piece) later rest new.written written
-      → Progress before old (streams remaining written) later rest (count + n)
-  progress_goes_on remaining written later piece rest n consumed size more = record {
-    taken = p.taken ++ piece;
-    lines = p.lines ++ more.lines;
-    run = p.run ++ more.run;
-    text = p.text ++ more.text;
-    moves = record {
-      consumed = Consumes-trans old.remaining new.remaining remaining p.taken piece p.moves.consumed
-          consumed;
-      appended = Appends-trans old.written new.written written p.text more.text p.moves.appended
-          more.appended;
-    };
-    split = AreLines-more p.taken piece p.lines more.lines pending rest p.split more.split;
-    answers = Answers-append before now p.lines more.lines p.run more.run p.text more.text p.answers
-        p.stands more.answers;
-    stands = stands-append before now later p.run more.run p.stands more.stands;
-    counted = omega (arith, length-append p.taken piece, p.counted, size);
+module _ (honest : Type 0) where
+  -- ---- the run begins
+
+  pub progress_begins : (before : Container) (old : Streams) (entry : History)
+      → (honest → Rests entry (Shows before))
+      → Progress honest before old old entry entry before [] 0
+  progress_begins before old entry rests = record {
+    taken = [];
+    lines = [];
+    run = [];
+    text = [];
+    moves = record { consumed = Consumes-nil old.remaining; appended = Appends-nil old.written };
+    split = AreLines-none [] refl;
+    answers = Answers-nil before;
+    stands = refl;
+    counted = refl;
+    disk = passes_nothing honest before entry rests;
   }
 
-  -- a read failed
-  pub ends_by_read_fault : (remaining : Option (List ℕ)) → Keeps new.remaining remaining
-      → count ≤ most_input
-      → Runs before status.ReadFault old (streams remaining new.written)
-  ends_by_read_fault remaining kept within = record {
-    taken = p.taken;
-    lines = p.lines;
-    last = pending;
-    run = p.run;
-    text = p.text;
-    moves =
-        record {
-          consumed = Consumes-kept old.remaining new.remaining remaining p.taken
-              p.moves.consumed kept;
-          appended = p.moves.appended;
+  module _ (before : Container) (old new : Streams) (entry here : History) (now : Container)
+      (pending : List ℕ) (count : ℕ)
+      (p : Progress honest before old new entry here now pending count) where
+    -- a piece was read and served
+    pub progress_goes_on : (remaining written : Option (List ℕ)) (exit : History) (later : Container)
+        (piece rest : List ℕ) (n : ℕ) → Consumes new.remaining remaining piece
+        → length piece ≡ n
+        → ServesLines honest now (pending ++ piece) later rest (outlets new.written here)
+        (outlets written exit)
+        → Progress honest before old (streams remaining written) entry exit later rest (count + n)
+    progress_goes_on remaining written exit later piece rest n consumed size more = record {
+      taken = p.taken ++ piece;
+      lines = p.lines ++ more.lines;
+      run = p.run ++ more.run;
+      text = p.text ++ more.text;
+      moves = record {
+        consumed = Consumes-trans old.remaining new.remaining remaining p.taken piece p.moves.consumed
+            consumed;
+        appended = Appends-trans old.written new.written written p.text more.text p.moves.appended
+            more.appended;
+      };
+      split = AreLines-more p.taken piece p.lines more.lines pending rest p.split more.split;
+      answers = Answers-append before now p.lines more.lines p.run more.run p.text more.text p.answers
+          p.stands more.answers;
+      stands = stands-append before now later p.run more.run p.stands more.stands;
+      counted = omega (arith, length-append p.taken piece, p.counted, size);
+      disk = passes_on honest before now later p.run more.run entry here exit p.stands p.disk
+          more.disk;
+    }
+
+    -- all that was taken is served
+    all_behind : BreaksOff honest before p.run p.text entry here
+    all_behind = breaks_off_behind honest before now p.run p.text entry here p.stands p.disk
+
+    whole_len : length p.text ≤ length (text_of before p.run)
+    whole_len = omega (arith, ap length p.answers.replies)
+
+    -- a read failed
+    pub ends_by_read_fault : (remaining : Option (List ℕ)) → Keeps new.remaining remaining
+        → count ≤ most_input
+        → Ends honest before status.ReadFault old (streams remaining new.written) entry here
+    ends_by_read_fault remaining kept within = record { script = record {
+      taken = p.taken;
+      lines = p.lines;
+      last = pending;
+      run = p.run;
+      text = p.text;
+      moves =
+          record {
+            consumed = Consumes-kept old.remaining new.remaining remaining p.taken
+                p.moves.consumed kept;
+            appended = p.moves.appended;
+          };
+      split = p.split;
+      is_text = p.answers;
+      long = not_long status.ReadFault p.taken (omega (arith, within, p.counted)) (λ e. cc);
+    }; disk = all_behind; }
+
+    -- more was taken than one run takes
+    pub ends_long : (remaining : Option (List ℕ)) (piece : List ℕ) (n : ℕ)
+        → Consumes new.remaining remaining piece → length piece ≡ n
+        → most_input < count + n → Ends honest before status.Long old (streams remaining new.written) entry here
+    ends_long remaining piece n consumed size more =
+        let later = there_are_lines (pending ++ piece) in
+        let longer = begins_more before p.lines later.0 p.run p.text
+        (BeginsToAnswer-all before p.lines p.run p.text p.answers) in
+        record { script = record {
+          taken = p.taken ++ piece;
+          lines = p.lines ++ later.0;
+          last = later.1;
+          run = p.run ++ longer.0;
+          text = p.text;
+          moves =
+              record {
+                consumed = Consumes-trans old.remaining new.remaining remaining p.taken piece
+                    p.moves.consumed consumed;
+                appended = p.moves.appended;
+              };
+          split = AreLines-more p.taken piece p.lines later.0 pending later.1 p.split later.2;
+          is_text = inl longer.1;
+          long =
+              ((λ _. omega (arith, more, size, p.counted, length-append p.taken piece)), (λ _. refl));
+        }; disk = breaks_off_longer honest before p.run longer.0 p.text entry here whole_len all_behind; }
+
+    -- the serving of a piece broke off
+    record_of_break : (remaining written : Option (List ℕ)) (exit : History) (piece : List ℕ) (n : ℕ) (ended : Status)
+        → Consumes new.remaining remaining piece → length piece ≡ n
+        → count + n ≤ most_input → (begun : BeginsLines honest now (pending ++ piece)
+        (outlets new.written here) (outlets written exit))
+        → (BeginsToAnswer before (p.lines ++ begun.lines) (p.run ++ begun.run) (p.text ++ begun.text)
+        → IsTextAt ended before remaining (p.lines ++ begun.lines) begun.last (p.run ++ begun.run)
+        (p.text ++ begun.text))
+        → (ended ≡ status.Long → ⊥) → Ends honest before ended old (streams remaining written) entry exit
+    record_of_break remaining written exit piece n ended consumed size within begun is_text other =
+        record { script = record {
+          taken = p.taken ++ piece;
+          lines = p.lines ++ begun.lines;
+          last = begun.last;
+          run = p.run ++ begun.run;
+          text = p.text ++ begun.text;
+          moves = record {
+            consumed = Consumes-trans old.remaining new.remaining remaining p.taken piece p.moves.consumed
+                consumed;
+            appended = Appends-trans old.written new.written written p.text begun.text p.moves.appended
+                begun.appended;
+          };
+          split = AreLines-more p.taken piece p.lines begun.lines pending begun.last p.split begun.split;
+          is_text =
+              is_text
+              (BeginsToAnswer-append before now p.lines begun.lines p.run begun.run p.text begun.text
+              p.answers p.stands begun.answers);
+          long = not_long ended (p.taken ++ piece)
+              (omega (arith, within, size, p.counted, length-append p.taken piece)) other;
         };
-    split = p.split;
-    is_text = p.answers;
-    long = not_long status.ReadFault p.taken (omega (arith, within, p.counted)) (λ e. cc);
-  }
+        disk = breaks_off_after honest before now p.run begun.run p.text begun.text entry here exit
+            p.stands p.answers.replies p.disk begun.disk; }
 
-  -- more was taken than one run takes
-  pub ends_long : (remaining : Option (List ℕ)) (piece : List ℕ) (n : ℕ)
-      → Consumes new.remaining remaining piece → length piece ≡ n
-      → most_input < count + n → Runs before status.Long old (streams remaining new.written)
-  ends_long remaining piece n consumed size more =
-      let later = there_are_lines (pending ++ piece) in
-      let longer = begins_more before p.lines later.0 p.run p.text
-      (BeginsToAnswer-all before p.lines p.run p.text p.answers) in
-      record {
-        taken = p.taken ++ piece;
-        lines = p.lines ++ later.0;
-        last = later.1;
-        run = longer.0;
-        text = p.text;
-        moves =
-            record {
-              consumed = Consumes-trans old.remaining new.remaining remaining p.taken piece
-                  p.moves.consumed consumed;
-              appended = p.moves.appended;
-            };
-        split = AreLines-more p.taken piece p.lines later.0 pending later.1 p.split later.2;
-        is_text = inl longer.1;
-        long =
-            ((λ _. omega (arith, more, size, p.counted, length-append p.taken piece)), (λ _. refl));
-      }
+    pub ends_in_piece : (remaining written : Option (List ℕ)) (exit : History) (piece : List ℕ) (n : ℕ)
+        (ended : Status) → Consumes new.remaining remaining piece → length piece ≡ n
+        → count + n ≤ most_input
+        → BeginsLines honest now (pending ++ piece) (outlets new.written here) (outlets written exit)
+        → BreaksOffWith ended
+        → Ends honest before ended old (streams remaining written) entry exit
+    ends_in_piece remaining written exit piece n status.WriteFault consumed size within begun is =
+        record_of_break remaining written exit piece n status.WriteFault consumed size within begun
+        (λ b. inl b) (λ e. cc)
+    ends_in_piece remaining written exit piece n status.DiskFault consumed size within begun is =
+        record_of_break remaining written exit piece n status.DiskFault consumed size within begun
+        (λ b. inl b) (λ e. cc)
+    ends_in_piece remaining written exit piece n status.Memory consumed size within begun is =
+        record_of_break remaining written exit piece n status.Memory consumed size within begun
+        (λ b. inl b) (λ e. cc)
+    ends_in_piece remaining written exit piece n status.Done consumed size within begun is = absurd is
+    ends_in_piece remaining written exit piece n status.Words consumed size within begun is = absurd is
+    ends_in_piece remaining written exit piece n status.ReadFault consumed size within begun is =
+        absurd is
+    ends_in_piece remaining written exit piece n (status.Damaged extent at) consumed size within begun
+        is = absurd is
+    ends_in_piece remaining written exit piece n (status.Newer version) consumed size within begun is =
+        absurd is
+    ends_in_piece remaining written exit piece n status.Long consumed size within begun is = absurd is
 
-  -- the serving of a piece broke off
-  record_of_break : (remaining written : Option (List ℕ)) (piece : List ℕ) (n : ℕ) (ended : Status)
-      → Consumes new.remaining remaining piece → length piece ≡ n
-      → count + n ≤ most_input → (begun : BeginsLines now (pending ++ piece) new.written written)
-      → (BeginsToAnswer before (p.lines ++ begun.lines) (p.run ++ begun.run) (p.text ++ begun.text)
-      → IsTextAt ended before remaining (p.lines ++ begun.lines) begun.last (p.run ++ begun.run)
-      (p.text ++ begun.text))
-      → (ended ≡ status.Long → ⊥) → Runs before ended old (streams remaining written)
-  record_of_break remaining written piece n ended consumed size within begun is_text other =
-      record {
-        taken = p.taken ++ piece;
-        lines = p.lines ++ begun.lines;
-        last = begun.last;
-        run = p.run ++ begun.run;
-        text = p.text ++ begun.text;
-        moves = record {
-          consumed = Consumes-trans old.remaining new.remaining remaining p.taken piece p.moves.consumed
-              consumed;
-          appended = Appends-trans old.written new.written written p.text begun.text p.moves.appended
-              begun.appended;
-        };
-        split = AreLines-more p.taken piece p.lines begun.lines pending begun.last p.split begun.split;
-        is_text =
-            is_text
-            (BeginsToAnswer-append before now p.lines begun.lines p.run begun.run p.text begun.text
-            p.answers p.stands begun.answers);
-        long = not_long ended (p.taken ++ piece)
-            (omega (arith, within, size, p.counted, length-append p.taken piece)) other;
-      }
+    all_taken : (remaining : Option (List ℕ)) → Consumes new.remaining remaining []
+        → Consumes old.remaining remaining p.taken
+    all_taken remaining consumed =
+        subst (Consumes old.remaining remaining) (append-nil p.taken)
+        (Consumes-trans old.remaining new.remaining remaining p.taken [] p.moves.consumed consumed)
 
-  pub ends_in_piece : (remaining written : Option (List ℕ)) (piece : List ℕ) (n : ℕ)
-      (ended : Status) → Consumes new.remaining remaining piece → length piece ≡ n
-      → count + n ≤ most_input → BeginsLines now (pending ++ piece) new.written written
-      → (ended ≡ status.WriteFault) ⊎ (ended ≡ status.Memory)
-      → Runs before ended old (streams remaining written)
-  ends_in_piece remaining written piece n ended consumed size within begun (inl is) =
-      let P : Status → Type 0 = λ s. Runs before s old (streams remaining written) in
-      subst P (sym is)
-      (record_of_break remaining written piece n status.WriteFault consumed size within begun
-      (λ b. inl b) (λ e. cc))
-  ends_in_piece remaining written piece n ended consumed size within begun (inr is) =
-      let P : Status → Type 0 = λ s. Runs before s old (streams remaining written) in
-      subst P (sym is)
-      (record_of_break remaining written piece n status.Memory consumed size within begun
-      (λ b. inl b) (λ e. cc))
-
-  all_taken : (remaining : Option (List ℕ)) → Consumes new.remaining remaining []
-      → Consumes old.remaining remaining p.taken
-  all_taken remaining consumed =
-      subst (Consumes old.remaining remaining) (append-nil p.taken)
-      (Consumes-trans old.remaining new.remaining remaining p.taken [] p.moves.consumed consumed)
-
-  -- the source has ended, and the last piece was served
-  pub ends_at_end : (remaining written : Option (List ℕ)) (ended : Status)
-      → Consumes new.remaining remaining [] → IsAtEnd remaining → count ≤ most_input
-      → (ended ≡ status.Done → ServesLast now pending new.written written)
-      → (ended ≡ status.WriteFault → BeginsLast now pending new.written written)
-      → (ended ≡ status.Done) ⊎ (ended ≡ status.WriteFault)
-      → Runs before ended old (streams remaining written)
-  ends_at_end remaining written ended consumed at_end within whole prefix (inl is) =
-      let last = whole is in
-      let P : Status → Type 0 = λ s. Runs before s old (streams remaining written) in
-      subst P (sym is) (record {
+    -- the source has ended, and the last piece was served
+    pub ends_done : (remaining written : Option (List ℕ)) (exit : History)
+        → Consumes new.remaining remaining [] → IsAtEnd remaining → count ≤ most_input
+        → ServesLast honest now pending (outlets new.written here) (outlets written exit)
+        → Ends honest before status.Done old (streams remaining written) entry exit
+    ends_done remaining written exit consumed at_end within last = record {
+      script = record {
         taken = p.taken;
         lines = p.lines;
         last = pending;
@@ -220,11 +288,22 @@ module _ (before : Container) (old new : Streams) (now : Container) (pending : L
               (last_line pending) p.run last.run p.text last.text p.answers p.stands last.answers,
         );
         long = not_long status.Done p.taken (omega (arith, within, p.counted)) (λ e. cc);
-      })
-  ends_at_end remaining written ended consumed at_end within whole prefix (inr is) =
-      let last = prefix is in
-      let P : Status → Type 0 = λ s. Runs before s old (streams remaining written) in
-      subst P (sym is) (record {
+      };
+      disk = breaks_off_after honest before now p.run last.run p.text last.text entry here exit
+          p.stands p.answers.replies p.disk last.disk;
+    }
+
+    -- the source has ended, and the serving of the last piece broke off
+    last_broke : (remaining written : Option (List ℕ)) (exit : History) (ended : Status)
+        → Consumes new.remaining remaining [] → IsAtEnd remaining → count ≤ most_input
+        → (last : BeginsLast honest now pending (outlets new.written here) (outlets written exit))
+        → (BeginsToAnswer before (p.lines ++ last_line pending) (p.run ++ last.run)
+        (p.text ++ last.text)
+        → IsTextAt ended before remaining p.lines pending (p.run ++ last.run) (p.text ++ last.text))
+        → (ended ≡ status.Long → ⊥)
+        → Ends honest before ended old (streams remaining written) entry exit
+    last_broke remaining written exit ended consumed at_end within last is_text other = record {
+      script = record {
         taken = p.taken;
         lines = p.lines;
         last = pending;
@@ -237,24 +316,70 @@ module _ (before : Container) (old new : Streams) (now : Container) (pending : L
               last.appended;
         };
         split = p.split;
-        is_text =
-            inr (
-              at_end,
-              BeginsToAnswer-append before now p.lines
-                  (last_line pending) p.run last.run p.text last.text p.answers p.stands last.answers,
-            );
-        long = not_long status.WriteFault p.taken (omega (arith, within, p.counted)) (λ e. cc);
-      })
+        is_text = is_text (BeginsToAnswer-append before now p.lines
+            (last_line pending) p.run last.run p.text last.text p.answers p.stands last.answers);
+        long = not_long ended p.taken (omega (arith, within, p.counted)) other;
+      };
+      disk = breaks_off_after honest before now p.run last.run p.text last.text entry here exit
+          p.stands p.answers.replies p.disk last.disk;
+    }
 
--- ---- the statuses of a run whose source and sink did not fail
+    pub ends_at_end : (remaining written : Option (List ℕ)) (exit : History) (ended : Status)
+        → Consumes new.remaining remaining [] → IsAtEnd remaining → count ≤ most_input
+        → (ended ≡ status.Done
+        → ServesLast honest now pending (outlets new.written here) (outlets written exit))
+        → (BreaksOffWith ended
+        → BeginsLast honest now pending (outlets new.written here) (outlets written exit))
+        → (ended ≡ status.Done) ⊎ BreaksOffWith ended
+        → Ends honest before ended old (streams remaining written) entry exit
+    ends_at_end remaining written exit status.Done consumed at_end within whole prefix only =
+        ends_done remaining written exit consumed at_end within (whole refl)
+    ends_at_end remaining written exit status.WriteFault consumed at_end within whole prefix only =
+        last_broke remaining written exit status.WriteFault consumed at_end within (prefix tt)
+        (λ b. inr (at_end, b)) (λ e. cc)
+    ends_at_end remaining written exit status.DiskFault consumed at_end within whole prefix only =
+        last_broke remaining written exit status.DiskFault consumed at_end within (prefix tt)
+        (λ b. inr (at_end, b)) (λ e. cc)
+    ends_at_end remaining written exit status.Memory consumed at_end within whole prefix only =
+        last_broke remaining written exit status.Memory consumed at_end within (prefix tt)
+        (λ b. inr (at_end, b)) (λ e. cc)
+    ends_at_end remaining written exit status.Words consumed at_end within whole prefix (inl is) =
+        absurd cc
+    ends_at_end remaining written exit status.Words consumed at_end within whole prefix (inr is) =
+        absurd is
+    ends_at_end remaining written exit status.ReadFault consumed at_end within whole prefix (inl is) =
+        absurd cc
+    ends_at_end remaining written exit status.ReadFault consumed at_end within whole prefix (inr is) =
+        absurd is
+    ends_at_end remaining written exit (status.Damaged extent at) consumed at_end within whole prefix
+        (inl is) = absurd cc
+    ends_at_end remaining written exit (status.Damaged extent at) consumed at_end within whole prefix
+        (inr is) = absurd is
+    ends_at_end remaining written exit (status.Newer version) consumed at_end within whole prefix
+        (inl is) = absurd cc
+    ends_at_end remaining written exit (status.Newer version) consumed at_end within whole prefix
+        (inr is) = absurd is
+    ends_at_end remaining written exit status.Long consumed at_end within whole prefix (inl is) =
+        absurd cc
+    ends_at_end remaining written exit status.Long consumed at_end within whole prefix (inr is) =
+        absurd is
 
-pub complete_of : (SourceRose SinkRose : Type 0) (ended : Status)
-    → (ended ≡ status.ReadFault → SourceRose) → (ended ≡ status.WriteFault → SinkRose)
-    → (ended ≡ status.Words → ⊥) → (SourceRose → ⊥) → (SinkRose → ⊥)
+-- ---- the statuses of a run whose disk, source and sink did not fail
+
+pub complete_of : (DiskRose SourceRose SinkRose : Type 0) (ended : Status)
+    → (ended ≡ status.DiskFault → DiskRose) → (ended ≡ status.ReadFault → SourceRose)
+    → (ended ≡ status.WriteFault → SinkRose) → IsOfServing ended
+    → (DiskRose → ⊥) → (SourceRose → ⊥) → (SinkRose → ⊥)
     → (ended ≡ status.Done) ⊎ (ended ≡ status.Memory) ⊎ (ended ≡ status.Long)
-complete_of R K status.Done read write words no_read no_write = inl refl
-complete_of R K status.Words read write words no_read no_write = absurd (words refl)
-complete_of R K status.ReadFault read write words no_read no_write = absurd (no_read (read refl))
-complete_of R K status.WriteFault read write words no_read no_write = absurd (no_write (write refl))
-complete_of R K status.Memory read write words no_read no_write = inr (inl refl)
-complete_of R K status.Long read write words no_read no_write = inr (inr refl)
+complete_of D R K status.Done disk read write of no_disk no_read no_write = inl refl
+complete_of D R K status.Words disk read write of no_disk no_read no_write = absurd of
+complete_of D R K status.DiskFault disk read write of no_disk no_read no_write =
+    absurd (no_disk (disk refl))
+complete_of D R K status.ReadFault disk read write of no_disk no_read no_write =
+    absurd (no_read (read refl))
+complete_of D R K status.WriteFault disk read write of no_disk no_read no_write =
+    absurd (no_write (write refl))
+complete_of D R K (status.Damaged extent at) disk read write of no_disk no_read no_write = absurd of
+complete_of D R K (status.Newer version) disk read write of no_disk no_read no_write = absurd of
+complete_of D R K status.Memory disk read write of no_disk no_read no_write = inr (inl refl)
+complete_of D R K status.Long disk read write of no_disk no_read no_write = inr (inr refl)

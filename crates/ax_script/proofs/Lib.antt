@@ -1,5 +1,10 @@
 mod Answering
+mod DiskMoments
 mod Endings
+mod Holding
+mod InOrder
+mod OnDisk
+mod Opened
 mod Outcomes
-mod Positions
 mod ServedLines
+mod Writing

@@ -15,3 +15,9 @@ is_run (command ∷ []) = false
 is_run (command ∷ store ∷ []) =
     bytes_eq (string_bytes command) (codes "run") && is_store (string_bytes store)
 is_run (command ∷ store ∷ more ∷ rest) = false
+
+-- the name of the store, which is the second word
+abbrev pub store_word : List (String Global) → List ℕ
+store_word [] = []
+store_word (command ∷ []) = []
+store_word (command ∷ store ∷ rest) = string_bytes store

@@ -1,68 +1,139 @@
--- How far a run has come, for the private parts of the top call.
-use Rattle.std.specs.Prelude.{◌≡◌, ℕ, List, length, Option}
+-- How far a run has come, for the private parts of the top call: in the streams, and on the disk where
+-- that is honest.
+use Rattle.std.specs.Prelude.{◌≡◌, ℕ, ◌≤◌, List, [], ◌∷◌, length, take, Option}
+use Rattle.std.specs.List.{concat}
 use Rattle.std.specs.Io.KnownBytes.{Appends}
 use Rattle.ax_base.specs.Bytes.{AppendsPrefix}
+use Rattle.ax_disk.specs.model.Image.{Image}
+use Rattle.ax_disk.specs.model.Moments.{History, Progresses}
+use Rattle.ax_disk.specs.model.Stays.{Rests, Turns}
 use Rattle.ax_container.specs.Container.{Container}
+use Rattle.ax_image.specs.StandsFor.{StandsFor}
 use Rattle.ax_lines.specs.ScriptLines.{AreLines, last_line}
 use Rattle.ax_machine.specs.ReplyTexts.{reply_text}
-use Rattle.ax_machine.specs.Run.{Outcome, Exchange, after_line, reply_to, after}
-use Rattle.ax_script.specs.Script.{Answers, BeginsToAnswer}
-use Rattle.ax_script.specs.Streams.{Streams, Moves}
+use Rattle.ax_machine.specs.Run.{Outcome, Exchange, after_line, after_lines, reply_to, after, texts}
+use Rattle.ax_script.specs.Script.{Answers, BeginsToAnswer, Runs}
+use Rattle.ax_script.specs.Streams.{Streams, Moves, Outlets}
+use Rattle.ax_script.specs.DiskScript.{StandsAfter}
+use Rattle.ax_script.specs.declared.status.Status.{Status}
+use Rattle.ax_script.specs.declared.status.Status.TheVariants as status
+
+-- the status of a run that broke off while a line was served
+abbrev pub BreaksOffWith : Status → Type 0
+BreaksOffWith status.WriteFault = Unit {0}
+BreaksOffWith status.DiskFault = Unit {0}
+BreaksOffWith status.Memory = Unit {0}
+BreaksOffWith other = ⊥
+
+-- the status of a run that ended before it took a line
+abbrev pub EndsEarly : Status → Type 0
+EndsEarly status.DiskFault = Unit {0}
+EndsEarly (status.Damaged extent at) = Unit {0}
+EndsEarly (status.Newer version) = Unit {0}
+EndsEarly status.Memory = Unit {0}
+EndsEarly other = ⊥
+
+-- the status of a run over a store that was opened
+abbrev pub IsOfServing : Status → Type 0
+IsOfServing status.Words = ⊥
+IsOfServing (status.Damaged extent at) = ⊥
+IsOfServing (status.Newer version) = ⊥
+IsOfServing other = Unit {0}
+
+abbrev pub outlets : Option (List ℕ) → History → Outlets
+outlets written history = record { written = written; history = history }
+
+-- the image stands for the container
+abbrev pub Shows : Container → Image → Type 0
+Shows container image = StandsFor image container
+
+-- The image stands for the container after a prefix of the lines. A text of this length has no reply
+-- whole of a line behind it.
+pub record Reaches (before : Container) (run : List Exchange) (text : List ℕ)
+    (image : Image) : Type 0 where
+  pub count : ℕ
+  pub within : count ≤ length run
+  pub stands : StandsFor image (after_lines count before run)
+  pub enough : (lines : ℕ) → lines ≤ length run
+      → length (concat (take lines (texts before run))) ≤ length text → lines ≤ count
+
+-- the disk went through the lines of the run, and holds the container after them
+pub record Passes (honest : Type 0) (before : Container) (run : List Exchange) (now : Container)
+    (old new : History) : Type 0 where
+  pub moments : honest → Progresses old new 0 (length run) (StandsAfter before run)
+  pub rests : honest → Rests new (Shows now)
+
+-- the disk went through some lines of the run, all whose replies are whole in the text
+pub record BreaksOff (honest : Type 0) (before : Container) (run : List Exchange) (text : List ℕ)
+    (old new : History) : Type 0 where
+  pub moments : honest → Progresses old new 0 (length run) (StandsAfter before run)
+  pub rests : honest → Rests new (Reaches before run text)
 
 -- the line was answered, and its reply was written
-pub record Serves (before : Container) (line : List ℕ) (now : Container)
-    (old new : Option (List ℕ)) : Type 0 where
+pub record Serves (honest : Type 0) (before : Container) (line : List ℕ) (now : Container)
+    (old new : Outlets) : Type 0 where
   pub outcome : Outcome
   pub made : now ≡ after_line before line outcome
-  pub replied : Appends old new (reply_text (reply_to before line outcome))
+  pub replied : Appends old.written new.written (reply_text (reply_to before line outcome))
+  pub turns : honest → Turns old.history new.history (Shows before) (Shows now)
+  pub rests : honest → Rests new.history (Shows now)
 
 -- the line was answered, and a prefix of its reply was written
-pub record BeginsToServe (before : Container) (line : List ℕ)
-    (old new : Option (List ℕ)) : Type 0 where
+pub record BeginsToServe (honest : Type 0) (before : Container) (line : List ℕ)
+    (old new : Outlets) : Type 0 where
   pub outcome : Outcome
-  pub replied : AppendsPrefix old new (reply_text (reply_to before line outcome))
+  pub replied : AppendsPrefix old.written new.written (reply_text (reply_to before line outcome))
+  pub turns : honest → Turns old.history new.history (Shows before)
+      (Shows (after_line before line outcome))
+  pub rests : honest → Rests new.history (Reaches before
+      (record { line = line; outcome = outcome } ∷ [])
+      (take replied.0 (reply_text (reply_to before line outcome))))
 
 -- the lines among the bytes were served, and the last piece of the bytes is pending
-pub record ServesLines (before : Container) (bytes : List ℕ) (now : Container) (pending : List ℕ)
-    (old new : Option (List ℕ)) : Type 0 where
+pub record ServesLines (honest : Type 0) (before : Container) (bytes : List ℕ) (now : Container)
+    (pending : List ℕ) (old new : Outlets) : Type 0 where
   pub lines : List (List ℕ)
   pub run : List Exchange
   pub text : List ℕ
   pub split : AreLines bytes lines pending
   pub answers : Answers before lines run text
   pub stands : now ≡ after before run
-  pub appended : Appends old new text
+  pub appended : Appends old.written new.written text
+  pub disk : Passes honest before run now old.history new.history
 
 -- a prefix was written of what the lines among the bytes are answered
-pub record BeginsLines (before : Container) (bytes : List ℕ)
-    (old new : Option (List ℕ)) : Type 0 where
+pub record BeginsLines (honest : Type 0) (before : Container) (bytes : List ℕ)
+    (old new : Outlets) : Type 0 where
   pub lines : List (List ℕ)
   pub last : List ℕ
   pub run : List Exchange
   pub text : List ℕ
   pub split : AreLines bytes lines last
   pub answers : BeginsToAnswer before lines run text
-  pub appended : Appends old new text
+  pub appended : Appends old.written new.written text
+  pub disk : BreaksOff honest before run text old.history new.history
 
 -- the last piece was served, if it is a line, and its reply was written
-pub record ServesLast (before : Container) (last : List ℕ)
-    (old new : Option (List ℕ)) : Type 0 where
+pub record ServesLast (honest : Type 0) (before : Container) (last : List ℕ)
+    (old new : Outlets) : Type 0 where
   pub run : List Exchange
   pub text : List ℕ
   pub answers : Answers before (last_line last) run text
-  pub appended : Appends old new text
+  pub appended : Appends old.written new.written text
+  pub disk : BreaksOff honest before run text old.history new.history
 
 -- a prefix was written of what the last piece is answered
-pub record BeginsLast (before : Container) (last : List ℕ)
-    (old new : Option (List ℕ)) : Type 0 where
+pub record BeginsLast (honest : Type 0) (before : Container) (last : List ℕ)
+    (old new : Outlets) : Type 0 where
   pub run : List Exchange
   pub text : List ℕ
   pub answers : BeginsToAnswer before (last_line last) run text
-  pub appended : Appends old new text
+  pub appended : Appends old.written new.written text
+  pub disk : BreaksOff honest before run text old.history new.history
 
 -- so many bytes were taken, the lines among them were served, and the last piece of them is pending
-pub record Progress (before : Container) (old new : Streams) (now : Container) (pending : List ℕ)
-    (count : ℕ) : Type 0 where
+pub record Progress (honest : Type 0) (before : Container) (old new : Streams) (entry here : History)
+    (now : Container) (pending : List ℕ) (count : ℕ) : Type 0 where
   pub taken : List ℕ
   pub lines : List (List ℕ)
   pub run : List Exchange
@@ -72,3 +143,10 @@ pub record Progress (before : Container) (old new : Streams) (now : Container) (
   pub answers : Answers before lines run text
   pub stands : now ≡ after before run
   pub counted : length taken ≡ count
+  pub disk : Passes honest before run now entry here
+
+-- how a run over an open store has ended
+pub record Ends (honest : Type 0) (before : Container) (ended : Status) (old new : Streams)
+    (entry exit : History) : Type 0 where
+  pub script : Runs before ended old new
+  pub disk : BreaksOff honest before script.run script.text entry exit

@@ -2,6 +2,7 @@
 -- does not tell its bytes has `None` there, and nothing is said of them.
 use Rattle.std.specs.Prelude.{ℕ, List, Option}
 use Rattle.std.specs.Io.KnownBytes.{Consumes, Appends}
+use Rattle.ax_disk.specs.model.Moments.{History}
 
 pub record Streams : Type 0 where
   pub remaining : Option (List ℕ)
@@ -11,3 +12,8 @@ pub record Streams : Type 0 where
 pub record Moves (old new : Streams) (taken text : List ℕ) : Type 0 where
   pub consumed : Consumes old.remaining new.remaining taken
   pub appended : Appends old.written new.written text
+
+-- a sink and a store on a disk at a time
+pub record Outlets : Type 1 where
+  pub written : Option (List ℕ)
+  pub history : History

@@ -1,5 +1,5 @@
 ghost use Rattle.std.specs.Prelude.{◌≡◌};
-ghost use Rattle.ax_script.specs.CommandLine.{is_run as is_run_lem, is_store as is_store_lem};
+ghost use Rattle.ax_script.specs.CommandLine.{is_run as is_run_lem, is_store as is_store_lem, store_word};
 
 /// Whether the words are `run STORE`, with the name of a store.
 pub fn is_run(words: &[String]) -> bool
@@ -8,6 +8,16 @@ pub fn is_run(words: &[String]) -> bool
     match words {
         [command, store] => command.as_str() == "run" && is_store(store.as_str()),
         _ => false,
+    }
+}
+
+/// The name of the store, of words that have one.
+pub fn store_name(words: &[String]) -> &str
+    ensures { result.now ≡ store_word words.now }
+{
+    match words {
+        [_, store, ..] => store.as_str(),
+        _ => "",
     }
 }
 

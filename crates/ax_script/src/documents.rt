@@ -1,15 +1,22 @@
-ghost use Rattle.std.specs.Prelude.{◌≡◌, ◌<◌, ℕ, List, [], ◌∷◌, ◌++◌, length, true, false, Ok, Err, OnOk, OnErr, IfSome, Some, vec_len};
-ghost use Rattle.std.specs.Vec.{vec_capacity};
-ghost use Rattle.ax_tree.specs.Document.{document_id, IsDocument};
-ghost use Rattle.ax_container.specs.Container.{Container, fresh, contains};
-ghost use Rattle.ax_container.specs.Upsert.{Full, is_full as is_full_lem, replaced, created, creation, upserted};
-ghost use Rattle.ax_script.specs.Positions.{position_of, with_tree_at};
+//! The documents of an open store, and how one is upserted.
 
-use crate::document::Document;
-use ax_tree::{Memory, Text, Tree, id_of};
+ghost use Rattle.std.specs.Prelude.{◌≡◌, ◌<◌, ◌≤◌, ℕ, List, Err, IsTrue, IfSome, None, Some, true};
+ghost use Rattle.std.specs.BTreeMap.{get_by_text};
+ghost use Rattle.ax_faults.specs.Faults.{Rose};
+ghost use Rattle.std.specs.FinMap as map;
+ghost use Rattle.ax_tree.specs.Document.{document_id};
+ghost use Rattle.ax_lines.specs.Asked.{IsStorable};
+ghost use Rattle.ax_container.specs.Container.{Container};
+ghost use Rattle.ax_pages.specs.Contents.{policy_now, is_given};
+ghost use Rattle.ax_script.specs.Documents.{contents_in, Holds, Works, is_full_of, TellsUpsert, WorksAfterUpsert};
+
+use crate::batches::{creating, replacing};
+use ax_disk::Disk;
+use ax_pages::Page;
+use ax_store::Store;
+use ax_tree::{Tree, id_of};
 use std::alloc::Global;
 use std::collections::BTreeMap;
-use std::marker::Model;
 
 /// The most documents that a store holds.
 const MOST_DOCUMENTS: usize = 1_048_576;
@@ -17,165 +24,176 @@ const MOST_DOCUMENTS: usize = 1_048_576;
 /// The greatest next number: no document takes it.
 const LAST_NUMBER: u32 = 4_294_967_295;
 
-/// Why an upsert was not made. Nothing has changed then.
+/// The greatest number of a policy.
+const LAST_POLICY: u8 = 8;
+
+/// Why an upsert was not made.
 #[derive(Clone, Copy, Debug, PartialEq, Eq)]
 pub enum UpsertFault {
     /// The document is none that the store has, and no document can be created: there are 1,048,576,
-    /// or no number is left.
+    /// or no number is left. Nothing has changed.
     Full,
-    /// Out of memory.
+    /// Out of memory. Nothing has changed.
     Memory,
+    /// The disk failed. The store is to be opened again.
+    Disk,
 }
 
-impl From<Memory> for UpsertFault {
-    ghost use Rattle.std.specs.Prelude.{◌≡◌};
-    ghost use Rattle.ax_script.specs.declared.documents.UpsertFault.TheVariants.{Memory as OutOfMemory};
-
-    ghost from_gives = { λ _ fault. fault ≡ OutOfMemory };
-
-    fn from(_: Memory) -> UpsertFault {
-        UpsertFault::Memory
-    }
-}
-
-/// The documents in the order of their creation, and where each id stands.
+/// The documents of an open store, and the number under which each id stands.
 #[derive(Drop)]
 pub struct Documents {
-    documents: Vec<Document>,
-    positions: BTreeMap<String, usize>,
-    next_number: u32,
-    alloc: Global,
-}
-
-impl Model for Documents {
-    ghost use Rattle.ax_container.specs.Container.{Container};
-    ghost use Rattle.ax_container.specs.ContainerCode.{container_code};
-
-    ghost Value = { Container };
-
-    ghost coded = { container_code };
-
-    ghost use Rattle.ax_script.specs.Documents.{container_in, IsIndexed};
-
-    ghost view = { container_in };
-
-    ghost invariant = { IsIndexed };
+    pub(crate) store: Store,
+    pub(crate) numbers: BTreeMap<String, u32>,
+    pub(crate) alloc: Global,
 }
 
 impl Documents {
-    /// A store of no documents.
-    pub fn new(alloc: Global) -> Documents
-        ensures { result ≡ fresh }
+    /// Replaces the tree of the document of its id, which keeps its number, or creates a document
+    /// behind all others.
+    pub fn upsert<D: Disk>(&mut self, disk: &mut D, tree: &Tree) -> Result<(), UpsertFault>
+        requires storable { IsStorable tree.now }
+        requires works { Works (IsTrue (D.is_honest disk.old)) self.old (D.history disk.old (D.attached disk.old)) }
+        ensures tells { (before : Container) → (id : List ℕ) → Holds self.old before → document_id tree.now ≡ Some id
+            → TellsUpsert (IsTrue (D.is_honest disk.old)) before id tree.now result self.new
+            (D.history disk.old (D.attached disk.old)) (D.history disk.new (D.attached disk.new)) }
+        ensures works { WorksAfterUpsert (IsTrue (D.is_honest disk.old)) result self.new
+            (D.history disk.new (D.attached disk.new)) }
+        ensures cause { result ≡ Err UpsertFault.Disk → Rose (D.faults disk.old) (D.faults disk.new) }
+        ensures never_falls { D.faults disk.old ≤ D.faults disk.new }
+        ensures attached { D.attached disk.new ≡ D.attached disk.old }
+        ensures honest { D.is_honest disk.new ≡ D.is_honest disk.old }
     {
-        Documents {
-            documents: Vec::new(alloc),
-            positions: BTreeMap::new(alloc),
-            next_number: 1,
-            alloc,
+        let Some(id) = id_of(tree) else {
+            unreachable!();
+        };
+        match self.number(id.as_str()) {
+            Some(number) => self.replace(disk, number, tree),
+            None => self.create(disk, id.as_str(), tree),
         }
     }
 
-    /// The documents in the order of their creation.
-    pub fn as_slice(&self) -> &[Document]
-        ensures { result.now ≡ self.now.entries }
+    /// The number under which an id stands.
+    fn number(&self, id: &str) -> Option<u32>
+        ensures { result ≡ get_by_text self.now.numbers id.now }
     {
-        self.documents.as_slice()
+        self.numbers.get(id).copied()
     }
 
     /// Whether no document can be created.
-    pub fn is_full(&self) -> bool
-        ensures { result ≡ is_full_lem self.now }
+    fn is_full(&self) -> bool
+        ensures { result ≡ is_full_of (contents_in self.now) }
     {
-        self.documents.len() >= MOST_DOCUMENTS || self.next_number >= LAST_NUMBER
+        self.store.documents() >= MOST_DOCUMENTS || self.store.meta().next >= LAST_NUMBER
     }
 
-    /// Replaces the tree of the document of its id, which keeps its position and its number, or
-    /// creates a document behind all others.
-    pub fn upsert(&mut self, tree: Tree) -> Result<(), UpsertFault>
-        requires { IsDocument tree }
-        ensures ok { (id : List ℕ) → document_id tree ≡ Some id
-            → OnOk result (upserted id tree self.old ≡ Ok self.new) }
-        ensures full { (id : List ℕ) → document_id tree ≡ Some id → result ≡ Err UpsertFault.Full
-            → upserted id tree self.old ≡ Err Full }
-        ensures err { OnErr result (self.new ≡ self.old) }
+    /// Whether the number is that of a document that is held.
+    fn is_held(&self, number: u32) -> bool
+        ensures some { result ≡ true → 0 < number }
+        ensures held { result ≡ true → map.contains_key (contents_in self.now).documents number ≡ true }
     {
-        let Some(id) = id_of(&tree) else {
-            unreachable!();
+        number > 0 && self.store.text_of(number).is_some()
+    }
+
+    /// The number of the policy now, which a part gave.
+    fn policy(&self) -> Option<u8>
+        ensures now { IfSome result (λ policy. policy ≡ policy_now (contents_in self.now)) }
+        ensures small { IfSome result (λ policy. policy ≤ 8) }
+        ensures given { IfSome result (λ policy. is_given policy (contents_in self.now) ≡ true) }
+    {
+        let now = self.store.meta().now;
+        let is_given = now == 0 || self.store.parts(Page::Policy(now)) == 1;
+        if now <= LAST_POLICY && is_given {
+            Some(now)
+        } else {
+            None
+        }
+    }
+}
+
+impl Documents {
+    /// Gives a document that is held a tree.
+    fn replace<D: Disk>(
+        &mut self,
+        disk: &mut D,
+        number: u32,
+        tree: &Tree,
+    ) -> Result<(), UpsertFault>
+        requires storable { IsStorable tree.now }
+        requires works { Works (IsTrue (D.is_honest disk.old)) self.old (D.history disk.old (D.attached disk.old)) }
+        ensures tells { (before : Container) → (id : List ℕ) → Holds self.old before → document_id tree.now ≡ Some id
+            → get_by_text self.old.numbers id ≡ Some number
+            → TellsUpsert (IsTrue (D.is_honest disk.old)) before id tree.now result self.new
+            (D.history disk.old (D.attached disk.old)) (D.history disk.new (D.attached disk.new)) }
+        ensures works { WorksAfterUpsert (IsTrue (D.is_honest disk.old)) result self.new
+            (D.history disk.new (D.attached disk.new)) }
+        ensures cause { result ≡ Err UpsertFault.Disk → Rose (D.faults disk.old) (D.faults disk.new) }
+        ensures never_falls { D.faults disk.old ≤ D.faults disk.new }
+        ensures attached { D.attached disk.new ≡ D.attached disk.old }
+        ensures honest { D.is_honest disk.new ≡ D.is_honest disk.old }
+    {
+        let Some(policy) = self.policy() else {
+            return Err(UpsertFault::Memory);
         };
-        match self.position(id.as_str()) {
-            Some(position) => {
-                self.replace(position, tree);
-                Ok(())
-            }
-            None => {
-                let id = id.copy(self.alloc)?;
-                self.upsert_new(id, tree)
-            }
+        if !self.is_held(number) {
+            return Err(UpsertFault::Memory);
+        }
+        let Ok(batch) = replacing(self.alloc, number, policy, tree) else {
+            return Err(UpsertFault::Memory);
+        };
+        let Ok(()) = self.store.reserve(1) else {
+            return Err(UpsertFault::Memory);
+        };
+        match self.store.commit(disk, batch) {
+            Ok(()) => Ok(()),
+            Err(_) => Err(UpsertFault::Disk),
         }
     }
 
-    fn upsert_new(&mut self, id: Text, tree: Tree) -> Result<(), UpsertFault>
-        requires { contains id self.old ≡ false }
-        ensures ok { OnOk result (creation id tree self.old ≡ Ok self.new) }
-        ensures full { result ≡ Err UpsertFault.Full → creation id tree self.old ≡ Err Full }
-        ensures err { OnErr result (self.new ≡ self.old) }
+    /// Creates a document of an id under the next number.
+    fn create<D: Disk>(
+        &mut self,
+        disk: &mut D,
+        id: &str,
+        tree: &Tree,
+    ) -> Result<(), UpsertFault>
+        requires storable { IsStorable tree.now }
+        requires works { Works (IsTrue (D.is_honest disk.old)) self.old (D.history disk.old (D.attached disk.old)) }
+        ensures tells { (before : Container) → Holds self.old before → document_id tree.now ≡ Some id.now
+            → get_by_text self.old.numbers id.now ≡ None
+            → TellsUpsert (IsTrue (D.is_honest disk.old)) before id.now tree.now result self.new
+            (D.history disk.old (D.attached disk.old)) (D.history disk.new (D.attached disk.new)) }
+        ensures works { WorksAfterUpsert (IsTrue (D.is_honest disk.old)) result self.new
+            (D.history disk.new (D.attached disk.new)) }
+        ensures cause { result ≡ Err UpsertFault.Disk → Rose (D.faults disk.old) (D.faults disk.new) }
+        ensures never_falls { D.faults disk.old ≤ D.faults disk.new }
+        ensures attached { D.attached disk.new ≡ D.attached disk.old }
+        ensures honest { D.is_honest disk.new ≡ D.is_honest disk.old }
     {
         if self.is_full() {
             return Err(UpsertFault::Full);
         }
-        self.create(id, tree)?;
-        Ok(())
+        let Some(policy) = self.policy() else {
+            return Err(UpsertFault::Memory);
+        };
+        let number = self.store.meta().next;
+        if number == 0 {
+            return Err(UpsertFault::Memory);
+        }
+        let Ok(batch) = creating(self.alloc, number, policy, tree) else {
+            return Err(UpsertFault::Memory);
+        };
+        let Ok(()) = self.store.reserve(2) else {
+            return Err(UpsertFault::Memory);
+        };
+        let Ok(key) = String::from_str(self.alloc, id) else {
+            return Err(UpsertFault::Memory);
+        };
+        let Ok(_) = self.numbers.insert(key, number) else {
+            return Err(UpsertFault::Memory);
+        };
+        match self.store.commit(disk, batch) {
+            Ok(()) => Ok(()),
+            Err(_) => Err(UpsertFault::Disk),
+        }
     }
-
-    fn position(&self, id: &str) -> Option<usize>
-        ensures position { result ≡ position_of id.now self.now.entries }
-        ensures within { IfSome result (λ position. position < length self.now.entries) }
-    {
-        self.found(id)
-    }
-
-    fn found(&self, id: &str) -> Option<usize>
-        ensures { result ≡ position_of id.now self.now.entries }
-    {
-        self.positions.get(id).copied()
-    }
-
-    fn replace(&mut self, position: usize, tree: Tree)
-        requires { position < length self.old.entries }
-        ensures { (id : List ℕ) → position_of id self.old.entries ≡ Some position
-            → self.new ≡ replaced id tree self.old }
-    {
-        set_tree(&mut self.documents, position, tree);
-    }
-
-    fn create(&mut self, id: Text, tree: Tree) -> Result<(), Memory>
-        requires absent { contains id self.old ≡ false }
-        requires room { is_full_lem self.old ≡ false }
-        ensures ok { OnOk result (self.new ≡ created id tree self.old) }
-        ensures err { OnErr result (self.new ≡ self.old) }
-    {
-        let key = String::from_str(self.alloc, id.as_str())?;
-        self.documents.reserve(1)?;
-        self.positions.insert(key, self.documents.len())?;
-        append(
-            &mut self.documents,
-            Document::new(self.next_number, id, tree),
-        );
-        self.next_number += 1;
-        Ok(())
-    }
-}
-
-fn set_tree(documents: &mut Vec<Document>, position: usize, tree: Tree)
-    requires { position < length documents.old.items }
-    ensures { documents.new.items ≡ with_tree_at position tree documents.old.items }
-{
-    documents[position].set_tree(tree);
-}
-
-fn append(documents: &mut Vec<Document>, document: Document)
-    requires { vec_len documents.old < vec_capacity documents.old }
-    ensures { documents.new.items ≡ documents.old.items ++ document ∷ [] }
-{
-    let _pushed = documents.push(document);
 }

@@ -6,16 +6,16 @@
 //! what was written is the text of a run of the lines that were read, and each status has its cause.
 #![tactic(auto)]
 
+mod batches;
 mod command_line;
-mod document;
 mod documents;
+mod opening;
 mod reply_lines;
 mod script_lines;
 mod script_run;
 mod serving;
 mod status;
 
-pub use document::Document;
 pub use documents::{Documents, UpsertFault};
 pub use script_run::run;
 pub use serving::serve_line;

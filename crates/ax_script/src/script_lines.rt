@@ -1,13 +1,15 @@
-ghost use Rattle.std.specs.Prelude.{◌≡◌, ◌≢◌, ◌++◌, ◌^◌, ◌<◌, ◌≤◌, ◌⊎◌, [], length, OnOk, OnErr, Err, IfErr};
+ghost use Rattle.std.specs.Prelude.{◌≡◌, ◌++◌, ◌^◌, ◌<◌, ◌≤◌, ◌⊎◌, [], length, OnOk, OnErr, Err, IsTrue, IfErr};
 ghost use Rattle.ax_faults.specs.Faults.{Rose};
-ghost use Rattle.ax_script.specs.Progress.{Serves, BeginsToServe, ServesLines, BeginsLines, ServesLast, BeginsLast};
+ghost use Rattle.ax_container.specs.Container.{Container};
+ghost use Rattle.ax_script.specs.Documents.{Holds, Works};
+ghost use Rattle.ax_script.specs.Progress.{outlets, Serves, BeginsToServe, ServesLines, BeginsLines, ServesLast, BeginsLast, Ends, BreaksOffWith, IsOfServing};
 ghost use Rattle.ax_lines.specs.ScriptLines.{IsOneLine};
-ghost use Rattle.ax_script.specs.Script.{Runs};
 
 use crate::documents::Documents;
 use crate::serving::serve_line;
 use crate::status::Status;
-use ax_base::{Failed, Sink, Source};
+use ax_base::{Sink, Source};
+use ax_disk::Disk;
 use ax_lines::first_line;
 use std::alloc::Global;
 
@@ -16,25 +18,32 @@ const MOST_INPUT: u64 = 1 << 40;
 
 /// Reads the source to its end, piece by piece into `buffer`, and serves each line as soon as its
 /// newline has come, and the last piece at the end.
-pub fn serve_source<S: Source, K: Sink>(
+pub fn serve_source<D: Disk, S: Source, K: Sink>(
     alloc: Global,
     documents: &mut Documents,
+    disk: &mut D,
     source: &mut S,
     sink: &mut K,
     buffer: &mut [u8],
 ) -> Status
     requires some { 0 < length buffer.old }
     requires few { length buffer.old ≤ 2 ^ 20 }
-    ensures script { Runs documents.old result
+    requires works { Works (IsTrue (D.is_honest disk.old)) documents.old (D.history disk.old (D.attached disk.old)) }
+    ensures script { (before : Container) → Holds documents.old before → Ends (IsTrue (D.is_honest disk.old)) before result
         (record { remaining = S.rest source.old; written = K.written sink.old })
-        (record { remaining = S.rest source.new; written = K.written sink.new }) }
+        (record { remaining = S.rest source.new; written = K.written sink.new })
+        (D.history disk.old (D.attached disk.old)) (D.history disk.new (D.attached disk.new)) }
+    ensures disk_fault { result ≡ Status.DiskFault → Rose (D.faults disk.old) (D.faults disk.new) }
     ensures read_fault { result ≡ Status.ReadFault
         → Rose (S.faults source.old) (S.faults source.new) }
     ensures write_fault { result ≡ Status.WriteFault
         → Rose (K.faults sink.old) (K.faults sink.new) }
+    ensures disk_faults { D.faults disk.old ≤ D.faults disk.new }
     ensures source_faults { S.faults source.old ≤ S.faults source.new }
     ensures sink_faults { K.faults sink.old ≤ K.faults sink.new }
-    ensures not_words { result ≢ Status.Words }
+    ensures attached { D.attached disk.new ≡ D.attached disk.old }
+    ensures honest { D.is_honest disk.new ≡ D.is_honest disk.old }
+    ensures of_serving { IsOfServing result }
 {
     let mut pending = Vec::new(alloc);
     let mut taken = 0u64;
@@ -43,13 +52,13 @@ pub fn serve_source<S: Source, K: Sink>(
             return Status::ReadFault;
         };
         if count == 0 {
-            return serve_last(alloc, documents, pending.as_slice(), sink);
+            return serve_last(alloc, documents, disk, pending.as_slice(), sink);
         }
         taken += count as u64;
         if taken > MOST_INPUT {
             return Status::Long;
         }
-        let served = serve_piece(alloc, documents, &mut pending, &buffer[..count], sink);
+        let served = serve_piece(alloc, documents, disk, &mut pending, &buffer[..count], sink);
         if let Err(status) = served {
             return status;
         }
@@ -58,27 +67,36 @@ pub fn serve_source<S: Source, K: Sink>(
 
 /// Serves the lines whose newline is in the piece; the first of them begins with what is pending.
 /// What follows the last newline is pending then.
-fn serve_piece<K: Sink>(
+fn serve_piece<D: Disk, K: Sink>(
     alloc: Global,
     documents: &mut Documents,
+    disk: &mut D,
     pending: &mut Vec<u8>,
     piece: &[u8],
     sink: &mut K,
 ) -> Result<(), Status>
-    requires { IsOneLine pending.old.items }
-    ensures ok { OnOk result (ServesLines documents.old
-        (pending.old.items ++ piece.now) documents.new pending.new.items (K.written sink.old)
-        (K.written sink.new)) }
-    ensures err { OnErr result (BeginsLines documents.old (pending.old.items ++ piece.now)
-        (K.written sink.old) (K.written sink.new)) }
-    ensures only { IfErr result (λ status. (status ≡ Status.WriteFault)
-        ⊎ (status ≡ Status.Memory)) }
-    ensures never_falls { K.faults sink.old ≤ K.faults sink.new }
-    ensures cause { result ≡ Err Status.WriteFault → Rose (K.faults sink.old) (K.faults sink.new) }
+    requires line { IsOneLine pending.old.items }
+    requires works { Works (IsTrue (D.is_honest disk.old)) documents.old (D.history disk.old (D.attached disk.old)) }
+    ensures ok { (before : Container) → Holds documents.old before → OnOk result ((now : Container) × Holds documents.new now
+        × ServesLines (IsTrue (D.is_honest disk.old)) before (pending.old.items ++ piece.now) now pending.new.items
+        (outlets (K.written sink.old) (D.history disk.old (D.attached disk.old)))
+        (outlets (K.written sink.new) (D.history disk.new (D.attached disk.new)))) }
+    ensures err { (before : Container) → Holds documents.old before → OnErr result (BeginsLines (IsTrue (D.is_honest disk.old)) before (pending.old.items ++ piece.now)
+        (outlets (K.written sink.old) (D.history disk.old (D.attached disk.old)))
+        (outlets (K.written sink.new) (D.history disk.new (D.attached disk.new)))) }
+    ensures works { OnOk result (Works (IsTrue (D.is_honest disk.old)) documents.new (D.history disk.new (D.attached disk.new))) }
+    ensures line { OnOk result (IsOneLine pending.new.items) }
+    ensures only { IfErr result BreaksOffWith }
+    ensures disk_cause { result ≡ Err Status.DiskFault → Rose (D.faults disk.old) (D.faults disk.new) }
+    ensures sink_cause { result ≡ Err Status.WriteFault → Rose (K.faults sink.old) (K.faults sink.new) }
+    ensures disk_faults { D.faults disk.old ≤ D.faults disk.new }
+    ensures sink_faults { K.faults sink.old ≤ K.faults sink.new }
+    ensures attached { D.attached disk.new ≡ D.attached disk.old }
+    ensures honest { D.is_honest disk.new ≡ D.is_honest disk.old }
 {
     let mut rest = piece;
     'lines: while let Some((head, tail)) = first_line(rest) {
-        if let Err(status) = serve_head(alloc, documents, pending, head, sink) {
+        if let Err(status) = serve_head(alloc, documents, disk, pending, head, sink) {
             return Err(status);
         }
         rest = tail;
@@ -91,30 +109,39 @@ fn serve_piece<K: Sink>(
 
 /// Serves the line that is pending and ends with `head`, whose newline has come. A line of which
 /// nothing is pending is served where it stands.
-fn serve_head<K: Sink>(
+fn serve_head<D: Disk, K: Sink>(
     alloc: Global,
     documents: &mut Documents,
+    disk: &mut D,
     pending: &mut Vec<u8>,
     head: &[u8],
     sink: &mut K,
 ) -> Result<(), Status>
-    ensures ok { OnOk result (Serves documents.old (pending.old.items ++ head.now) documents.new
-        (K.written sink.old) (K.written sink.new)) }
+    requires works { Works (IsTrue (D.is_honest disk.old)) documents.old (D.history disk.old (D.attached disk.old)) }
+    ensures ok { (before : Container) → Holds documents.old before → OnOk result ((now : Container) × Holds documents.new now
+        × Serves (IsTrue (D.is_honest disk.old)) before (pending.old.items ++ head.now) now
+        (outlets (K.written sink.old) (D.history disk.old (D.attached disk.old)))
+        (outlets (K.written sink.new) (D.history disk.new (D.attached disk.new)))) }
     ensures empty { OnOk result (pending.new.items ≡ []) }
-    ensures err { OnErr result (BeginsToServe documents.old (pending.old.items ++ head.now)
-        (K.written sink.old) (K.written sink.new)) }
-    ensures only { IfErr result (λ status. (status ≡ Status.WriteFault)
-        ⊎ (status ≡ Status.Memory)) }
-    ensures never_falls { K.faults sink.old ≤ K.faults sink.new }
-    ensures cause { result ≡ Err Status.WriteFault → Rose (K.faults sink.old) (K.faults sink.new) }
+    ensures err { (before : Container) → Holds documents.old before → OnErr result (BeginsToServe (IsTrue (D.is_honest disk.old)) before (pending.old.items ++ head.now)
+        (outlets (K.written sink.old) (D.history disk.old (D.attached disk.old)))
+        (outlets (K.written sink.new) (D.history disk.new (D.attached disk.new)))) }
+    ensures works { OnOk result (Works (IsTrue (D.is_honest disk.old)) documents.new (D.history disk.new (D.attached disk.new))) }
+    ensures only { IfErr result BreaksOffWith }
+    ensures disk_cause { result ≡ Err Status.DiskFault → Rose (D.faults disk.old) (D.faults disk.new) }
+    ensures sink_cause { result ≡ Err Status.WriteFault → Rose (K.faults sink.old) (K.faults sink.new) }
+    ensures disk_faults { D.faults disk.old ≤ D.faults disk.new }
+    ensures sink_faults { K.faults sink.old ≤ K.faults sink.new }
+    ensures attached { D.attached disk.new ≡ D.attached disk.old }
+    ensures honest { D.is_honest disk.new ≡ D.is_honest disk.old }
 {
     if pending.is_empty() {
-        return serve_whole(alloc, documents, head, sink);
+        return serve_line(alloc, documents, disk, head, sink);
     }
     let Ok(()) = pending.extend_from_slice(head) else {
         return Err(Status::Memory);
     };
-    let served = serve_whole(alloc, documents, pending.as_slice(), sink);
+    let served = serve_line(alloc, documents, disk, pending.as_slice(), sink);
     if let Err(status) = served {
         return Err(status);
     }
@@ -122,47 +149,34 @@ fn serve_head<K: Sink>(
     Ok(())
 }
 
-/// Serves a whole line.
-fn serve_whole<K: Sink>(
-    alloc: Global,
-    documents: &mut Documents,
-    line: &[u8],
-    sink: &mut K,
-) -> Result<(), Status>
-    ensures ok { OnOk result (Serves documents.old line.now documents.new (K.written sink.old)
-        (K.written sink.new)) }
-    ensures err { OnErr result (BeginsToServe documents.old line.now (K.written sink.old)
-        (K.written sink.new)) }
-    ensures only { IfErr result (λ status. status ≡ Status.WriteFault) }
-    ensures never_falls { K.faults sink.old ≤ K.faults sink.new }
-    ensures cause { OnErr result (Rose (K.faults sink.old) (K.faults sink.new)) }
-{
-    match serve_line(alloc, documents, line, sink) {
-        Ok(()) => Ok(()),
-        Err(Failed) => Err(Status::WriteFault),
-    }
-}
-
 /// Serves the last piece of the input, which is a line unless it is empty.
-fn serve_last<K: Sink>(
+fn serve_last<D: Disk, K: Sink>(
     alloc: Global,
     documents: &mut Documents,
+    disk: &mut D,
     pending: &[u8],
     sink: &mut K,
 ) -> Status
-    ensures done { result ≡ Status.Done
-        → ServesLast documents.old pending.now (K.written sink.old) (K.written sink.new) }
-    ensures prefix { result ≡ Status.WriteFault
-        → BeginsLast documents.old pending.now (K.written sink.old) (K.written sink.new) }
-    ensures only { (result ≡ Status.Done) ⊎ (result ≡ Status.WriteFault) }
-    ensures never_falls { K.faults sink.old ≤ K.faults sink.new }
-    ensures cause { result ≡ Status.WriteFault → Rose (K.faults sink.old) (K.faults sink.new) }
+    requires works { Works (IsTrue (D.is_honest disk.old)) documents.old (D.history disk.old (D.attached disk.old)) }
+    ensures done { (before : Container) → Holds documents.old before → result ≡ Status.Done → ServesLast (IsTrue (D.is_honest disk.old)) before pending.now
+        (outlets (K.written sink.old) (D.history disk.old (D.attached disk.old)))
+        (outlets (K.written sink.new) (D.history disk.new (D.attached disk.new))) }
+    ensures prefix { (before : Container) → Holds documents.old before → BreaksOffWith result → BeginsLast (IsTrue (D.is_honest disk.old)) before pending.now
+        (outlets (K.written sink.old) (D.history disk.old (D.attached disk.old)))
+        (outlets (K.written sink.new) (D.history disk.new (D.attached disk.new))) }
+    ensures only { (result ≡ Status.Done) ⊎ BreaksOffWith result }
+    ensures disk_cause { result ≡ Status.DiskFault → Rose (D.faults disk.old) (D.faults disk.new) }
+    ensures sink_cause { result ≡ Status.WriteFault → Rose (K.faults sink.old) (K.faults sink.new) }
+    ensures disk_faults { D.faults disk.old ≤ D.faults disk.new }
+    ensures sink_faults { K.faults sink.old ≤ K.faults sink.new }
+    ensures attached { D.attached disk.new ≡ D.attached disk.old }
+    ensures honest { D.is_honest disk.new ≡ D.is_honest disk.old }
 {
     if pending.is_empty() {
         return Status::Done;
     }
-    match serve_line(alloc, documents, pending, sink) {
+    match serve_line(alloc, documents, disk, pending, sink) {
         Ok(()) => Status::Done,
-        Err(Failed) => Status::WriteFault,
+        Err(status) => status,
     }
 }

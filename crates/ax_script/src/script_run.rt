@@ -1,11 +1,12 @@
-ghost use Rattle.std.specs.Prelude.{◌≡◌, ◌≢◌, ◌↔◌, ◌≤◌, ◌⊎◌, true, false};
+ghost use Rattle.std.specs.Prelude.{◌≡◌, ◌≢◌, ◌↔◌, ◌≤◌, ◌⊎◌, IsTrue, true, false};
 ghost use Rattle.ax_faults.specs.Faults.{Rose};
-ghost use Rattle.ax_container.specs.Container.{fresh};
-ghost use Rattle.ax_script.specs.CommandLine.{is_run as is_run_lem};
-ghost use Rattle.ax_script.specs.Script.{Runs};
+ghost use Rattle.ax_container.specs.Container.{Container};
+ghost use Rattle.ax_script.specs.CommandLine.{is_run as is_run_lem, store_word};
+ghost use Rattle.ax_script.specs.DiskScript.{IsStore, RunsOnDisk};
+ghost use Rattle.ax_script.specs.Opening.{Refuses};
 
-use crate::command_line::is_run;
-use crate::documents::Documents;
+use crate::command_line::{is_run, store_name};
+use crate::opening::open_documents;
 use crate::script_lines::serve_source;
 use crate::status::Status;
 use ax_base::{Sink, Source, Steps};
@@ -16,13 +17,16 @@ use std::sync::ledger::Ledger;
 /// How many bytes of the input are read at once, at most.
 const PIECE: usize = 65_536;
 
-/// Runs the script that the source holds over a store in memory that begins empty, and writes the
-/// reply of each line to the sink. `words` are those of the command line after the program's name.
+/// Runs the script that the source holds over the store on the disk that the words name, and writes
+/// the reply of each line to the sink, once its change is durable. `words` are those of the command
+/// line after the program's name.
 ///
 /// The statuses and their causes: `Words` exactly where the words are not `run STORE`, and then
-/// nothing is touched; `ReadFault` and `WriteFault` only where a call on the source or on the sink
-/// failed in this run; `Long` exactly where more than 2^40 bytes were taken; `Memory` where memory
-/// ran out outside the serving of a line; else `Done`, where all input was read and served.
+/// nothing is touched; `DiskFault`, `ReadFault` and `WriteFault` only where a call on the disk, the
+/// source or the sink failed in this run; `Damaged` and `Newer` only where the store is outside the
+/// format at that place, or of that later version, and it is as it was; `Long` exactly where more
+/// than 2^40 bytes were taken; `Memory` where memory ran out outside the serving of a line; else
+/// `Done`, where all input was read and served.
 pub fn run<D: Disk, S: Source, K: Sink, L: Ledger>(
     alloc: Global,
     words: &[String],
@@ -32,55 +36,83 @@ pub fn run<D: Disk, S: Source, K: Sink, L: Ledger>(
     steps: &mut Steps<L>,
 ) -> Status
     ensures words { (result ≡ Status.Words) ↔ (is_run_lem words.now ≡ false) }
-    ensures untouched { result ≡ Status.Words → (source.new ≡ source.old) × (sink.new ≡ sink.old) }
+    ensures untouched { result ≡ Status.Words
+        → (disk.new ≡ disk.old) × (source.new ≡ source.old) × (sink.new ≡ sink.old) }
 
-    // What was written is the text of a run of the lines that were taken, whole at `Done`.
-    ensures script { Runs fresh result
+    // What was written is the text of a run of the lines that were taken, whole at `Done`; and at each
+    // moment a crash leaves the container after some of these lines.
+    ensures script { IsTrue (D.is_honest disk.old) → (before : Container)
+        → IsStore before (D.history disk.old (D.store_named (store_word words.now)))
+        → RunsOnDisk before result
         (record { remaining = S.rest source.old; written = K.written sink.old })
-        (record { remaining = S.rest source.new; written = K.written sink.new }) }
+        (record { remaining = S.rest source.new; written = K.written sink.new })
+        (D.history disk.old (D.store_named (store_word words.now)))
+        (D.history disk.new (D.store_named (store_word words.now))) }
 
     // Each status has its cause.
+    ensures disk_fault { result ≡ Status.DiskFault → Rose (D.faults disk.old) (D.faults disk.new) }
     ensures read_fault { result ≡ Status.ReadFault
         → Rose (S.faults source.old) (S.faults source.new) }
     ensures write_fault { result ≡ Status.WriteFault
         → Rose (K.faults sink.old) (K.faults sink.new) }
-    ensures complete { is_run_lem words.now ≡ true
+    ensures refused { IsTrue (D.is_honest disk.old) → Refuses result
+        (D.history disk.old (D.store_named (store_word words.now)))
+        (D.history disk.new (D.store_named (store_word words.now))) }
+    ensures complete { is_run_lem words.now ≡ true → IsTrue (D.is_honest disk.old) → (before : Container)
+        → IsStore before (D.history disk.old (D.store_named (store_word words.now)))
+        → ¬ Rose (D.faults disk.old) (D.faults disk.new)
         → ¬ Rose (S.faults source.old) (S.faults source.new)
         → ¬ Rose (K.faults sink.old) (K.faults sink.new) → (result ≡ Status.Done)
         ⊎ (result ≡ Status.Memory) ⊎ (result ≡ Status.Long) }
 
+    ensures disk_faults { D.faults disk.old ≤ D.faults disk.new }
     ensures source_faults { S.faults source.old ≤ S.faults source.new }
     ensures sink_faults { K.faults sink.old ≤ K.faults sink.new }
+    ensures honest { D.is_honest disk.new ≡ D.is_honest disk.old }
 
-    // No step is counted yet, and the store is in memory: no call is made on the disk.
+    // No step is counted yet.
     ensures steps { steps.new ≡ steps.old }
-    ensures disk { disk.new ≡ disk.old }
 {
     if !is_run(words) {
         return Status::Words;
     }
-    serve(alloc, source, sink)
+    serve(alloc, store_name(words), disk, source, sink)
 }
 
-/// Serves the source over a store that begins empty.
-fn serve<S: Source, K: Sink>(alloc: Global, source: &mut S, sink: &mut K) -> Status
-    ensures script { Runs fresh result
+/// Opens the store of a name, and serves the source over it.
+fn serve<D: Disk, S: Source, K: Sink>(
+    alloc: Global,
+    name: &str,
+    disk: &mut D,
+    source: &mut S,
+    sink: &mut K,
+) -> Status
+    ensures script { IsTrue (D.is_honest disk.old) → (before : Container)
+        → IsStore before (D.history disk.old (D.store_named name.now))
+        → RunsOnDisk before result
         (record { remaining = S.rest source.old; written = K.written sink.old })
-        (record { remaining = S.rest source.new; written = K.written sink.new }) }
+        (record { remaining = S.rest source.new; written = K.written sink.new })
+        (D.history disk.old (D.store_named name.now)) (D.history disk.new (D.store_named name.now)) }
+    ensures disk_fault { result ≡ Status.DiskFault → Rose (D.faults disk.old) (D.faults disk.new) }
     ensures read_fault { result ≡ Status.ReadFault
         → Rose (S.faults source.old) (S.faults source.new) }
     ensures write_fault { result ≡ Status.WriteFault
         → Rose (K.faults sink.old) (K.faults sink.new) }
-    ensures complete { ¬ Rose (S.faults source.old) (S.faults source.new)
-        → ¬ Rose (K.faults sink.old) (K.faults sink.new) → (result ≡ Status.Done)
-        ⊎ (result ≡ Status.Memory) ⊎ (result ≡ Status.Long) }
+    ensures refused { IsTrue (D.is_honest disk.old) → Refuses result
+        (D.history disk.old (D.store_named name.now)) (D.history disk.new (D.store_named name.now)) }
+    ensures disk_faults { D.faults disk.old ≤ D.faults disk.new }
     ensures source_faults { S.faults source.old ≤ S.faults source.new }
     ensures sink_faults { K.faults sink.old ≤ K.faults sink.new }
+    ensures honest { D.is_honest disk.new ≡ D.is_honest disk.old }
     ensures not_words { result ≢ Status.Words }
 {
     let Ok(mut buffer) = vec![in alloc; 0u8; PIECE] else {
         return Status::Memory;
     };
-    let mut documents = Documents::new(alloc);
-    serve_source(alloc, &mut documents, source, sink, buffer.as_mut_slice())
+    match open_documents(alloc, disk, name) {
+        Ok(mut documents) => {
+            serve_source(alloc, &mut documents, disk, source, sink, buffer.as_mut_slice())
+        }
+        Err(status) => status,
+    }
 }

@@ -1,80 +1,157 @@
-ghost use Rattle.std.specs.Prelude.{◌≡◌, ◌≤◌, IfOk, OnOk, OnErr};
-ghost use Rattle.ax_faults.specs.Faults.{HasCause};
-ghost use Rattle.ax_tree.specs.Document.{document_id, IsDocument};
-ghost use Rattle.ax_machine.specs.Step.{step, upsert_by};
+ghost use Rattle.std.specs.Prelude.{◌≡◌, ◌≤◌, ◌⊎◌, map, Err, IsTrue, IfOk, IfErr, OnOk, OnErr};
+ghost use Rattle.std.specs.Io.KnownBytes.{Appends};
+ghost use Rattle.ax_base.specs.Bytes.{AppendsPrefix};
+ghost use Rattle.ax_faults.specs.Faults.{Rose};
+ghost use Rattle.ax_container.specs.Container.{Container, trees};
+ghost use Rattle.ax_tree.specs.CanonicalText.{canonical_text};
+ghost use Rattle.ax_tree.specs.Document.{document_id};
+ghost use Rattle.ax_machine.specs.Reply as reply;
 ghost use Rattle.ax_machine.specs.ReplyTexts.{reply_text};
-ghost use Rattle.ax_script.specs.Progress.{Serves, BeginsToServe};
+ghost use Rattle.ax_machine.specs.Step.{step, upsert_by};
+ghost use Rattle.ax_lines.specs.Asked.{IsStorable};
+ghost use Rattle.ax_script.specs.Documents.{Holds, Works, TellsBy, WorksAfterAnswer};
+ghost use Rattle.ax_script.specs.Progress.{outlets, Serves, BeginsToServe};
 
 use crate::documents::{Documents, UpsertFault};
 use crate::reply_lines::{ok_line, out_of_memory_line, refusal_line, rows_lines};
+use crate::status::Status;
 use ax_base::{Failed, Sink, write_all};
+use ax_disk::Disk;
 use ax_lines::{Line, LineFault, Refusal, read_line};
-use ax_tree::{Memory, Tree};
+use ax_tree::Tree;
 use std::alloc::Global;
 
-/// Serves one line, which comes without its newline: its change is made, and its reply is whole in
-/// memory before the first byte of it is written. Out of memory is a reply of its own, which needs
-/// none. At `Failed` the sink has failed, and was given some prefix of the reply.
-pub fn serve_line<K: Sink>(
-    alloc: Global,
-    documents: &mut Documents,
-    line: &[u8],
-    sink: &mut K,
-) -> Result<(), Failed>
-    ensures whole { OnOk result (Serves documents.old line.now documents.new (K.written sink.old)
-        (K.written sink.new)) }
-    ensures prefix { OnErr result (BeginsToServe documents.old line.now (K.written sink.old)
-        (K.written sink.new)) }
-    ensures cause { HasCause result (K.faults sink.old) (K.faults sink.new) }
-{
-    answer_line(alloc, documents, line, sink)
+/// Why a line is not answered by its step.
+#[derive(Clone, Copy, Debug, PartialEq, Eq)]
+pub(crate) enum AnswerFault {
+    /// Out of memory. Nothing has changed.
+    Memory,
+    /// The disk failed.
+    Disk,
 }
 
-fn answer_line<K: Sink>(
+/// Serves one line, which comes without its newline: its change is made and durable, and its reply is
+/// whole in memory before the first byte of it is written. Out of memory is a reply of its own, which
+/// needs none. At `DiskFault` nothing was written; at `WriteFault` the sink was given some prefix of
+/// the reply.
+pub fn serve_line<D: Disk, K: Sink>(
     alloc: Global,
     documents: &mut Documents,
+    disk: &mut D,
     line: &[u8],
     sink: &mut K,
-) -> Result<(), Failed>
-    ensures whole { OnOk result (Serves documents.old line.now documents.new (K.written sink.old)
-        (K.written sink.new)) }
-    ensures prefix { OnErr result (BeginsToServe documents.old line.now (K.written sink.old)
-        (K.written sink.new)) }
-    ensures cause { HasCause result (K.faults sink.old) (K.faults sink.new) }
+) -> Result<(), Status>
+    requires works { Works (IsTrue (D.is_honest disk.old)) documents.old (D.history disk.old (D.attached disk.old)) }
+    ensures whole { (before : Container) → Holds documents.old before → OnOk result ((now : Container) × Holds documents.new now
+        × Serves (IsTrue (D.is_honest disk.old)) before line.now now
+        (outlets (K.written sink.old) (D.history disk.old (D.attached disk.old)))
+        (outlets (K.written sink.new) (D.history disk.new (D.attached disk.new)))) }
+    ensures prefix { (before : Container) → Holds documents.old before → OnErr result
+        (BeginsToServe (IsTrue (D.is_honest disk.old)) before line.now
+        (outlets (K.written sink.old) (D.history disk.old (D.attached disk.old)))
+        (outlets (K.written sink.new) (D.history disk.new (D.attached disk.new)))) }
+    ensures works { OnOk result (Works (IsTrue (D.is_honest disk.old)) documents.new (D.history disk.new (D.attached disk.new))) }
+    ensures only { IfErr result (λ status. (status ≡ Status.WriteFault) ⊎ (status ≡ Status.DiskFault)) }
+    ensures disk_cause { result ≡ Err Status.DiskFault → Rose (D.faults disk.old) (D.faults disk.new) }
+    ensures sink_cause { result ≡ Err Status.WriteFault → Rose (K.faults sink.old) (K.faults sink.new) }
+    ensures disk_faults { D.faults disk.old ≤ D.faults disk.new }
+    ensures sink_faults { K.faults sink.old ≤ K.faults sink.new }
+    ensures attached { D.attached disk.new ≡ D.attached disk.old }
+    ensures honest { D.is_honest disk.new ≡ D.is_honest disk.old }
 {
-    match answer(alloc, documents, line) {
-        Ok(text) => write_all(sink, text.as_slice()),
-        Err(Memory) => write_all(sink, out_of_memory_line()),
+    match answer(alloc, documents, disk, line) {
+        Ok(text) => write_reply(sink, text.as_slice()),
+        Err(AnswerFault::Memory) => write_reply(sink, out_of_memory_line()),
+        Err(AnswerFault::Disk) => Err(Status::DiskFault),
+    }
+}
+
+fn write_reply<K: Sink>(sink: &mut K, reply: &[u8]) -> Result<(), Status>
+    ensures added { OnOk result (Appends (K.written sink.old) (K.written sink.new) reply.now) }
+    ensures failed { OnErr result (AppendsPrefix (K.written sink.old) (K.written sink.new) reply.now) }
+    ensures only { IfErr result (λ status. status ≡ Status.WriteFault) }
+    ensures cause { OnErr result (Rose (K.faults sink.old) (K.faults sink.new)) }
+    ensures never_falls { K.faults sink.old ≤ K.faults sink.new }
+{
+    match write_all(sink, reply) {
+        Ok(()) => Ok(()),
+        Err(Failed) => Err(Status::WriteFault),
     }
 }
 
 /// The text of a line's reply, and the line's change to the documents; or out of memory, with no
 /// change.
-fn answer(alloc: Global, documents: &mut Documents, line: &[u8]) -> Result<Vec<u8>, Memory>
-    ensures reply { IfOk result (λ text. text.items ≡ reply_text (step documents.old line.now).1) }
-    ensures after { OnOk result (documents.new ≡ (step documents.old line.now).0) }
-    ensures err { OnErr result (documents.new ≡ documents.old) }
+fn answer<D: Disk>(
+    alloc: Global,
+    documents: &mut Documents,
+    disk: &mut D,
+    line: &[u8],
+) -> Result<Vec<u8>, AnswerFault>
+    requires works { Works (IsTrue (D.is_honest disk.old)) documents.old (D.history disk.old (D.attached disk.old)) }
+    ensures tells { (before : Container) → Holds documents.old before
+        → TellsBy (IsTrue (D.is_honest disk.old)) before (step before line.now) result documents.new
+        (D.history disk.old (D.attached disk.old)) (D.history disk.new (D.attached disk.new)) }
+    ensures works { WorksAfterAnswer (IsTrue (D.is_honest disk.old)) result documents.new
+        (D.history disk.new (D.attached disk.new)) }
+    ensures cause { result ≡ Err AnswerFault.Disk → Rose (D.faults disk.old) (D.faults disk.new) }
+    ensures never_falls { D.faults disk.old ≤ D.faults disk.new }
+    ensures attached { D.attached disk.new ≡ D.attached disk.old }
+    ensures honest { D.is_honest disk.new ≡ D.is_honest disk.old }
 {
     match read_line(alloc, line) {
-        Ok(Line::Upsert(tree)) => upsert(alloc, documents, tree),
-        Ok(Line::Query) => rows_lines(alloc, documents.as_slice()),
-        Err(LineFault::Refused(refusal)) => refusal_line(alloc, refusal),
-        Err(LineFault::Memory) => Err(Memory),
+        Ok(Line::Upsert(tree)) => upsert(alloc, documents, disk, &tree),
+        Ok(Line::Query) => all_rows(alloc, documents),
+        Err(LineFault::Refused(refusal)) => refused(alloc, refusal),
+        Err(LineFault::Memory) => Err(AnswerFault::Memory),
     }
 }
 
-fn upsert(alloc: Global, documents: &mut Documents, tree: Tree) -> Result<Vec<u8>, Memory>
-    requires { IsDocument tree }
-    ensures reply { IfOk result (λ text. text.items ≡ reply_text
-        (upsert_by (document_id tree) tree documents.old).1) }
-    ensures after { OnOk result
-        (documents.new ≡ (upsert_by (document_id tree) tree documents.old).0) }
-    ensures err { OnErr result (documents.new ≡ documents.old) }
+fn upsert<D: Disk>(
+    alloc: Global,
+    documents: &mut Documents,
+    disk: &mut D,
+    tree: &Tree,
+) -> Result<Vec<u8>, AnswerFault>
+    requires storable { IsStorable tree.now }
+    requires works { Works (IsTrue (D.is_honest disk.old)) documents.old (D.history disk.old (D.attached disk.old)) }
+    ensures tells { (before : Container) → Holds documents.old before
+        → TellsBy (IsTrue (D.is_honest disk.old)) before (upsert_by (document_id tree.now) tree.now before) result documents.new
+        (D.history disk.old (D.attached disk.old)) (D.history disk.new (D.attached disk.new)) }
+    ensures works { WorksAfterAnswer (IsTrue (D.is_honest disk.old)) result documents.new
+        (D.history disk.new (D.attached disk.new)) }
+    ensures cause { result ≡ Err AnswerFault.Disk → Rose (D.faults disk.old) (D.faults disk.new) }
+    ensures never_falls { D.faults disk.old ≤ D.faults disk.new }
+    ensures attached { D.attached disk.new ≡ D.attached disk.old }
+    ensures honest { D.is_honest disk.new ≡ D.is_honest disk.old }
 {
-    let text = ok_line(alloc)?;
-    match documents.upsert(tree) {
+    let Ok(text) = ok_line(alloc) else {
+        return Err(AnswerFault::Memory);
+    };
+    match documents.upsert(disk, tree) {
         Ok(()) => Ok(text),
-        Err(UpsertFault::Full) => refusal_line(alloc, Refusal::Full),
-        Err(UpsertFault::Memory) => Err(Memory),
+        Err(UpsertFault::Full) => refused(alloc, Refusal::Full),
+        Err(UpsertFault::Memory) => Err(AnswerFault::Memory),
+        Err(UpsertFault::Disk) => Err(AnswerFault::Disk),
+    }
+}
+
+fn refused(alloc: Global, refusal: Refusal) -> Result<Vec<u8>, AnswerFault>
+    ensures text { IfOk result (λ text. text.items ≡ reply_text (reply.Refused refusal)) }
+    ensures only { IfErr result (λ fault. fault ≡ AnswerFault.Memory) }
+{
+    match refusal_line(alloc, refusal) {
+        Ok(text) => Ok(text),
+        Err(_) => Err(AnswerFault::Memory),
+    }
+}
+
+fn all_rows(alloc: Global, documents: &Documents) -> Result<Vec<u8>, AnswerFault>
+    ensures text { (container : Container) → Holds documents.now container → IfOk result (λ text. text.items
+        ≡ reply_text (reply.Rows (map canonical_text (trees container)) reply.End)) }
+    ensures only { IfErr result (λ fault. fault ≡ AnswerFault.Memory) }
+{
+    match rows_lines(alloc, documents) {
+        Ok(text) => Ok(text),
+        Err(_) => Err(AnswerFault::Memory),
     }
 }

@@ -1,4 +1,7 @@
-ghost use Rattle.std.specs.Prelude.{◌≡◌};
+ghost use Rattle.std.specs.Prelude.{◌≡◌, ◌++◌, IfOk, string_bytes, codes, decimal};
+
+use ax_tree::Memory;
+use std::alloc::Global;
 
 /// How a run ended.
 #[derive(Clone, Copy, Debug, PartialEq, Eq)]
@@ -7,11 +10,25 @@ pub enum Status {
     Done,
     /// The words are not `run STORE`.
     Words,
+    /// A call on the disk failed.
+    DiskFault,
     /// A read of the source failed.
     ReadFault,
     /// A write of the sink failed.
     WriteFault,
-    /// Out of memory before a line was served.
+    /// The store's bytes are outside the format.
+    Damaged {
+        /// The list: 0 the root, 1 area A, 2 area B.
+        extent: u8,
+        /// The offset in that list.
+        at: u64,
+    },
+    /// The store is of a later version than this program knows.
+    Newer {
+        /// That version.
+        version: u16,
+    },
+    /// Out of memory outside the serving of a line.
     Memory,
     /// The input has more than 2^40 bytes.
     Long,
@@ -27,24 +44,49 @@ impl Status {
         match self {
             Status::Done => 0,
             Status::Words => 2,
+            Status::DiskFault => 3,
             Status::ReadFault => 4,
             Status::WriteFault => 5,
+            Status::Damaged { .. } => 6,
+            Status::Newer { .. } => 7,
             Status::Memory => 8,
             Status::Long => 10,
         }
     }
 
     /// What the program writes on standard error: empty at `Done`.
-    pub fn text(&self) -> &'static str
-        ensures { result.now ≡ text_of self.now }
+    pub fn text(&self, alloc: Global) -> Result<String, Memory>
+        ensures { IfOk result (λ text. string_bytes text ≡ text_of self.now) }
     {
         match self {
-            Status::Done => "",
-            Status::Words => "words",
-            Status::ReadFault => "read fault",
-            Status::WriteFault => "write fault",
-            Status::Memory => "memory",
-            Status::Long => "long",
+            Status::Done => plain(alloc, ""),
+            Status::Words => plain(alloc, "words"),
+            Status::DiskFault => plain(alloc, "disk fault"),
+            Status::ReadFault => plain(alloc, "read fault"),
+            Status::WriteFault => plain(alloc, "write fault"),
+            Status::Damaged { extent, at } => damaged(alloc, *extent, *at),
+            Status::Newer { version } => newer(alloc, *version),
+            Status::Memory => plain(alloc, "memory"),
+            Status::Long => plain(alloc, "long"),
         }
     }
+}
+
+fn plain(alloc: Global, text: &str) -> Result<String, Memory>
+    ensures { IfOk result (λ made. string_bytes made ≡ text.now) }
+{
+    Ok(String::from_str(alloc, text)?)
+}
+
+fn damaged(alloc: Global, extent: u8, at: u64) -> Result<String, Memory>
+    ensures { IfOk result (λ made. string_bytes made
+        ≡ codes "damaged " ++ decimal extent ++ codes " " ++ decimal at) }
+{
+    Ok(format!(in alloc; "damaged {extent} {at}")?)
+}
+
+fn newer(alloc: Global, version: u16) -> Result<String, Memory>
+    ensures { IfOk result (λ made. string_bytes made ≡ codes "newer " ++ decimal version) }
+{
+    Ok(format!(in alloc; "newer {version}")?)
 }

@@ -16,6 +16,7 @@ mod change;
 mod commit;
 mod directory;
 mod fault;
+mod held;
 mod load;
 mod memory;
 mod open;

@@ -112,6 +112,13 @@ impl Pages {
         self.documents.get(number)
     }
 
+    /// How many documents are held.
+    pub(crate) fn document_count(&self) -> usize
+        ensures { result ≡ map.len self.now.contents.documents }
+    {
+        self.documents.len()
+    }
+
     /// The least number of a document above another.
     pub(crate) fn next_document(&self, after: u32) -> Option<u32>
         ensures found { IfSome result (IsNextAfter self.now.contents.documents after) }

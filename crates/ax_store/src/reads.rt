@@ -143,7 +143,7 @@ fn offset(part: Option<&KeptPart>) -> u64
 }
 
 /// The text in a document's payload: what stands behind the number of its policy.
-fn text_in(payload: &[u8]) -> &[u8]
+pub(crate) fn text_in(payload: &[u8]) -> &[u8]
     ensures { result.now ≡ drop 1 payload.now }
 {
     match payload.split_first() {

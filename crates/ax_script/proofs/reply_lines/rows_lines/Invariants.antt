@@ -1,12 +1,13 @@
--- The rows so far and those that are left make the whole.
-use Rattle.std.proofs.Common.{◌≡◌, ◌++◌, map, drop}
-use Rattle.std.specs.List.{flat_map}
-use Rattle.ax_tree.specs.CanonicalText.{canonical_text}
-use Rattle.ax_machine.specs.ReplyTexts.{row_text}
+use Rattle.std.proofs.Common.{◌≡◌, ◌-◌, ◌^◌, ◌++◌}
+use Rattle.ax_container.specs.Container.{Container}
+use Rattle.ax_script.specs.Documents.{Holds}
+use Rattle.ax_script.proofs.InOrder.{above, rows_of}
 use Rattle.ax_script.proofs.reply_lines.rows_lines.Given as goal
 
-abbrev pub invariant-loop-document : goal.invariant-loop-document
-invariant-loop-document l =
-    l.text.items ++ flat_map row_text
-    (map canonical_text (map (λ entry. entry.tree) (drop l.document-index l.documents)))
-    ≡ flat_map row_text (map canonical_text (map (λ entry. entry.tree) l.documents))
+abbrev pub decreases-loop-next : goal.decreases-loop-next
+decreases-loop-next l = 2 ^ 32 - l.number
+
+-- the text has the rows of the documents up to the number
+abbrev pub invariant-loop-next : goal.invariant-loop-next
+invariant-loop-next l = (container : Container) → Holds l.documents container
+    → rows_of container.entries ≡ l.text.items ++ rows_of (above l.number container.entries)

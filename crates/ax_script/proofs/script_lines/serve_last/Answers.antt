@@ -1,11 +1,24 @@
 -- A last piece that is not empty is a line.
-use Rattle.ax_script.proofs.ServedLines.{serves_last, begins_last}
+use Rattle.std.proofs.Common.{◌≡◌, List, [], ℕ, length, refl, IsTrue, ◌∙◌, sym, subst}
+use Rattle.ax_script.specs.Progress.{ServesLast, outlets}
+use Rattle.ax_script.proofs.ServedLines.{serves_last, serves_no_last, begins_last}
+use Rattle.ax_script.proofs.Holding.{empty_list, rests_of}
 use Rattle.ax_script.proofs.script_lines.serve_last.Goals as goal
 
 pub returns-in-Ok-clause-done : goal.returns-in-Ok-clause-done
-returns-in-Ok-clause-done g c =
-    λ _. serves_last _ _ c.args.pending.now _ _ (c.if-is_empty.ensures) c.in-Ok.ensures.whole
+returns-in-Ok-clause-done g c = λ before holds _.
+    let served = c.in-Ok.ensures.whole before holds in
+    serves_last _ before served.0 c.args.pending.now _ _ (c.if-is_empty.ensures) served.2
 
 pub returns-in-Err-clause-prefix : goal.returns-in-Err-clause-prefix
-returns-in-Err-clause-prefix g c =
-    λ _. begins_last _ c.args.pending.now _ _ (c.if-is_empty.ensures) c.in-Err.ensures.prefix
+returns-in-Err-clause-prefix g c = λ before holds _.
+    begins_last _ before c.args.pending.now _ _ (c.if-is_empty.ensures) (c.in-Err.ensures.prefix before holds)
+
+pub returns-then-is_empty-clause-done : goal.returns-then-is_empty-clause-done
+returns-then-is_empty-clause-done g c = λ before holds _.
+    let none : c.args.pending.now ≡ [] =
+    empty_list c.args.pending.now (length c.args.pending.now) refl (sym c.if-is_empty.true ∙ c.is_empty.ensures) in
+    let here = outlets (g.K.Sink.written c.args.sink.now)
+    (g.D.Disk.history c.args.disk.now (g.D.Disk.attached c.args.disk.now)) in
+    let P : List ℕ → Type 0 = λ last. ServesLast (IsTrue (g.D.Disk.is_honest c.args.disk.now)) before last here here in
+    subst P (sym none) (serves_no_last _ before here (rests_of _ c.args.documents.now _ before c.requires.works holds))

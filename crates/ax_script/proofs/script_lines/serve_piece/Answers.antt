@@ -1,34 +1,95 @@
 -- The first line in the rest is served, or the rest has no newline.
-use Rattle.std.proofs.Common.{ℕ, List, sym, subst, arith}
+use Rattle.std.proofs.Common.{ℕ, ◌++◌, ◌∙◌, List, IsTrue, Bool, refl, sym, subst, arith}
+use Rattle.ax_container.specs.Container.{Container}
+use Rattle.ax_lines.specs.ScriptLines.{IsOneLine}
+use Rattle.ax_lines.proofs.Splits.{IsOneLine-append}
+use Rattle.ax_script.specs.Documents.{Holds, Works}
+use Rattle.ax_script.specs.Progress.{outlets, Serves, BeginsToServe, ServesLines}
 use Rattle.ax_script.proofs.ServedLines.{InPiece, piece_begins, piece_goes_on, piece_fails}
-use Rattle.ax_script.proofs.ServedLines.{piece_breaks_off}
+use Rattle.ax_script.proofs.ServedLines.{piece_ends, piece_breaks_off}
+use Rattle.ax_script.proofs.Holding.{rests_of}
 use Rattle.ax_script.proofs.script_lines.serve_piece.Goals as goal
 
 pub lines-init : goal.lines-init
 lines-init g c = record {
-  part = piece_begins _ _ c.args.piece.now _ c.requires;
-  faults =
-      omega arith;
+  part = λ before holds. (
+    before,
+    holds,
+    piece_begins _ before _ c.args.piece.now _ c.requires.line
+        (rests_of _ c.args.documents.now _ before c.requires.works holds),
+  );
+  line = c.requires.line;
+  works = c.requires.works;
+  disk_faults = omega arith;
+  sink_faults = omega arith;
+  attached = refl;
+  honest = refl;
 }
 
 pub lines-preserved : goal.lines-preserved
-lines-preserved g c =
-    let P : List ℕ → Type 0 = λ pending. InPiece c.args.documents.now c.serve_head.new.documents
-    c.args.pending.now.items pending c.args.piece.now c.in-Some.tail.now
-    (g.K.Sink.written c.args.sink.now) (g.K.Sink.written c.serve_head.new.sink) in
-    record {
-      part = subst P (sym c.in_default-serve_head.ensures.empty)
-          (piece_goes_on _ _ _ _ _ _ _ _ c.lines.invariant.part _ c.in-Some.head.now
-          c.in-Some.tail.now _ c.in-Some.ensures.split c.in-Some.ensures.line
-          c.in_default-serve_head.ensures.ok);
-      faults = omega (arith, c.lines.invariant.faults, c.in_default-serve_head.ensures.never_falls);
-    }
+lines-preserved g c = record {
+  part = λ before holds.
+      let p = c.lines.invariant.part before holds in
+      let S : Bool → Type 0 = λ honest. (now : Container) × Holds c.serve_head.new.documents now
+      × Serves (IsTrue honest) p.0 (c.lines.pending.items ++ c.in-Some.head.now) now
+      (outlets (g.K.Sink.written c.lines.sink) (g.D.Disk.history c.lines.disk (g.D.Disk.attached c.lines.disk)))
+      (outlets (g.K.Sink.written c.serve_head.new.sink)
+      (g.D.Disk.history c.serve_head.new.disk (g.D.Disk.attached c.serve_head.new.disk))) in
+      let served = subst S c.lines.invariant.honest (c.in_default-serve_head.ensures.ok p.0 p.1) in
+      let P : List ℕ → Type 0 = λ pending. InPiece (IsTrue (g.D.Disk.is_honest c.args.disk.now)) before served.0
+      c.args.pending.now.items pending c.args.piece.now c.in-Some.tail.now
+      (outlets (g.K.Sink.written c.args.sink.now)
+      (g.D.Disk.history c.args.disk.now (g.D.Disk.attached c.args.disk.now)))
+      (outlets (g.K.Sink.written c.serve_head.new.sink)
+      (g.D.Disk.history c.serve_head.new.disk (g.D.Disk.attached c.serve_head.new.disk))) in (
+        served.0,
+        served.1,
+        subst P (sym c.in_default-serve_head.ensures.empty)
+            (piece_goes_on _ before p.0 _ _ _ _ _ _ p.2 served.0 c.in-Some.head.now
+            c.in-Some.tail.now _ c.in-Some.ensures.split c.in-Some.ensures.line served.2),
+      );
+  line = subst IsOneLine (sym c.in_default-serve_head.ensures.empty) refl;
+  works = subst (λ honest. Works (IsTrue honest) c.serve_head.new.documents
+      (g.D.Disk.history c.serve_head.new.disk (g.D.Disk.attached c.serve_head.new.disk)))
+      (sym c.in_default-serve_head.ensures.honest) c.in_default-serve_head.ensures.works;
+  disk_faults = omega (arith, c.lines.invariant.disk_faults, c.in_default-serve_head.ensures.disk_faults);
+  sink_faults = omega (arith, c.lines.invariant.sink_faults, c.in_default-serve_head.ensures.sink_faults);
+  attached = c.in_default-serve_head.ensures.attached ∙ c.lines.invariant.attached;
+  honest = c.in_default-serve_head.ensures.honest ∙ c.lines.invariant.honest;
+}
 
 pub returns-in-Err-clause-err : goal.returns-in-Err-clause-err
-returns-in-Err-clause-err g c =
-    piece_fails _ _ _ _ _ _ _ _ c.lines.invariant.part c.in-Some.head.now c.in-Some.tail.now _
-    c.in-Some.ensures.split c.in-Some.ensures.line c.in-Err.ensures.err
+returns-in-Err-clause-err g c = λ before holds.
+    let p = c.lines.invariant.part before holds in
+    let S : Bool → Type 0 = λ honest.
+    BeginsToServe (IsTrue honest) p.0 (c.lines.pending.items ++ c.in-Some.head.now)
+    (outlets (g.K.Sink.written c.lines.sink) (g.D.Disk.history c.lines.disk (g.D.Disk.attached c.lines.disk)))
+    (outlets (g.K.Sink.written c.serve_head.new.sink)
+    (g.D.Disk.history c.serve_head.new.disk (g.D.Disk.attached c.serve_head.new.disk))) in
+    let begun = subst S c.lines.invariant.honest (c.in-Err.ensures.err p.0 p.1) in
+    piece_fails _ before p.0 _ _ _ _ _ _ p.2 c.in-Some.head.now c.in-Some.tail.now _
+    c.in-Some.ensures.split c.in-Some.ensures.line begun
+
+pub returns-in-Ok-clause-ok : goal.returns-in-Ok-clause-ok
+returns-in-Ok-clause-ok g c = λ before holds.
+    let p = c.lines.invariant.part before holds in
+    let P : List ℕ → Type 0 = λ pending. ServesLines (IsTrue (g.D.Disk.is_honest c.args.disk.now)) before
+    (c.args.pending.now.items ++ c.args.piece.now) p.0 pending
+    (outlets (g.K.Sink.written c.args.sink.now)
+    (g.D.Disk.history c.args.disk.now (g.D.Disk.attached c.args.disk.now)))
+    (outlets (g.K.Sink.written c.lines.sink) (g.D.Disk.history c.lines.disk (g.D.Disk.attached c.lines.disk))) in (
+      p.0,
+      p.1,
+      subst P (sym c.in-Ok.ensures.items)
+          (piece_ends _ before p.0 _ _ _ _ _ _ p.2 c.in_default.ensures.none),
+    )
+
+pub returns-in-Ok-clause-line : goal.returns-in-Ok-clause-line
+returns-in-Ok-clause-line g c =
+    subst IsOneLine (sym c.in-Ok.ensures.items)
+    (IsOneLine-append c.lines.pending.items c.lines.rest.now c.lines.invariant.line c.in_default.ensures.none)
 
 pub returns-in-Err-extend_from_slice-clause-err : goal.returns-in-Err-extend_from_slice-clause-err
-returns-in-Err-extend_from_slice-clause-err g c =
-    piece_breaks_off _ _ _ _ _ _ _ _ c.lines.invariant.part
+returns-in-Err-extend_from_slice-clause-err g c = λ before holds.
+    let p = c.lines.invariant.part before holds in
+    piece_breaks_off _ before p.0 _ _ _ _ _ _ p.2

@@ -1,13 +1,28 @@
 -- The lines in a prefix of the piece are served, and the rest is still to do.
-use Rattle.std.proofs.Common.{◌≤◌, length}
+use Rattle.std.proofs.Common.{◌≡◌, ◌≤◌, length, IsTrue}
+use Rattle.ax_container.specs.Container.{Container}
+use Rattle.ax_lines.specs.ScriptLines.{IsOneLine}
+use Rattle.ax_script.specs.Documents.{Holds, Works}
+use Rattle.ax_script.specs.Progress.{outlets}
 use Rattle.ax_script.proofs.ServedLines.{InPiece}
 use Rattle.ax_script.proofs.script_lines.serve_piece.Given as goal
 
 abbrev pub invariant-lines : goal.invariant-lines
 invariant-lines g l = record {
-  part : InPiece l.fn.documents l.documents l.fn.pending.items l.pending.items l.piece l.rest
-      (g.K.Sink.written l.fn.sink) (g.K.Sink.written l.sink);
-  faults : g.K.Sink.faults l.fn.sink ≤ g.K.Sink.faults l.sink;
+  part : (before : Container) → Holds l.fn.documents before
+      → (now : Container) × Holds l.documents now
+      × InPiece (IsTrue (g.D.Disk.is_honest l.fn.disk)) before now l.fn.pending.items l.pending.items
+      l.piece l.rest
+      (outlets (g.K.Sink.written l.fn.sink)
+      (g.D.Disk.history l.fn.disk (g.D.Disk.attached l.fn.disk)))
+      (outlets (g.K.Sink.written l.sink) (g.D.Disk.history l.disk (g.D.Disk.attached l.disk)));
+  line : IsOneLine l.pending.items;
+  works : Works (IsTrue (g.D.Disk.is_honest l.disk)) l.documents
+      (g.D.Disk.history l.disk (g.D.Disk.attached l.disk));
+  disk_faults : g.D.Disk.faults l.fn.disk ≤ g.D.Disk.faults l.disk;
+  sink_faults : g.K.Sink.faults l.fn.sink ≤ g.K.Sink.faults l.sink;
+  attached : g.D.Disk.attached l.disk ≡ g.D.Disk.attached l.fn.disk;
+  honest : g.D.Disk.is_honest l.disk ≡ g.D.Disk.is_honest l.fn.disk;
 }
 
 abbrev pub decreases-lines : goal.decreases-lines

@@ -1,76 +1,127 @@
 -- Each way to end, from how far the run has come.
-use Rattle.std.proofs.Common.{ℕ, List, [], take, sym, subst, arith}
+use Rattle.std.proofs.Common.{◌≡◌, ℕ, List, [], Bool, ◌++◌, ◌∙◌, IsTrue, take, refl, sym, subst, arith}
 use Rattle.std.specs.Io.KnownBytes.{Consumes}
-use Rattle.ax_script.specs.Progress.{ServesLast, BeginsLast, Progress}
+use Rattle.ax_container.specs.Container.{Container}
+use Rattle.ax_lines.specs.ScriptLines.{IsOneLine}
+use Rattle.ax_script.specs.Documents.{Holds, Works}
+use Rattle.ax_script.specs.Progress.{outlets, ServesLines, BeginsLines, ServesLast, BeginsLast, Progress}
 use Rattle.ax_script.proofs.Endings.{streams, progress_begins, progress_goes_on, ends_by_read_fault}
 use Rattle.ax_script.proofs.Endings.{ends_long, ends_in_piece, ends_at_end}
+use Rattle.ax_script.proofs.Holding.{rests_of}
 use Rattle.ax_script.proofs.script_lines.serve_source.Goals as goal
 
 pub pieces-init : goal.pieces-init
 pieces-init g c =
     let here = streams (g.S.Source.rest c.args.source.now) (g.K.Sink.written c.args.sink.now) in
-    let P : List ℕ → Type 0 = λ pending. Progress c.args.documents.now here here
-    c.args.documents.now pending 0 in
     record {
-      progress = subst P (sym c.new-pending.ensures.items)
-          (progress_begins c.args.documents.now here);
+      progress = λ before holds.
+          let P : List ℕ → Type 0 = λ pending. Progress (IsTrue (g.D.Disk.is_honest c.args.disk.now)) before here here
+          (g.D.Disk.history c.args.disk.now (g.D.Disk.attached c.args.disk.now))
+          (g.D.Disk.history c.args.disk.now (g.D.Disk.attached c.args.disk.now)) before pending 0 in (
+            before,
+            holds,
+            subst P (sym c.new-pending.ensures.items)
+                (progress_begins _ before here _ (rests_of _ c.args.documents.now _ before c.requires.works holds)),
+          );
+      line = subst IsOneLine (sym c.new-pending.ensures.items) refl;
+      works = c.requires.works;
       within = omega arith;
+      disk_faults = omega arith;
       source_faults = omega arith;
       sink_faults = omega arith;
+      attached = refl;
+      honest = refl;
     }
 
 pub returns-in_default-clause-script : goal.returns-in_default-clause-script
-returns-in_default-clause-script g c =
-    ends_by_read_fault _ _ _ _ _ _ c.pieces.invariant.progress
+returns-in_default-clause-script g c = λ before holds.
+    let p = c.pieces.invariant.progress before holds in
+    ends_by_read_fault _ before _ _ _ _ p.0 _ _ p.2
     (g.S.Source.rest c.read_some.new.self) c.in_default.ensures.failed c.pieces.invariant.within
 
 pub returns-then-count-eq0-clause-script : goal.returns-then-count-eq0-clause-script
-returns-then-count-eq0-clause-script g c =
+returns-then-count-eq0-clause-script g c = λ before holds.
+    let p = c.pieces.invariant.progress before holds in
     let nothing : Consumes (g.S.Source.rest c.pieces.source)
     (g.S.Source.rest c.read_some.new.self) []
     = let P : ℕ → Type 0 = λ n. Consumes (g.S.Source.rest c.pieces.source)
     (g.S.Source.rest c.read_some.new.self) (take n c.read_some.new.buf) in
     subst P c.if-count-eq0.true c.in-Ok.ensures.taken in
-    let Whole : List ℕ → Type 0 = λ last. ServesLast c.pieces.documents last
-    (g.K.Sink.written c.pieces.sink) (g.K.Sink.written c.serve_last.new.sink) in
-    let Prefix : List ℕ → Type 0 =
-    λ last. BeginsLast c.pieces.documents last (g.K.Sink.written c.pieces.sink)
-    (g.K.Sink.written c.serve_last.new.sink) in
-    ends_at_end _ _ _ _ _ _ c.pieces.invariant.progress _ _ c.serve_last.result nothing
+    let Whole : Bool → List ℕ → Type 0 = λ honest last. ServesLast (IsTrue honest) p.0 last
+    (outlets (g.K.Sink.written c.pieces.sink)
+    (g.D.Disk.history c.pieces.disk (g.D.Disk.attached c.pieces.disk)))
+    (outlets (g.K.Sink.written c.serve_last.new.sink)
+    (g.D.Disk.history c.serve_last.new.disk (g.D.Disk.attached c.serve_last.new.disk))) in
+    let Prefix : Bool → List ℕ → Type 0 = λ honest last. BeginsLast (IsTrue honest) p.0 last
+    (outlets (g.K.Sink.written c.pieces.sink)
+    (g.D.Disk.history c.pieces.disk (g.D.Disk.attached c.pieces.disk)))
+    (outlets (g.K.Sink.written c.serve_last.new.sink)
+    (g.D.Disk.history c.serve_last.new.disk (g.D.Disk.attached c.serve_last.new.disk))) in
+    ends_at_end _ before _ _ _ _ p.0 _ _ p.2 _ _ _ c.serve_last.result nothing
     (c.in-Ok.ensures.ended c.if-count-eq0.true
     (omega (arith, c.requires.some, c.pieces.auto.buffer, c.read_some.auto.buf)))
     c.pieces.invariant.within
-    (λ is. subst Whole c.as_slice.ensures.value (c.serve_last.ensures.done is))
-    (λ is. subst Prefix c.as_slice.ensures.value (c.serve_last.ensures.prefix is))
+    (λ is. subst (Whole (g.D.Disk.is_honest c.args.disk.now)) c.as_slice.ensures.value
+    (subst (λ b. Whole b c.as_slice.result.now) c.pieces.invariant.honest (c.serve_last.ensures.done p.0 p.1 is)))
+    (λ is. subst (Prefix (g.D.Disk.is_honest c.args.disk.now)) c.as_slice.ensures.value
+    (subst (λ b. Prefix b c.as_slice.result.now) c.pieces.invariant.honest (c.serve_last.ensures.prefix p.0 p.1 is)))
     c.serve_last.ensures.only
 
 pub
     returns-then-taken-gt-MOST_INPUT-clause-script
     : goal.returns-then-taken-gt-MOST_INPUT-clause-script
-returns-then-taken-gt-MOST_INPUT-clause-script g c =
-    ends_long _ _ _ _ _ _ c.pieces.invariant.progress _
+returns-then-taken-gt-MOST_INPUT-clause-script g c = λ before holds.
+    let p = c.pieces.invariant.progress before holds in
+    ends_long _ before _ _ _ _ p.0 _ _ p.2 _
     (take c.in-Ok.count c.read_some.new.buf) c.in-Ok.count c.in-Ok.ensures.taken
     (sym c.in-Ok.ensures.bound.1)
     c.if-taken-gt-MOST_INPUT.true
 
 pub returns-in-Err-clause-script : goal.returns-in-Err-clause-script
-returns-in-Err-clause-script g c =
-    ends_in_piece _ _ _ _ _ _ c.pieces.invariant.progress _ _
+returns-in-Err-clause-script g c = λ before holds.
+    let p = c.pieces.invariant.progress before holds in
+    let S : Bool → Type 0 = λ honest. BeginsLines (IsTrue honest) p.0
+    (c.pieces.pending.items ++ take c.in-Ok.count c.read_some.new.buf)
+    (outlets (g.K.Sink.written c.pieces.sink)
+    (g.D.Disk.history c.pieces.disk (g.D.Disk.attached c.pieces.disk)))
+    (outlets (g.K.Sink.written c.serve_piece-served.new.sink)
+    (g.D.Disk.history c.serve_piece-served.new.disk (g.D.Disk.attached c.serve_piece-served.new.disk))) in
+    ends_in_piece _ before _ _ _ _ p.0 _ _ p.2 _ _ _
     (take c.in-Ok.count c.read_some.new.buf) c.in-Ok.count c.in-Err.status c.in-Ok.ensures.taken
     (sym c.in-Ok.ensures.bound.1)
     c.if-taken-gt-MOST_INPUT.false
-    c.in-Err.ensures.err
+    (subst S c.pieces.invariant.honest (c.in-Err.ensures.err p.0 p.1))
     c.in-Err.ensures.only
 
 pub pieces-preserved : goal.pieces-preserved
 pieces-preserved g c = record {
-  progress = progress_goes_on _ _ _ _ _ _ c.pieces.invariant.progress _ _ _
-      (take c.in-Ok.count c.read_some.new.buf) _ c.in-Ok.count c.in-Ok.ensures.taken
-      (sym c.in-Ok.ensures.bound.1)
-      c.in_default-served.ensures.ok;
+  progress = λ before holds.
+      let p = c.pieces.invariant.progress before holds in
+      let S : Bool → Type 0 = λ honest. (now : Container) × Holds c.serve_piece-served.new.documents now
+      × ServesLines (IsTrue honest) p.0
+      (c.pieces.pending.items ++ take c.in-Ok.count c.read_some.new.buf) now c.serve_piece-served.new.pending.items
+      (outlets (g.K.Sink.written c.pieces.sink)
+      (g.D.Disk.history c.pieces.disk (g.D.Disk.attached c.pieces.disk)))
+      (outlets (g.K.Sink.written c.serve_piece-served.new.sink)
+      (g.D.Disk.history c.serve_piece-served.new.disk (g.D.Disk.attached c.serve_piece-served.new.disk))) in
+      let more = subst S c.pieces.invariant.honest (c.in_default-served.ensures.ok p.0 p.1) in (
+        more.0,
+        more.1,
+        progress_goes_on _ before _ _ _ _ p.0 _ _ p.2 _ _ _ more.0
+            (take c.in-Ok.count c.read_some.new.buf) _ c.in-Ok.count c.in-Ok.ensures.taken
+            (sym c.in-Ok.ensures.bound.1) more.2,
+      );
+  line = c.in_default-served.ensures.line;
+  works = subst (λ honest. Works (IsTrue honest) c.serve_piece-served.new.documents
+      (g.D.Disk.history c.serve_piece-served.new.disk (g.D.Disk.attached c.serve_piece-served.new.disk)))
+      (sym c.in_default-served.ensures.honest) c.in_default-served.ensures.works;
   within = c.if-taken-gt-MOST_INPUT.false;
+  disk_faults =
+      omega (arith, c.pieces.invariant.disk_faults, c.serve_piece-served.ensures.disk_faults);
   source_faults =
       omega (arith, c.pieces.invariant.source_faults, c.read_some.ensures.cause.never_falls);
   sink_faults =
-      omega (arith, c.pieces.invariant.sink_faults, c.serve_piece-served.ensures.never_falls);
+      omega (arith, c.pieces.invariant.sink_faults, c.serve_piece-served.ensures.sink_faults);
+  attached = c.in_default-served.ensures.attached ∙ c.pieces.invariant.attached;
+  honest = c.in_default-served.ensures.honest ∙ c.pieces.invariant.honest;
 }

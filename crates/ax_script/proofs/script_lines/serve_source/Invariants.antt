@@ -1,5 +1,8 @@
 -- What was taken so far is served, but for a pending piece without a newline.
-use Rattle.std.proofs.Common.{◌≤◌, ◌-◌}
+use Rattle.std.proofs.Common.{◌≡◌, ◌≤◌, ◌-◌, IsTrue}
+use Rattle.ax_container.specs.Container.{Container}
+use Rattle.ax_script.specs.Documents.{Holds, Works}
+use Rattle.ax_lines.specs.ScriptLines.{IsOneLine}
 use Rattle.ax_script.specs.Script.{most_input}
 use Rattle.ax_script.specs.Progress.{Progress}
 use Rattle.ax_script.proofs.Endings.{streams}
@@ -7,13 +10,23 @@ use Rattle.ax_script.proofs.script_lines.serve_source.Given as goal
 
 abbrev pub invariant-pieces : goal.invariant-pieces
 invariant-pieces g l = record {
-  progress : Progress l.fn.documents
+  progress : (before : Container) → Holds l.fn.documents before
+      → (now : Container) × Holds l.documents now
+      × Progress (IsTrue (g.D.Disk.is_honest l.fn.disk)) before
       (streams (g.S.Source.rest l.fn.source) (g.K.Sink.written l.fn.sink))
       (streams (g.S.Source.rest l.source) (g.K.Sink.written l.sink))
-      l.documents l.pending.items l.taken;
+      (g.D.Disk.history l.fn.disk (g.D.Disk.attached l.fn.disk))
+      (g.D.Disk.history l.disk (g.D.Disk.attached l.disk))
+      now l.pending.items l.taken;
+  line : IsOneLine l.pending.items;
+  works : Works (IsTrue (g.D.Disk.is_honest l.disk)) l.documents
+      (g.D.Disk.history l.disk (g.D.Disk.attached l.disk));
   within : l.taken ≤ most_input;
+  disk_faults : g.D.Disk.faults l.fn.disk ≤ g.D.Disk.faults l.disk;
   source_faults : g.S.Source.faults l.fn.source ≤ g.S.Source.faults l.source;
   sink_faults : g.K.Sink.faults l.fn.sink ≤ g.K.Sink.faults l.sink;
+  attached : g.D.Disk.attached l.disk ≡ g.D.Disk.attached l.fn.disk;
+  honest : g.D.Disk.is_honest l.disk ≡ g.D.Disk.is_honest l.fn.disk;
 }
 
 abbrev pub decreases-pieces : goal.decreases-pieces

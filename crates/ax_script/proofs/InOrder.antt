@@ -1,0 +1,285 @@
+-- The documents in the order of their numbers: those that are still to come behind a number.
+use Rattle.std.proofs.Common.{◌≡◌, ℕ, ◌<◌, ◌≤◌, true, false, cond, List, [], ◌∷◌, ◌++◌, map, length}
+use Rattle.std.proofs.Common.{find, Option, Some, None, is_some, refl, sym, ap, subst, ◌∙◌}
+use Rattle.std.proofs.Common.{inl, inr, arith}
+use Rattle.std.proofs.Common.{append_assoc, drop}
+use Rattle.std.proofs.lemmas.List.{length-map}
+use Rattle.std.specs.Prelude.{◌≢◌, option_map, nat_lt, if◌then◌else◌}
+use Rattle.std.specs.List.{list_any, flat_map, AllByRecursion}
+use Rattle.std.specs.Ordering.{nat_cmp, eq_by_cmp}
+use Rattle.std.specs.Str.{bytes_eq}
+use Rattle.std.specs.FinMap as finite
+use Rattle.std.proofs.lemmas.Bool.{cases_lt, lt-ltb, le-ltb}
+use Rattle.ax_tree.specs.CanonicalText.{canonical_text}
+use Rattle.ax_container.specs.Container.{Entry, Container, has_id, trees}
+use Rattle.ax_container.specs.Container.{NumbersRise, IdsAreDistinct, IsStored}
+use Rattle.ax_container.proofs.Ids.{same_from_eq}
+use Rattle.ax_container.proofs.Upserts.{or_none}
+use Rattle.ax_pages.specs.Contents.{Contents}
+use Rattle.ax_pages.proofs.LastPart.{same_number, other_number}
+use Rattle.ax_image.specs.StandsFor.{AreShown, ContentsStandFor}
+use Rattle.ax_image.proofs.Shown.{as_many}
+use Rattle.ax_machine.specs.ReplyTexts.{row_text}
+use Rattle.ax_store.specs.Listed.{IsNextAfter}
+
+-- the entries from the first on whose number is above
+abbrev pub above : ℕ → List Entry → List Entry
+above n [] = []
+above n (e ∷ es) = if nat_lt n e.number then e ∷ es else above n es
+
+stops : (n : ℕ) (e : Entry) (es : List Entry) → n < e.number → above n (e ∷ es) ≡ e ∷ es
+stops n e es lt = ap (λ b. if b then e ∷ es else above n es) (lt-ltb n e.number lt)
+
+skips : (n : ℕ) (e : Entry) (es : List Entry) → e.number ≤ n → above n (e ∷ es) ≡ above n es
+skips n e es le = ap (λ b. if b then e ∷ es else above n es) (le-ltb n e.number le)
+
+all_above : (n before next : ℕ) (es : List Entry) → n ≤ before → NumbersRise before es next
+    → above n es ≡ es
+all_above n before next [] le rise = refl
+all_above n before next (e ∷ es) le rise = stops n e es (omega (arith, rise.0))
+
+-- ---- pages
+
+found_here : (k : ℕ) (p : ℕ × List ℕ) (ps : List (ℕ × List ℕ)) → k ≡ p.0
+    → finite.find nat_cmp k (p ∷ ps) ≡ Some p.1
+found_here k p ps e = ap (λ b. if b then Some p.1 else finite.find nat_cmp k ps)
+    (ap (eq_by_cmp nat_cmp k) (sym e) ∙ same_number k)
+
+found_later : (k : ℕ) (p : ℕ × List ℕ) (ps : List (ℕ × List ℕ)) → k ≢ p.0
+    → finite.find nat_cmp k (p ∷ ps) ≡ finite.find nat_cmp k ps
+found_later k p ps apart = ap (λ b. if b then Some p.1 else finite.find nat_cmp k ps)
+    (other_number k p.0 apart)
+
+none_below : (k before next : ℕ) (pages : List (ℕ × List ℕ)) (entries : List Entry) → k ≤ before
+    → NumbersRise before entries next → AreShown pages entries → finite.find nat_cmp k pages ≡ None
+none_below k before next [] [] le rise shown = refl
+none_below k before next [] (e ∷ es) le rise shown = absurd shown
+none_below k before next (p ∷ ps) [] le rise shown = absurd shown
+none_below k before next (p ∷ ps) (e ∷ es) le rise shown =
+    let apart : k ≢ p.0 = omega (arith, rise.0, shown.0.number_is) in
+    found_later k p ps apart
+    ∙ none_below k e.number next ps es (omega (arith, rise.0)) rise.1 shown.1
+
+not_none : (o : Option (List ℕ)) → is_some o ≡ true → o ≡ None → ⊥
+not_none None is e = absurd cc
+not_none (Some x) is e = cc
+
+-- the next number, its entry, what comes behind it, and its page
+pub record Next (n k : ℕ) (pages : List (ℕ × List ℕ)) (entries : List Entry) : Type 0 where
+  pub entry : Entry
+  pub later : List Entry
+  pub number_is : k ≡ entry.number
+  pub here : above n entries ≡ entry ∷ later
+  pub left : above k entries ≡ later
+  pub policy : ℕ
+  pub payload : finite.find nat_cmp k pages ≡ Some (policy ∷ canonical_text entry.tree)
+
+behind : (n k : ℕ) (p : ℕ × List ℕ) (ps : List (ℕ × List ℕ)) (e : Entry) (es : List Entry)
+    → e.number ≤ n → n < k → p.0 ≡ e.number → Next n k ps es → Next n k (p ∷ ps) (e ∷ es)
+behind n k p ps e es le lt same found =
+    let apart : k ≢ p.0 = omega arith in
+    record {
+      entry = found.entry;
+      later = found.later;
+      number_is = found.number_is;
+      here = skips n e es le ∙ found.here;
+      left = skips k e es (omega arith) ∙ found.left;
+      policy = found.policy;
+      payload = found_later k p ps apart ∙ found.payload;
+    }
+
+module _ (n k next : ℕ) (p : ℕ × List ℕ) (ps : List (ℕ × List ℕ)) (e : Entry) (es : List Entry)
+    (rise : NumbersRise e.number es next) (shown : AreShown (p ∷ ps) (e ∷ es))
+    (below : n < e.number) (lt : n < k) (held : is_some (finite.find nat_cmp k (p ∷ ps)) ≡ true)
+    (least : (b : ℕ) → n < b → b < k → finite.find nat_cmp b (p ∷ ps) ≡ None) where
+  not_above : k ≤ e.number
+  not_above = elim (cases_lt e.number k) as (λ _. k ≤ e.number) [
+    | inl less ↦ absurd (not_none (finite.find nat_cmp e.number (p ∷ ps))
+        (ap is_some (found_here e.number p ps (sym shown.0.number_is))) (least e.number below less))
+    | inr le ↦ le
+  ]
+
+  not_below : e.number ≤ k
+  not_below = elim (cases_lt k e.number) as (λ _. e.number ≤ k) [
+    | inl less ↦ absurd (not_none (finite.find nat_cmp k (p ∷ ps)) held
+        (none_below k k next (p ∷ ps) (e ∷ es) (omega arith) (less, rise) shown))
+    | inr le ↦ le
+  ]
+
+  first : Next n k (p ∷ ps) (e ∷ es)
+  first =
+      let a : k ≤ e.number = not_above in
+      let b : e.number ≤ k = not_below in
+      record {
+        entry = e;
+        later = es;
+        number_is = omega arith;
+        here = stops n e es below;
+        left = skips k e es b ∙ all_above k e.number next es a rise;
+        policy = shown.0.policy;
+        payload = found_here k p ps (omega (arith, shown.0.number_is)) ∙ ap Some shown.0.payload_is;
+      }
+
+next_of : (n k before next : ℕ) (pages : List (ℕ × List ℕ)) (entries : List Entry)
+    → NumbersRise before entries next → AreShown pages entries → n < k
+    → is_some (finite.find nat_cmp k pages) ≡ true
+    → ((b : ℕ) → n < b → b < k → finite.find nat_cmp b pages ≡ None) → Next n k pages entries
+next_of n k before next [] [] rise shown lt held least = absurd cc
+next_of n k before next [] (e ∷ es) rise shown lt held least = absurd shown
+next_of n k before next (p ∷ ps) [] rise shown lt held least = absurd shown
+next_of n k before next (p ∷ ps) (e ∷ es) rise shown lt held least =
+    elim (cases_lt n e.number) as (λ _. Next n k (p ∷ ps) (e ∷ es)) [
+      | inl below ↦ first n k next p ps e es rise.1 shown below lt held least
+      | inr le ↦
+          let apart : k ≢ p.0 = omega (arith, shown.0.number_is) in
+          behind n k p ps e es le lt shown.0.number_is
+          (next_of n k e.number next ps es rise.1 shown.1 lt
+          (ap is_some (sym (found_later k p ps apart)) ∙ held)
+          (λ b low high.
+          let other : b ≢ p.0 = omega (arith, shown.0.number_is) in
+          sym (found_later b p ps other) ∙ least b low high))
+    ]
+
+none_above : (n : ℕ) (pages : List (ℕ × List ℕ)) (entries : List Entry) → AreShown pages entries
+    → ((b : ℕ) → n < b → finite.find nat_cmp b pages ≡ None) → above n entries ≡ []
+none_above n [] [] shown none = refl
+none_above n [] (e ∷ es) shown none = absurd shown
+none_above n (p ∷ ps) [] shown none = absurd shown
+none_above n (p ∷ ps) (e ∷ es) shown none =
+    elim (cases_lt n e.number) as (λ _. above n (e ∷ es) ≡ []) [
+      | inl below ↦ absurd (not_none (finite.find nat_cmp e.number (p ∷ ps))
+          (ap is_some (found_here e.number p ps (sym shown.0.number_is))) (none e.number below))
+      | inr le ↦ skips n e es le ∙ none_above n ps es shown.1
+          (λ b low.
+          let other : b ≢ p.0 = omega (arith, shown.0.number_is) in
+          sym (found_later b p ps other) ∙ none b low)
+    ]
+
+-- ---- rows
+
+abbrev pub rows_of : List Entry → List ℕ
+rows_of es = flat_map row_text (map canonical_text (map (λ (entry : Entry). entry.tree) es))
+
+one_row : (text row : List ℕ) (e : Entry) (later : List Entry) → row ≡ canonical_text e.tree
+    → text ++ rows_of (e ∷ later) ≡ (text ++ row_text row) ++ rows_of later
+one_row text row e later is =
+    ap (λ r. text ++ (row_text r ++ rows_of later)) (sym is)
+    ∙ sym (append_assoc text (row_text row) (rows_of later))
+
+-- ---- numbers of ids
+
+-- what the map shows beside an entry that is still to come
+abbrev pub number_or : Option Entry → Option ℕ → Option ℕ
+number_or None known = known
+number_or (Some e) known = Some e.number
+
+pub number_or-none : (found : Option Entry)
+    → number_or found None ≡ option_map (λ (e : Entry). e.number) found
+number_or-none None = refl
+number_or-none (Some e) = refl
+
+absent : (id : List ℕ) (es : List Entry) → list_any (has_id id) es ≡ false
+    → find (has_id id) es ≡ None
+absent id [] none = refl
+absent id (e ∷ es) none =
+    let parts = or_none (has_id id e) (list_any (has_id id) es) none in
+    ap (λ b. if b then Some e else find (has_id id) es) parts.0 ∙ absent id es parts.1
+
+one_number : (id : List ℕ) (e : Entry) (later : List Entry) (k : ℕ) (known : Option ℕ)
+    → k ≡ e.number → IdsAreDistinct (e ∷ later)
+    → number_or (find (has_id id) (e ∷ later)) known
+    ≡ number_or (find (has_id id) later) (cond (bytes_eq e.id id) (Some k) known)
+one_number id e later k known is distinct =
+    elim (bytes_eq e.id id) as (λ b. bytes_eq e.id id ≡ b
+    → number_or (if b then Some e else find (has_id id) later) known
+    ≡ number_or (find (has_id id) later) (cond b (Some k) known)) [
+      | true ↦ λ same.
+          let none : list_any (has_id id) later ≡ false =
+          ap (λ i. list_any (has_id i) later) (sym (same_from_eq e.id id same)) ∙ distinct.0 in
+          sym (ap (λ o. number_or o (Some k)) (absent id later none) ∙ ap Some is)
+      | false ↦ λ _. refl
+    ] refl
+
+distinct_above : (n : ℕ) (es : List Entry) → IdsAreDistinct es → IdsAreDistinct (above n es)
+distinct_above n [] distinct = tt
+distinct_above n (e ∷ es) distinct =
+    elim (nat_lt n e.number) as (λ b. IdsAreDistinct (if b then e ∷ es else above n es)) [
+      | true ↦ distinct
+      | false ↦ distinct_above n es distinct.1
+    ]
+
+stored_above : (n : ℕ) (es : List Entry) → AllByRecursion IsStored es
+    → AllByRecursion IsStored (above n es)
+stored_above n [] stored = tt
+stored_above n (e ∷ es) stored =
+    elim (nat_lt n e.number) as (λ b. AllByRecursion IsStored (if b then e ∷ es else above n es)) [
+      | true ↦ stored
+      | false ↦ stored_above n es stored.1
+    ]
+
+-- ---- of what stands for a container
+
+module _ (contents : Contents) (container : Container)
+    (stand : ContentsStandFor contents container) where
+  abbrev pages : List (ℕ × List ℕ)
+  pages = finite.entries contents.documents
+
+  pub next_entry : (n k : ℕ) → IsNextAfter contents.documents n k → Next n k pages container.entries
+  next_entry n k next = next_of n k 0 container.next_number pages container.entries
+      stand.sound.numbers stand.shown next.above
+      (ap is_some (sym (finite.get-entries contents.documents k)) ∙ next.held)
+      (λ b low high. sym (finite.get-entries contents.documents b) ∙ next.least b low high)
+
+  pub at_the_end : (n : ℕ) → ((b : ℕ) → n < b → finite.get contents.documents b ≡ None)
+      → above n container.entries ≡ []
+  at_the_end n none = none_above n pages container.entries stand.shown
+      (λ b low. sym (finite.get-entries contents.documents b) ∙ none b low)
+
+  pub at_the_start : above 0 container.entries ≡ container.entries
+  at_the_start = all_above 0 0 container.next_number container.entries (omega arith)
+      stand.sound.numbers
+
+  pub as_many_rows : finite.len contents.documents ≡ length (map canonical_text (trees container))
+  as_many_rows =
+      finite.len-entries contents.documents ∙ as_many pages container.entries stand.shown
+      ∙ sym (length-map container.entries (λ (entry : Entry). entry.tree))
+      ∙ sym (length-map (trees container) canonical_text)
+
+  -- the text that the next document's page has
+  pub text_here : (n k : ℕ) (text : Option (List ℕ)) (next : Next n k pages container.entries)
+      → text ≡ option_map (λ (payload : List ℕ). drop 1 payload) (finite.get contents.documents k)
+      → text ≡ Some (canonical_text next.entry.tree)
+  text_here n k text next is = is ∙ ap (option_map (λ (payload : List ℕ). drop 1 payload))
+      (finite.get-entries contents.documents k ∙ next.payload)
+
+  -- the next document is one that is stored
+  pub stored_here : (n k : ℕ) (next : Next n k pages container.entries) → IsStored next.entry
+  stored_here n k next = (subst (AllByRecursion IsStored) next.here
+      (stored_above n container.entries stand.sound.stored)).0
+
+  pub distinct_here : (n k : ℕ) (next : Next n k pages container.entries)
+      → IdsAreDistinct (next.entry ∷ next.later)
+  distinct_here n k next = subst IdsAreDistinct next.here
+      (distinct_above n container.entries stand.sound.distinct)
+
+  -- one row more
+  pub rows_on : (n k : ℕ) (text row : List ℕ) (next : Next n k pages container.entries)
+      → row ≡ canonical_text next.entry.tree
+      → rows_of container.entries ≡ text ++ rows_of (above n container.entries)
+      → rows_of container.entries ≡ (text ++ row_text row) ++ rows_of (above k container.entries)
+  rows_on n k text row next is known =
+      known ∙ ap (λ es. text ++ rows_of es) next.here ∙ one_row text row next.entry next.later is
+      ∙ ap (λ es. (text ++ row_text row) ++ rows_of es) (sym next.left)
+
+  -- one id more
+  pub numbers_on : (n k : ℕ) (id : List ℕ) (old new meant : Option ℕ)
+      (next : Next n k pages container.entries)
+      → new ≡ cond (bytes_eq next.entry.id id) (Some k) old
+      → number_or (find (has_id id) (above n container.entries)) old ≡ meant
+      → number_or (find (has_id id) (above k container.entries)) new ≡ meant
+  numbers_on n k id old new meant next is known =
+      ap (λ es. number_or (find (has_id id) es) new) next.left
+      ∙ ap (number_or (find (has_id id) next.later)) is
+      ∙ sym (one_number id next.entry next.later k old next.number_is (distinct_here n k next))
+      ∙ ap (λ es. number_or (find (has_id id) es) old) (sym next.here)
+      ∙ known

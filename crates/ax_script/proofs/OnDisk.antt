@@ -1,0 +1,173 @@
+-- What a run left on its disk, by the way in which it ended.
+use Rattle.std.proofs.Common.{◌≡◌, ◌⊎◌, inl, inr, ⊎_elim, ℕ, ◌≤◌, List, [], ◌∷◌, length, refl, sym}
+use Rattle.std.proofs.Common.{subst, ap, arith}
+use Rattle.ax_disk.specs.model.Image.{Image}
+use Rattle.ax_disk.specs.model.Pending.{MayLeave}
+use Rattle.ax_disk.specs.model.Moments.{History}
+use Rattle.ax_disk.specs.model.Stays.{Rests, SinceBarrier}
+use Rattle.ax_disk.specs.laws.MomentLaws.{progress_within, elapses_start, progress_stays}
+use Rattle.ax_disk.specs.laws.StageLaws.{barrier_progress}
+use Rattle.ax_disk.specs.laws.StaysLaws.{idles_start, rests_weaken}
+use Rattle.ax_store.proofs.StoreLemmas.{barrier_weaken}
+use Rattle.ax_faults.specs.Faults.{Rose}
+use Rattle.ax_container.specs.Container.{Container}
+use Rattle.ax_image.specs.StandsFor.{StandsFor}
+use Rattle.ax_machine.specs.Run.{Exchange, after_lines}
+use Rattle.ax_script.specs.declared.status.Status.{Status}
+use Rattle.ax_script.specs.declared.status.Status.TheVariants as status
+use Rattle.ax_script.specs.DiskScript.{IsStore, StandsAfter, KeepsAcknowledged, RunsOnDisk}
+use Rattle.ax_script.specs.Opening.{Refuses}
+use Rattle.ax_script.specs.Progress.{Shows, Reaches, EndsEarly, Ends, IsOfServing}
+use Rattle.ax_script.specs.Streams.{Streams}
+use Rattle.ax_script.proofs.DiskMoments.{reaches_keeps}
+use Rattle.ax_script.proofs.Endings.{EarlyRun, runs_early, runs_words, complete_of}
+use Rattle.ax_script.proofs.Opened.{of_name, idle_since, not_damaged, not_newer}
+
+-- ---- no line was served
+
+none_served : (before : Container) (run : List Exchange) → after_lines 0 before run ≡ before
+none_served before [] = refl
+none_served before (x ∷ xs) = refl
+
+begins : (before : Container) (run : List Exchange) (image : Image) → Shows before image
+    → StandsFor image (after_lines 0 before run)
+begins before run image shows = subst (StandsFor image) (sym (none_served before run)) shows
+
+begins_after : (before : Container) (run : List Exchange) (image : Image) → Shows before image
+    → StandsAfter before run 0 image
+begins_after before run image shows = inl (begins before run image shows)
+
+since_begins : (before : Container) (run : List Exchange) (entry exit : History)
+    → SinceBarrier entry exit (Shows before) → SinceBarrier entry exit (StandsAfter before run 0)
+since_begins before run entry exit since =
+    barrier_weaken entry exit (Shows before) (StandsAfter before run 0) (begins_after before run) since
+
+keeps_none : (before : Container) (run : List Exchange) (text : List ℕ) (image : Image) → run ≡ []
+    → Shows before image → KeepsAcknowledged before run text image
+keeps_none before run text image none shows = record {
+  count = 0;
+  within = omega arith;
+  stands = begins before run image shows;
+  acknowledged = λ lines are. omega (arith, are.within, ap length none);
+}
+
+-- the run ended before it took a line
+pub on_disk_early : (before : Container) (ended : Status) (at : Streams) (entry exit : History)
+    → EarlyRun before ended at → SinceBarrier entry exit (Shows before)
+    → RunsOnDisk before ended at at entry exit
+on_disk_early before ended at entry exit early since =
+    let script = early.script in
+    record {
+      script = script;
+      moments = barrier_progress entry exit exit (length script.run) (StandsAfter before script.run)
+          (since_begins before script.run entry exit since)
+          (progress_within exit exit 0 0 0 (length script.run) (StandsAfter before script.run)
+          (omega arith) (omega arith)
+          (progress_stays exit exit 0 (StandsAfter before script.run)
+          (elapses_start exit (λ _ image. StandsAfter before script.run 0 image))));
+      at_exit = ⊎_elim
+          (λ (may : Rests exit (MayLeave entry.unsynced)). inr (early.no_text, may))
+          (λ (shows : Rests exit (Shows before)). inl (rests_weaken exit (Shows before)
+              (KeepsAcknowledged before script.run script.text)
+              (λ image has. keeps_none before script.run script.text image early.no_line has) shows))
+          since.rests;
+    }
+
+-- it ended before it touched the disk
+pub on_disk_untouched : (before : Container) (ended : Status) (at : Streams) (entry : History)
+    → EarlyRun before ended at → RunsOnDisk before ended at at entry entry
+on_disk_untouched before ended at entry early =
+    on_disk_early before ended at entry entry early
+    (idle_since entry entry (Shows before) (idles_start entry))
+
+-- ---- the store was opened, and lines were served
+
+pub on_disk_served : (honest : Type 0) (before : Container) (ended : Status) (old new : Streams)
+    (entry mid exit : History) → honest → SinceBarrier entry mid (Shows before)
+    → Ends honest before ended old new mid exit → RunsOnDisk before ended old new entry exit
+on_disk_served honest before ended old new entry mid exit h since ends =
+    let script = ends.script in
+    record {
+      script = script;
+      moments = barrier_progress entry mid exit (length script.run) (StandsAfter before script.run)
+          (since_begins before script.run entry mid since) (ends.disk.moments h);
+      at_exit = inl (rests_weaken exit (Reaches before script.run script.text)
+          (KeepsAcknowledged before script.run script.text)
+          (reaches_keeps before script.run script.text) (ends.disk.rests h));
+    }
+
+-- the same of the store of a name, which is the one attached
+pub on_disk_named : (honest : Type 0) (before : Container) (ended : Status) (old new : Streams)
+    (entry mid exit : List ℕ → History) (name there now : List ℕ) → there ≡ name → now ≡ there
+    → honest → SinceBarrier (entry name) (mid name) (Shows before)
+    → Ends honest before ended old new (mid there) (exit now)
+    → RunsOnDisk before ended old new (entry name) (exit name)
+on_disk_named honest before ended old new entry mid exit name there now is still h since ends =
+    on_disk_served honest before ended old new (entry name) (mid name) (exit name) h since
+    (of_name (λ x y. Ends honest before ended old new x y) mid exit name there now is still ends)
+
+-- ---- the statuses of a run whose disk, source and sink did not fail
+
+-- a count that rose later has risen since
+pub rose_since : (first before now : ℕ) → first ≤ before → Rose before now → Rose first now
+rose_since first before now le rose = omega (arith, le, rose)
+
+
+-- a status of serving gives no cause in the store
+pub serving_refuses : (ended : Status) (old new : History) → IsOfServing ended → Refuses ended old new
+serving_refuses status.Done old new is = tt
+serving_refuses status.Words old new is = absurd is
+serving_refuses status.DiskFault old new is = tt
+serving_refuses status.ReadFault old new is = tt
+serving_refuses status.WriteFault old new is = tt
+serving_refuses (status.Damaged extent at) old new is = absurd is
+serving_refuses (status.Newer version) old new is = absurd is
+serving_refuses status.Memory old new is = tt
+serving_refuses status.Long old new is = tt
+
+pub serving_not_words : (ended : Status) → IsOfServing ended → ended ≡ status.Words → ⊥
+serving_not_words status.Words is e = absurd is
+serving_not_words status.Done is e = cc
+serving_not_words status.DiskFault is e = cc
+serving_not_words status.ReadFault is e = cc
+serving_not_words status.WriteFault is e = cc
+serving_not_words (status.Damaged extent at) is e = cc
+serving_not_words (status.Newer version) is e = cc
+serving_not_words status.Memory is e = cc
+serving_not_words status.Long is e = cc
+
+pub early_not_words : (ended : Status) → EndsEarly ended → ended ≡ status.Words → ⊥
+early_not_words status.Words is e = absurd is
+early_not_words status.Done is e = cc
+early_not_words status.DiskFault is e = cc
+early_not_words status.ReadFault is e = cc
+early_not_words status.WriteFault is e = cc
+early_not_words (status.Damaged extent at) is e = cc
+early_not_words (status.Newer version) is e = cc
+early_not_words status.Memory is e = cc
+early_not_words status.Long is e = cc
+
+-- over a store that stands for a container no run refuses it
+of_store : (before : Container) (ended : Status) (old new : History) → IsStore before old
+    → Refuses ended old new → (ended ≡ status.Words → ⊥) → IsOfServing ended
+of_store before status.Done old new store refuses other = tt
+of_store before status.Words old new store refuses other = absurd (other refl)
+of_store before status.DiskFault old new store refuses other = tt
+of_store before status.ReadFault old new store refuses other = tt
+of_store before status.WriteFault old new store refuses other = tt
+of_store before (status.Damaged extent at) old new store refuses other =
+    absurd (not_damaged old.reads store.reads.contents extent at store.reads.has refuses.0)
+of_store before (status.Newer version) old new store refuses other =
+    absurd (not_newer old.reads store.reads.contents version store.reads.has refuses.0)
+of_store before status.Memory old new store refuses other = tt
+of_store before status.Long old new store refuses other = tt
+
+pub completes : (DiskRose SourceRose SinkRose : Type 0) (before : Container) (ended : Status)
+    (old new : History) → IsStore before old → Refuses ended old new
+    → (ended ≡ status.Words → ⊥)
+    → (ended ≡ status.DiskFault → DiskRose) → (ended ≡ status.ReadFault → SourceRose)
+    → (ended ≡ status.WriteFault → SinkRose)
+    → (DiskRose → ⊥) → (SourceRose → ⊥) → (SinkRose → ⊥)
+    → (ended ≡ status.Done) ⊎ (ended ≡ status.Memory) ⊎ (ended ≡ status.Long)
+completes D R K before ended old new store refuses other disk read write =
+    complete_of D R K ended disk read write (of_store before ended old new store refuses other)

@@ -1,0 +1,18 @@
+use Rattle.std.proofs.Common.{◌≡◌, ◌-◌, ◌^◌, ℕ, List, find}
+use Rattle.std.specs.BTreeMap.{get_by_text}
+use Rattle.ax_container.specs.Container.{Container, has_id}
+use Rattle.ax_image.specs.StandsFor.{ContentsStandFor}
+use Rattle.ax_store.specs.Store.{store_contents}
+use Rattle.ax_script.specs.Documents.{number_in}
+use Rattle.ax_script.proofs.InOrder.{above, number_or}
+use Rattle.ax_script.proofs.opening.number_all.Given as goal
+
+abbrev pub decreases-loop-next : goal.decreases-loop-next
+decreases-loop-next l = 2 ^ 32 - l.number
+
+-- the map has the ids of the documents up to the number
+abbrev pub invariant-loop-next : goal.invariant-loop-next
+invariant-loop-next l = (container : Container)
+    → ContentsStandFor (store_contents l.store) container → (id : List ℕ)
+    → number_or (find (has_id id) (above l.number container.entries)) (get_by_text l.numbers id)
+    ≡ number_in id container

@@ -1,0 +1,111 @@
+//! Opening a store, and finding under which number each id stands.
+
+ghost use Rattle.std.specs.Prelude.{◌≡◌, ◌≤◌, Err, IsTrue, IfOk, IfErr, OnOk, Some, cond};
+ghost use Rattle.ax_faults.specs.Faults.{Rose};
+ghost use Rattle.ax_disk.specs.model.Stays.{SinceBarrier};
+ghost use Rattle.ax_container.specs.Container.{Container};
+ghost use Rattle.ax_image.specs.StandsFor.{ContentsStandFor};
+ghost use Rattle.ax_store.specs.Store.{store_contents};
+ghost use Rattle.std.specs.Prelude.{ℕ, List};
+ghost use Rattle.std.specs.BTreeMap.{get_by_text};
+ghost use Rattle.std.specs.Str.{bytes_eq};
+ghost use Rattle.ax_tree.specs.declared.tree.Tree.{Tree as TreeOf};
+ghost use Rattle.ax_tree.specs.Document.{document_id};
+ghost use Rattle.ax_text.specs.Reading.{reading, Stands};
+ghost use Rattle.ax_script.specs.Documents.{number_in};
+ghost use Rattle.ax_script.specs.DiskScript.{IsStore};
+ghost use Rattle.ax_script.specs.Documents.{Holds, Works};
+ghost use Rattle.ax_script.specs.Opening.{Refuses};
+ghost use Rattle.ax_script.specs.Progress.{Shows, EndsEarly};
+
+use crate::documents::Documents;
+use crate::status::Status;
+use ax_disk::Disk;
+use ax_store::{Store, StoreFault};
+use ax_text::{TextFault, read_tree};
+use ax_tree::{Memory, id_of};
+use std::alloc::Global;
+use std::collections::BTreeMap;
+
+/// Opens the store of a name. Each document's text is read as JSON once; one that is no document is
+/// under no id.
+pub(crate) fn open_documents<D: Disk>(
+    alloc: Global,
+    disk: &mut D,
+    name: &str,
+) -> Result<Documents, Status>
+    ensures works { IfOk result (λ documents. Works (IsTrue (D.is_honest disk.old)) documents
+        (D.history disk.new (D.attached disk.new))) }
+    ensures attached { OnOk result (D.attached disk.new ≡ D.store_named name.now) }
+    ensures holds { IsTrue (D.is_honest disk.old) → (before : Container)
+        → IsStore before (D.history disk.old (D.store_named name.now)) → IfOk result (λ documents. Holds documents before) }
+    ensures any_moment { IsTrue (D.is_honest disk.old) → (before : Container)
+        → IsStore before (D.history disk.old (D.store_named name.now))
+        → SinceBarrier (D.history disk.old (D.store_named name.now)) (D.history disk.new (D.store_named name.now)) (Shows before) }
+    ensures tells { IsTrue (D.is_honest disk.old) → IfErr result (λ status. Refuses status
+        (D.history disk.old (D.store_named name.now)) (D.history disk.new (D.store_named name.now))) }
+    ensures only { IfErr result EndsEarly }
+    ensures cause { result ≡ Err Status.DiskFault → Rose (D.faults disk.old) (D.faults disk.new) }
+    ensures never_falls { D.faults disk.old ≤ D.faults disk.new }
+    ensures honest { D.is_honest disk.new ≡ D.is_honest disk.old }
+{
+    let Ok(()) = disk.attach(name) else {
+        return Err(Status::DiskFault);
+    };
+    match Store::open_store(alloc, disk) {
+        Ok(store) => number_all(alloc, store),
+        Err(StoreFault::Disk) => Err(Status::DiskFault),
+        Err(StoreFault::Damaged { extent, at }) => Err(Status::Damaged { extent, at }),
+        Err(StoreFault::Newer { version }) => Err(Status::Newer { version }),
+        Err(StoreFault::Memory) => Err(Status::Memory),
+    }
+}
+
+/// Finds under which number each id of an open store stands.
+fn number_all(alloc: Global, store: Store) -> Result<Documents, Status>
+    ensures store { IfOk result (λ documents. documents.store ≡ store) }
+    ensures numbers { (container : Container) → ContentsStandFor (store_contents store) container
+        → IfOk result (λ documents. (id : List ℕ) → get_by_text documents.numbers id ≡ number_in id container) }
+    ensures only { IfErr result (λ status. status ≡ Status.Memory) }
+{
+    let mut numbers = BTreeMap::new(alloc);
+    let mut number = 0;
+    while let Some(next) = store.next_document(number) {
+        number = next;
+        let Some(text) = store.text_of(number) else {
+            continue;
+        };
+        let Ok(()) = put_id(alloc, &mut numbers, number, text) else {
+            return Err(Status::Memory);
+        };
+    }
+    Ok(Documents {
+        store,
+        numbers,
+        alloc,
+    })
+}
+
+/// Puts the number under the id of the document that the text stands for.
+fn put_id(
+    alloc: Global,
+    numbers: &mut BTreeMap<String, u32>,
+    number: u32,
+    text: &[u8],
+) -> Result<(), Memory>
+    ensures { (tree : TreeOf) → (id : List ℕ) → reading text.now ≡ Stands tree → document_id tree ≡ Some id
+        → OnOk result ((other : List ℕ) → get_by_text numbers.new other
+        ≡ cond (bytes_eq id other) (Some number) (get_by_text numbers.old other)) }
+{
+    let tree = match read_tree(alloc, text) {
+        Ok(tree) => tree,
+        Err(TextFault::Memory) => return Err(Memory),
+        Err(_) => return Ok(()),
+    };
+    let Some(id) = id_of(&tree) else {
+        return Ok(());
+    };
+    let key = String::from_str(alloc, id.as_str())?;
+    numbers.insert(key, number)?;
+    Ok(())
+}
