@@ -1,12 +1,12 @@
 //! Opening a store.
 
-ghost use Rattle.std.specs.Prelude.{◌≡◌, ℕ, List, IsTrue};
+ghost use Rattle.std.specs.Prelude.{◌≡◌, ℕ, List, IsTrue, IfOk, false};
 ghost use Rattle.ax_disk.specs.model.Stays.{SinceBarrier};
 ghost use Rattle.ax_pages.specs.Contents.{Contents};
 ghost use Rattle.ax_pages.specs.HasContents.{HasContents};
 ghost use Rattle.ax_log.specs.Opening.{Keeps};
 ghost use Rattle.ax_store.specs.Faults.{IsRefused, HasDiskCause};
-ghost use Rattle.ax_store.specs.Store.{TellsStore};
+ghost use Rattle.ax_store.specs.Store.{TellsStore, store_failed};
 
 use crate::fault::{StoreFault, store_fault};
 use crate::load::load;
@@ -25,6 +25,7 @@ impl Store {
     pub fn open_store<D: Disk>(alloc: Global, disk: &mut D) -> Result<Store, StoreFault>
         ensures tells { IsTrue (D.is_honest disk.old)
             → TellsStore result (D.history disk.old (D.attached disk.old)).reads (D.history disk.new (D.attached disk.new)) }
+        ensures works { IfOk result (λ store. store_failed store ≡ false) }
         ensures refused { IsTrue (D.is_honest disk.old) → IsRefused result
             → Keeps (D.history disk.old (D.attached disk.old)) (D.history disk.new (D.attached disk.new)) }
 
