@@ -58,8 +58,13 @@ len_past a (x ∷ xs) later m =
     let same : length (concat (take (length (x ∷ xs) + m) (texts a (x ∷ xs ++ later))))
     ≡ length (first ++ concat (take (length xs + m) (texts next (xs ++ later)))) =
     ap (λ k. length (concat (take k (texts a (x ∷ xs ++ later))))) more in
-    omega (arith, same, length-append first (concat (take (length xs + m) (texts next (xs ++ later)))),
-        length-append first (text_of next xs), len_past next xs later m)
+    omega (
+      arith,
+      same,
+      length-append first (concat (take (length xs + m) (texts next (xs ++ later)))),
+      length-append first (text_of next xs),
+      len_past next xs later m,
+    )
 
 len_within : (a : Container) (run later : List Exchange) (m : ℕ) → m ≤ length run
     → concat (take m (texts a (run ++ later))) ≡ concat (take m (texts a run))
@@ -105,11 +110,11 @@ stands_longer a run later n image from to (inl stands) =
 stands_longer a run later n image from to (inr stands) =
     ⊎_elim
     (λ (within : suc n ≤ length run).
-        inr (subst (StandsFor image) (sym (after_within a run later (suc n) within)) stands))
+    inr (subst (StandsFor image) (sym (after_within a run later (suc n) within)) stands))
     (λ (at_end : length run < suc n).
-        inl (subst (StandsFor image)
-        (after_all a run (suc n) (omega (arith, at_end)) ∙ sym (after_all a run n (omega (arith, at_end)))
-        ∙ sym (after_within a run later n to)) stands))
+    inl (subst (StandsFor image)
+    (after_all a run (suc n) (omega (arith, at_end)) ∙ sym (after_all a run n (omega (arith, at_end)))
+    ∙ sym (after_within a run later n to)) stands))
     (up_to_or_after (suc n) (length run))
 
 stands_past : (a : Container) (run later : List Exchange) (n : ℕ) (image : Image)
@@ -216,14 +221,14 @@ enough_longer : (a : Container) (run later : List Exchange) (text : List ℕ) (c
 enough_longer a run later text count prefix enough lines le short =
     ⊎_elim
     (λ (within : lines ≤ length run).
-        enough lines within (omega (arith, short, ap length (len_within a run later lines within))))
+    enough lines within (omega (arith, short, ap length (len_within a run later lines within))))
     (λ (past : length run < lines).
-        let m : ℕ = lines - length run in
-        let is : lines ≡ length run + m = omega (arith, past) in
-        let some : 0 < length (concat (take m (texts (after a run) later))) =
-        some_text (after a run) later m (omega (arith, past)) (omega (arith, past, le, length-append run later)) in
-        let len = ap (λ k. length (concat (take k (texts a (run ++ later))))) is ∙ len_past a run later m in
-        absurd (omega (arith, short, prefix, some, len)))
+    let m : ℕ = lines - length run in
+    let is : lines ≡ length run + m = omega (arith, past) in
+    let some : 0 < length (concat (take m (texts (after a run) later))) =
+    some_text (after a run) later m (omega (arith, past)) (omega (arith, past, le, length-append run later)) in
+    let len = ap (λ k. length (concat (take k (texts a (run ++ later))))) is ∙ len_past a run later m in
+    absurd (omega (arith, short, prefix, some, len)))
     (up_to_or_after lines (length run))
 
 pub reaches_longer : (a : Container) (run later : List Exchange) (text : List ℕ) (image : Image)
@@ -247,12 +252,12 @@ enough_past a run later text other count whole enough lines le short =
     ⊎_elim
     (λ (within : lines ≤ length run). omega (arith, within))
     (λ (past : length run < lines).
-        let m : ℕ = lines - length run in
-        let is : lines ≡ length run + m = omega (arith, past) in
-        let len = ap (λ k. length (concat (take k (texts a (run ++ later))))) is ∙ len_past a run later m in
-        let there = enough m (omega (arith, le, past, length-append run later))
-        (omega (arith, short, whole, len, length-append text other)) in
-        omega (arith, there, is))
+    let m : ℕ = lines - length run in
+    let is : lines ≡ length run + m = omega (arith, past) in
+    let len = ap (λ k. length (concat (take k (texts a (run ++ later))))) is ∙ len_past a run later m in
+    let there = enough m (omega (arith, le, past, length-append run later))
+    (omega (arith, short, whole, len, length-append text other)) in
+    omega (arith, there, is))
     (up_to_or_after lines (length run))
 
 pub reaches_past : (a b : Container) (run later : List Exchange) (text other : List ℕ) (image : Image)
@@ -275,8 +280,11 @@ reaches_keeps a run text image r = record {
   within = r.within;
   stands = r.stands;
   acknowledged = λ lines are. r.enough lines are.within
-      (omega (arith, ap length are.written,
-      length-append (concat (take lines (texts a run))) are.rest));
+      (omega (
+        arith,
+        ap length are.written,
+        length-append (concat (take lines (texts a run))) are.rest,
+      ));
 }
 
 -- ---- the parts of a run on the disk

@@ -156,22 +156,25 @@ module _ (honest : Type 0) where
     pub ends_by_read_fault : (remaining : Option (List ℕ)) → Keeps new.remaining remaining
         → count ≤ most_input
         → Ends honest before status.ReadFault old (streams remaining new.written) entry here
-    ends_by_read_fault remaining kept within = record { script = record {
-      taken = p.taken;
-      lines = p.lines;
-      last = pending;
-      run = p.run;
-      text = p.text;
-      moves =
-          record {
-            consumed = Consumes-kept old.remaining new.remaining remaining p.taken
-                p.moves.consumed kept;
-            appended = p.moves.appended;
-          };
-      split = p.split;
-      is_text = p.answers;
-      long = not_long status.ReadFault p.taken (omega (arith, within, p.counted)) (λ e. cc);
-    }; disk = all_behind; }
+    ends_by_read_fault remaining kept within = record {
+      script = record {
+        taken = p.taken;
+        lines = p.lines;
+        last = pending;
+        run = p.run;
+        text = p.text;
+        moves =
+            record {
+              consumed = Consumes-kept old.remaining new.remaining remaining p.taken
+                  p.moves.consumed kept;
+              appended = p.moves.appended;
+            };
+        split = p.split;
+        is_text = p.answers;
+        long = not_long status.ReadFault p.taken (omega (arith, within, p.counted)) (λ e. cc);
+      };
+      disk = all_behind;
+    }
 
     -- more was taken than one run takes
     pub ends_long : (remaining : Option (List ℕ)) (piece : List ℕ) (n : ℕ)
@@ -181,23 +184,26 @@ module _ (honest : Type 0) where
         let later = there_are_lines (pending ++ piece) in
         let longer = begins_more before p.lines later.0 p.run p.text
         (BeginsToAnswer-all before p.lines p.run p.text p.answers) in
-        record { script = record {
-          taken = p.taken ++ piece;
-          lines = p.lines ++ later.0;
-          last = later.1;
-          run = p.run ++ longer.0;
-          text = p.text;
-          moves =
-              record {
-                consumed = Consumes-trans old.remaining new.remaining remaining p.taken piece
-                    p.moves.consumed consumed;
-                appended = p.moves.appended;
-              };
-          split = AreLines-more p.taken piece p.lines later.0 pending later.1 p.split later.2;
-          is_text = inl longer.1;
-          long =
-              ((λ _. omega (arith, more, size, p.counted, length-append p.taken piece)), (λ _. refl));
-        }; disk = breaks_off_longer honest before p.run longer.0 p.text entry here whole_len all_behind; }
+        record {
+          script = record {
+            taken = p.taken ++ piece;
+            lines = p.lines ++ later.0;
+            last = later.1;
+            run = p.run ++ longer.0;
+            text = p.text;
+            moves =
+                record {
+                  consumed = Consumes-trans old.remaining new.remaining remaining p.taken piece
+                      p.moves.consumed consumed;
+                  appended = p.moves.appended;
+                };
+            split = AreLines-more p.taken piece p.lines later.0 pending later.1 p.split later.2;
+            is_text = inl longer.1;
+            long =
+                ((λ _. omega (arith, more, size, p.counted, length-append p.taken piece)), (λ _. refl));
+          };
+          disk = breaks_off_longer honest before p.run longer.0 p.text entry here whole_len all_behind;
+        }
 
     -- the serving of a piece broke off
     record_of_break : (remaining written : Option (List ℕ)) (exit : History) (piece : List ℕ) (n : ℕ) (ended : Status)
@@ -209,28 +215,30 @@ module _ (honest : Type 0) where
         (p.text ++ begun.text))
         → (ended ≡ status.Long → ⊥) → Ends honest before ended old (streams remaining written) entry exit
     record_of_break remaining written exit piece n ended consumed size within begun is_text other =
-        record { script = record {
-          taken = p.taken ++ piece;
-          lines = p.lines ++ begun.lines;
-          last = begun.last;
-          run = p.run ++ begun.run;
-          text = p.text ++ begun.text;
-          moves = record {
-            consumed = Consumes-trans old.remaining new.remaining remaining p.taken piece p.moves.consumed
-                consumed;
-            appended = Appends-trans old.written new.written written p.text begun.text p.moves.appended
-                begun.appended;
+        record {
+          script = record {
+            taken = p.taken ++ piece;
+            lines = p.lines ++ begun.lines;
+            last = begun.last;
+            run = p.run ++ begun.run;
+            text = p.text ++ begun.text;
+            moves = record {
+              consumed = Consumes-trans old.remaining new.remaining remaining p.taken piece p.moves.consumed
+                  consumed;
+              appended = Appends-trans old.written new.written written p.text begun.text p.moves.appended
+                  begun.appended;
+            };
+            split = AreLines-more p.taken piece p.lines begun.lines pending begun.last p.split begun.split;
+            is_text =
+                is_text
+                (BeginsToAnswer-append before now p.lines begun.lines p.run begun.run p.text begun.text
+                p.answers p.stands begun.answers);
+            long = not_long ended (p.taken ++ piece)
+                (omega (arith, within, size, p.counted, length-append p.taken piece)) other;
           };
-          split = AreLines-more p.taken piece p.lines begun.lines pending begun.last p.split begun.split;
-          is_text =
-              is_text
-              (BeginsToAnswer-append before now p.lines begun.lines p.run begun.run p.text begun.text
-              p.answers p.stands begun.answers);
-          long = not_long ended (p.taken ++ piece)
-              (omega (arith, within, size, p.counted, length-append p.taken piece)) other;
-        };
-        disk = breaks_off_after honest before now p.run begun.run p.text begun.text entry here exit
-            p.stands p.answers.replies p.disk begun.disk; }
+          disk = breaks_off_after honest before now p.run begun.run p.text begun.text entry here exit
+              p.stands p.answers.replies p.disk begun.disk;
+        }
 
     pub ends_in_piece : (remaining written : Option (List ℕ)) (exit : History) (piece : List ℕ) (n : ℕ)
         (ended : Status) → Consumes new.remaining remaining piece → length piece ≡ n

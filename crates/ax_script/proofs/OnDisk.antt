@@ -68,8 +68,8 @@ on_disk_early before ended at entry exit early since =
       at_exit = ⊎_elim
           (λ (may : Rests exit (MayLeave entry.unsynced)). inr (early.no_text, may))
           (λ (shows : Rests exit (Shows before)). inl (rests_weaken exit (Shows before)
-              (KeepsAcknowledged before script.run script.text)
-              (λ image has. keeps_none before script.run script.text image early.no_line has) shows))
+          (KeepsAcknowledged before script.run script.text)
+          (λ image has. keeps_none before script.run script.text image early.no_line has) shows))
           since.rests;
     }
 
@@ -111,7 +111,6 @@ on_disk_named honest before ended old new entry mid exit name there now is still
 -- a count that rose later has risen since
 pub rose_since : (first before now : ℕ) → first ≤ before → Rose before now → Rose first now
 rose_since first before now le rose = omega (arith, le, rose)
-
 
 -- a status of serving gives no cause in the store
 pub serving_refuses : (ended : Status) (old new : History) → IsOfServing ended → Refuses ended old new

@@ -46,8 +46,8 @@ within_creating next policy tree contents some full _ small given few left =
     let with_meta : Contents = record contents { meta = Some (meta_bytes (next + 1) policy) } in
     let fits = meta_fits (next + 1) policy contents (omega arith) (omega (arith, left)) small given in
     let room = second_or (finite.contains_key contents.documents next)
-        (nat_lt (finite.len contents.documents) most_documents)
-        (lt-ltb (finite.len contents.documents) most_documents few) in (
+    (nat_lt (finite.len contents.documents) most_documents)
+    (lt-ltb (finite.len contents.documents) most_documents few) in (
       with_document with_meta next policy tree,
       ap (λ b. option_and_then (after_parts (document_part next policy tree ∷ []))
           (if b then Some with_meta else None)) fits
@@ -211,7 +211,7 @@ pub within_next : (next policy : ℕ) (tree : Tree) (contents : Contents) → 0 
     → is_given policy contents ≡ true → AreWithin (creating_parts next policy tree) contents
 within_next next policy tree contents some full is small given =
     let parts = or_none (nat_le most_documents (finite.len contents.documents))
-        (nat_le last_number (next_number contents)) full in
+    (nat_le last_number (next_number contents)) full in
     within_creating next policy tree contents some full refl small given
     (leb-false most_documents (finite.len contents.documents) parts.0)
     (omega (arith, leb-false last_number (next_number contents) parts.1, is))

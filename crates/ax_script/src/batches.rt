@@ -19,7 +19,12 @@ const META: u8 = 1;
 const DOCUMENT: u8 = 3;
 
 /// The sealed batch by which a document that is held gets a tree.
-pub(crate) fn replacing(alloc: Global, number: u32, policy: u8, tree: &Tree) -> Result<Batch, Memory>
+pub(crate) fn replacing(
+    alloc: Global,
+    number: u32,
+    policy: u8,
+    tree: &Tree,
+) -> Result<Batch, Memory>
     requires { length (canonical_text tree.now) ≤ most_bytes }
     ensures parts { IfOk result (λ batch. batch_parts batch ≡ replacing_parts number policy tree.now) }
     ensures sealed { IfOk result (λ batch. is_sealed batch ≡ true) }
@@ -27,7 +32,14 @@ pub(crate) fn replacing(alloc: Global, number: u32, policy: u8, tree: &Tree) -> 
     let payload = document_payload(alloc, policy, tree)?;
     let payload = payload.as_slice();
     let mut batch = Batch::begin(alloc);
-    batch.add(alloc, Part { kind: DOCUMENT, key: number, payload })?;
+    batch.add(
+        alloc,
+        Part {
+            kind: DOCUMENT,
+            key: number,
+            payload,
+        },
+    )?;
     batch.seal(alloc)
 }
 
@@ -42,8 +54,22 @@ pub(crate) fn creating(alloc: Global, number: u32, policy: u8, tree: &Tree) -> R
     let payload = payload.as_slice();
     let meta = meta_payload(number + 1, policy);
     let mut batch = Batch::begin(alloc);
-    batch.add(alloc, Part { kind: META, key: 0, payload: &meta })?;
-    batch.add(alloc, Part { kind: DOCUMENT, key: number, payload })?;
+    batch.add(
+        alloc,
+        Part {
+            kind: META,
+            key: 0,
+            payload: &meta,
+        },
+    )?;
+    batch.add(
+        alloc,
+        Part {
+            kind: DOCUMENT,
+            key: number,
+            payload,
+        },
+    )?;
     batch.seal(alloc)
 }
 

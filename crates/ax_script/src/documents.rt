@@ -150,12 +150,7 @@ impl Documents {
     }
 
     /// Creates a document of an id under the next number.
-    fn create<D: Disk>(
-        &mut self,
-        disk: &mut D,
-        id: &str,
-        tree: &Tree,
-    ) -> Result<(), UpsertFault>
+    fn create<D: Disk>(&mut self, disk: &mut D, id: &str, tree: &Tree) -> Result<(), UpsertFault>
         requires storable { IsStorable tree.now }
         requires works { Works (IsTrue (D.is_honest disk.old)) self.old (D.history disk.old (D.attached disk.old)) }
         ensures tells { (before : Container) → Holds self.old before → document_id tree.now ≡ Some id.now

@@ -111,7 +111,14 @@ fn serve<D: Disk, S: Source, K: Sink>(
     };
     match open_documents(alloc, disk, name) {
         Ok(mut documents) => {
-            serve_source(alloc, &mut documents, disk, source, sink, buffer.as_mut_slice())
+            serve_source(
+                alloc,
+                &mut documents,
+                disk,
+                source,
+                sink,
+                buffer.as_mut_slice(),
+            )
         }
         Err(status) => status,
     }

@@ -1,4 +1,4 @@
-mod documents;
+mod disks;
 mod faults;
 mod functions;
 mod lines;

@@ -6,9 +6,12 @@
 
 ghost use Rattle.std.specs.Prelude.{◌≡◌, ◌≢◌, ◌<◌};
 
+mod file_disk;
+mod store_files;
+
 use ax_base::{StdSink, StdSource, Steps};
-use ax_disk::DeadDisk;
 use ax_script::{Status, run};
+use file_disk::FileDisk;
 use std::env;
 use std::io::ErrorKind;
 use std::marker::Brand;
@@ -44,7 +47,7 @@ fn run_here<L: Ledger>(rt: &HostRuntime, words: &[String], blank: Blank) -> Stat
     requires parts { blank.parts ≡ L.parts }
     requires some { 0 < blank.parts }
 {
-    let mut disk = DeadDisk::new();
+    let mut disk = FileDisk::new(*rt);
     let mut source = StdSource::new(rt.stdin());
     let mut sink = StdSink::new(rt.stdout());
     let mut steps = Steps::<L>::begin(blank);
@@ -64,8 +67,9 @@ fn main(rt: HostRuntime) -> ExitCode {
         Err(status) => status,
     };
     if status != Status::Done {
-        let text = status.text();
-        let _ = eprintln!(rt; "{text}");
+        if let Ok(text) = status.text(rt.alloc()) {
+            let _ = eprintln!(rt; "{text}");
+        }
     }
     ExitCode::from(status.code())
 }

@@ -1,7 +1,7 @@
 ghost use Rattle.std.specs.Prelude.{◌≡◌, ◌<◌, Some};
 
 use ax_base::{Failed, MemSink, MemSource, Source, Steps};
-use ax_disk::DeadDisk;
+use ax_disk::{Disk, MemDisk};
 use ax_script::{Status, run};
 use std::alloc::{AllocError, Global};
 use std::marker::Brand;
@@ -10,6 +10,9 @@ use std::test::Fail;
 
 /// Room for the output of every script here.
 pub const ROOM: usize = 1 << 20;
+
+/// How many calls a disk has for every script here.
+pub const CALLS: usize = 4096;
 
 /// A source that gives one byte at each read.
 #[derive(Drop)]
@@ -34,10 +37,17 @@ impl Source for OneByteSource {
     }
 }
 
-/// Calls `run` over a disk on which each call fails, with a counter that begins at 0.
-fn run_counted<S: Source, L: Ledger>(
+/// A fresh disk in memory, with room for every script here.
+pub fn fresh_disk(alloc: Global) -> Result<MemDisk, Fail> {
+    let (root, a, b) = (Vec::new(alloc), Vec::new(alloc), Vec::new(alloc));
+    Ok(MemDisk::make(alloc, root, a, b, ROOM, CALLS, Vec::new(alloc))?)
+}
+
+/// Calls `run` with a counter that begins at 0.
+fn run_counted<D: Disk, S: Source, L: Ledger>(
     alloc: Global,
     words: &[String],
+    disk: &mut D,
     source: &mut S,
     sink: &mut MemSink,
     blank: Blank,
@@ -46,15 +56,15 @@ fn run_counted<S: Source, L: Ledger>(
     requires parts { blank.parts ≡ L.parts }
     requires some { 0 < blank.parts }
 {
-    let mut disk = DeadDisk::new();
     let mut steps = Steps::<L>::begin(blank);
-    run(alloc, words, &mut disk, source, sink, &mut steps)
+    run(alloc, words, disk, source, sink, &mut steps)
 }
 
 /// The status of a call of `run` with these words.
-pub fn run_words<S: Source>(
+pub fn run_words<D: Disk, S: Source>(
     alloc: Global,
     words: &[&str],
+    disk: &mut D,
     source: &mut S,
     sink: &mut MemSink,
 ) -> Result<Status, AllocError> {
@@ -62,7 +72,19 @@ pub fn run_words<S: Source>(
     for word in words {
         list.push(String::from_str(alloc, word)?)?;
     }
-    Ok(run_counted::<S, Brand>(alloc, list.as_slice(), source, sink, Blank::new(1)))
+    Ok(run_counted::<D, S, Brand>(alloc, list.as_slice(), disk, source, sink, Blank::new(1)))
+}
+
+/// The status and the output of a script over this disk.
+pub fn output_over<D: Disk>(
+    alloc: Global,
+    disk: &mut D,
+    script: &[u8],
+) -> Result<(Status, Vec<u8>), Fail> {
+    let mut source = MemSource::make(Vec::from_slice(alloc, script)?, Vec::new(alloc));
+    let mut sink = MemSink::make(alloc, ROOM, Vec::new(alloc))?;
+    let status = run_words(alloc, &["run", "demo"], disk, &mut source, &mut sink)?;
+    Ok((status, Vec::from_slice(alloc, sink.bytes())?))
 }
 
 /// The status and the output of a script, with the reads and writes that are to fail and the bytes
@@ -78,7 +100,8 @@ pub fn output_of(
     let writes = Vec::from_slice(alloc, failing_writes)?;
     let mut source = MemSource::make(Vec::from_slice(alloc, script)?, reads);
     let mut sink = MemSink::make(alloc, room, writes)?;
-    let status = run_words(alloc, &["run", "demo"], &mut source, &mut sink)?;
+    let mut disk = fresh_disk(alloc)?;
+    let status = run_words(alloc, &["run", "demo"], &mut disk, &mut source, &mut sink)?;
     Ok((status, Vec::from_slice(alloc, sink.bytes())?))
 }
 
@@ -87,6 +110,7 @@ pub fn output_by_bytes(alloc: Global, script: &[u8]) -> Result<(Status, Vec<u8>)
     let bytes = MemSource::make(Vec::from_slice(alloc, script)?, Vec::new(alloc));
     let mut source = OneByteSource::new(bytes);
     let mut sink = MemSink::make(alloc, ROOM, Vec::new(alloc))?;
-    let status = run_words(alloc, &["run", "demo"], &mut source, &mut sink)?;
+    let mut disk = fresh_disk(alloc)?;
+    let status = run_words(alloc, &["run", "demo"], &mut disk, &mut source, &mut sink)?;
     Ok((status, Vec::from_slice(alloc, sink.bytes())?))
 }

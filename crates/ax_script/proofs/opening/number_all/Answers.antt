@@ -35,7 +35,7 @@ pub loop-next-preserved : goal.loop-next-preserved
 loop-next-preserved c = λ container stand id.
     let contents = store_contents c.args.store in
     let next = next_entry contents container stand c.loop-next.number c.in-Some.next
-        c.in-Some.ensures.found in
+    c.in-Some.ensures.found in
     let some : Some c.in-Some-text_of.text.now ≡ Some (canonical_text next.entry.tree) =
     text_here contents container stand c.loop-next.number c.in-Some.next
     (Some c.in-Some-text_of.text.now) next c.in-Some-text_of.ensures in
@@ -53,6 +53,6 @@ loop-next-preserved c = λ container stand id.
 pub returns-clause-numbers : goal.returns-clause-numbers
 returns-clause-numbers c = λ container stand id.
     let end = at_the_end (store_contents c.args.store) container stand c.loop-next.number
-        c.in_default.ensures.none in
+    c.in_default.ensures.none in
     ap (λ es. number_or (find (has_id id) es) (get_by_text c.loop-next.numbers id)) (sym end)
     ∙ c.loop-next.invariant container stand id

@@ -13,7 +13,7 @@ returns-in_default-clause-any_moment g c = λ honest before store.
 -- where the disk is honest.
 pub returns-in-Ok-open_store-clause-works : goal.returns-in-Ok-open_store-clause-works
 returns-in-Ok-open_store-clause-works g c =
-    works_opened _ c.number_all.result c.in-Ok-open_store.store _ _ ?
+    works_opened _ c.number_all.result c.in-Ok-open_store.store _ _ c.in-Ok-open_store.ensures.works
     (λ honest. c.in-Ok-open_store.ensures.tells (subst IsTrue (sym c.in-Ok.ensures.honest) honest))
     c.number_all.ensures.store
 

@@ -19,7 +19,7 @@ pub loop-next-preserved : goal.loop-next-preserved
 loop-next-preserved c = λ container holds.
     let contents = contents_in c.args.documents.now in
     let next = next_entry contents container holds.stand c.loop-next.number c.in-Some.next
-        c.in-Some.ensures.found in
+    c.in-Some.ensures.found in
     let none : None ≡ Some (canonical_text next.entry.tree) =
     text_here contents container holds.stand c.loop-next.number c.in-Some.next None next
     c.in_default-text_of.ensures in
@@ -29,7 +29,7 @@ pub loop-next-preserved-in-Continue-1 : goal.loop-next-preserved-in-Continue-1
 loop-next-preserved-in-Continue-1 c = λ container holds.
     let contents = contents_in c.args.documents.now in
     let next = next_entry contents container holds.stand c.loop-next.number c.in-Some.next
-        c.in-Some.ensures.found in
+    c.in-Some.ensures.found in
     let some : Some c.in-Some-text_of.row.now ≡ Some (canonical_text next.entry.tree) =
     text_here contents container holds.stand c.loop-next.number c.in-Some.next
     (Some c.in-Some-text_of.row.now) next c.in-Some-text_of.ensures in
@@ -44,7 +44,7 @@ returns c = λ container holds.
     let contents = contents_in c.args.documents.now in
     let text : List ℕ = c.loop-next.text.items in
     let end = at_the_end contents container holds.stand c.loop-next.number
-        c.in_default.ensures.none in
+    c.in_default.ensures.none in
     let rows : rows_of container.entries ≡ text =
     c.loop-next.invariant container holds ∙ ap (λ es. text ++ rows_of es) end ∙ append-nil text in
     let count : c.documents.result ≡ length (map canonical_text (trees container)) =

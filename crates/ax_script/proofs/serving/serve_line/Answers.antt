@@ -22,8 +22,8 @@ pub returns-in-Ok-clause-prefix : goal.returns-in-Ok-clause-prefix
 returns-in-Ok-clause-prefix g c = λ before holds.
     let told = c.in-Ok.ensures.tells before holds in
     OnErr-map c.write_reply.result (λ added.
-      begins_by _ c.answer.new.documents before c.args.line.now Served _ _ c.as_slice.result.now
-          (c.as_slice.ensures.value ∙ told.0) added c.in-Ok.ensures.works told.1 told.2
+    begins_by _ c.answer.new.documents before c.args.line.now Served _ _ c.as_slice.result.now
+    (c.as_slice.ensures.value ∙ told.0) added c.in-Ok.ensures.works told.1 told.2
     ) c.write_reply.ensures.failed
 
 pub returns-in-Err-Memory-clause-whole : goal.returns-in-Err-Memory-clause-whole
@@ -56,8 +56,8 @@ returns-in-Err-Memory-clause-prefix g c = λ before holds.
     let told = subst P c.in-Err-Memory.field-0-is (c.in-Err-Memory.ensures.tells before holds) in
     let works = subst W c.in-Err-Memory.field-0-is c.in-Err-Memory.ensures.works in
     OnErr-map c.write_reply-in-Err-Memory.result (λ added.
-      begins_by _ c.answer.new.documents before c.args.line.now OutOfMemory _ _ c.out_of_memory_line.result.now
-          c.out_of_memory_line.ensures added works told.0 told.1
+    begins_by _ c.answer.new.documents before c.args.line.now OutOfMemory _ _ c.out_of_memory_line.result.now
+    c.out_of_memory_line.ensures added works told.0 told.1
     ) c.write_reply-in-Err-Memory.ensures.failed
 
 pub returns-in-Err-Disk-clause-prefix : goal.returns-in-Err-Disk-clause-prefix

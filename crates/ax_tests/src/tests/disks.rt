@@ -1,0 +1,84 @@
+//! What outlives a run, and what a crash leaves.
+use crate::tests::script::{CALLS, ROOM, fresh_disk, output_over};
+use ax_disk::{Extent, FuseDisk, MemDisk};
+use ax_script::Status;
+use std::alloc::Global;
+use std::test::Fail;
+
+const UPSERT: &[u8] = b"UPSERT {\"id\":\"a\"}";
+
+const QUERY: &[u8] = b"QUERY {\"query\":\"SELECT * FROM c\"}";
+
+const THERE: &[u8] = b"row {\"id\":\"a\"}\nend 1\n";
+
+const ABSENT: &[u8] = b"end 0\n";
+
+/// The open root slot of version 1, area 1 and generation 1, a closed one, and the last byte.
+const ROOT: &[u8] =
+    b"\x01\x01\x00\x01\x01\x00\x00\x00\x00\x00\x00\x00AXDB\x00\x00\x00\x00\x00\x00\x00\x00\x00\x00\x00\x00\x00\x00\x00\x00E";
+
+fn disk_of(alloc: Global, root: &[u8], a: &[u8]) -> Result<MemDisk, Fail> {
+    let root = Vec::from_slice(alloc, root)?;
+    let a = Vec::from_slice(alloc, a)?;
+    let b = Vec::new(alloc);
+    Ok(MemDisk::make(alloc, root, a, b, ROOM, CALLS, Vec::new(alloc))?)
+}
+
+#[test]
+fn what_one_run_stores_the_next_one_answers(rt: HostRuntime) -> Result<(), Fail> {
+    let alloc = rt.alloc();
+    let mut disk = fresh_disk(alloc)?;
+    let (status, output) = output_over(alloc, &mut disk, UPSERT)?;
+    assert_eq!(rt; status, Status::Done);
+    assert_eq!(rt; output.as_slice(), b"ok\n".as_slice());
+    let (status, output) = output_over(alloc, &mut disk, QUERY)?;
+    assert_eq!(rt; status, Status::Done);
+    assert_eq!(rt; output.as_slice(), THERE);
+    assert_eq!(rt; disk.bytes(Extent::Root), ROOT);
+    Ok(())
+}
+
+// The disk stops after so many calls of the run; a store that was crashed then, either way, has the
+// document where its reply was written.
+#[test]
+fn no_acknowledged_line_is_lost(rt: HostRuntime) -> Result<(), Fail> {
+    let alloc = rt.alloc();
+    for calls in 0..30u64 {
+        for keep in [true, false] {
+            let mut fuse = FuseDisk::make(fresh_disk(alloc)?, calls);
+            let (status, output) = output_over(alloc, &mut fuse, UPSERT)?;
+            let mut disk = fuse.into_inner();
+            disk.crash(keep);
+            let (ended, found) = output_over(alloc, &mut disk, QUERY)?;
+            assert_eq!(rt; ended, Status::Done, "{calls} {keep}");
+            let is_there = found.as_slice() == THERE;
+            assert!(rt; is_there || found.as_slice() == ABSENT, "{calls} {keep}");
+            if status == Status::Done {
+                assert_eq!(rt; output.as_slice(), b"ok\n".as_slice(), "{calls} {keep}");
+                assert!(rt; is_there, "{calls} {keep}");
+            } else {
+                assert_eq!(rt; status, Status::DiskFault, "{calls} {keep}");
+                assert!(rt; output.is_empty(), "{calls} {keep}");
+            }
+        }
+    }
+    Ok(())
+}
+
+// A meta part whose next number is the last one; and a frame that runs past the end.
+#[test]
+fn images_are_judged(rt: HostRuntime) -> Result<(), Fail> {
+    let alloc = rt.alloc();
+    let full =
+        b"\x01\x11\x00\x00\x00\x00\x00\x00\x00\x01\x00\x00\x00\x00\x08\x00\x00\x00\xFF\xFF\xFF\xFF\x00\x00\x00\x00\x00";
+    let mut disk = disk_of(alloc, ROOT, full)?;
+    let (status, output) = output_over(alloc, &mut disk, UPSERT)?;
+    assert_eq!(rt; status, Status::Done);
+    assert_eq!(rt; output.as_slice(), b"err 15 full\n".as_slice());
+    let broken = b"\x01\x05\x00\x00\x00\x00\x00\x00\x00\x00";
+    let mut disk = disk_of(alloc, ROOT, broken)?;
+    let (status, output) = output_over(alloc, &mut disk, UPSERT)?;
+    assert_eq!(rt; status, Status::Damaged { extent: 1, at: 0 });
+    assert!(rt; output.is_empty());
+    Ok(())
+}
