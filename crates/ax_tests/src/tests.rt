@@ -1,6 +1,5 @@
 mod disks;
 mod faults;
-mod functions;
 mod lines;
 mod plain_machine;
 mod rows;
