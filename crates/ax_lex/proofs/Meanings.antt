@@ -54,7 +54,7 @@ token_front : {lexeme : Lexeme} {before after : List ℕ} → IsToken lexeme bef
 token_front (word_as_name {word} w k) early u =
     record { front = word; whole = word_front w; says = refl }
 token_front (word_as_keyword {which} {word} w k) early u =
-    record { front = word; whole = word_front w; says = ap keyword_lexeme k }
+    record { front = word; whole = word_front w; says = ap (keyword_lexeme word) k }
 token_front (at_and_word {at} {word} c w) early u = record {
   front = at ∷ word;
   whole = ap
@@ -143,9 +143,10 @@ then_ok P Q (Ok x) f h = f x h
 then_ok P Q (Err e) f h = tt
 
 -- what bytes say is of the kind that they are taken as
-keyword_kind : (o : Option Keyword) → kind_of (keyword_lexeme o) ≡ kind.Keyword
-keyword_kind None = refl
-keyword_kind (Some which) = refl
+keyword_kind : (word : List ℕ) (o : Option Keyword)
+    → kind_of (keyword_lexeme word o) ≡ kind.Keyword
+keyword_kind word None = refl
+keyword_kind word (Some which) = refl
 
 text_kind : (o : Option (List ℕ)) → kind_of (text_lexeme o) ≡ kind.Text
 text_kind None = refl
@@ -157,7 +158,7 @@ symbol_kind (Some which) = refl
 
 pub meaning_kind : (k : TokenKind) (bytes : List ℕ) → kind_of (meaning k bytes) ≡ k
 meaning_kind kind.Name bytes = refl
-meaning_kind kind.Keyword bytes = keyword_kind (keyword_of bytes)
+meaning_kind kind.Keyword bytes = keyword_kind bytes (keyword_of bytes)
 meaning_kind kind.Parameter bytes = refl
 meaning_kind kind.Text bytes = text_kind (text_of bytes)
 meaning_kind kind.Number bytes = refl

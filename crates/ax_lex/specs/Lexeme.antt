@@ -8,7 +8,8 @@ use Rattle.ax_lex.specs.declared.token.TokenKind.TheVariants as kind
 pub data Lexeme : Type 0 where
   -- a word that is no keyword
   name : List ℕ → Lexeme
-  keyword : Keyword → Lexeme
+  -- which keyword a word is, and the word as it is written
+  keyword : Keyword → List ℕ → Lexeme
   -- the word after the `@`
   parameter : List ℕ → Lexeme
   -- what stands between the quotes, its escapes undone, in UTF-8
@@ -20,7 +21,7 @@ pub data Lexeme : Type 0 where
 
 abbrev pub kind_of : Lexeme → TokenKind
 kind_of (name word) = kind.Name
-kind_of (keyword k) = kind.Keyword
+kind_of (keyword k word) = kind.Keyword
 kind_of (parameter word) = kind.Parameter
 kind_of (text value) = kind.Text
 kind_of (number n) = kind.Number

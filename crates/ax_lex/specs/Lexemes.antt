@@ -39,9 +39,9 @@ abbrev pub text_of : List ℕ → Option (List ℕ)
 text_of [] = None
 text_of (quote ∷ rest) = text_in (class_of quote) quote rest
 
-abbrev pub keyword_lexeme : Option Keyword → Lexeme
-keyword_lexeme None = nothing kind.Keyword
-keyword_lexeme (Some which) = keyword which
+abbrev pub keyword_lexeme : List ℕ → Option Keyword → Lexeme
+keyword_lexeme word None = nothing kind.Keyword
+keyword_lexeme word (Some which) = keyword which word
 
 abbrev pub text_lexeme : Option (List ℕ) → Lexeme
 text_lexeme None = nothing kind.Text
@@ -54,7 +54,7 @@ symbol_lexeme (Some which) = symbol which
 -- what bytes say as a token of this kind
 abbrev pub meaning : TokenKind → List ℕ → Lexeme
 meaning kind.Name bytes = name bytes
-meaning kind.Keyword bytes = keyword_lexeme (keyword_of bytes)
+meaning kind.Keyword bytes = keyword_lexeme bytes (keyword_of bytes)
 meaning kind.Parameter bytes = parameter (drop 1 bytes)
 meaning kind.Text bytes = text_lexeme (text_of bytes)
 meaning kind.Number bytes = number (number_of bytes)

@@ -123,7 +123,7 @@ read_inside quote (suc more) (byte ∷ rest) =
 -- what a word says that is this keyword, or none
 abbrev pub word_says : Option Keyword → List ℕ → Lexeme
 word_says None word = name word
-word_says (Some which) word = keyword which
+word_says (Some which) word = keyword which word
 
 abbrev pub word_kind : List ℕ → TokenKind
 word_kind word = kind_of (word_says (keyword_of word) word)

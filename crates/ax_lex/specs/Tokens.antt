@@ -50,7 +50,7 @@ pub data IsToken : (lexeme : Lexeme) (before after : List ℕ) → Type 0 where
       → IsToken (name word) before after
   -- keyword = word
   word_as_keyword : {which : Keyword} {word before after : List ℕ} → IsWord word before after
-      → keyword_of word ≡ Some which → IsToken (keyword which) before after
+      → keyword_of word ≡ Some which → IsToken (keyword which word) before after
   -- parameter = "@" word
   at_and_word : {at : ℕ} {word before after : List ℕ} → class_of at ≡ class.At
       → IsWord word before after
