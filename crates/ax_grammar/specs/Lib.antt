@@ -6,3 +6,7 @@ pub mod Steps
 pub mod Expressions
 pub mod Written
 pub mod Queries
+pub mod Reading
+pub mod StepReader
+pub mod ExprReader
+pub mod QueryReader
