@@ -21,7 +21,7 @@ use Rattle.ax_mean.specs.declared.value.Value.TheVariants.{Undefined, Defined}
 use Rattle.ax_mean.specs.Functions.{takes}
 use Rattle.ax_grammar.specs.Levels.{Level}
 use Rattle.ax_grammar.specs.Levels.Level.{choice, coalesce, disjunction, conjunction, negation, comparison, concatenation, sum, product, sign, postfix, atom}
-use Rattle.ax_grammar.specs.Steps.{IsStep, AreSteps}
+use Rattle.ax_grammar.specs.Steps.{AreSteps}
 use Rattle.ax_grammar.specs.Tables.Callee.{a_function, an_aggregate}
 use Rattle.ax_grammar.specs.Tables.{most_items, most_nesting, greatest_literal, least_magnitude, least_literal, comparison_of, operator_before, sign_of, callee_of, parameter_of}
 use Rattle.ax_grammar.specs.Fronts.{begins_step, begins_with}

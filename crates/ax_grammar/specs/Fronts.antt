@@ -131,3 +131,34 @@ reach _ = 12
 abbrev pub extends : Level → List Lexeme → Bool
 extends level [] = false
 extends level (first ∷ rest) = nat_le (reach first) (rank level)
+
+-- the rank of the innermost level that can begin with a lexeme; 12 where none can
+abbrev pub symbol_opening : Symbol → ℕ
+symbol_opening symbol.OpenParenthesis = 0
+symbol_opening symbol.OpenBracket = 0
+symbol_opening symbol.OpenBrace = 0
+symbol_opening symbol.Plus = 2
+symbol_opening symbol.Minus = 2
+symbol_opening _ = 12
+
+abbrev pub keyword_opening : Keyword → ℕ
+keyword_opening keyword.Null = 0
+keyword_opening keyword.True = 0
+keyword_opening keyword.False = 0
+keyword_opening keyword.Undefined = 0
+keyword_opening keyword.Not = 7
+keyword_opening _ = 12
+
+abbrev pub opening : Lexeme → ℕ
+opening (Lexeme.name word) = 0
+opening (Lexeme.keyword which word) = keyword_opening which
+opening (Lexeme.parameter word) = 0
+opening (Lexeme.text value) = 0
+opening (Lexeme.number value) = 0
+opening (Lexeme.symbol which) = symbol_opening which
+opening (Lexeme.nothing kind) = 12
+
+-- can an expression of this level begin with the lexeme that stands first
+abbrev pub opens : Level → List Lexeme → Bool
+opens level [] = false
+opens level (first ∷ rest) = nat_le (opening first) (rank level)

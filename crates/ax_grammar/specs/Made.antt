@@ -1,6 +1,5 @@
 -- The query that is made of what is written.
-use Rattle.std.specs.Prelude.{ℕ, List, [], ◌∷◌, map, Bool, true, false, Option, Some, None}
-use Rattle.ax_mean.specs.declared.expr.Expr.{Expr}
+use Rattle.std.specs.Prelude.{ℕ, ◌∷◌, map, true, Option, Some, None}
 use Rattle.ax_mean.specs.declared.query.FromItem.{FromItem}
 use Rattle.ax_mean.specs.declared.query.Order.{Order}
 use Rattle.ax_mean.specs.declared.query.Pick.{Pick}
@@ -23,7 +22,7 @@ source_made source =
       alias = first_alias source;
       base = source.container;
       steps = source.steps;
-      each = source.each
+      each = source.each;
     }
 
 abbrev pub join_made : Joined → FromItem
@@ -53,5 +52,5 @@ made w =
       groups = w.groups;
       orders = map order_made w.orders;
       skip = skip_made w.window;
-      limit = limit_made w.top w.window
+      limit = limit_made w.top w.window;
     }

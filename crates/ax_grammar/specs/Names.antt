@@ -1,5 +1,5 @@
 -- The names that items and sources have where none is written.
-use Rattle.std.specs.Prelude.{ℕ, ◌+◌, List, [], ◌∷◌, map, length, Bool, true, false, ◌&&◌, nat_le, Option, Some, None, is_none, if◌then◌else◌}
+use Rattle.std.specs.Prelude.{ℕ, ◌+◌, List, [], ◌∷◌, map, length, Bool, false, ◌&&◌, nat_le, Option, Some, None, is_none, if◌then◌else◌}
 use Rattle.std.specs.Fmt.{decimal}
 use Rattle.std.specs.List.{list_all}
 use Rattle.ax_lex.specs.Bytes.{is_letter, is_word_byte}
@@ -10,7 +10,7 @@ use Rattle.ax_mean.specs.declared.expr.Expr.TheOpen.{Expr-F}
 use Rattle.ax_mean.specs.declared.expr.QueryStep.{QueryStep}
 use Rattle.ax_mean.specs.declared.expr.QueryStep.TheVariants.{Member, Position}
 use Rattle.ax_mean.specs.declared.query.Named.{Named}
-use Rattle.ax_grammar.specs.Written.{Item, Source, Joined}
+use Rattle.ax_grammar.specs.Written.{Item, Source}
 
 abbrev pub is_word : List ℕ → Bool
 is_word [] = false

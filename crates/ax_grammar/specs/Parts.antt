@@ -66,9 +66,10 @@ abbrev pub whole_of_level : Expr-F (Expr × Bool) → Expr
 whole_of_level level = roll-Expr (map-Expr (Expr × Bool) Expr (λ part. part.0) level)
 
 abbrev pub built_level : List Expr → Expr-F (Expr × Bool) → Expr × Bool
-built_level groups level =
-    (whole_of_level level,
-    list_any (is_same_expr (whole_of_level level)) groups || parts_built level)
+built_level groups level = (
+  whole_of_level level,
+  list_any (is_same_expr (whole_of_level level)) groups || parts_built level,
+)
 
 -- is the expression built of aggregates, literals and expressions that are the same as one of these
 abbrev pub is_built : List Expr → Expr → Bool

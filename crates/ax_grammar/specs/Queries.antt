@@ -88,14 +88,22 @@ pub data IsSource : (before : List Lexeme) (source : Source) (after : List Lexem
   each_element : {alias container : List ℕ} {steps : List QueryStep} {before word behind path after : List Lexeme}
       → TakesName alias before word → TakesKeyword keyword.In word behind
       → TakesName container behind path → AreSteps steps path after
-      → IsSource before (record { container = container; each = true; steps = steps;
-          alias = Some alias }) after
+      → IsSource before (record {
+        container = container;
+        each = true;
+        steps = steps;
+        alias = Some alias;
+      }) after
   -- from = name {step} [[AS] name], where no IN follows the name
   whole : {container : List ℕ} {alias : Option (List ℕ)} {steps : List QueryStep} {before path naming after : List Lexeme}
       → TakesName container before path → begins_keyword keyword.In path ≡ false
       → AreSteps steps path naming → IsNaming alias naming after
-      → IsSource before (record { container = container; each = false; steps = steps;
-          alias = alias }) after
+      → IsSource before (record {
+        container = container;
+        each = false;
+        steps = steps;
+        alias = alias;
+      }) after
 
 -- join = JOIN name IN name {step}
 pub record IsJoin (before : List Lexeme) (joined : Joined) (after : List Lexeme) : Type 0 where

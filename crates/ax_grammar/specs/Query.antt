@@ -1,5 +1,5 @@
 -- The query that a text is.
-use Rattle.std.specs.Prelude.{◌≡◌, ℕ, ◌≤◌, nat_le, List, length, Bool, true, Option, Some, None}
+use Rattle.std.specs.Prelude.{◌≡◌, ℕ, ◌≤◌, nat_le, List, length, true, Option, Some, None}
 use Rattle.ax_lex.specs.declared.token.Token.{Token}
 use Rattle.ax_lex.specs.Lexeme.{Lexeme}
 use Rattle.ax_lex.specs.Tokens.{AreTokens}
@@ -9,7 +9,7 @@ use Rattle.ax_mean.specs.declared.query.Query.{Query}
 use Rattle.ax_grammar.specs.Made.{made}
 use Rattle.ax_grammar.specs.Queries.{IsWritten}
 use Rattle.ax_grammar.specs.QueryReader.{read_written}
-use Rattle.ax_grammar.specs.Reading.{and_then, provided}
+use Rattle.ax_grammar.specs.Reading.{provided}
 use Rattle.ax_grammar.specs.Scope.{obeys_rules}
 use Rattle.ax_grammar.specs.Written.{Written}
 

@@ -1,12 +1,12 @@
 -- The rules of scope: what holds of a query that is written by the grammar.
-use Rattle.std.specs.Prelude.{ℕ, List, [], ◌∷◌, ◌++◌, map, length, Bool, true, false, ◌&&◌, ◌||◌, not, nat_le, Option, Some, None, is_some, is_none}
+use Rattle.std.specs.Prelude.{ℕ, List, [], ◌∷◌, map, length, Bool, true, false, ◌&&◌, ◌||◌, not, nat_le, Option, Some, None, is_some, is_none}
 use Rattle.std.specs.List.{list_all, list_any}
 use Rattle.std.specs.Str.{bytes_eq}
 use Rattle.ax_mean.specs.declared.expr.Expr.{Expr}
 use Rattle.ax_grammar.specs.Names.{alias_of, item_names}
 use Rattle.ax_grammar.specs.Parts.{has, are_declared, aggregates_fit, has_aggregate, is_built}
 use Rattle.ax_grammar.specs.Tables.{most_items}
-use Rattle.ax_grammar.specs.Written.{Item, Picked, Source, Joined, Ordered, Written}
+use Rattle.ax_grammar.specs.Written.{Picked, Source, Joined, Written}
 use Rattle.ax_grammar.specs.Written.Picked.{the_star, the_value, the_items}
 
 abbrev pub most_joins : ℕ
