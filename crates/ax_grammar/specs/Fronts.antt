@@ -1,5 +1,5 @@
--- What a list of lexemes begins with, and which lexemes go on an expression of a level: where one of
--- these follows, the expression of that level is longer.
+-- What a list of lexemes begins with, which lexemes begin an expression of a level, and which go on
+-- one: where one of these follows, the expression of that level is longer.
 use Rattle.std.specs.Prelude.{ℕ, List, [], ◌∷◌, Bool, true, false, ◌||◌, ◌==◌, nat_le}
 use Rattle.ax_lex.specs.declared.keyword.Keyword.{Keyword}
 use Rattle.ax_lex.specs.declared.keyword.Keyword.TheVariants as keyword
@@ -128,7 +128,7 @@ reach (Lexeme.keyword which word) = keyword_reach which
 reach _ = 12
 
 -- does the lexeme that stands first go on an expression of this level
-abbrev pub extends : Level → List Lexeme → Bool
+unfoldable pub extends : Level → List Lexeme → Bool
 extends level [] = false
 extends level (first ∷ rest) = nat_le (reach first) (rank level)
 
@@ -159,6 +159,6 @@ opening (Lexeme.symbol which) = symbol_opening which
 opening (Lexeme.nothing kind) = 12
 
 -- can an expression of this level begin with the lexeme that stands first
-abbrev pub opens : Level → List Lexeme → Bool
+unfoldable pub opens : Level → List Lexeme → Bool
 opens level [] = false
 opens level (first ∷ rest) = nat_le (opening first) (rank level)

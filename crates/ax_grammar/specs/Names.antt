@@ -32,8 +32,8 @@ abbrev pub as_name : Option (List ℕ) → Option (List ℕ)
 as_name None = None
 as_name (Some text) = if is_name text then Some text else None
 
--- the alias of a source for which none is written: the container without steps, else the last step's
--- name, where it is a name
+-- the alias of a source for which none is written: the container without steps, else the last
+-- step's name, where it is a name
 abbrev pub default_alias : List ℕ → List QueryStep → Option (List ℕ)
 default_alias container [] = Some container
 default_alias container (step ∷ steps) = as_name (last_name (step ∷ steps))
