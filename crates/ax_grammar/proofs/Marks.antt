@@ -98,10 +98,10 @@ abbrev is_none : {X : Type 0} → Option X → Bool
 is_none None = true
 is_none (Some y) = false
 
-none_is_not_some : {X : Type 0} {x : X} → None ≡ Some x → ⊥
+pub none_is_not_some : {X : Type 0} {x : X} → None ≡ Some x → ⊥
 none_is_not_some e = false≢true (sym (ap is_none e))
 
-some_same : {X : Type 0} {x y : X} → Some x ≡ Some y → x ≡ y
+pub some_same : {X : Type 0} {x y : X} → Some x ≡ Some y → x ≡ y
 some_same {x} e = ap (λ o. or_else x o) e
 
 numbers_same : (a b : ℕ) → (a == b) ≡ true → a ≡ b
