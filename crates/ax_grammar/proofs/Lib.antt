@@ -1,3 +1,4 @@
-pub mod Openings
-pub mod Marks
 pub mod Chains
+pub mod Extending
+pub mod Marks
+pub mod Openings
