@@ -1,0 +1,4 @@
+pub mod Chains
+pub mod Extending
+pub mod Marks
+pub mod Openings
