@@ -1,0 +1,3 @@
+pub mod SoundReading
+pub mod SoundMarks
+pub mod SoundSteps
