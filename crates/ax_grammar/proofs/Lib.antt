@@ -1,3 +1,4 @@
 pub mod SoundReading
 pub mod SoundMarks
 pub mod SoundSteps
+pub mod SoundParts
