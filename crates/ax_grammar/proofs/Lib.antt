@@ -2,3 +2,4 @@ pub mod SoundReading
 pub mod SoundMarks
 pub mod SoundSteps
 pub mod SoundParts
+pub mod SoundAtoms
