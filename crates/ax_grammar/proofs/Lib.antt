@@ -3,3 +3,4 @@ pub mod SoundMarks
 pub mod SoundSteps
 pub mod SoundParts
 pub mod SoundAtoms
+pub mod SoundLevels
