@@ -4,3 +4,5 @@ pub mod SoundSteps
 pub mod SoundParts
 pub mod SoundAtoms
 pub mod SoundLevels
+pub mod SoundClauses
+pub mod Sound

@@ -203,6 +203,12 @@ pub record IsBehind {X : Type 0} (mark : Mark) (One : List Lexeme → X → List
   pub first : Takes mark before between
   pub phrase : One between x after
 
+pub behind_sound : {X : Type 0} {One : List Lexeme → X → List Lexeme → Type 0} (mark : Mark)
+    (phrase : Reader X) → IsSound One phrase → IsSound (IsBehind mark One) (behind_mark mark phrase)
+behind_sound mark phrase s lexemes =
+    behind_gives phrase (taken mark lexemes) (λ rest t.
+    gives_with (s rest) (λ x after h. record { between = rest; first = t; phrase = h }))
+
 pub marked_sound : {X : Type 0} {One : List Lexeme → X → List Lexeme → Type 0} (mark : Mark)
     (phrase : Reader X) → IsSound One phrase
     → (lexemes : List Lexeme) → TurnGives (IsBehind mark One lexemes) (marked mark phrase lexemes)

@@ -24,7 +24,7 @@ use Rattle.ax_grammar.specs.Reading.{Reader, parted}
 use Rattle.ax_grammar.specs.Tables.{most_items, operator_before}
 use Rattle.ax_grammar.specs.Takes.{Mark, Takes, TakesSymbol}
 use Rattle.ax_grammar.specs.Takes.Mark.{the_symbol}
-use Rattle.ax_grammar.proofs.SoundMarks.{IsBehind, AreParted, gives_where, gives_behind, gives_closed, parted_sound}
+use Rattle.ax_grammar.proofs.SoundMarks.{IsBehind, AreParted, gives_where, gives_closed, behind_sound, parted_sound}
 use Rattle.ax_grammar.proofs.SoundMarks.AreParted.{are_parted}
 use Rattle.ax_grammar.proofs.SoundReading.{Gives, IsSound, TurnGives, IsRepetition, gives_provided, gives_changed, gives_then, gives_with, gives_turn, all_turns_sound}
 use Rattle.ax_grammar.proofs.SoundReading.Gives.{gives_none, gives}
@@ -176,16 +176,8 @@ module _ (params : List (Member Tree)) (n : ℕ) where
       → IsSound (IsMember params n) (read_member reader)
   member_sound reader s lexemes =
       gives_then _ (label_sound lexemes) (λ label colon l.
-      gives_changed _
-      (gives_behind (the_symbol symbol.Colon) reader colon (λ rest t.
-      gives_with (s rest) (λ x after h. behind_colon t h)))
-      (λ x after h. labelled l h.first h.phrase))
-      where
-        behind_colon : {x : Expr} {colon between after : List Lexeme}
-            → TakesSymbol symbol.Colon colon between
-            → IsExpr params n Level.choice between x after
-            → IsBehind (the_symbol symbol.Colon) (IsExpr params n Level.choice) colon x after
-        behind_colon {between = between} t h = record { between = between; first = t; phrase = h }
+      gives_changed _ (behind_sound (the_symbol symbol.Colon) reader s colon) (λ x after h.
+      labelled l h.first h.phrase))
 
   members_repeat : IsRepetition (IsBehind (the_symbol symbol.Comma) (IsMember params n))
       (MembersFollow params n)
