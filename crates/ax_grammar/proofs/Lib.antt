@@ -2,3 +2,11 @@ pub mod Chains
 pub mod Extending
 pub mod Marks
 pub mod Openings
+pub mod Sound
+pub mod SoundAtoms
+pub mod SoundClauses
+pub mod SoundLevels
+pub mod SoundMarks
+pub mod SoundParts
+pub mod SoundReading
+pub mod SoundSteps
