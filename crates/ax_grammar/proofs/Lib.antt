@@ -1,0 +1,6 @@
+pub mod FrontsMarks
+pub mod FrontsExpr
+pub mod FrontsLengths
+pub mod CompleteTurns
+pub mod CompleteSteps
+pub mod CompleteLevels
