@@ -4,3 +4,5 @@ pub mod FrontsLengths
 pub mod CompleteTurns
 pub mod CompleteSteps
 pub mod CompleteLevels
+pub mod CompleteAtoms
+pub mod CompleteExpr
