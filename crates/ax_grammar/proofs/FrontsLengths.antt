@@ -72,7 +72,7 @@ step_shorter (named s) = name_step_shorter s
 step_shorter (positioned o n l c) =
     omega (arith, mark_shorter o, number_shorter n, mark_shorter c)
 
-steps_no_longer : {steps : List QueryStep} {before after : List Lexeme}
+pub steps_no_longer : {steps : List QueryStep} {before after : List Lexeme}
     → AreSteps steps before after → length after ≤ length before
 steps_no_longer ended = omega arith
 steps_no_longer (more s ss) = omega (arith, step_shorter s, steps_no_longer ss)

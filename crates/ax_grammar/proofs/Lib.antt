@@ -1,8 +1,12 @@
 pub mod FrontsMarks
 pub mod FrontsExpr
 pub mod FrontsLengths
+pub mod FrontsClauses
 pub mod CompleteTurns
 pub mod CompleteSteps
 pub mod CompleteLevels
 pub mod CompleteAtoms
 pub mod CompleteExpr
+pub mod CompletePicks
+pub mod CompleteClauses
+pub mod CompleteWritten
