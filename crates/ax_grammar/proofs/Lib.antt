@@ -1,5 +1,17 @@
 pub mod Chains
+pub mod CompleteAtoms
+pub mod CompleteClauses
+pub mod CompleteExpr
+pub mod CompleteLevels
+pub mod CompletePicks
+pub mod CompleteSteps
+pub mod CompleteTurns
+pub mod CompleteWritten
 pub mod Extending
+pub mod FrontsClauses
+pub mod FrontsExpr
+pub mod FrontsLengths
+pub mod FrontsMarks
 pub mod Marks
 pub mod Openings
 pub mod Sound
