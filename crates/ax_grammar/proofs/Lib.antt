@@ -1,3 +1,6 @@
+pub mod Openings
+pub mod Marks
+pub mod Chains
 pub mod SoundReading
 pub mod SoundMarks
 pub mod SoundSteps
@@ -6,3 +9,4 @@ pub mod SoundAtoms
 pub mod SoundLevels
 pub mod SoundClauses
 pub mod Sound
+pub mod SoundText
