@@ -10,10 +10,9 @@ use Rattle.ax_grammar.proofs.Marks.{take_sound, take_complete, none_is_not_some,
 use Rattle.ax_grammar.specs.ExprReader.{chain_of, read_chain}
 use Rattle.ax_grammar.specs.Expressions.{IsExpr, Follow}
 use Rattle.ax_grammar.specs.Expressions.Follow.{followed_by_none, followed_by}
-use Rattle.ax_grammar.specs.Fronts.{is_mark, begins}
+use Rattle.ax_grammar.specs.Fronts.{is_mark, begins, extends}
 use Rattle.ax_grammar.specs.Levels.{Level}
-use Rattle.ax_grammar.specs.Reading.{Reader, Turn, changed, take, turn_behind, must, marked, after_turn, repeated}
-use Rattle.ax_grammar.specs.Reading.Turn.{ended, failed, went_on}
+use Rattle.ax_grammar.specs.Reading.{Reader, all_turns, and_then, changed, take, turn_behind, must, marked, after_turn, repeated}
 use Rattle.ax_grammar.specs.Takes.{Mark, Takes}
 
 -- what was changed was found
@@ -31,13 +30,12 @@ changed_from change (Some found) e =
     let same = some_same e in record {
       x = found.0;
       was = ap (λ last. Some (found.0, last)) (ap (λ p. p.1) same);
-      is = ap (λ p. p.0) same
+      is = ap (λ p. p.0) same;
     }
 
 module _ (params : List (Member Tree)) (n : ℕ) (operand : Level) (mark : Mark)
     (phrase : Reader Expr) (sound : (b : List Lexeme) (x : Expr) (a : List Lexeme)
     → phrase b ≡ Some (x, a) → IsExpr params n operand b x a) where
-
   by_turn : (again : Reader (List Expr))
       → ((b : List Lexeme) (xs : List Expr) (a : List Lexeme) → again b ≡ Some (xs, a)
       → Follow params n operand mark b xs a)
@@ -83,7 +81,8 @@ pub take_none : (mark : Mark) (lexemes : List Lexeme) → begins mark lexemes �
 take_none mark [] h = refl
 take_none mark (first ∷ rest) h = taken_none (is_mark mark first) rest h
 
-pub repeated_none : {X : Type 0} (mark : Mark) (phrase : Reader X) (fuel : ℕ) (lexemes : List Lexeme)
+pub repeated_none :
+    {X : Type 0} (mark : Mark) (phrase : Reader X) (fuel : ℕ) (lexemes : List Lexeme)
     → begins mark lexemes ≡ false → repeated (marked mark phrase) fuel lexemes ≡ Some ([], lexemes)
 unfolding repeated
 repeated_none mark phrase zero lexemes h = refl
@@ -102,3 +101,33 @@ repeated_more {mark} phrase fuel {before} {between} {next} {after} {x} {xs} t p 
     ap (λ o. after_turn again before (turn_behind phrase o)) (take_complete t)
     ∙ ap (λ o. after_turn again before (must o)) p
     ∙ ap (changed (λ ys. x ∷ ys)) r
+
+-- a chain of one operand, and of at least two
+pub chain_one : (variant : List Expr → Expr) (mark : Mark) (operand : Reader Expr)
+    {before after : List Lexeme} {x : Expr}
+    → operand before ≡ Some (x, after) → begins mark after ≡ false
+    → read_chain variant mark operand before ≡ Some (x, after)
+chain_one variant mark operand {after} {x} o h =
+    ap (λ p. changed (chain_of variant) (and_then p (λ first. changed (λ more. first.0 ∷ more)
+    (all_turns (marked mark operand) first.1)))) o
+    ∙ ap (λ p. changed (chain_of variant) (changed (λ more. x ∷ more) p))
+    (repeated_none mark operand (length after) after h)
+
+pub chain_more : (variant : List Expr → Expr) (mark : Mark) (operand : Reader Expr)
+    {before between after : List Lexeme} {x y : Expr} {ys : List Expr}
+    → operand before ≡ Some (x, between)
+    → all_turns (marked mark operand) between ≡ Some (y ∷ ys, after)
+    → read_chain variant mark operand before ≡ Some (variant (x ∷ y ∷ ys), after)
+chain_more variant mark operand {x} o h =
+    ap (λ p. changed (chain_of variant) (and_then p (λ first. changed (λ more. first.0 ∷ more)
+    (all_turns (marked mark operand) first.1)))) o
+    ∙ ap (λ p. changed (chain_of variant) (changed (λ more. x ∷ more) p)) h
+
+-- behind an operand of a list comes what does not go on it: the mark, or what is after the list
+pub follow_front : {params : List (Member Tree)} {n : ℕ} {operand : Level} {mark : Mark}
+    {before after : List Lexeme} {xs : List Expr}
+    → Follow params n operand mark before xs after
+    → ((next rest : List Lexeme) → Takes mark next rest → extends operand next ≡ false)
+    → extends operand after ≡ false → extends operand before ≡ false
+follow_front followed_by_none parts e = e
+follow_front (followed_by {before} {between} t d f) parts e = parts before between t

@@ -7,7 +7,7 @@ use Rattle.ax_lex.specs.declared.keyword.Keyword.{Keyword}
 use Rattle.ax_lex.specs.declared.keyword.Keyword.TheVariants as keyword
 use Rattle.ax_lex.specs.declared.symbol.Symbol.{Symbol}
 use Rattle.ax_lex.specs.declared.symbol.Symbol.TheVariants as symbol
-use Rattle.ax_grammar.specs.Fronts.{symbol_number, keyword_number, is_mark}
+use Rattle.ax_grammar.specs.Fronts.{symbol_number, keyword_number}
 use Rattle.ax_grammar.specs.Reading.{take}
 use Rattle.ax_grammar.specs.Takes.{Mark, Takes}
 use Rattle.ax_grammar.specs.Takes.Mark.{the_symbol, the_keyword}

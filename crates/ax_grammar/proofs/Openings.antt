@@ -1,7 +1,6 @@
 -- An expression begins with a lexeme that may begin one of its level.
-use Rattle.std.proofs.Common.{arith, ◌≡◌, ℕ, List, [], ◌∷◌, Bool, true, false, refl, Some, None, sym, ◌∙◌}
+use Rattle.std.proofs.Common.{arith, ◌≡◌, ℕ, List, [], ◌∷◌, true, refl, Some}
 use Rattle.std.specs.Prelude.{nat_le}
-use Rattle.std.proofs.lemmas.Bool.{false≢true}
 use Rattle.ax_lex.specs.Lexeme.{Lexeme}
 use Rattle.ax_lex.specs.declared.keyword.Keyword.{Keyword}
 use Rattle.ax_lex.specs.declared.symbol.Symbol.{Symbol}
@@ -13,25 +12,25 @@ use Rattle.ax_mean.specs.declared.operator.UnaryOp.{UnaryOp}
 use Rattle.ax_grammar.specs.Expressions.{IsExpr}
 use Rattle.ax_grammar.specs.Expressions.IsExpr.{plain_choice, chosen, plain_coalesce, coalesced, plain_disjunction, disjoined, plain_conjunction, conjoined, plain_negation, denied, plain_comparison, compared, among, ranged, like, plain_concatenation, concatenated, plain_sum, summed, plain_product, multiplied, plain_sign, signed, least, plain_postfix, stepped, null, true_value, false_value, undefined, number_value, text_value, parameter_value, called, totalled, alias, bracketed, listed, mapped}
 use Rattle.ax_grammar.specs.Fronts.{opens, opening, symbol_opening, keyword_opening}
-use Rattle.ax_grammar.specs.Levels.{Level, rank}
+use Rattle.ax_grammar.specs.Levels.{Level, distance}
 use Rattle.ax_grammar.specs.Tables.{sign_of}
-use Rattle.ax_grammar.specs.Takes.{Takes, TakesSymbol, TakesKeyword, TakesName, TakesNumber, TakesText, TakesParameter}
+use Rattle.ax_grammar.specs.Takes.{TakesSymbol, TakesKeyword, TakesName, TakesNumber, TakesText, TakesParameter}
 use Rattle.ax_grammar.specs.Takes.Takes.{symbol_first, keyword_first}
 use Rattle.ax_grammar.specs.Takes.TakesName.{name_first}
 use Rattle.ax_grammar.specs.Takes.TakesNumber.{number_first}
 use Rattle.ax_grammar.specs.Takes.TakesText.{text_first}
 use Rattle.ax_grammar.specs.Takes.TakesParameter.{parameter_first}
 
-within_rank : (a b c : ℕ) → nat_le b c ≡ true → nat_le a b ≡ true → nat_le a c ≡ true
-within_rank a b c h k = grind (arith)
+within_distance : (a b c : ℕ) → nat_le b c ≡ true → nat_le a b ≡ true → nat_le a c ≡ true
+within_distance a b c h k = grind (arith)
 
 -- what begins a level begins each level further out
 pub opens_wider : (inner outer : Level) (lexemes : List Lexeme)
-    → nat_le (rank inner) (rank outer) ≡ true → opens inner lexemes ≡ true
+    → nat_le (distance inner) (distance outer) ≡ true → opens inner lexemes ≡ true
     → opens outer lexemes ≡ true
 unfolding opens
 opens_wider inner outer [] le o = o
-opens_wider inner outer (first ∷ rest) le o = within_rank (opening first) (rank inner) (rank outer) le o
+opens_wider inner outer (first ∷ rest) le o = within_distance (opening first) (distance inner) (distance outer) le o
 
 sign_opens : (which : Symbol) {operator : UnaryOp} → sign_of which ≡ Some operator
     → nat_le (symbol_opening which) 2 ≡ true
@@ -40,13 +39,13 @@ sign_opens symbol.Plus e = refl
 sign_opens _ e = search
 
 pub symbol_opens : (level : Level) {which : Symbol} {before after : List Lexeme}
-    → TakesSymbol which before after → nat_le (symbol_opening which) (rank level) ≡ true
+    → TakesSymbol which before after → nat_le (symbol_opening which) (distance level) ≡ true
     → opens level before ≡ true
 unfolding opens
 symbol_opens level symbol_first h = h
 
 pub keyword_opens : (level : Level) {which : Keyword} {before after : List Lexeme}
-    → TakesKeyword which before after → nat_le (keyword_opening which) (rank level) ≡ true
+    → TakesKeyword which before after → nat_le (keyword_opening which) (distance level) ≡ true
     → opens level before ≡ true
 unfolding opens
 keyword_opens level keyword_first h = h

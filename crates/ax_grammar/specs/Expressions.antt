@@ -161,7 +161,7 @@ mutual
         → TakesSymbol symbol.Minus before between → TakesNumber value between after
         → value ≡ least_magnitude → begins_step after ≡ false
         → IsExpr params (suc n) sign before
-          (expr.Literal (Defined (tree.Number least_literal))) after
+        (expr.Literal (Defined (tree.Number least_literal))) after
     -- post = atom
     plain_postfix : {n : ℕ} {x : Expr} {before after : List Lexeme}
         → IsExpr params n atom before x after

@@ -6,7 +6,7 @@ use Rattle.ax_lex.specs.declared.keyword.Keyword.TheVariants as keyword
 use Rattle.ax_lex.specs.declared.symbol.Symbol.{Symbol}
 use Rattle.ax_lex.specs.declared.symbol.Symbol.TheVariants as symbol
 use Rattle.ax_lex.specs.Lexeme.{Lexeme}
-use Rattle.ax_grammar.specs.Levels.{Level, rank}
+use Rattle.ax_grammar.specs.Levels.{Level, distance}
 use Rattle.ax_grammar.specs.Takes.{Mark}
 use Rattle.ax_grammar.specs.Takes.Mark.{the_symbol, the_keyword}
 
@@ -92,7 +92,7 @@ begins_name [] = false
 begins_name (Lexeme.name word ∷ rest) = true
 begins_name (_ ∷ rest) = false
 
--- the rank of the innermost level that a symbol goes on; 12 where it goes on none
+-- the distance of the innermost level that a symbol goes on; 12 where it goes on none
 abbrev pub symbol_reach : Symbol → ℕ
 symbol_reach symbol.OpenParenthesis = 0
 symbol_reach symbol.Dot = 1
@@ -130,9 +130,9 @@ reach _ = 12
 -- does the lexeme that stands first go on an expression of this level
 unfoldable pub extends : Level → List Lexeme → Bool
 extends level [] = false
-extends level (first ∷ rest) = nat_le (reach first) (rank level)
+extends level (first ∷ rest) = nat_le (reach first) (distance level)
 
--- the rank of the innermost level that can begin with a lexeme; 12 where none can
+-- the distance of the innermost level that can begin with a lexeme; 12 where none can
 abbrev pub symbol_opening : Symbol → ℕ
 symbol_opening symbol.OpenParenthesis = 0
 symbol_opening symbol.OpenBracket = 0
@@ -161,4 +161,4 @@ opening (Lexeme.nothing kind) = 12
 -- can an expression of this level begin with the lexeme that stands first
 unfoldable pub opens : Level → List Lexeme → Bool
 opens level [] = false
-opens level (first ∷ rest) = nat_le (opening first) (rank level)
+opens level (first ∷ rest) = nat_le (opening first) (distance level)
