@@ -1,10 +1,10 @@
-pub mod Chains
 pub mod CompleteAtoms
 pub mod CompleteClauses
 pub mod CompleteExpr
 pub mod CompleteLevels
 pub mod CompletePicks
 pub mod CompleteSteps
+pub mod CompleteText
 pub mod CompleteTurns
 pub mod CompleteWritten
 pub mod Extending
@@ -22,3 +22,4 @@ pub mod SoundMarks
 pub mod SoundParts
 pub mod SoundReading
 pub mod SoundSteps
+pub mod SoundText

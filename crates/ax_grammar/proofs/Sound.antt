@@ -1,6 +1,5 @@
 -- The query that is read is one that the whole list of lexemes writes.
 use Rattle.std.proofs.Common.{◌≡◌, ℕ, Bool, true, false, List, [], ◌∷◌, Option, Some, None, refl, subst}
-use Rattle.ax_lex.specs.declared.keyword.Keyword.{Keyword}
 use Rattle.ax_lex.specs.declared.keyword.Keyword.TheVariants as keyword
 use Rattle.ax_lex.specs.declared.symbol.Symbol.TheVariants as symbol
 use Rattle.ax_lex.specs.Lexeme.{Lexeme}
@@ -10,21 +9,20 @@ use Rattle.ax_mean.specs.declared.expr.Expr.{Expr}
 use Rattle.ax_grammar.specs.Expressions.{IsExpr, Follow}
 use Rattle.ax_grammar.specs.ExprReader.{read_level, read_expr}
 use Rattle.ax_grammar.specs.Levels.{Level}
-use Rattle.ax_grammar.specs.Queries.{IsCount, IsDistinct, IsTop, IsPick, IsSource, AreJoins, IsCondition, AreGroups, AreNameSteps, IsDirection, IsOrder, OrdersFollow, AreOrders, IsWindow, IsWritten}
+use Rattle.ax_grammar.specs.Queries.{IsDistinct, IsTop, IsPick, IsSource, AreJoins, IsCondition, AreGroups, AreNameSteps, IsDirection, IsOrder, OrdersFollow, AreOrders, IsWindow, IsWritten}
 use Rattle.ax_grammar.specs.Queries.IsCondition.{no_condition, conditioned}
 use Rattle.ax_grammar.specs.Queries.AreGroups.{no_groups, grouped}
-use Rattle.ax_grammar.specs.Queries.AreNameSteps.{names_ended, more_names}
 use Rattle.ax_grammar.specs.Queries.IsDirection.{no_direction, ascending, descending}
 use Rattle.ax_grammar.specs.Queries.IsOrder.{ordered_by}
 use Rattle.ax_grammar.specs.Queries.OrdersFollow.{no_order_follows, order_follows}
 use Rattle.ax_grammar.specs.Queries.AreOrders.{no_orders, in_order}
 use Rattle.ax_grammar.specs.Queries.IsWindow.{no_window, windowed}
 use Rattle.ax_grammar.specs.QueryReader.{Head, read_count, read_condition, read_groups, read_direction, some_names, read_order, read_orders, read_numbers, read_window, whole_of, read_head, read_tail, read_written, read_source}
-use Rattle.ax_grammar.specs.Reading.{and_then, at_once, behind_mark, parted}
+use Rattle.ax_grammar.specs.Reading.{and_then, at_once, behind_mark}
 use Rattle.ax_grammar.specs.Tables.{most_nesting}
 use Rattle.ax_grammar.specs.Takes.{TakesKeyword, TakesName}
 use Rattle.ax_grammar.specs.Takes.Mark.{the_symbol, the_keyword}
-use Rattle.ax_grammar.specs.Written.{Ordered, Window, Written}
+use Rattle.ax_grammar.specs.Written.{Ordered, Written}
 use Rattle.ax_grammar.proofs.SoundClauses.{count_sound, distinct_sound, top_sound, pick_sound, source_sound, joins_sound}
 use Rattle.ax_grammar.proofs.SoundLevels.{level_sound, expr_sound}
 use Rattle.ax_grammar.proofs.SoundMarks.{IsBehind, AreParted, gives_where, behind_sound, parted_sound}
@@ -112,7 +110,7 @@ order_sound lexemes =
 orders_repeat : IsRepetition (IsBehind (the_symbol symbol.Comma) IsOrder) OrdersFollow
 orders_repeat = record {
   none = λ lexemes. no_order_follows;
-  more = λ before between after ordered orders h m. order_follows h.first h.phrase m
+  more = λ before between after ordered orders h m. order_follows h.first h.phrase m;
 }
 
 are_in_order : {lexemes word first after : List Lexeme} {orders : List Ordered}

@@ -1,6 +1,6 @@
 -- Atoms, their steps and signs that are read are those of the grammar, where the readers of what
 -- stands inside are sound.
-use Rattle.std.proofs.Common.{◌≡◌, ℕ, ◌==◌, suc, pos, Bool, true, false, ◌&&◌, not, List, [], ◌∷◌, length, Option, Some, None, refl, ap, subst, ◌∙◌}
+use Rattle.std.proofs.Common.{◌≡◌, ℕ, ◌==◌, suc, Bool, true, false, ◌&&◌, not, List, [], ◌∷◌, length, Option, Some, None, refl, ap, subst, ◌∙◌}
 use Rattle.std.specs.Prelude.{nat_le, option_map}
 use Rattle.std.proofs.lemmas.Bool.{leb-true, eqb-true}
 use Rattle.ax_lex.specs.declared.keyword.Keyword.{Keyword}
@@ -10,25 +10,23 @@ use Rattle.ax_lex.specs.declared.symbol.Symbol.TheVariants as symbol
 use Rattle.ax_lex.specs.Lexeme.{Lexeme}
 use Rattle.ax_tree.specs.declared.members.Member.{Member}
 use Rattle.ax_tree.specs.declared.tree.Tree.{Tree}
-use Rattle.ax_tree.specs.declared.tree.Tree.TheVariants as tree
 use Rattle.ax_mean.specs.declared.expr.Expr.{Expr}
 use Rattle.ax_mean.specs.declared.expr.Expr.TheVariants as expr
 use Rattle.ax_mean.specs.declared.expr.QueryStep.{QueryStep}
 use Rattle.ax_mean.specs.declared.operator.UnaryOp.{UnaryOp}
 use Rattle.ax_mean.specs.declared.operator.UnaryOp.TheVariants as unary_op
 use Rattle.ax_mean.specs.Functions.{takes}
-use Rattle.ax_grammar.specs.Expressions.{IsExpr, AreListed}
+use Rattle.ax_grammar.specs.Expressions.{IsExpr}
 use Rattle.ax_grammar.specs.Expressions.IsExpr.{plain_sign, signed, least, plain_postfix, stepped, null, true_value, false_value, undefined, number_value, text_value, parameter_value, called, totalled, alias, bracketed, listed, mapped}
-use Rattle.ax_grammar.specs.ExprReader.{stepped_of, constant_of, literal, read_list, read_members, read_call, read_bracketed, atom_from, read_atom, read_postfix, begins_least, is_minus, after_sign, read_signed, sign_or_postfix, read_sign}
+use Rattle.ax_grammar.specs.ExprReader.{stepped_of, constant_of, literal, read_call, read_bracketed, atom_from, read_atom, read_postfix, begins_least, is_minus, after_sign, read_signed, sign_or_postfix, read_sign}
 use Rattle.ax_grammar.specs.Fronts.{begins_step}
 use Rattle.ax_grammar.specs.Levels.{Level}
 use Rattle.ax_grammar.specs.Reading.{Reader, at_once}
-use Rattle.ax_grammar.specs.StepReader.{read_steps}
 use Rattle.ax_grammar.specs.Steps.{AreSteps}
 use Rattle.ax_grammar.specs.Steps.AreSteps.{ended, more}
 use Rattle.ax_grammar.specs.Tables.{Callee, greatest_literal, least_magnitude, sign_of, callee_of, parameter_of}
 use Rattle.ax_grammar.specs.Tables.Callee.{a_function, an_aggregate}
-use Rattle.ax_grammar.specs.Takes.{TakesSymbol, TakesName, TakesNumber}
+use Rattle.ax_grammar.specs.Takes.{TakesSymbol, TakesName}
 use Rattle.ax_grammar.specs.Takes.Mark.{the_symbol}
 use Rattle.ax_grammar.specs.Takes.Takes.{symbol_first, keyword_first}
 use Rattle.ax_grammar.specs.Takes.TakesName.{name_first}

@@ -1,17 +1,14 @@
 -- The parts of a query that are read are those of the grammar, up to its source and joins.
-use Rattle.std.proofs.Common.{◌≡◌, ℕ, ◌≤◌, Bool, true, false, List, [], ◌∷◌, Option, Some, None, refl}
-use Rattle.std.specs.Prelude.{nat_le, option_map}
+use Rattle.std.proofs.Common.{◌≡◌, ℕ, true, false, List, [], ◌∷◌, Option, Some, None, refl}
+use Rattle.std.specs.Prelude.{nat_le}
 use Rattle.std.proofs.lemmas.Bool.{leb-true}
-use Rattle.ax_lex.specs.declared.keyword.Keyword.{Keyword}
 use Rattle.ax_lex.specs.declared.keyword.Keyword.TheVariants as keyword
 use Rattle.ax_lex.specs.declared.symbol.Symbol.TheVariants as symbol
 use Rattle.ax_lex.specs.Lexeme.{Lexeme}
 use Rattle.ax_tree.specs.declared.members.Member.{Member}
 use Rattle.ax_tree.specs.declared.tree.Tree.{Tree}
-use Rattle.ax_mean.specs.declared.expr.QueryStep.{QueryStep}
-use Rattle.ax_grammar.specs.Fronts.{begins_keyword, begins_name}
-use Rattle.ax_grammar.specs.Levels.Level.{choice}
-use Rattle.ax_grammar.specs.Queries.{IsCount, IsDistinct, IsTop, IsNaming, IsItem, ItemsFollow, IsPick, IsSource, IsJoin, AreJoins}
+use Rattle.ax_grammar.specs.Fronts.{begins_keyword}
+use Rattle.ax_grammar.specs.Queries.{IsCount, IsDistinct, IsTop, IsNaming, IsItem, ItemsFollow, IsPick, IsSource, AreJoins}
 use Rattle.ax_grammar.specs.Queries.IsCount.{written_count, given_count}
 use Rattle.ax_grammar.specs.Queries.IsDistinct.{all_rows, distinct_rows}
 use Rattle.ax_grammar.specs.Queries.IsTop.{no_top, topped}
@@ -21,21 +18,20 @@ use Rattle.ax_grammar.specs.Queries.IsPick.{star, value, items}
 use Rattle.ax_grammar.specs.Queries.IsSource.{each_element, whole}
 use Rattle.ax_grammar.specs.Queries.AreJoins.{joins_ended, more_joins}
 use Rattle.ax_grammar.specs.QueryReader.{read_count, read_distinct, read_top, may_name, read_naming, read_item, read_pick, read_elements, read_whole, read_source, read_join, read_joins}
-use Rattle.ax_grammar.specs.ExprReader.{read_expr}
-use Rattle.ax_grammar.specs.Reading.{and_then, at_once, behind_mark, marked, take_name}
+use Rattle.ax_grammar.specs.Reading.{and_then, at_once, marked, take_name}
 use Rattle.ax_grammar.specs.Steps.{AreSteps}
 use Rattle.ax_grammar.specs.Tables.{greatest_count, parameter_of, count_of}
-use Rattle.ax_grammar.specs.Takes.{TakesSymbol, TakesKeyword, TakesName}
+use Rattle.ax_grammar.specs.Takes.{TakesKeyword, TakesName}
 use Rattle.ax_grammar.specs.Takes.Mark.{the_symbol, the_keyword}
 use Rattle.ax_grammar.specs.Takes.TakesName.{name_first}
 use Rattle.ax_grammar.specs.Takes.TakesNumber.{number_first}
 use Rattle.ax_grammar.specs.Takes.TakesParameter.{parameter_first}
-use Rattle.ax_grammar.specs.Written.{Item, Picked, Source, Joined}
+use Rattle.ax_grammar.specs.Written.{Item, Joined}
 use Rattle.ax_grammar.specs.Written.Picked.{the_star, the_value, the_items}
 use Rattle.ax_grammar.proofs.SoundLevels.{expr_sound}
 use Rattle.ax_grammar.proofs.SoundMarks.{IsBehind, AreParted, gives_where, behind_sound, marked_sound, parted_sound}
 use Rattle.ax_grammar.proofs.SoundMarks.AreParted.{are_parted}
-use Rattle.ax_grammar.proofs.SoundReading.{Gives, IsSound, IsRepetition, gives_provided, gives_changed, gives_then, gives_with, gives_mapped, all_turns_sound}
+use Rattle.ax_grammar.proofs.SoundReading.{Gives, IsSound, IsRepetition, gives_provided, gives_changed, gives_then, gives_mapped, all_turns_sound}
 use Rattle.ax_grammar.proofs.SoundReading.Gives.{gives_none, gives}
 use Rattle.ax_grammar.proofs.SoundSteps.{name_sound, steps_sound}
 
@@ -127,16 +123,29 @@ joined_sound lexemes =
     gives_then _ (name_sound lexemes) (λ alias word h.
     gives_then _ (behind_sound (the_keyword keyword.In) take_name name_sound word) (λ base path b.
     gives_changed _ (steps_sound path) (λ steps after m. record {
-      word = word; behind = b.between; path = path; alias = h; each = b.first;
-      base = b.phrase; steps = m })))
+      word = word;
+      behind = b.between;
+      path = path;
+      alias = h;
+      each = b.first;
+      base = b.phrase;
+      steps = m;
+    })))
 
 joins_repeat : IsRepetition (IsBehind (the_keyword keyword.Join) IsJoined) AreJoins
 joins_repeat = record {
   none = λ lexemes. joins_ended;
   more = λ before between after joined joins h m. more_joins (record {
-    name = h.between; word = h.phrase.word; behind = h.phrase.behind; path = h.phrase.path;
-    join = h.first; alias = h.phrase.alias; each = h.phrase.each; base = h.phrase.base;
-    steps = h.phrase.steps }) m
+    name = h.between;
+    word = h.phrase.word;
+    behind = h.phrase.behind;
+    path = h.phrase.path;
+    join = h.first;
+    alias = h.phrase.alias;
+    each = h.phrase.each;
+    base = h.phrase.base;
+    steps = h.phrase.steps;
+  }) m;
 }
 
 pub joins_sound : IsSound AreJoins read_joins
@@ -161,7 +170,7 @@ module _ (params : List (Member Tree)) where
       (ItemsFollow params)
   items_repeat = record {
     none = λ lexemes. no_item_follows;
-    more = λ before between after item items h m. item_follows h.first h.phrase m
+    more = λ before between after item items h m. item_follows h.first h.phrase m;
   }
 
   picked_items : {lexemes after : List Lexeme} {found : List Item}

@@ -1,7 +1,6 @@
--- Each level of expressions that is read is the level of the grammar: the levels over what may stand
--- inside, and then by recursion on how much may.
-use Rattle.std.proofs.Common.{◌≡◌, ℕ, zero, suc, ◌≤◌, Bool, true, false, List, [], ◌∷◌, length, Option, Some, None, refl}
-use Rattle.ax_lex.specs.declared.keyword.Keyword.{Keyword}
+-- Each level of expressions that is read is the level of the grammar: the levels over what may
+-- stand inside, and then by recursion on how much may.
+use Rattle.std.proofs.Common.{◌≡◌, ℕ, zero, suc, ◌≤◌, Bool, true, false, List, length, Option, Some}
 use Rattle.ax_lex.specs.declared.keyword.Keyword.TheVariants as keyword
 use Rattle.ax_lex.specs.declared.symbol.Symbol.{Symbol}
 use Rattle.ax_lex.specs.declared.symbol.Symbol.TheVariants as symbol
@@ -14,18 +13,18 @@ use Rattle.ax_mean.specs.declared.operator.BinaryOp.{BinaryOp}
 use Rattle.ax_mean.specs.declared.operator.UnaryOp.{UnaryOp}
 use Rattle.ax_grammar.specs.Expressions.{MayBeNegated, IsExpr, Follow}
 use Rattle.ax_grammar.specs.Expressions.MayBeNegated.{plain, negated}
-use Rattle.ax_grammar.specs.Expressions.IsExpr.{plain_choice, chosen, plain_coalesce, coalesced, plain_disjunction, disjoined, plain_conjunction, conjoined, plain_negation, denied, plain_comparison, compared, among, between, like, plain_concatenation, concatenated, plain_sum, summed, plain_product, multiplied}
-use Rattle.ax_grammar.specs.ExprReader.{Inner, read_among, read_between, read_like, read_predicate, compare_or_predicate, read_comparison, read_negation, read_branches, read_choice, postfix_over, sign_over, product_over, sum_over, concatenation_over, comparison_over, negation_over, conjunction_over, disjunction_over, coalesce_over, level_over, innermost, inner_over, inner_at, read_level, read_expr, read_atom}
+use Rattle.ax_grammar.specs.Expressions.IsExpr.{plain_choice, chosen, plain_coalesce, coalesced, plain_disjunction, disjoined, plain_conjunction, conjoined, plain_negation, denied, plain_comparison, compared, among, ranged, like, plain_concatenation, concatenated, plain_sum, summed, plain_product, multiplied}
+use Rattle.ax_grammar.specs.ExprReader.{Inner, read_among, read_between, read_like, read_predicate, compare_or_predicate, read_comparison, read_branches, read_choice, postfix_over, sign_over, product_over, sum_over, concatenation_over, comparison_over, negation_over, conjunction_over, disjunction_over, coalesce_over, level_over, innermost, inner_over, inner_at, read_level, read_expr, read_atom}
 use Rattle.ax_grammar.specs.Levels.{Level}
 use Rattle.ax_grammar.specs.Reading.{Reader, at_once, nothing_read}
 use Rattle.ax_grammar.specs.Tables.{comparison_of, sign_of, most_items, most_nesting}
 use Rattle.ax_grammar.specs.Takes.{TakesSymbol, TakesKeyword}
 use Rattle.ax_grammar.specs.Takes.Mark.{the_symbol, the_keyword}
 use Rattle.ax_grammar.proofs.SoundAtoms.{atom_sound, postfix_sound, sign_sound, signed_gives}
-use Rattle.ax_grammar.proofs.SoundMarks.{IsBehind, AreParted, gives_where, gives_behind, gives_closed}
+use Rattle.ax_grammar.proofs.SoundMarks.{AreParted, gives_where, gives_behind, gives_closed}
 use Rattle.ax_grammar.proofs.SoundMarks.AreParted.{are_parted}
 use Rattle.ax_grammar.proofs.SoundParts.{gives_within, exprs_sound, chain_sound, operated_sound}
-use Rattle.ax_grammar.proofs.SoundReading.{Gives, IsSound, given, gives_changed, gives_then, gives_with}
+use Rattle.ax_grammar.proofs.SoundReading.{Gives, IsSound, gives_changed, gives_then, gives_with}
 use Rattle.ax_grammar.proofs.SoundReading.Gives.{gives_none, gives}
 use Rattle.ax_grammar.proofs.SoundSteps.{TakesOperator, operator_sound}
 
@@ -68,7 +67,7 @@ module _ (params : List (Member Tree)) (n : ℕ) where
         gives_changed {P = λ high after. IsExpr params n Level.comparison before
         (expr.Between is_not x low high) after} (expr.Between is_not x low)
         (gives_behind (the_keyword keyword.And) concatenation mid (λ second a.
-        gives_with (c second) (λ high after l. between h m i k a l))) (λ high after l. l))
+        gives_with (c second) (λ high after l. ranged h m i k a l))) (λ high after l. l))
 
     like_gives : (is_not : Bool) (x : Expr) (before mark word rest : List Lexeme)
         → IsExpr params n Level.concatenation before x mark → MayBeNegated is_not mark word
@@ -226,7 +225,7 @@ innermost_sound : (params : List (Member Tree)) → InnerIsSound params zero inn
 innermost_sound params = record {
   inside = λ lexemes. gives_none;
   behind_not = λ before rest t. gives_none;
-  behind_sign = λ operator which before rest t e. gives_none
+  behind_sign = λ operator which before rest t e. gives_none;
 }
 
 -- one more may stand inside
@@ -240,7 +239,7 @@ inner_over_sound params n inner i = record {
       (λ x after h. denied t h);
   behind_sign = λ operator which before rest t e.
       signed_gives params n operator which (sign_over params inner) before rest
-      (sign_over_sound params n inner i) t e
+      (sign_over_sound params n inner i) t e;
 }
 
 inner_at_sound : (params : List (Member Tree)) (n : ℕ)

@@ -1,111 +1,25 @@
 -- A mark that is read stands first, and where it is not read it does not.
-use Rattle.std.proofs.Common.{◌≡◌, ℕ, ◌==◌, Bool, true, false, List, [], ◌∷◌, Option, Some, None, refl, ap, subst, sym, ◌∙◌, get_or}
+use Rattle.std.proofs.Common.{◌≡◌, Bool, true, false, List, [], ◌∷◌, Option, Some, None, refl, subst}
 use Rattle.std.specs.Prelude.{if◌then◌else◌, option_map}
-use Rattle.std.proofs.lemmas.Bool.{eqb-true}
-use Rattle.ax_lex.specs.declared.keyword.Keyword.{Keyword}
-use Rattle.ax_lex.specs.declared.keyword.Keyword.TheVariants as keyword
-use Rattle.ax_lex.specs.declared.symbol.Symbol.{Symbol}
-use Rattle.ax_lex.specs.declared.symbol.Symbol.TheVariants as symbol
 use Rattle.ax_lex.specs.Lexeme.{Lexeme}
-use Rattle.ax_grammar.specs.Fronts.{symbol_number, keyword_number, is_mark, begins}
-use Rattle.ax_grammar.specs.Reading.{Reader, and_then, take, either, where_marked, behind_mark, closed_by, turn_behind, marked, parted, take_name, take_word, take_label, take_operator}
-use Rattle.ax_grammar.specs.Takes.{Mark, Takes, TakesSymbol, TakesName, TakesWord, TakesLabel, TakesText}
+use Rattle.ax_grammar.specs.Fronts.{is_mark, begins}
+use Rattle.ax_grammar.specs.Reading.{Reader, and_then, take, either, where_marked, behind_mark, closed_by, turn_behind, marked, parted}
+use Rattle.ax_grammar.specs.Takes.{Mark, Takes}
 use Rattle.ax_grammar.specs.Takes.Mark.{the_symbol, the_keyword}
 use Rattle.ax_grammar.specs.Takes.Takes.{symbol_first, keyword_first}
-use Rattle.ax_grammar.specs.Takes.TakesName.{name_first}
-use Rattle.ax_grammar.specs.Takes.TakesWord.{name_as_word, keyword_as_word}
-use Rattle.ax_grammar.specs.Takes.TakesText.{text_first}
-use Rattle.ax_grammar.specs.Takes.TakesLabel.{word_as_label, text_as_label}
+use Rattle.ax_grammar.proofs.Marks.{same_symbol, same_keyword}
 use Rattle.ax_grammar.proofs.SoundReading.{Gives, IsSound, TurnGives, gives_changed, gives_then, gives_with, gives_turn, IsRepetition, all_turns_sound}
 use Rattle.ax_grammar.proofs.SoundReading.Gives.{gives_none, gives}
 use Rattle.ax_grammar.proofs.SoundReading.TurnGives.{has_ended}
-
-symbols : List Symbol
-symbols =
-    symbol.Equal ∷ symbol.NotEqual ∷ symbol.Less ∷ symbol.LessEqual ∷ symbol.Greater ∷
-    symbol.GreaterEqual ∷ symbol.Join ∷ symbol.Coalesce ∷ symbol.Question ∷ symbol.Colon ∷
-    symbol.Plus ∷ symbol.Minus ∷ symbol.Star ∷ symbol.Slash ∷ symbol.Percent ∷ symbol.Dot ∷
-    symbol.Comma ∷ symbol.OpenParenthesis ∷ symbol.CloseParenthesis ∷ symbol.OpenBracket ∷
-    symbol.CloseBracket ∷ symbol.OpenBrace ∷ symbol.CloseBrace ∷ []
-
-symbol_at : (which : Symbol) → get_or symbols (symbol_number which) symbol.Dot ≡ which
-unfolding symbols
-symbol_at symbol.Equal = refl
-symbol_at symbol.NotEqual = refl
-symbol_at symbol.Less = refl
-symbol_at symbol.LessEqual = refl
-symbol_at symbol.Greater = refl
-symbol_at symbol.GreaterEqual = refl
-symbol_at symbol.Join = refl
-symbol_at symbol.Coalesce = refl
-symbol_at symbol.Question = refl
-symbol_at symbol.Colon = refl
-symbol_at symbol.Plus = refl
-symbol_at symbol.Minus = refl
-symbol_at symbol.Star = refl
-symbol_at symbol.Slash = refl
-symbol_at symbol.Percent = refl
-symbol_at symbol.Dot = refl
-symbol_at symbol.Comma = refl
-symbol_at symbol.OpenParenthesis = refl
-symbol_at symbol.CloseParenthesis = refl
-symbol_at symbol.OpenBracket = refl
-symbol_at symbol.CloseBracket = refl
-symbol_at symbol.OpenBrace = refl
-symbol_at symbol.CloseBrace = refl
-
-pub same_symbol : (a b : Symbol) → symbol_number a ≡ symbol_number b → a ≡ b
-same_symbol a b e =
-    sym (symbol_at a) ∙ ap (λ n. get_or symbols n symbol.Dot) e ∙ symbol_at b
-
-keywords : List Keyword
-keywords =
-    keyword.Select ∷ keyword.Top ∷ keyword.Distinct ∷ keyword.Value ∷ keyword.As ∷
-    keyword.From ∷ keyword.Join ∷ keyword.In ∷ keyword.Where ∷ keyword.Order ∷ keyword.By ∷
-    keyword.Asc ∷ keyword.Desc ∷ keyword.Group ∷ keyword.Offset ∷ keyword.Limit ∷ keyword.And ∷
-    keyword.Or ∷ keyword.Not ∷ keyword.Between ∷ keyword.Like ∷ keyword.Null ∷ keyword.True ∷
-    keyword.False ∷ keyword.Undefined ∷ []
-
-keyword_at : (which : Keyword) → get_or keywords (keyword_number which) keyword.By ≡ which
-unfolding keywords
-keyword_at keyword.Select = refl
-keyword_at keyword.Top = refl
-keyword_at keyword.Distinct = refl
-keyword_at keyword.Value = refl
-keyword_at keyword.As = refl
-keyword_at keyword.From = refl
-keyword_at keyword.Join = refl
-keyword_at keyword.In = refl
-keyword_at keyword.Where = refl
-keyword_at keyword.Order = refl
-keyword_at keyword.By = refl
-keyword_at keyword.Asc = refl
-keyword_at keyword.Desc = refl
-keyword_at keyword.Group = refl
-keyword_at keyword.Offset = refl
-keyword_at keyword.Limit = refl
-keyword_at keyword.And = refl
-keyword_at keyword.Or = refl
-keyword_at keyword.Not = refl
-keyword_at keyword.Between = refl
-keyword_at keyword.Like = refl
-keyword_at keyword.Null = refl
-keyword_at keyword.True = refl
-keyword_at keyword.False = refl
-keyword_at keyword.Undefined = refl
-
-pub same_keyword : (a b : Keyword) → keyword_number a ≡ keyword_number b → a ≡ b
-same_keyword a b e =
-    sym (keyword_at a) ∙ ap (λ n. get_or keywords n keyword.By) e ∙ keyword_at b
 
 mark_first : (mark : Mark) (first : Lexeme) (rest : List Lexeme) → is_mark mark first ≡ true
     → Takes mark (first ∷ rest) rest
 mark_first (the_symbol which) (Lexeme.symbol other) rest e =
     subst (λ s. Takes (the_symbol which) (Lexeme.symbol s ∷ rest) rest)
-    (same_symbol which other (eqb-true _ _ e)) symbol_first
+    (same_symbol which other e) symbol_first
 mark_first (the_keyword which) (Lexeme.keyword other word) rest e =
     subst (λ k. Takes (the_keyword which) (Lexeme.keyword k word ∷ rest) rest)
-    (same_keyword which other (eqb-true _ _ e)) keyword_first
+    (same_keyword which other e) keyword_first
 mark_first (the_symbol which) (Lexeme.name word) rest e = absurd (cc)
 mark_first (the_symbol which) (Lexeme.keyword other word) rest e = absurd (cc)
 mark_first (the_symbol which) (Lexeme.parameter word) rest e = absurd (cc)

@@ -1,9 +1,8 @@
 -- Chains, lists and members that are read are those of the grammar, where the reader of their
 -- expressions is sound.
-use Rattle.std.proofs.Common.{◌≡◌, ℕ, ◌≤◌, Bool, true, List, [], ◌∷◌, length, Option, Some, None, refl}
+use Rattle.std.proofs.Common.{ℕ, ◌≤◌, List, ◌∷◌, length, Option}
 use Rattle.std.specs.Prelude.{nat_le}
 use Rattle.std.proofs.lemmas.Bool.{leb-true}
-use Rattle.ax_lex.specs.declared.symbol.Symbol.{Symbol}
 use Rattle.ax_lex.specs.declared.symbol.Symbol.TheVariants as symbol
 use Rattle.ax_lex.specs.Lexeme.{Lexeme}
 use Rattle.ax_tree.specs.declared.members.Member.{Member}
@@ -26,7 +25,7 @@ use Rattle.ax_grammar.specs.Takes.{Mark, Takes, TakesSymbol}
 use Rattle.ax_grammar.specs.Takes.Mark.{the_symbol}
 use Rattle.ax_grammar.proofs.SoundMarks.{IsBehind, AreParted, gives_where, gives_closed, behind_sound, parted_sound}
 use Rattle.ax_grammar.proofs.SoundMarks.AreParted.{are_parted}
-use Rattle.ax_grammar.proofs.SoundReading.{Gives, IsSound, TurnGives, IsRepetition, gives_provided, gives_changed, gives_then, gives_with, gives_turn, all_turns_sound}
+use Rattle.ax_grammar.proofs.SoundReading.{Gives, IsSound, TurnGives, IsRepetition, gives_provided, gives_changed, gives_then, gives_turn, all_turns_sound}
 use Rattle.ax_grammar.proofs.SoundReading.Gives.{gives_none, gives}
 use Rattle.ax_grammar.proofs.SoundReading.TurnGives.{has_ended}
 use Rattle.ax_grammar.proofs.SoundSteps.{TakesOperator, operator_sound, label_sound}
@@ -46,7 +45,7 @@ module _ (params : List (Member Tree)) (n : ℕ) where
       → IsRepetition (IsBehind mark (IsExpr params n operand)) (Follow params n operand mark)
   follow_repeats operand mark = record {
     none = λ lexemes. followed_by_none;
-    more = λ before between after x xs h m. followed_by h.first h.phrase m
+    more = λ before between after x xs h m. followed_by h.first h.phrase m;
   }
 
   -- operand {mark operand}
@@ -86,11 +85,11 @@ module _ (params : List (Member Tree)) (n : ℕ) where
   chain_sound {level} {operand} {mark} variant reader plain full s lexemes =
       gives_changed (chain_of variant) (exprs_sound operand mark reader s lexemes)
       (λ xs after h. parted_chain h)
-      where
-        parted_chain : {xs : List Expr} {after : List Lexeme}
-            → AreParted (IsExpr params n operand) (Follow params n operand mark) lexemes xs after
-            → IsExpr params n level lexemes (chain_of variant xs) after
-        parted_chain (are_parted {x} h m) = chain_is variant x h m plain full
+    where
+      parted_chain : {xs : List Expr} {after : List Lexeme}
+          → AreParted (IsExpr params n operand) (Follow params n operand mark) lexemes xs after
+          → IsExpr params n level lexemes (chain_of variant xs) after
+      parted_chain (are_parted {x} h m) = chain_is variant x h m plain full
 
   -- an operand behind its operator
   data IsOperated (operand : Level) : (before : List Lexeme) (c : Chained Expr)
@@ -113,7 +112,7 @@ module _ (params : List (Member Tree)) (n : ℕ) where
       → IsRepetition (IsOperated operand) (AreChained params n operand)
   chained_repeats operand = record {
     none = λ lexemes. chain_ended;
-    more = λ before between after c cs h m. one_more h m
+    more = λ before between after c cs h m. one_more h m;
   }
     where
       one_more : {before between after : List Lexeme} {c : Chained Expr}
@@ -165,12 +164,12 @@ module _ (params : List (Member Tree)) (n : ℕ) where
       gives_where close _ _ lexemes (λ rest t. gives (empty_list t)) (λ e.
       gives_closed close (exprs_sound Level.choice (the_symbol symbol.Comma) reader s lexemes)
       (λ xs end after h t. whole_list h t))
-      where
-        whole_list : {xs : List Expr} {end after : List Lexeme}
-            → AreParted (IsExpr params n Level.choice)
-            (Follow params n Level.choice (the_symbol symbol.Comma)) lexemes xs end
-            → Takes close end after → AreListed params n close lexemes xs after
-        whole_list (are_parted h m) t = full_list h m t
+    where
+      whole_list : {xs : List Expr} {end after : List Lexeme}
+          → AreParted (IsExpr params n Level.choice)
+          (Follow params n Level.choice (the_symbol symbol.Comma)) lexemes xs end
+          → Takes close end after → AreListed params n close lexemes xs after
+      whole_list (are_parted h m) t = full_list h m t
 
   member_sound : (reader : Reader Expr) → IsSound (IsExpr params n Level.choice) reader
       → IsSound (IsMember params n) (read_member reader)
@@ -183,7 +182,7 @@ module _ (params : List (Member Tree)) (n : ℕ) where
       (MembersFollow params n)
   members_repeat = record {
     none = λ lexemes. no_member_follows;
-    more = λ before between after m ms h k. member_follows h.first h.phrase k
+    more = λ before between after m ms h k. member_follows h.first h.phrase k;
   }
 
   -- [mem {"," mem}] "}"
@@ -195,8 +194,8 @@ module _ (params : List (Member Tree)) (n : ℕ) where
       gives_closed (the_symbol symbol.CloseBrace)
       (parted_sound (the_symbol symbol.Comma) (read_member reader) members_repeat
       (member_sound reader s) lexemes) (λ ms end after h t. whole_map h t))
-      where
-        whole_map : {ms : List (Member Expr)} {end after : List Lexeme}
-            → AreParted (IsMember params n) (MembersFollow params n) lexemes ms end
-            → TakesSymbol symbol.CloseBrace end after → AreMembers params n lexemes ms after
-        whole_map (are_parted h m) t = full_map h m t
+    where
+      whole_map : {ms : List (Member Expr)} {end after : List Lexeme}
+          → AreParted (IsMember params n) (MembersFollow params n) lexemes ms end
+          → TakesSymbol symbol.CloseBrace end after → AreMembers params n lexemes ms after
+      whole_map (are_parted h m) t = full_map h m t

@@ -21,9 +21,9 @@ pub given : {X : Type 0} {P : X → List Lexeme → Type 0} {x : X} {rest : List
     {o : Option (X × List Lexeme)} → Gives P o → o ≡ Some (x, rest) → P x rest
 given {X} {P} {x} {rest} (gives {found} h) e =
     subst (λ (f : X × List Lexeme). P f.0 f.1) (same e) h
-    where
-      same : Some found ≡ Some (x, rest) → found ≡ (x, rest)
-      same e = cc
+  where
+    same : Some found ≡ Some (x, rest) → found ≡ (x, rest)
+    same e = cc
 given gives_none e = absurd (cc)
 
 pub gives_provided : {X : Type 0} {P : X → List Lexeme → Type 0} {o : Option (X × List Lexeme)}

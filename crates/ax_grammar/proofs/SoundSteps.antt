@@ -1,11 +1,10 @@
 -- Single lexemes, operators and steps that are read are those of the grammar.
-use Rattle.std.proofs.Common.{◌≡◌, ℕ, ◌≤◌, true, List, [], ◌∷◌, Option, Some, None, refl}
+use Rattle.std.proofs.Common.{◌≡◌, List, [], ◌∷◌, Option, Some}
 use Rattle.std.specs.Prelude.{nat_le}
 use Rattle.std.proofs.lemmas.Bool.{leb-true}
 use Rattle.ax_lex.specs.declared.symbol.Symbol.{Symbol}
 use Rattle.ax_lex.specs.declared.symbol.Symbol.TheVariants as symbol
 use Rattle.ax_lex.specs.Lexeme.{Lexeme}
-use Rattle.ax_mean.specs.declared.expr.QueryStep.{QueryStep}
 use Rattle.ax_mean.specs.declared.expr.QueryStep.TheVariants.{Member, Position}
 use Rattle.ax_grammar.specs.Queries.{AreNameSteps}
 use Rattle.ax_grammar.specs.Queries.AreNameSteps.{names_ended, more_names}
@@ -16,7 +15,7 @@ use Rattle.ax_grammar.specs.Steps.IsNameStep.{dotted, quoted}
 use Rattle.ax_grammar.specs.Steps.IsStep.{named, positioned}
 use Rattle.ax_grammar.specs.Steps.AreSteps.{ended, more}
 use Rattle.ax_grammar.specs.Tables.{greatest_count}
-use Rattle.ax_grammar.specs.Takes.{TakesSymbol, TakesName, TakesWord, TakesText, TakesLabel}
+use Rattle.ax_grammar.specs.Takes.{TakesSymbol, TakesName, TakesWord, TakesLabel}
 use Rattle.ax_grammar.specs.Takes.Mark.{the_symbol}
 use Rattle.ax_grammar.specs.Takes.Takes.{symbol_first}
 use Rattle.ax_grammar.specs.Takes.TakesName.{name_first}
@@ -25,7 +24,7 @@ use Rattle.ax_grammar.specs.Takes.TakesWord.{name_as_word, keyword_as_word}
 use Rattle.ax_grammar.specs.Takes.TakesText.{text_first}
 use Rattle.ax_grammar.specs.Takes.TakesLabel.{word_as_label, text_as_label}
 use Rattle.ax_grammar.proofs.SoundMarks.{gives_closed_at}
-use Rattle.ax_grammar.proofs.SoundReading.{Gives, IsSound, TurnGives, IsRepetition, gives_provided, gives_changed, gives_mapped, gives_turn, gives_with, all_turns_sound}
+use Rattle.ax_grammar.proofs.SoundReading.{Gives, IsSound, TurnGives, gives_provided, gives_changed, gives_mapped, gives_turn, gives_with, all_turns_sound}
 use Rattle.ax_grammar.proofs.SoundReading.Gives.{gives_none, gives}
 use Rattle.ax_grammar.proofs.SoundReading.TurnGives.{has_ended}
 
@@ -120,7 +119,7 @@ pub steps_sound : IsSound (λ before steps after. AreSteps steps before after) r
 steps_sound =
     all_turns_sound turn_step (record {
       none = λ lexemes. ended;
-      more = λ before between after step steps h m. more h m
+      more = λ before between after step steps h m. more h m;
     }) step_gives
 
 pub name_steps_sound : IsSound (λ before names after. AreNameSteps names before after)
@@ -128,5 +127,5 @@ pub name_steps_sound : IsSound (λ before names after. AreNameSteps names before
 name_steps_sound =
     all_turns_sound turn_name_step (record {
       none = λ lexemes. names_ended;
-      more = λ before between after name names h m. more_names h m
+      more = λ before between after name names h m. more_names h m;
     }) name_step_gives
