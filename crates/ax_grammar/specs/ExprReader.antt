@@ -16,13 +16,12 @@ use Rattle.ax_mean.specs.declared.expr.QueryStep.{QueryStep}
 use Rattle.ax_mean.specs.declared.operator.BinaryOp.{BinaryOp}
 use Rattle.ax_mean.specs.declared.operator.UnaryOp.{UnaryOp}
 use Rattle.ax_mean.specs.declared.operator.UnaryOp.TheVariants as unary_op
-use Rattle.ax_mean.specs.declared.value.Value.{Value}
 use Rattle.ax_mean.specs.declared.value.Value.TheVariants.{Undefined, Defined}
 use Rattle.ax_mean.specs.Functions.{takes}
 use Rattle.ax_grammar.specs.Fronts.{begins_step}
 use Rattle.ax_grammar.specs.Levels.{Level}
-use Rattle.ax_grammar.specs.Reading.{Reader, Turn, and_then, provided, changed, nothing_read, at_once, take, where_marked, behind_mark, closed_by, take_label, take_operator, must, marked, all_turns, parted}
-use Rattle.ax_grammar.specs.Reading.Turn.{ended, failed, went_on}
+use Rattle.ax_grammar.specs.Reading.{Reader, Turn, and_then, provided, changed, nothing_read, at_once, where_marked, behind_mark, closed_by, take_label, take_operator, must, all_turns, parted}
+use Rattle.ax_grammar.specs.Reading.Turn.{ended}
 use Rattle.ax_grammar.specs.StepReader.{read_steps}
 use Rattle.ax_grammar.specs.Tables.{Callee, most_items, most_nesting, greatest_literal, least_magnitude, least_literal, comparison_of, operator_before, sign_of, callee_of, parameter_of}
 use Rattle.ax_grammar.specs.Tables.Callee.{a_function, an_aggregate}
@@ -296,7 +295,7 @@ inner_over params inner =
     record {
       choice = read_choice (coalesce_over params inner) inner.choice;
       denied = λ lexemes. changed expr.Not (negation_over params inner lexemes);
-      signed = read_signed (sign_over params inner)
+      signed = read_signed (sign_over params inner);
     }
 
 -- so many may

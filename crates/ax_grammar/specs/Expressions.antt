@@ -1,5 +1,5 @@
--- The grammar of expressions: at each level, which expression stands between what is before and what
--- is after it. `n` is how many choices, NOTs and signs may still stand inside one another. A
+-- The grammar of expressions: at each level, which expression stands between what is before and
+-- what is after it. `n` is how many choices, NOTs and signs may still stand inside one another. A
 -- parameter is the literal of its value.
 use Rattle.std.specs.Prelude.{◌≡◌, ℕ, suc, ◌≤◌, pos, List, [], ◌∷◌, length, Bool, true, false, Some}
 use Rattle.ax_lex.specs.declared.keyword.Keyword.TheVariants as keyword
@@ -21,7 +21,7 @@ use Rattle.ax_mean.specs.declared.value.Value.TheVariants.{Undefined, Defined}
 use Rattle.ax_mean.specs.Functions.{takes}
 use Rattle.ax_grammar.specs.Levels.{Level}
 use Rattle.ax_grammar.specs.Levels.Level.{choice, coalesce, disjunction, conjunction, negation, comparison, concatenation, sum, product, sign, postfix, atom}
-use Rattle.ax_grammar.specs.Steps.{IsStep, AreSteps}
+use Rattle.ax_grammar.specs.Steps.{AreSteps}
 use Rattle.ax_grammar.specs.Tables.Callee.{a_function, an_aggregate}
 use Rattle.ax_grammar.specs.Tables.{most_items, most_nesting, greatest_literal, least_magnitude, least_literal, comparison_of, operator_before, sign_of, callee_of, parameter_of}
 use Rattle.ax_grammar.specs.Fronts.{begins_step, begins_with}
@@ -42,7 +42,8 @@ mutual
         → IsExpr params n coalesce before x after
         → IsExpr params (suc n) choice before x after
     -- choice = coal "?" choice ":" choice
-    chosen : {n : ℕ} {test yes_branch no_branch : Expr} {before mark then_part colon else_part after : List Lexeme}
+    chosen : {n : ℕ} {test yes_branch no_branch : Expr}
+        {before mark then_part colon else_part after : List Lexeme}
         → IsExpr params n coalesce before test mark → TakesSymbol symbol.Question mark then_part
         → IsExpr params n choice then_part yes_branch colon
         → TakesSymbol symbol.Colon colon else_part
@@ -88,12 +89,14 @@ mutual
         → IsExpr params n concatenation before x after
         → IsExpr params n comparison before x after
     -- compare = cat relop cat
-    compared : {n : ℕ} {which : Symbol} {operator : BinaryOp} {x y : Expr} {before mark between after : List Lexeme}
+    compared : {n : ℕ} {which : Symbol} {operator : BinaryOp} {x y : Expr}
+        {before mark between after : List Lexeme}
         → IsExpr params n concatenation before x mark → TakesSymbol which mark between
         → comparison_of which ≡ Some operator → IsExpr params n concatenation between y after
         → IsExpr params n comparison before (expr.Compare operator x y) after
     -- compare = cat [NOT] IN "(" expr {"," expr} ")"
-    among : {n : ℕ} {negated : Bool} {x item : Expr} {items : List Expr} {before mark word bracket first more end after : List Lexeme}
+    among : {n : ℕ} {negated : Bool} {x item : Expr} {items : List Expr}
+        {before mark word bracket first more end after : List Lexeme}
         → IsExpr params n concatenation before x mark → MayBeNegated negated mark word
         → TakesKeyword keyword.In word bracket → TakesSymbol symbol.OpenParenthesis bracket first
         → IsExpr params n choice first item more
@@ -101,13 +104,15 @@ mutual
         → length (item ∷ items) ≤ most_items → TakesSymbol symbol.CloseParenthesis end after
         → IsExpr params n comparison before (expr.Among negated x (item ∷ items)) after
     -- compare = cat [NOT] BETWEEN cat AND cat
-    between : {n : ℕ} {negated : Bool} {x low high : Expr} {before mark word first mid second after : List Lexeme}
+    ranged : {n : ℕ} {negated : Bool} {x low high : Expr}
+        {before mark word first mid second after : List Lexeme}
         → IsExpr params n concatenation before x mark → MayBeNegated negated mark word
         → TakesKeyword keyword.Between word first → IsExpr params n concatenation first low mid
         → TakesKeyword keyword.And mid second → IsExpr params n concatenation second high after
         → IsExpr params n comparison before (expr.Between negated x low high) after
     -- compare = cat [NOT] LIKE cat
-    like : {n : ℕ} {negated : Bool} {x pattern_part : Expr} {before mark word second after : List Lexeme}
+    like : {n : ℕ} {negated : Bool} {x pattern_part : Expr}
+        {before mark word second after : List Lexeme}
         → IsExpr params n concatenation before x mark → MayBeNegated negated mark word
         → TakesKeyword keyword.Like word second
         → IsExpr params n concatenation second pattern_part after
@@ -126,7 +131,8 @@ mutual
         → IsExpr params n product before x after
         → IsExpr params n sum before x after
     -- sum = prod ("+" | "-") prod {("+" | "-") prod}
-    summed : {n : ℕ} {x : Expr} {c : Chained Expr} {cs : List (Chained Expr)} {before between after : List Lexeme}
+    summed : {n : ℕ} {x : Expr} {c : Chained Expr} {cs : List (Chained Expr)}
+        {before between after : List Lexeme}
         → IsExpr params n product before x between
         → AreChained params n product between (c ∷ cs) after
         → IsExpr params n sum before (expr.Sum x (c ∷ cs)) after
@@ -135,7 +141,8 @@ mutual
         → IsExpr params n sign before x after
         → IsExpr params n product before x after
     -- prod = sign ("*" | "/" | "%") sign {("*" | "/" | "%") sign}
-    multiplied : {n : ℕ} {x : Expr} {c : Chained Expr} {cs : List (Chained Expr)} {before between after : List Lexeme}
+    multiplied : {n : ℕ} {x : Expr} {c : Chained Expr} {cs : List (Chained Expr)}
+        {before between after : List Lexeme}
         → IsExpr params n sign before x between
         → AreChained params n sign between (c ∷ cs) after
         → IsExpr params n product before (expr.Product x (c ∷ cs)) after
@@ -144,7 +151,8 @@ mutual
         → IsExpr params n postfix before x after
         → IsExpr params n sign before x after
     -- sign = ("-" | "+") sign
-    signed : {n : ℕ} {which : Symbol} {operator : UnaryOp} {x : Expr} {before between after : List Lexeme}
+    signed : {n : ℕ} {which : Symbol} {operator : UnaryOp} {x : Expr}
+        {before between after : List Lexeme}
         → TakesSymbol which before between → sign_of which ≡ Some operator
         → IsExpr params n sign between x after
         → IsExpr params (suc n) sign before (expr.Sign operator x) after
@@ -152,13 +160,15 @@ mutual
     least : {n value : ℕ} {before between after : List Lexeme}
         → TakesSymbol symbol.Minus before between → TakesNumber value between after
         → value ≡ least_magnitude → begins_step after ≡ false
-        → IsExpr params (suc n) sign before (expr.Literal (Defined (tree.Number least_literal))) after
+        → IsExpr params (suc n) sign before
+        (expr.Literal (Defined (tree.Number least_literal))) after
     -- post = atom
     plain_postfix : {n : ℕ} {x : Expr} {before after : List Lexeme}
         → IsExpr params n atom before x after
         → IsExpr params n postfix before x after
     -- post = atom step {step}
-    stepped : {n : ℕ} {x : Expr} {step : QueryStep} {steps : List QueryStep} {before between after : List Lexeme}
+    stepped : {n : ℕ} {x : Expr} {step : QueryStep} {steps : List QueryStep}
+        {before between after : List Lexeme}
         → IsExpr params n atom before x between → AreSteps (step ∷ steps) between after
         → IsExpr params n postfix before (expr.Steps x (step ∷ steps)) after
     -- atom = NULL
@@ -186,14 +196,16 @@ mutual
         → TakesParameter word before after → parameter_of params word ≡ Some value
         → IsExpr params n atom before (expr.Literal (Defined value)) after
     -- atom = name "(" [expr {"," expr}] ")", the name of a function of so many arguments
-    called : {n : ℕ} {word : List ℕ} {func : Func} {args : List Expr} {before bracket inside after : List Lexeme}
+    called : {n : ℕ} {word : List ℕ} {func : Func} {args : List Expr}
+        {before bracket inside after : List Lexeme}
         → TakesName word before bracket → callee_of word ≡ Some (a_function func)
         → TakesSymbol symbol.OpenParenthesis bracket inside
         → AreListed params n (the_symbol symbol.CloseParenthesis) inside args after
         → takes func (length args) ≡ true
         → IsExpr params n atom before (expr.Call func args) after
     -- atom = name "(" expr ")", the name of an aggregate
-    totalled : {n : ℕ} {word : List ℕ} {aggregate : Aggregate} {x : Expr} {before bracket inside end after : List Lexeme}
+    totalled : {n : ℕ} {word : List ℕ} {aggregate : Aggregate} {x : Expr}
+        {before bracket inside end after : List Lexeme}
         → TakesName word before bracket → callee_of word ≡ Some (an_aggregate aggregate)
         → TakesSymbol symbol.OpenParenthesis bracket inside
         → IsExpr params n choice inside x end → TakesSymbol symbol.CloseParenthesis end after
@@ -225,7 +237,8 @@ mutual
       (before : List Lexeme) (xs : List Expr) (after : List Lexeme) → Type 0 where
     followed_by_none : {n : ℕ} {operand : Level} {mark : Mark} {after : List Lexeme}
         → Follow params n operand mark after [] after
-    followed_by : {n : ℕ} {operand : Level} {mark : Mark} {x : Expr} {xs : List Expr} {before between next after : List Lexeme}
+    followed_by : {n : ℕ} {operand : Level} {mark : Mark} {x : Expr} {xs : List Expr}
+        {before between next after : List Lexeme}
         → Takes mark before between → IsExpr params n operand between x next
         → Follow params n operand mark next xs after
         → Follow params n operand mark before (x ∷ xs) after
@@ -235,7 +248,8 @@ mutual
       (before : List Lexeme) (cs : List (Chained Expr)) (after : List Lexeme) → Type 0 where
     chain_ended : {n : ℕ} {operand : Level} {after : List Lexeme}
         → AreChained params n operand after [] after
-    chain_goes_on : {n : ℕ} {operand : Level} {which : Symbol} {operator : BinaryOp} {x : Expr} {cs : List (Chained Expr)} {before between next after : List Lexeme}
+    chain_goes_on : {n : ℕ} {operand : Level} {which : Symbol} {operator : BinaryOp} {x : Expr}
+        {cs : List (Chained Expr)} {before between next after : List Lexeme}
         → TakesSymbol which before between → operator_before operand which ≡ Some operator
         → IsExpr params n operand between x next → AreChained params n operand next cs after
         → AreChained params n operand before (record { op = operator; operand = x } ∷ cs) after
@@ -245,7 +259,8 @@ mutual
       (before : List Lexeme) (xs : List Expr) (after : List Lexeme) → Type 0 where
     empty_list : {n : ℕ} {close : Mark} {before after : List Lexeme} → Takes close before after
         → AreListed params n close before [] after
-    full_list : {n : ℕ} {close : Mark} {x : Expr} {xs : List Expr} {before between end after : List Lexeme}
+    full_list : {n : ℕ} {close : Mark} {x : Expr} {xs : List Expr}
+        {before between end after : List Lexeme}
         → IsExpr params n choice before x between
         → Follow params n choice (the_symbol symbol.Comma) between xs end
         → Takes close end after → AreListed params n close before (x ∷ xs) after
@@ -262,7 +277,8 @@ mutual
   pub data MembersFollow (params : List (Member Tree)) : (n : ℕ)
       (before : List Lexeme) (ms : List (Member Expr)) (after : List Lexeme) → Type 0 where
     no_member_follows : {n : ℕ} {after : List Lexeme} → MembersFollow params n after [] after
-    member_follows : {n : ℕ} {m : Member Expr} {ms : List (Member Expr)} {before between next after : List Lexeme}
+    member_follows : {n : ℕ} {m : Member Expr} {ms : List (Member Expr)}
+        {before between next after : List Lexeme}
         → TakesSymbol symbol.Comma before between → IsMember params n between m next
         → MembersFollow params n next ms after → MembersFollow params n before (m ∷ ms) after
 
@@ -271,7 +287,8 @@ mutual
       (before : List Lexeme) (ms : List (Member Expr)) (after : List Lexeme) → Type 0 where
     empty_map : {n : ℕ} {before after : List Lexeme} → TakesSymbol symbol.CloseBrace before after
         → AreMembers params n before [] after
-    full_map : {n : ℕ} {m : Member Expr} {ms : List (Member Expr)} {before between end after : List Lexeme}
+    full_map : {n : ℕ} {m : Member Expr} {ms : List (Member Expr)}
+        {before between end after : List Lexeme}
         → IsMember params n before m between → MembersFollow params n between ms end
         → TakesSymbol symbol.CloseBrace end after → AreMembers params n before (m ∷ ms) after
 

@@ -1,12 +1,12 @@
--- What a list of lexemes begins with, and which lexemes go on an expression of a level: where one of
--- these follows, the expression of that level is longer.
+-- What a list of lexemes begins with, which lexemes begin an expression of a level, and which go on
+-- one: where one of these follows, the expression of that level is longer.
 use Rattle.std.specs.Prelude.{ℕ, List, [], ◌∷◌, Bool, true, false, ◌||◌, ◌==◌, nat_le}
 use Rattle.ax_lex.specs.declared.keyword.Keyword.{Keyword}
 use Rattle.ax_lex.specs.declared.keyword.Keyword.TheVariants as keyword
 use Rattle.ax_lex.specs.declared.symbol.Symbol.{Symbol}
 use Rattle.ax_lex.specs.declared.symbol.Symbol.TheVariants as symbol
 use Rattle.ax_lex.specs.Lexeme.{Lexeme}
-use Rattle.ax_grammar.specs.Levels.{Level, rank}
+use Rattle.ax_grammar.specs.Levels.{Level, distance}
 use Rattle.ax_grammar.specs.Takes.{Mark}
 use Rattle.ax_grammar.specs.Takes.Mark.{the_symbol, the_keyword}
 
@@ -92,7 +92,7 @@ begins_name [] = false
 begins_name (Lexeme.name word ∷ rest) = true
 begins_name (_ ∷ rest) = false
 
--- the rank of the innermost level that a symbol goes on; 12 where it goes on none
+-- the distance of the innermost level that a symbol goes on; 12 where it goes on none
 abbrev pub symbol_reach : Symbol → ℕ
 symbol_reach symbol.OpenParenthesis = 0
 symbol_reach symbol.Dot = 1
@@ -128,6 +128,37 @@ reach (Lexeme.keyword which word) = keyword_reach which
 reach _ = 12
 
 -- does the lexeme that stands first go on an expression of this level
-abbrev pub extends : Level → List Lexeme → Bool
+unfoldable pub extends : Level → List Lexeme → Bool
 extends level [] = false
-extends level (first ∷ rest) = nat_le (reach first) (rank level)
+extends level (first ∷ rest) = nat_le (reach first) (distance level)
+
+-- the distance of the innermost level that can begin with a lexeme; 12 where none can
+abbrev pub symbol_opening : Symbol → ℕ
+symbol_opening symbol.OpenParenthesis = 0
+symbol_opening symbol.OpenBracket = 0
+symbol_opening symbol.OpenBrace = 0
+symbol_opening symbol.Plus = 2
+symbol_opening symbol.Minus = 2
+symbol_opening _ = 12
+
+abbrev pub keyword_opening : Keyword → ℕ
+keyword_opening keyword.Null = 0
+keyword_opening keyword.True = 0
+keyword_opening keyword.False = 0
+keyword_opening keyword.Undefined = 0
+keyword_opening keyword.Not = 7
+keyword_opening _ = 12
+
+abbrev pub opening : Lexeme → ℕ
+opening (Lexeme.name word) = 0
+opening (Lexeme.keyword which word) = keyword_opening which
+opening (Lexeme.parameter word) = 0
+opening (Lexeme.text value) = 0
+opening (Lexeme.number value) = 0
+opening (Lexeme.symbol which) = symbol_opening which
+opening (Lexeme.nothing kind) = 12
+
+-- can an expression of this level begin with the lexeme that stands first
+unfoldable pub opens : Level → List Lexeme → Bool
+opens level [] = false
+opens level (first ∷ rest) = nat_le (opening first) (distance level)

@@ -16,17 +16,17 @@ pub data Level : Type 0 where
   postfix : Level
   atom : Level
 
--- how far out a level is
-abbrev pub rank : Level → ℕ
-rank atom = 0
-rank postfix = 1
-rank sign = 2
-rank product = 3
-rank sum = 4
-rank concatenation = 5
-rank comparison = 6
-rank negation = 7
-rank conjunction = 8
-rank disjunction = 9
-rank coalesce = 10
-rank choice = 11
+-- how far a level is from the innermost
+abbrev pub distance : Level → ℕ
+distance atom = 0
+distance postfix = 1
+distance sign = 2
+distance product = 3
+distance sum = 4
+distance concatenation = 5
+distance comparison = 6
+distance negation = 7
+distance conjunction = 8
+distance disjunction = 9
+distance coalesce = 10
+distance choice = 11

@@ -10,3 +10,9 @@ pub mod Reading
 pub mod StepReader
 pub mod ExprReader
 pub mod QueryReader
+pub mod SameExprs
+pub mod Parts
+pub mod Names
+pub mod Scope
+pub mod Made
+pub mod Query

@@ -85,17 +85,27 @@ pub data IsPick (params : List (Member Tree)) : (before : List Lexeme) (picked :
 pub data IsSource : (before : List Lexeme) (source : Source) (after : List Lexeme)
     → Type 0 where
   -- from = name IN name {step}
-  each_element : {alias container : List ℕ} {steps : List QueryStep} {before word behind path after : List Lexeme}
+  each_element : {alias container : List ℕ} {steps : List QueryStep}
+      {before word behind path after : List Lexeme}
       → TakesName alias before word → TakesKeyword keyword.In word behind
       → TakesName container behind path → AreSteps steps path after
-      → IsSource before (record { container = container; each = true; steps = steps;
-          alias = Some alias }) after
+      → IsSource before (record {
+        container = container;
+        each = true;
+        steps = steps;
+        alias = Some alias;
+      }) after
   -- from = name {step} [[AS] name], where no IN follows the name
-  whole : {container : List ℕ} {alias : Option (List ℕ)} {steps : List QueryStep} {before path naming after : List Lexeme}
+  whole : {container : List ℕ} {alias : Option (List ℕ)} {steps : List QueryStep}
+      {before path naming after : List Lexeme}
       → TakesName container before path → begins_keyword keyword.In path ≡ false
       → AreSteps steps path naming → IsNaming alias naming after
-      → IsSource before (record { container = container; each = false; steps = steps;
-          alias = alias }) after
+      → IsSource before (record {
+        container = container;
+        each = false;
+        steps = steps;
+        alias = alias;
+      }) after
 
 -- join = JOIN name IN name {step}
 pub record IsJoin (before : List Lexeme) (joined : Joined) (after : List Lexeme) : Type 0 where
@@ -156,7 +166,8 @@ pub data IsDirection : (down : Bool) (before after : List Lexeme) → Type 0 whe
 -- order = name nstep {nstep} [ASC | DESC]
 pub data IsOrder : (before : List Lexeme) (ordered : Ordered) (after : List Lexeme)
     → Type 0 where
-  ordered_by : {alias name : List ℕ} {names : List (List ℕ)} {down : Bool} {before path direction after : List Lexeme}
+  ordered_by : {alias name : List ℕ} {names : List (List ℕ)} {down : Bool}
+      {before path direction after : List Lexeme}
       → TakesName alias before path → AreNameSteps (name ∷ names) path direction
       → IsDirection down direction after
       → IsOrder before (record { alias = alias; path = name ∷ names; down = down }) after
@@ -165,7 +176,8 @@ pub data IsOrder : (before : List Lexeme) (ordered : Ordered) (after : List Lexe
 pub data OrdersFollow : (before : List Lexeme) (orders : List Ordered) (after : List Lexeme)
     → Type 0 where
   no_order_follows : {after : List Lexeme} → OrdersFollow after [] after
-  order_follows : {ordered : Ordered} {orders : List Ordered} {before between next after : List Lexeme}
+  order_follows : {ordered : Ordered} {orders : List Ordered}
+      {before between next after : List Lexeme}
       → TakesSymbol symbol.Comma before between → IsOrder between ordered next
       → OrdersFollow next orders after → OrdersFollow before (ordered ∷ orders) after
 
@@ -174,7 +186,8 @@ pub data AreOrders : (before : List Lexeme) (orders : List Ordered) (after : Lis
     → Type 0 where
   no_orders : {after : List Lexeme} → begins_keyword keyword.Order after ≡ false
       → AreOrders after [] after
-  in_order : {ordered : Ordered} {orders : List Ordered} {before word first more after : List Lexeme}
+  in_order : {ordered : Ordered} {orders : List Ordered}
+      {before word first more after : List Lexeme}
       → TakesKeyword keyword.Order before word → TakesKeyword keyword.By word first
       → IsOrder first ordered more → OrdersFollow more orders after
       → AreOrders before (ordered ∷ orders) after

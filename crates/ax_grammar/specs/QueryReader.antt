@@ -145,7 +145,12 @@ read_head params lexemes =
     and_then (read_pick params top.1) (λ picked.
     and_then (behind_mark (the_keyword keyword.From) read_source picked.1) (λ source. changed
     (λ joins. record {
-      distinct = distinct.0; top = top.0; picked = picked.0; source = source.0; joins = joins })
+      distinct = distinct.0;
+      top = top.0;
+      picked = picked.0;
+      source = source.0;
+      joins = joins;
+    })
     (read_joins source.1)))))
 
 -- the rest of the query
@@ -155,9 +160,16 @@ read_tail params head lexemes =
     and_then (read_groups params condition.1) (λ groups.
     and_then (read_orders groups.1) (λ orders. changed
     (λ window. record {
-      distinct = head.distinct; top = head.top; picked = head.picked; source = head.source;
-      joins = head.joins; condition = condition.0; groups = groups.0; orders = orders.0;
-      window = window })
+      distinct = head.distinct;
+      top = head.top;
+      picked = head.picked;
+      source = head.source;
+      joins = head.joins;
+      condition = condition.0;
+      groups = groups.0;
+      orders = orders.0;
+      window = window;
+    })
     (read_window params orders.1))))
 
 -- the query that the whole list writes

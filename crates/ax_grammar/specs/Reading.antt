@@ -1,5 +1,6 @@
 -- Reading from the front of a list of lexemes, as functions that answer what was read and the rest.
--- The reader serves proofs and the clauses of private functions: what is read is said by the grammar.
+-- The reader serves proofs and the clauses of private functions: what is read is said by the
+-- grammar.
 use Rattle.std.specs.Prelude.{ℕ, zero, suc, List, [], ◌∷◌, length, Bool, true, false, Option, Some, None, option_map, if◌then◌else◌}
 use Rattle.ax_lex.specs.declared.symbol.Symbol.{Symbol}
 use Rattle.ax_lex.specs.Lexeme.{Lexeme}

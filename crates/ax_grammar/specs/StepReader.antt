@@ -1,12 +1,12 @@
 -- Reading steps.
-use Rattle.std.specs.Prelude.{ℕ, List, [], ◌∷◌, nat_le, Option, Some, None}
+use Rattle.std.specs.Prelude.{ℕ, List, ◌∷◌, nat_le, Some, None}
 use Rattle.ax_lex.specs.declared.symbol.Symbol.{Symbol}
 use Rattle.ax_lex.specs.declared.symbol.Symbol.TheVariants as symbol
 use Rattle.ax_lex.specs.Lexeme.{Lexeme}
 use Rattle.ax_mean.specs.declared.expr.QueryStep.{QueryStep}
 use Rattle.ax_mean.specs.declared.expr.QueryStep.TheVariants.{Member, Position}
 use Rattle.ax_grammar.specs.Reading.{Reader, Turn, changed, closed_by, provided, take_word, must, all_turns}
-use Rattle.ax_grammar.specs.Reading.Turn.{ended, failed, went_on}
+use Rattle.ax_grammar.specs.Reading.Turn.{ended}
 use Rattle.ax_grammar.specs.Tables.{greatest_count}
 use Rattle.ax_grammar.specs.Takes.Mark.{the_symbol}
 

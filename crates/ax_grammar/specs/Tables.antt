@@ -1,6 +1,6 @@
--- Which operator, function or aggregate a symbol or a name is, which lexeme a place begins with, and
--- the limits of numbers and lists. Names of functions and aggregates are read in any case.
-use Rattle.std.specs.Prelude.{ℕ, ℤ, pos, negsuc, ◌∷◌, [], List, Bool, true, false, ◌==◌, nat_le, codes, find, Option, Some, None, option_and_then, if◌then◌else◌}
+-- Which operator, function or aggregate a symbol or a name is, the value of a parameter, and the
+-- limits of numbers and lists. Names of functions and aggregates are read in any case.
+use Rattle.std.specs.Prelude.{ℕ, ℤ, pos, negsuc, ◌∷◌, [], List, nat_le, codes, Option, Some, None, if◌then◌else◌}
 use Rattle.std.specs.Str.{str_eq_ignore_ascii_case}
 use Rattle.ax_lex.specs.declared.symbol.Symbol.{Symbol}
 use Rattle.ax_lex.specs.declared.symbol.Symbol.TheVariants as symbol

@@ -1,10 +1,10 @@
 -- Single lexemes at the front of a list: what is before (from this lexeme on) and what is after it.
 -- A mark is a lexeme that the grammar names: a symbol, or a keyword in any spelling.
-use Rattle.std.specs.Prelude.{ℕ, List, [], ◌∷◌, Bool, false, ◌==◌}
+use Rattle.std.specs.Prelude.{ℕ, List, ◌∷◌}
 use Rattle.ax_lex.specs.declared.keyword.Keyword.{Keyword}
 use Rattle.ax_lex.specs.declared.symbol.Symbol.{Symbol}
 use Rattle.ax_lex.specs.Lexeme.{Lexeme}
-use Rattle.ax_lex.specs.Lexeme.Lexeme.{name, keyword, parameter, text, number, symbol, nothing}
+use Rattle.ax_lex.specs.Lexeme.Lexeme.{name, keyword, parameter, text, number, symbol}
 
 pub data Mark : Type 0 where
   the_symbol : Symbol → Mark
