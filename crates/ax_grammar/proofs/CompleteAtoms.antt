@@ -1,5 +1,5 @@
 -- Atoms: where the reader of choices reads what is written, so does that of atoms.
-use Rattle.std.proofs.Common.{◌≡◌, ℕ, ◌≤◌, Bool, true, false, nat_le, List, [], ◌∷◌, length, pos, Option, Some, None, refl, ap, le-leb}
+use Rattle.std.proofs.Common.{◌≡◌, ℕ, ◌≤◌, true, false, List, [], ◌∷◌, length, pos, Option, Some, None, refl, le-leb}
 use Rattle.ax_lex.specs.declared.keyword.Keyword.TheVariants as keyword
 use Rattle.ax_lex.specs.declared.symbol.Symbol.TheVariants as symbol
 use Rattle.ax_lex.specs.Lexeme.{Lexeme}
@@ -7,19 +7,19 @@ use Rattle.ax_mean.specs.declared.expr.Expr.{Expr}
 use Rattle.ax_mean.specs.declared.expr.Expr.TheVariants as expr
 use Rattle.ax_mean.specs.declared.operator.Aggregate.{Aggregate}
 use Rattle.ax_mean.specs.declared.operator.Func.{Func}
-use Rattle.ax_mean.specs.declared.value.Value.TheVariants.{Undefined, Defined}
+use Rattle.ax_mean.specs.declared.value.Value.TheVariants.{Undefined}
 use Rattle.ax_mean.specs.Functions.{takes}
 use Rattle.ax_tree.specs.declared.members.Member.{Member}
 use Rattle.ax_tree.specs.declared.tree.Tree.{Tree}
 use Rattle.ax_tree.specs.declared.tree.Tree.TheVariants as tree
 use Rattle.ax_grammar.specs.ExprReader.{read_atom, read_list, read_call, read_member, read_members, literal}
-use Rattle.ax_grammar.specs.Fronts.{begins_with, extends}
+use Rattle.ax_grammar.specs.Fronts.{begins_with, extends, opens}
 use Rattle.ax_grammar.specs.Levels.{Level}
-use Rattle.ax_grammar.specs.Reading.{Reader, marked, take, take_label, parted}
+use Rattle.ax_grammar.specs.Reading.{Reader, marked, take, take_label}
 use Rattle.ax_grammar.specs.Tables.{Callee, most_items, greatest_literal, callee_of, parameter_of}
 use Rattle.ax_grammar.specs.Tables.Callee.{a_function, an_aggregate}
 use Rattle.ax_grammar.specs.Takes.{Mark, Takes, TakesSymbol, TakesKeyword, TakesName, TakesText, TakesNumber, TakesParameter, TakesLabel}
-use Rattle.ax_grammar.specs.Takes.Mark.{the_symbol, the_keyword}
+use Rattle.ax_grammar.specs.Takes.Mark.{the_symbol}
 use Rattle.ax_grammar.specs.Takes.Takes.{symbol_first, keyword_first}
 use Rattle.ax_grammar.specs.Takes.TakesName.{name_first}
 use Rattle.ax_grammar.specs.Takes.TakesWord.{name_as_word, keyword_as_word}
@@ -28,8 +28,9 @@ use Rattle.ax_grammar.specs.Takes.TakesText.{text_first}
 use Rattle.ax_grammar.specs.Takes.TakesParameter.{parameter_first}
 use Rattle.ax_grammar.specs.Takes.TakesLabel.{word_as_label, text_as_label}
 use Rattle.ax_grammar.proofs.CompleteTurns.{found, Reads, Turns, parted_read, closed_read}
-use Rattle.ax_grammar.proofs.FrontsExpr.{may_begin, not_taken_first}
-use Rattle.ax_grammar.proofs.FrontsMarks.{taken, not_taken}
+use Rattle.ax_grammar.proofs.FrontsExpr.{not_taken_first}
+use Rattle.ax_grammar.proofs.FrontsMarks.{not_taken}
+use Rattle.ax_grammar.proofs.Marks.{take_complete}
 
 -- ---- lists that a mark closes
 
@@ -39,6 +40,7 @@ pub data IsCloser : Mark → Type 0 where
 
 pub closer_outside : {close : Mark} {before after : List Lexeme} → IsCloser close
     → Takes close before after → extends Level.choice before ≡ false
+unfolding extends
 closer_outside round symbol_first = refl
 closer_outside square symbol_first = refl
 
@@ -48,7 +50,7 @@ closer_no_comma round symbol_first = refl
 closer_no_comma square symbol_first = refl
 
 pub closer_not_first : {close : Mark} (before : List Lexeme) → IsCloser close
-    → may_begin Level.choice before ≡ true → take close before ≡ None
+    → opens Level.choice before ≡ true → take close before ≡ None
 closer_not_first before round e =
     not_taken_first (the_symbol symbol.CloseParenthesis) Level.choice before refl e
 closer_not_first before square e =
@@ -56,7 +58,7 @@ closer_not_first before square e =
 
 pub empty_read : (choice : Reader Expr) {close : Mark} {before after : List Lexeme}
     → Takes close before after → Reads (read_list close choice) before [] after
-empty_read choice m = record { so = rw (taken m) refl }
+empty_read choice m = record { so = rw (take_complete m) refl }
 
 pub full_read : {choice : Reader Expr} {close : Mark} {before between end : List Lexeme}
     {x : Expr} {xs : List Expr} {after : List Lexeme} → take close before ≡ None
@@ -77,7 +79,7 @@ pub member_read : {choice : Reader Expr} {label : List ℕ} {before colon betwee
     {x : Expr} {after : List Lexeme} → TakesLabel label before colon
     → TakesSymbol symbol.Colon colon between → Reads choice between x after
     → Reads (read_member choice) before (record { name = label; value = x }) after
-member_read l c r = record { so = rw (label_taken l, taken c, r.so) refl }
+member_read l c r = record { so = rw (label_taken l, take_complete c, r.so) refl }
 
 -- a label is no closing brace
 pub label_not_brace : {label : List ℕ} {before after : List Lexeme}
@@ -88,7 +90,7 @@ label_not_brace (text_as_label text_first) = refl
 
 pub no_members_read : (choice : Reader Expr) {before after : List Lexeme}
     → TakesSymbol symbol.CloseBrace before after → Reads (read_members choice) before [] after
-no_members_read choice m = record { so = rw (taken m) refl }
+no_members_read choice m = record { so = rw (take_complete m) refl }
 
 pub members_read : {choice : Reader Expr} {before between end : List Lexeme}
     {m : Member Expr} {ms : List (Member Expr)} {after : List Lexeme}
@@ -162,7 +164,7 @@ module _ (params : List (Member Tree)) (choice : Reader Expr) where
       → callee ≡ Some (an_aggregate aggregate) → Reads choice inside x end
       → TakesSymbol symbol.CloseParenthesis end after
       → read_call choice callee inside ≡ found (expr.Total aggregate x) after
-  aggregate_read callee e r m = rw (e, r.so, taken m) refl
+  aggregate_read callee e r m = rw (e, r.so, take_complete m) refl
 
   pub totalled_read : {word : List ℕ} {aggregate : Aggregate} {x : Expr}
       {before bracket inside end after : List Lexeme} → TakesName word before bracket

@@ -1,5 +1,5 @@
 -- The clauses behind the sources of a query: what is written is read.
-use Rattle.std.proofs.Common.{◌≡◌, ℕ, ◌≤◌, ◌<◌, Bool, true, false, nat_le, List, [], ◌∷◌, length, Option, Some, None, refl, ap, arith}
+use Rattle.std.proofs.Common.{◌≡◌, ℕ, ◌≤◌, ◌<◌, Bool, false, List, [], length, Option, Some, None, refl, arith}
 use Rattle.ax_lex.specs.declared.keyword.Keyword.TheVariants as keyword
 use Rattle.ax_lex.specs.declared.symbol.Symbol.TheVariants as symbol
 use Rattle.ax_lex.specs.Lexeme.{Lexeme}
@@ -7,7 +7,6 @@ use Rattle.ax_mean.specs.declared.expr.Expr.{Expr}
 use Rattle.ax_tree.specs.declared.members.Member.{Member}
 use Rattle.ax_tree.specs.declared.tree.Tree.{Tree}
 use Rattle.ax_grammar.specs.ExprReader.{read_expr}
-use Rattle.ax_grammar.specs.Expressions.{Follow}
 use Rattle.ax_grammar.specs.Fronts.{begins_step, extends}
 use Rattle.ax_grammar.specs.Levels.{Level}
 use Rattle.ax_grammar.specs.Queries.{IsCondition, AreGroups, AreNameSteps, IsDirection, IsOrder, OrdersFollow, AreOrders, IsWindow}
@@ -33,12 +32,13 @@ use Rattle.ax_grammar.proofs.CompleteTurns.{Reads, Turns, no_marked_turn, marked
 use Rattle.ax_grammar.proofs.CompleteTurns.Turns.{no_turn, one_turn}
 use Rattle.ax_grammar.proofs.FrontsClauses.{IsAtClause, at_clause, at_later, clause_no_expr, no_step_after, clause_no_comma}
 use Rattle.ax_grammar.proofs.FrontsLengths.{mark_shorter, name_shorter, name_step_shorter}
-use Rattle.ax_grammar.proofs.FrontsMarks.{taken, not_taken}
+use Rattle.ax_grammar.proofs.FrontsMarks.{not_taken}
+use Rattle.ax_grammar.proofs.Marks.{take_complete}
 
 behind_read : {X : Type 0} {phrase : Reader X} {mark : Mark} {before between : List Lexeme}
     {x : X} {after : List Lexeme} → Takes mark before between → Reads phrase between x after
     → Reads (behind_mark mark phrase) before x after
-behind_read m r = record { so = rw (taken m, r.so) refl }
+behind_read m r = record { so = rw (take_complete m, r.so) refl }
 
 -- ---- WHERE
 
@@ -84,8 +84,12 @@ groups_read (grouped {after = after} m b x f) e =
 direction_read : {down : Bool} {before after : List Lexeme} → IsDirection down before after
     → Reads read_direction before down after
 direction_read (no_direction {after} a d) =
-    record { so = rw (not_taken (the_keyword keyword.Asc) after a,
-    not_taken (the_keyword keyword.Desc) after d) refl }
+    record {
+      so = rw (
+        not_taken (the_keyword keyword.Asc) after a,
+        not_taken (the_keyword keyword.Desc) after d,
+      ) refl;
+    }
 direction_read (ascending keyword_first) = record { so = refl }
 direction_read (descending keyword_first) = record { so = refl }
 
@@ -164,4 +168,4 @@ window_read {params} (no_window {after} o) =
     absent_read keyword.Offset None (read_numbers params) after o
 window_read {params} (windowed m o l n) =
     present_read {phrase = read_numbers params} keyword.Offset None m
-    (record { so = rw ((count_read o).so, taken l, (count_read n).so) refl })
+    (record { so = rw ((count_read o).so, take_complete l, (count_read n).so) refl })

@@ -1,6 +1,6 @@
 -- Each level of expressions above the atoms: where the levels within read what is written, so does
 -- the level.
-use Rattle.std.proofs.Common.{◌≡◌, ℕ, suc, ◌≤◌, Bool, true, false, not, nat_le, ◌==◌, ◌&&◌, List, [], ◌∷◌, length, Option, Some, None, refl, ap, ◌∙◌, le-leb, eq-eqb}
+use Rattle.std.proofs.Common.{◌≡◌, ℕ, suc, ◌≤◌, Bool, false, nat_le, List, [], ◌∷◌, length, Some, None, refl, ap, ◌∙◌, le-leb, eq-eqb}
 use Rattle.ax_lex.specs.declared.keyword.Keyword.{Keyword}
 use Rattle.ax_lex.specs.declared.keyword.Keyword.TheVariants as keyword
 use Rattle.ax_lex.specs.declared.symbol.Symbol.{Symbol}
@@ -18,21 +18,22 @@ use Rattle.ax_tree.specs.declared.tree.Tree.{Tree}
 use Rattle.ax_tree.specs.declared.tree.Tree.TheVariants as tree
 use Rattle.ax_grammar.specs.Expressions.{MayBeNegated}
 use Rattle.ax_grammar.specs.Expressions.MayBeNegated.{plain, negated as with_not}
-use Rattle.ax_grammar.specs.ExprReader.{chain_of, read_chain, read_operated, turn_chained, operated_of, read_choice, read_comparison, compare_or_predicate, read_among, read_between, read_like, read_negation, read_sign, read_signed, read_postfix, stepped_of, begins_least, is_minus, literal, Inner, inner_at, read_level}
+use Rattle.ax_grammar.specs.ExprReader.{chain_of, read_chain, read_operated, turn_chained, read_choice, read_comparison, compare_or_predicate, read_among, read_between, read_like, read_negation, read_sign, read_signed, read_postfix, begins_least, literal, inner_at, read_level}
 use Rattle.ax_grammar.specs.Fronts.{begins_step, symbol_reach, keyword_reach, extends}
-use Rattle.ax_grammar.specs.Levels.{Level, rank}
-use Rattle.ax_grammar.specs.Reading.{Reader, Turn, changed, marked, take, take_operator, all_turns, parted}
+use Rattle.ax_grammar.specs.Levels.{Level, distance}
+use Rattle.ax_grammar.specs.Reading.{Reader, changed, marked, take, take_operator, all_turns, parted}
 use Rattle.ax_grammar.specs.Reading.Turn.{ended, went_on}
 use Rattle.ax_grammar.specs.StepReader.{read_steps}
 use Rattle.ax_grammar.specs.Tables.{most_items, least_magnitude, least_literal, comparison_of, additive_of, multiplicative_of, operator_before, sign_of}
-use Rattle.ax_grammar.specs.Takes.{Mark, Takes, TakesSymbol, TakesKeyword, TakesNumber}
+use Rattle.ax_grammar.specs.Takes.{Mark, TakesSymbol, TakesKeyword, TakesNumber}
 use Rattle.ax_grammar.specs.Takes.Mark.{the_symbol, the_keyword}
-use Rattle.ax_grammar.specs.Takes.Takes.{symbol_first, keyword_first}
+use Rattle.ax_grammar.specs.Takes.Takes.{keyword_first}
 use Rattle.ax_grammar.specs.Takes.TakesNumber.{number_first}
 use Rattle.ax_grammar.proofs.CompleteTurns.{found, Reads, Turns, all_read, no_marked_turn, parted_read}
 use Rattle.ax_grammar.proofs.CompleteTurns.Turns.{no_turn}
 use Rattle.ax_grammar.proofs.FrontsExpr.{not_least}
-use Rattle.ax_grammar.proofs.FrontsMarks.{taken, operator_taken, no_operator, outside_extends, not_taken_behind}
+use Rattle.ax_grammar.proofs.FrontsMarks.{operator_taken, no_operator, outside_extends, not_taken_behind}
+use Rattle.ax_grammar.proofs.Marks.{take_complete}
 
 -- ---- chains behind one mark
 
@@ -40,8 +41,10 @@ pub chain_alone : {operand : Reader Expr} (variant : List Expr → Expr) (mark :
     {before : List Lexeme} {x : Expr} {after : List Lexeme} → Reads operand before x after
     → take mark after ≡ None → Reads (read_chain variant mark operand) before x after
 chain_alone {operand} variant mark {before} {x} {after} r e =
-    record { so = ap (changed (chain_of variant))
-    (parted_read mark r (no_turn (no_marked_turn operand mark after e))).so }
+    record {
+      so = ap (changed (chain_of variant))
+          (parted_read mark r (no_turn (no_marked_turn operand mark after e))).so;
+    }
 
 pub chain_longer : {operand : Reader Expr} (variant : List Expr → Expr) (mark : Mark)
     {before between : List Lexeme} {x y : Expr} {ys : List Expr} {after : List Lexeme}
@@ -68,7 +71,7 @@ multiplicative_outside _ operator e = absurd (cc)
 -- an operator goes on no operand of its level
 pub operator_outside : (level : Level) (which : Symbol) (operator : BinaryOp)
     → operator_before level which ≡ Some operator
-    → nat_le (symbol_reach which) (rank level) ≡ false
+    → nat_le (symbol_reach which) (distance level) ≡ false
 operator_outside Level.product which operator e = additive_outside which operator e
 operator_outside Level.sign which operator e = multiplicative_outside which operator e
 operator_outside _ which operator e = absurd (cc)
@@ -98,9 +101,6 @@ pub no_chained_turn : (level : Level) (operand : Reader Expr) (after : List Lexe
     → take_operator (operator_before level) after ≡ None
     → turn_chained level operand after ≡ ended
 no_chained_turn level operand after e = rw e refl
-
-abbrev chained : BinaryOp → Expr → Chained Expr
-chained operator x = record { op = operator; operand = x }
 
 pub chained_turn : {operand : Reader Expr} (level : Level) {which : Symbol}
     {operator : BinaryOp} {before between : List Lexeme} {x : Expr} {after : List Lexeme}
@@ -133,12 +133,13 @@ pub choice_alone : {coalesce : Reader Expr} (choice : Reader Expr) {before : Lis
     → Reads (read_choice coalesce choice) before x after
 choice_alone choice r e = record { so = rw (r.so, e) refl }
 
-pub choice_whole : {coalesce choice : Reader Expr} {before mark then_part colon else_part : List Lexeme}
-    {test x y : Expr} {after : List Lexeme} → Reads coalesce before test mark
+pub choice_whole : {coalesce choice : Reader Expr} {test x y : Expr}
+    {before mark then_part colon else_part after : List Lexeme} → Reads coalesce before test mark
     → TakesSymbol symbol.Question mark then_part → Reads choice then_part x colon
     → TakesSymbol symbol.Colon colon else_part → Reads choice else_part y after
     → Reads (read_choice coalesce choice) before (expr.Choice test x y) after
-choice_whole r q a c b = record { so = rw (r.so, taken q, a.so, taken c, b.so) refl }
+choice_whole r q a c b =
+    record { so = rw (r.so, take_complete q, a.so, take_complete c, b.so) refl }
 
 -- ---- comparisons
 
@@ -167,14 +168,16 @@ pub comparison_alone : {concatenation : Reader Expr} (choice : Reader Expr)
     → Reads concatenation before x after → extends Level.comparison after ≡ false
     → Reads (read_comparison choice concatenation) before x after
 comparison_alone choice {before} {x} {after} r e =
-    record { so = rw (
-      r.so,
-      no_operator comparison_of Level.comparison after comparison_none e,
-      not_taken_behind (the_keyword keyword.Not) Level.comparison after refl e,
-      not_taken_behind (the_keyword keyword.In) Level.comparison after refl e,
-      not_taken_behind (the_keyword keyword.Between) Level.comparison after refl e,
-      not_taken_behind (the_keyword keyword.Like) Level.comparison after refl e,
-    ) refl }
+    record {
+      so = rw (
+        r.so,
+        no_operator comparison_of Level.comparison after comparison_none e,
+        not_taken_behind (the_keyword keyword.Not) Level.comparison after refl e,
+        not_taken_behind (the_keyword keyword.In) Level.comparison after refl e,
+        not_taken_behind (the_keyword keyword.Between) Level.comparison after refl e,
+        not_taken_behind (the_keyword keyword.Like) Level.comparison after refl e,
+      ) refl;
+    }
 
 pub compared_read : {concatenation : Reader Expr} (choice : Reader Expr) {which : Symbol}
     {operator : BinaryOp} {before mark between : List Lexeme} {x y : Expr} {after : List Lexeme}
@@ -230,7 +233,7 @@ items_read : (choice : Reader Expr) (negated : Bool) (x : Expr)
     → length xs ≤ most_items → TakesSymbol symbol.CloseParenthesis end after
     → read_among choice negated x bracket ≡ found (expr.Among negated x xs) after
 items_read choice negated x {xs = xs} p r l c =
-    rw (taken p, r.so, le-leb (length xs) most_items l, taken c) refl
+    rw (take_complete p, r.so, le-leb (length xs) most_items l, take_complete c) refl
 
 pub among_read : {choice concatenation : Reader Expr} {negated : Bool} {x item : Expr}
     {items : List Expr} {before mark word bracket first more end after : List Lexeme}
@@ -249,7 +252,7 @@ low_and_high : {concatenation : Reader Expr} (negated : Bool) (x : Expr) {low hi
     {first mid second after : List Lexeme} → Reads concatenation first low mid
     → TakesKeyword keyword.And mid second → Reads concatenation second high after
     → read_between concatenation negated x first ≡ found (expr.Between negated x low high) after
-low_and_high negated x l c h = rw (l.so, taken c, h.so) refl
+low_and_high negated x l c h = rw (l.so, take_complete c, h.so) refl
 
 pub between_read : {concatenation : Reader Expr} (choice : Reader Expr) {negated : Bool}
     {x low high : Expr} {before mark word first mid second after : List Lexeme}
@@ -267,7 +270,8 @@ pub like_read : {concatenation : Reader Expr} (choice : Reader Expr) {negated : 
     → TakesKeyword keyword.Like word second → Reads concatenation second y after
     → Reads (read_comparison choice concatenation) before (expr.Like negated x y) after
 like_read {concatenation} choice {negated} {x} a m w p =
-    predicate_read choice a (at_like choice concatenation x m w ∙ ap (changed (expr.Like negated x)) p.so)
+    predicate_read choice a (at_like choice concatenation x m w
+    ∙ ap (changed (expr.Like negated x)) p.so)
 
 -- ---- negations, signs and steps
 
@@ -281,7 +285,7 @@ negation_whole : {after_not : Reader Expr} (comparison : Reader Expr)
     {before between : List Lexeme} {x : Expr} {after : List Lexeme}
     → TakesKeyword keyword.Not before between → Reads after_not between x after
     → Reads (read_negation after_not comparison) before x after
-negation_whole comparison m r = record { so = rw (taken m, r.so) refl }
+negation_whole comparison m r = record { so = rw (take_complete m, r.so) refl }
 
 pub sign_alone : {postfix : Reader Expr} (after_sign : UnaryOp → Reader Expr)
     {before : List Lexeme} {x : Expr} {after : List Lexeme} → Reads postfix before x after

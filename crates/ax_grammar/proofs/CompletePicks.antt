@@ -1,5 +1,5 @@
 -- What a query picks and from where: what is written is read.
-use Rattle.std.proofs.Common.{◌≡◌, ℕ, ◌≤◌, ◌<◌, Bool, true, false, nat_le, List, [], ◌∷◌, length, Option, Some, None, refl, ap, arith, le-leb}
+use Rattle.std.proofs.Common.{◌≡◌, ℕ, ◌≤◌, ◌<◌, Bool, true, false, List, ◌∷◌, length, Option, Some, None, refl, ap, arith, le-leb}
 use Rattle.ax_lex.specs.declared.keyword.Keyword.{Keyword}
 use Rattle.ax_lex.specs.declared.keyword.Keyword.TheVariants as keyword
 use Rattle.ax_lex.specs.declared.symbol.Symbol.TheVariants as symbol
@@ -17,25 +17,27 @@ use Rattle.ax_grammar.specs.Queries.ItemsFollow.{no_item_follows, item_follows}
 use Rattle.ax_grammar.specs.Queries.IsPick.{star, value, items}
 use Rattle.ax_grammar.specs.Queries.IsSource.{each_element, whole}
 use Rattle.ax_grammar.specs.Queries.AreJoins.{joins_ended, more_joins}
-use Rattle.ax_grammar.specs.QueryReader.{read_optional, read_count, read_distinct, read_top, may_name, read_naming, read_item, read_pick, read_elements, read_whole, read_source, read_join, read_joins}
+use Rattle.ax_grammar.specs.QueryReader.{read_optional, read_count, read_distinct, read_top, may_name, read_naming, read_item, read_pick, read_source, read_join, read_joins}
 use Rattle.ax_grammar.specs.Reading.{Reader, changed, at_once, take, take_name, marked}
 use Rattle.ax_grammar.specs.Tables.{greatest_count}
-use Rattle.ax_grammar.specs.Takes.{Mark, Takes, TakesKeyword, TakesName}
+use Rattle.ax_grammar.specs.Takes.{TakesKeyword, TakesName}
 use Rattle.ax_grammar.specs.Takes.Mark.{the_symbol, the_keyword}
 use Rattle.ax_grammar.specs.Takes.Takes.{symbol_first, keyword_first}
 use Rattle.ax_grammar.specs.Takes.TakesName.{name_first}
 use Rattle.ax_grammar.specs.Takes.TakesNumber.{number_first}
 use Rattle.ax_grammar.specs.Takes.TakesParameter.{parameter_first}
 use Rattle.ax_grammar.specs.Written.{Item, Picked, Source, Joined}
-use Rattle.ax_grammar.specs.Written.Picked.{the_star, the_value, the_items}
+use Rattle.ax_grammar.specs.Written.Picked.{the_value, the_items}
 use Rattle.ax_grammar.proofs.CompleteExpr.{expr_read}
 use Rattle.ax_grammar.proofs.CompleteSteps.{steps_read}
 use Rattle.ax_grammar.proofs.CompleteTurns.{found, Reads, Turns, all_read, no_marked_turn, marked_turn, parted_read}
 use Rattle.ax_grammar.proofs.CompleteTurns.Turns.{no_turn, one_turn}
 use Rattle.ax_grammar.proofs.FrontsClauses.{IsAtClause, at_clause, at_later, clause_no_expr, no_step_after, clause_no_comma, no_earlier}
-use Rattle.ax_grammar.proofs.FrontsExpr.{begins_so, not_taken_first}
+use Rattle.ax_grammar.proofs.FrontsExpr.{not_taken_first}
+use Rattle.ax_grammar.proofs.Openings.{opens_of}
 use Rattle.ax_grammar.proofs.FrontsLengths.{mark_shorter, name_shorter, steps_no_longer, shorter}
-use Rattle.ax_grammar.proofs.FrontsMarks.{taken, not_taken}
+use Rattle.ax_grammar.proofs.FrontsMarks.{not_taken}
+use Rattle.ax_grammar.proofs.Marks.{take_complete}
 
 -- ---- phrases that may be absent
 
@@ -49,7 +51,7 @@ pub present_read : {X : Type 0} {phrase : Reader X} (which : Keyword) (absent : 
     {before between : List Lexeme} {x : X} {after : List Lexeme}
     → TakesKeyword which before between → Reads phrase between x after
     → Reads (read_optional which absent phrase) before x after
-present_read which absent m r = record { so = rw (taken m, r.so) refl }
+present_read which absent m r = record { so = rw (take_complete m, r.so) refl }
 
 pub changed_read : {X Y : Type 0} {reader : Reader X} (change : X → Y) {before : List Lexeme}
     {x : X} {after : List Lexeme} → Reads reader before x after
@@ -95,6 +97,7 @@ naming_read (named_by_as keyword_first name_first) = record { so = refl }
 naming_outside : {given : Option (List ℕ)} {before after : List Lexeme}
     → IsNaming given before after → extends Level.choice after ≡ false
     → extends Level.choice before ≡ false
+unfolding extends
 naming_outside (unnamed a n) e = e
 naming_outside (named_at_once name_first) e = refl
 naming_outside (named_by_as keyword_first name_first) e = refl
@@ -111,8 +114,10 @@ item_read : {params : List (Member Tree)} {before : List Lexeme} {item : Item}
     {after : List Lexeme} → IsItem params before item after → extends Level.choice after ≡ false
     → Reads (read_item params) before item after
 item_read i e =
-    record { so = rw ((expr_read i.expr (naming_outside i.naming e)).so, (naming_read i.naming).so)
-    refl }
+    record {
+      so = rw ((expr_read i.expr (naming_outside i.naming e)).so, (naming_read i.naming).so)
+          refl;
+    }
 
 item_shorter : {params : List (Member Tree)} {before : List Lexeme} {item : Item}
     {after : List Lexeme} → IsItem params before item after → length after < length before
@@ -121,6 +126,7 @@ item_shorter i = omega (arith, shorter i.expr, naming_no_longer i.naming)
 items_front : {params : List (Member Tree)} {before : List Lexeme} {items : List Item}
     {after : List Lexeme} → ItemsFollow params before items after
     → extends Level.choice after ≡ false → extends Level.choice before ≡ false
+unfolding extends
 items_front no_item_follows e = e
 items_front (item_follows symbol_first i f) e = refl
 
@@ -142,12 +148,14 @@ pick_read (value {after = after} keyword_first x) e =
     record { so = ap (changed the_value) (expr_read x (clause_no_expr after e)).so }
 pick_read (items {before = before} {after = after} i f) e =
     let outside : extends Level.choice after ≡ false = clause_no_expr after e in
-    record { so = rw (
-      not_taken_first (the_symbol symbol.Star) Level.choice before refl (begins_so i.expr),
-      not_taken_first (the_keyword keyword.Value) Level.choice before refl (begins_so i.expr),
-    ) (ap (changed the_items) (parted_read (the_symbol symbol.Comma)
-    (item_read i (items_front f outside))
-    (items_turns f (clause_no_comma after e) outside)).so) }
+    record {
+      so = rw (
+        not_taken_first (the_symbol symbol.Star) Level.choice before refl (opens_of i.expr),
+        not_taken_first (the_keyword keyword.Value) Level.choice before refl (opens_of i.expr),
+      ) (ap (changed the_items) (parted_read (the_symbol symbol.Comma)
+          (item_read i (items_front f outside))
+          (items_turns f (clause_no_comma after e) outside)).so);
+    }
 
 -- ---- sources
 
@@ -160,27 +168,38 @@ source_read (each_element {after = after} name_first keyword_first name_first s)
 source_read (whole {path = path} {naming = naming} {after = after} name_first i s n) e =
     let outside : extends Level.choice naming ≡ false =
     naming_outside n (clause_no_expr after (at_later 5 6 after refl e)) in
-    record { so = rw (
-      not_taken (the_keyword keyword.In) path i,
-      (steps_read s (no_step_after naming outside)).so,
-      (naming_read n).so,
-    ) refl }
+    record {
+      so = rw (
+        not_taken (the_keyword keyword.In) path i,
+        (steps_read s (no_step_after naming outside)).so,
+        (naming_read n).so,
+      ) refl;
+    }
 
 join_read : {before : List Lexeme} {joined : Joined} {after : List Lexeme}
-    (j : IsJoin before joined after) → begins_step after ≡ false → Reads read_join j.name joined after
+    (j : IsJoin before joined after) → begins_step after ≡ false
+    → Reads read_join j.name joined after
 join_read j e =
-    record { so = rw (
-      name_taken j.alias,
-      taken j.each,
-      name_taken j.base,
-      (steps_read j.steps e).so,
-    ) refl }
+    record {
+      so = rw (
+        name_taken j.alias,
+        take_complete j.each,
+        name_taken j.base,
+        (steps_read j.steps e).so,
+      ) refl;
+    }
 
 join_shorter : {before : List Lexeme} {joined : Joined} {after : List Lexeme}
     → IsJoin before joined after → length after < length before
 join_shorter j =
-    omega (arith, mark_shorter j.join, name_shorter j.alias, mark_shorter j.each,
-    name_shorter j.base, steps_no_longer j.steps)
+    omega (
+      arith,
+      mark_shorter j.join,
+      name_shorter j.alias,
+      mark_shorter j.each,
+      name_shorter j.base,
+      steps_no_longer j.steps,
+    )
 
 pub joins_begin : {before : List Lexeme} {joins : List Joined} {after : List Lexeme}
     → AreJoins before joins after → IsAtClause 4 after → IsAtClause 5 before

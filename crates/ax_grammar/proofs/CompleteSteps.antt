@@ -1,5 +1,5 @@
 -- Steps: what is written is read.
-use Rattle.std.proofs.Common.{◌≡◌, ℕ, Bool, true, false, List, [], ◌∷◌, refl, le-leb}
+use Rattle.std.proofs.Common.{◌≡◌, ℕ, true, false, List, ◌∷◌, refl, le-leb}
 use Rattle.ax_lex.specs.declared.symbol.Symbol.TheVariants as symbol
 use Rattle.ax_lex.specs.Lexeme.{Lexeme}
 use Rattle.ax_mean.specs.declared.expr.QueryStep.{QueryStep}

@@ -1,11 +1,11 @@
 -- Readers of one thing, and repetitions: where each turn reads its phrase and the turn after the
 -- last finds none, the repetition reads the list.
-use Rattle.std.proofs.Common.{◌≡◌, ℕ, zero, suc, ◌≤◌, ◌<◌, Bool, true, false, List, [], ◌∷◌, length, Option, Some, None, refl, ap, arith, le_refl}
+use Rattle.std.proofs.Common.{◌≡◌, ℕ, zero, suc, ◌≤◌, ◌<◌, List, [], ◌∷◌, length, Option, Some, None, refl, ap, arith, le_refl}
 use Rattle.ax_lex.specs.Lexeme.{Lexeme}
-use Rattle.ax_grammar.specs.Reading.{Reader, Turn, changed, and_then, must, marked, turn_behind, after_turn, repeated, all_turns, parted, closed_by, take}
-use Rattle.ax_grammar.specs.Reading.Turn.{ended, failed, went_on}
+use Rattle.ax_grammar.specs.Reading.{Reader, Turn, changed, marked, repeated, all_turns, parted, closed_by, take}
+use Rattle.ax_grammar.specs.Reading.Turn.{ended, went_on}
 use Rattle.ax_grammar.specs.Takes.{Mark, Takes}
-use Rattle.ax_grammar.proofs.FrontsMarks.{behind, taken, not_taken}
+use Rattle.ax_grammar.proofs.Marks.{take_complete}
 
 abbrev pub found : {X : Type 0} → X → List Lexeme → Option (X × List Lexeme)
 found x after = Some (x, after)
@@ -40,7 +40,7 @@ all_read {X} {turn} {before} {xs} {after} t =
 pub marked_turn : {X : Type 0} {phrase : Reader X} {mark : Mark} {before between : List Lexeme}
     {x : X} {after : List Lexeme} → Takes mark before between → Reads phrase between x after
     → marked mark phrase before ≡ went_on x after
-marked_turn {X} {phrase} {mark} {before} {between} {x} {after} m r = rw (taken m, r.so) refl
+marked_turn {X} {phrase} {mark} {before} {between} {x} {after} m r = rw (take_complete m, r.so) refl
 
 pub no_marked_turn : {X : Type 0} (phrase : Reader X) (mark : Mark) (before : List Lexeme)
     → take mark before ≡ None → marked mark phrase before ≡ ended
@@ -55,4 +55,4 @@ parted_read {X} {phrase} mark {before} {between} {x} {xs} {after} r t =
 pub closed_read : {X : Type 0} {reader : Reader X} {mark : Mark} {before between : List Lexeme}
     {x : X} {after : List Lexeme} → Reads reader before x between → Takes mark between after
     → closed_by mark (reader before) ≡ found x after
-closed_read r m = rw (r.so, taken m) refl
+closed_read r m = rw (r.so, take_complete m) refl

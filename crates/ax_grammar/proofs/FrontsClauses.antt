@@ -1,17 +1,18 @@
 -- Where a clause of a query ends: at the end of the list, or at the keyword of a later clause. Each
 -- such keyword has a number, which falls from clause to clause.
-use Rattle.std.proofs.Common.{◌≡◌, ℕ, ◌≤◌, Bool, true, false, nat_le, List, [], ◌∷◌, Option, Some, None, refl, arith, leb-true, le-leb}
+use Rattle.std.proofs.Common.{◌≡◌, ℕ, Bool, true, false, nat_le, List, [], ◌∷◌, None, refl, arith, leb-true, le-leb}
 use Rattle.ax_lex.specs.declared.keyword.Keyword.{Keyword}
 use Rattle.ax_lex.specs.declared.keyword.Keyword.TheVariants as keyword
 use Rattle.ax_lex.specs.declared.symbol.Symbol.TheVariants as symbol
 use Rattle.ax_lex.specs.Lexeme.{Lexeme}
-use Rattle.ax_grammar.specs.Fronts.{is_mark, begins, begins_keyword, begins_step, keyword_reach, extends}
+use Rattle.ax_grammar.specs.Fronts.{is_mark, begins, begins_step, keyword_reach, extends}
 use Rattle.ax_grammar.specs.Levels.{Level}
 use Rattle.ax_grammar.specs.Reading.{take}
-use Rattle.ax_grammar.specs.Takes.{Mark, Takes, TakesKeyword}
+use Rattle.ax_grammar.specs.Takes.{TakesKeyword}
 use Rattle.ax_grammar.specs.Takes.Mark.{the_symbol, the_keyword}
 use Rattle.ax_grammar.specs.Takes.Takes.{keyword_first}
-use Rattle.ax_grammar.proofs.FrontsMarks.{stands, not_taken, not_taken_behind, extends_within, no_step_behind}
+use Rattle.ax_grammar.proofs.Extending.{extends_narrower}
+use Rattle.ax_grammar.proofs.FrontsMarks.{stands, not_taken, no_step_behind}
 
 abbrev pub keyword_place : Keyword → ℕ
 keyword_place keyword.Offset = 1
@@ -55,6 +56,7 @@ clause_outside _ e = absurd (cc)
 -- no clause goes on an expression
 pub clause_no_expr : (lexemes : List Lexeme) → IsAtClause 6 lexemes
     → extends Level.choice lexemes ≡ false
+unfolding extends
 clause_no_expr [] e = refl
 clause_no_expr (Lexeme.keyword which word ∷ rest) e = clause_outside which e
 clause_no_expr (_ ∷ rest) e = absurd (cc)
@@ -62,9 +64,10 @@ clause_no_expr (_ ∷ rest) e = absurd (cc)
 pub no_step_after : (lexemes : List Lexeme) → extends Level.choice lexemes ≡ false
     → begins_step lexemes ≡ false
 no_step_after lexemes e =
-    no_step_behind lexemes (extends_within Level.postfix Level.choice lexemes refl e)
+    no_step_behind lexemes (extends_narrower Level.postfix Level.choice lexemes refl e)
 
-no_comma : (lexemes : List Lexeme) → IsAtClause 6 lexemes → begins (the_symbol symbol.Comma) lexemes ≡ false
+no_comma : (lexemes : List Lexeme) → IsAtClause 6 lexemes
+    → begins (the_symbol symbol.Comma) lexemes ≡ false
 no_comma [] e = refl
 no_comma (Lexeme.keyword which word ∷ rest) e = refl
 no_comma (_ ∷ rest) e = absurd (cc)

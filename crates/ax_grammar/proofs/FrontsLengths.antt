@@ -1,5 +1,5 @@
 -- Every phrase takes at least one lexeme.
-use Rattle.std.proofs.Common.{◌≡◌, ℕ, ◌≤◌, ◌<◌, Bool, true, false, List, [], ◌∷◌, length, refl, arith}
+use Rattle.std.proofs.Common.{ℕ, ◌≤◌, ◌<◌, Bool, List, length, arith}
 use Rattle.ax_lex.specs.Lexeme.{Lexeme}
 use Rattle.ax_mean.specs.declared.expr.Chained.{Chained}
 use Rattle.ax_mean.specs.declared.expr.Expr.{Expr}
@@ -8,7 +8,7 @@ use Rattle.ax_tree.specs.declared.members.Member.{Member}
 use Rattle.ax_tree.specs.declared.tree.Tree.{Tree}
 use Rattle.ax_grammar.specs.Expressions.{MayBeNegated, IsExpr, Follow, AreChained, AreListed, IsMember, MembersFollow, AreMembers}
 use Rattle.ax_grammar.specs.Expressions.MayBeNegated.{plain, negated as with_not}
-use Rattle.ax_grammar.specs.Expressions.IsExpr.{plain_choice, chosen, plain_coalesce, coalesced, plain_disjunction, disjoined, plain_conjunction, conjoined, plain_negation, denied, plain_comparison, compared, among, between, like, plain_concatenation, concatenated, plain_sum, summed, plain_product, multiplied, plain_sign, signed, least, plain_postfix, stepped, null, true_value, false_value, undefined, number_value, text_value, parameter_value, called, totalled, alias, bracketed, listed, mapped}
+use Rattle.ax_grammar.specs.Expressions.IsExpr.{plain_choice, chosen, plain_coalesce, coalesced, plain_disjunction, disjoined, plain_conjunction, conjoined, plain_negation, denied, plain_comparison, compared, among, ranged, like, plain_concatenation, concatenated, plain_sum, summed, plain_product, multiplied, plain_sign, signed, least, plain_postfix, stepped, null, true_value, false_value, undefined, number_value, text_value, parameter_value, called, totalled, alias, bracketed, listed, mapped}
 use Rattle.ax_grammar.specs.Expressions.Follow.{followed_by_none, followed_by}
 use Rattle.ax_grammar.specs.Expressions.AreChained.{chain_ended, chain_goes_on}
 use Rattle.ax_grammar.specs.Expressions.AreListed.{empty_list, full_list}
@@ -100,11 +100,26 @@ mutual
   shorter (plain_comparison a) = shorter a
   shorter (compared a m c b) = omega (arith, shorter a, mark_shorter m, shorter b)
   shorter (among a m i p f fs l c) =
-      omega (arith, shorter a, negation_no_longer m, mark_shorter i, mark_shorter p, shorter f,
-      follow_no_longer fs, mark_shorter c)
-  shorter (between a m w l c h) =
-      omega (arith, shorter a, negation_no_longer m, mark_shorter w, shorter l, mark_shorter c,
-      shorter h)
+      omega (
+        arith,
+        shorter a,
+        negation_no_longer m,
+        mark_shorter i,
+        mark_shorter p,
+        shorter f,
+        follow_no_longer fs,
+        mark_shorter c,
+      )
+  shorter (ranged a m w l c h) =
+      omega (
+        arith,
+        shorter a,
+        negation_no_longer m,
+        mark_shorter w,
+        shorter l,
+        mark_shorter c,
+        shorter h,
+      )
   shorter (like a m w p) =
       omega (arith, shorter a, negation_no_longer m, mark_shorter w, shorter p)
   shorter (plain_concatenation a) = shorter a
