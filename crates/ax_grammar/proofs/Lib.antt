@@ -12,6 +12,7 @@ pub mod FrontsClauses
 pub mod FrontsExpr
 pub mod FrontsLengths
 pub mod FrontsMarks
+pub mod InText
 pub mod Marks
 pub mod Openings
 pub mod Sound

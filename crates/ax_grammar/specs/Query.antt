@@ -1,7 +1,8 @@
 -- The query that a text is.
-use Rattle.std.specs.Prelude.{◌≡◌, ℕ, ◌≤◌, nat_le, List, length, true, Option, Some, None}
+use Rattle.std.specs.Prelude.{◌≡◌, ℕ, ◌≤◌, nat_le, List, length, true, Option, Some, None, option_and_then}
 use Rattle.ax_lex.specs.declared.token.Token.{Token}
 use Rattle.ax_lex.specs.Lexeme.{Lexeme}
+use Rattle.ax_lex.specs.LexemesIn.{lexemes_in}
 use Rattle.ax_lex.specs.Tokens.{AreTokens}
 use Rattle.ax_tree.specs.declared.members.Member.{Member}
 use Rattle.ax_tree.specs.declared.tree.Tree.{Tree}
@@ -36,3 +37,8 @@ query_written (Some written) = provided (obeys_rules written) (Some (made writte
 abbrev pub query_of : List (Member Tree) → List ℕ → List Lexeme → Option Query
 query_of params text lexemes =
     provided (nat_le (length text) most_bytes) (query_written (read_written params lexemes))
+
+-- the query in a text: a function, for definitions that ask what a text is; a law says that it finds
+-- exactly the query that the grammar relates
+abbrev pub query_in : List (Member Tree) → List ℕ → Option Query
+query_in params text = option_and_then (query_of params text) (lexemes_in text)

@@ -4,3 +4,5 @@
 //! Stands on `ax_lex`, whose lexemes a query is read from, and on `ax_mean`, which has the queries. It
 //! has definitions and laws, and no code that a program runs.
 #![tactic(auto)]
+
+pub mod laws;
