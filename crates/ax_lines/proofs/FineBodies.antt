@@ -1,7 +1,7 @@
 -- The body that a fine tree is can be answered: its parameters are well formed under names that rise,
 -- and nest less deep than the tree.
-use Rattle.std.proofs.Common.{◌≡◌, ◌≤◌, ◌+◌, ℕ, suc, List, [], ◌∷◌, length, max, Bool, true, false, ◌&&◌, nat_le, nat_lt, cond}
-use Rattle.std.proofs.Common.{Option, Some, None, option_and_then, codes, Ordering, Less, Equal, Greater, refl, sym, ap, ap₂, ◌∙◌, subst, arith}
+use Rattle.std.proofs.Common.{◌≡◌, ◌≤◌, ◌+◌, ℕ, suc, List, [], ◌∷◌, length, Bool, true, false, ◌&&◌, nat_le, nat_lt, cond}
+use Rattle.std.proofs.Common.{Option, Some, None, codes, Ordering, Less, Equal, Greater, refl, sym, ap, ap₂, ◌∙◌, subst, arith}
 use Rattle.std.specs.Cmp.Lexicographic.{slice_cmp}
 use Rattle.std.specs.List.{list_all, fold, AllByRecursion}
 use Rattle.std.specs.Option.{IfSome, option_map}
@@ -17,7 +17,6 @@ use Rattle.ax_tree.specs.Rising.{is_before, is_rising}
 use Rattle.ax_tree.specs.WellFormed.{IsWellFormed}
 use Rattle.ax_tree.specs.declared.members.Member.{Member}
 use Rattle.ax_tree.specs.declared.tree.Tree as tree
-use Rattle.ax_text.specs.TreeOf.{both}
 use Rattle.ax_text.proofs.DataDepth.{of_both}
 use Rattle.ax_text.proofs.Formed.{is_good_member, object-formed}
 use Rattle.ax_text.proofs.Levels.{deepest, nesting_object}

@@ -1,7 +1,7 @@
 -- What a tree has that is well formed and nests no deeper than so much: members and items that are
 -- well formed and nest less deep, and texts in UTF-8.
-use Rattle.std.proofs.Common.{◌≡◌, ◌≤◌, ◌+◌, ℕ, suc, List, [], ◌∷◌, map, max, Bool, true, false, ◌&&◌}
-use Rattle.std.proofs.Common.{Option, Some, None, option_and_then, cond, refl, sym, ap, ◌∙◌, subst, true≢false, arith}
+use Rattle.std.proofs.Common.{◌≡◌, ◌≤◌, ◌+◌, ℕ, suc, List, [], ◌∷◌, map, Bool, true, false, ◌&&◌}
+use Rattle.std.proofs.Common.{Option, Some, None, option_and_then, refl, sym, ◌∙◌, subst, true≢false, arith}
 use Rattle.std.specs.List.{list_all, AllByRecursion}
 use Rattle.std.specs.Option.{IfSome, option_map}
 use Rattle.std.specs.Str.{is_utf8, bytes_eq}
@@ -64,7 +64,7 @@ object_fine : (most : ℕ) (name : List ℕ) (ms : List (Member tree.Tree))
     → IsFine (suc most) (tree.Object ms) → IfSome (value_of name ms) (IsFine most)
 object_fine most name ms fine =
     let good = both_true (is_rising (names ms)) (list_all is_good_member ms)
-        (sym (formed-Object ms) ∙ fine.formed) in
+    (sym (formed-Object ms) ∙ fine.formed) in
     let low : nesting (tree.Object ms) ≤ suc most = fine.shallow in
     let is : nesting (tree.Object ms) ≡ deepest ms + 1 = nesting_object ms in
     let under : deepest ms ≤ most = omega (arith, low, is) in

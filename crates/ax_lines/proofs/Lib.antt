@@ -1,5 +1,6 @@
 mod FineBodies
 mod FineTrees
+mod LastCounts
 mod Newlines
 mod Short
 pub mod Splits

@@ -1,5 +1,5 @@
 -- Whether the names of a tree are short, one level at a time.
-use Rattle.std.proofs.Common.{rules, Bool, ◌&&◌, ◌≡◌, ◌∙◌, ap, ℕ, List, [], ◌∷◌, map, refl}
+use Rattle.std.proofs.Common.{rules, Bool, ◌&&◌, ◌≡◌, ◌∙◌, ap, List, [], ◌∷◌, map, refl}
 use Rattle.std.specs.List.{list_all}
 use Rattle.ax_tree.specs.declared.members.Member.{Member}
 use Rattle.ax_tree.specs.declared.tree.Tree as tree

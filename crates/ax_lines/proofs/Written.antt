@@ -1,6 +1,6 @@
 -- The parameters as a `BTreeMap` keeps them: what an insertion makes of them, and that their names
 -- rise since its keys do.
-use Rattle.std.proofs.Common.{◌≡◌, ℕ, List, [], ◌∷◌, ◌++◌, map, true, ◌&&◌, Option, Some, None, option_map}
+use Rattle.std.proofs.Common.{◌≡◌, List, [], ◌∷◌, ◌++◌, map, ◌&&◌, Option, Some, None, option_map}
 use Rattle.std.proofs.Common.{String, Global, string_bytes, string_cmp, Ordering, Less, Equal, Greater}
 use Rattle.std.proofs.Common.{refl, sym, ap, ◌∙◌, append-nil}
 use Rattle.std.specs.BTreeMap.{insert_entry}

@@ -1,7 +1,6 @@
 -- What holds of the tree holds of the body that it is.
-use Rattle.std.proofs.Common.{◌≡◌, false, nat_lt, arith, sym, ◌∙◌}
+use Rattle.std.proofs.Common.{sym, ◌∙◌}
 use Rattle.ax_tree.specs.Nesting.{nesting}
-use Rattle.ax_lines.specs.Lines.{deepest}
 use Rattle.ax_lines.proofs.FineBodies.{answerable, not_deeper}
 use Rattle.ax_lines.proofs.read.query.Goals as goal
 
