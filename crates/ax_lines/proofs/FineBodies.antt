@@ -1,7 +1,9 @@
--- The body that a fine tree is can be answered: its parameters are well formed under names that rise,
--- and nest less deep than the tree.
-use Rattle.std.proofs.Common.{◌≡◌, ◌≤◌, ◌+◌, ℕ, suc, List, [], ◌∷◌, length, Bool, true, false, ◌&&◌, nat_le, nat_lt, cond}
-use Rattle.std.proofs.Common.{Option, Some, None, codes, Ordering, Less, Equal, Greater, refl, sym, ap, ap₂, ◌∙◌, subst, arith}
+-- The body that a fine tree is can be answered: its parameters are well formed under names that
+-- rise, and nest less deep than the tree.
+use Rattle.std.proofs.Common.{◌≡◌, ◌≤◌, ◌+◌, ℕ, suc, List, [], ◌∷◌, length, Bool}
+use Rattle.std.proofs.Common.{true, false, ◌&&◌, nat_le, nat_lt, cond}
+use Rattle.std.proofs.Common.{Option, Some, None, codes, Ordering, Less, Equal, Greater}
+use Rattle.std.proofs.Common.{refl, sym, ap, ap₂, ◌∙◌, subst, arith}
 use Rattle.std.specs.Cmp.Lexicographic.{slice_cmp}
 use Rattle.std.specs.List.{list_all, fold, AllByRecursion}
 use Rattle.std.specs.Option.{IfSome, option_map}
@@ -24,7 +26,8 @@ use Rattle.ax_text.proofs.RisingNames.{and_first, and_second}
 use Rattle.ax_lines.specs.Asked.{IsAnswerable}
 use Rattle.ax_lines.specs.Bodies as spec
 use Rattle.ax_lines.specs.declared.body.Body.{Body}
-use Rattle.ax_lines.proofs.FineTrees.{IsFine, IsUtf8Text, and_then_holds, map_holds, member_fine, text_fine, items_fine}
+use Rattle.ax_lines.proofs.FineTrees.{IsFine, IsUtf8Text, and_then_holds, map_holds}
+use Rattle.ax_lines.proofs.FineTrees.{member_fine, text_fine, items_fine}
 
 -- a parameter whose value nests no deeper than that
 record IsGiven (most : ℕ) (m : Member tree.Tree) : Type 0 where
@@ -175,7 +178,8 @@ record AreParams (most : ℕ) (params : List (Member tree.Tree)) : Type 0 where
   small : length (canonical_text (tree.Object params)) ≤ spec.most_params_bytes
 
 small_params : (most : ℕ) (written : List (Member tree.Tree)) (b : Bool)
-    → nat_le (length (canonical_text (tree.Object (spec.by_name written)))) spec.most_params_bytes ≡ b
+    → nat_le (length (canonical_text (tree.Object (spec.by_name written)))) spec.most_params_bytes
+    ≡ b
     → AllByRecursion (IsGiven most) written
     → IfSome (cond b (Some (spec.by_name written)) None) (AreParams most)
 small_params most written true is given =

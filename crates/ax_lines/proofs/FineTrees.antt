@@ -1,11 +1,13 @@
 -- What a tree has that is well formed and nests no deeper than so much: members and items that are
 -- well formed and nest less deep, and texts in UTF-8.
 use Rattle.std.proofs.Common.{◌≡◌, ◌≤◌, ◌+◌, ℕ, suc, List, [], ◌∷◌, map, Bool, true, false, ◌&&◌}
-use Rattle.std.proofs.Common.{Option, Some, None, option_and_then, refl, sym, ◌∙◌, subst, true≢false, arith}
+use Rattle.std.proofs.Common.{Option, Some, None, option_and_then, refl, sym, ◌∙◌}
+use Rattle.std.proofs.Common.{subst, true≢false, arith}
 use Rattle.std.specs.List.{list_all, AllByRecursion}
 use Rattle.std.specs.Option.{IfSome, option_map}
 use Rattle.std.specs.Str.{is_utf8, bytes_eq}
-use Rattle.ax_tree.specs.Document.{value_of, member, member_level, text_value, text_value_level, text_member}
+use Rattle.ax_tree.specs.Document.{value_of, member, member_level, text_value}
+use Rattle.ax_tree.specs.Document.{text_value_level, text_member}
 use Rattle.ax_tree.specs.Names.{names}
 use Rattle.ax_tree.specs.Nesting.{nesting, greatest}
 use Rattle.ax_tree.specs.Rising.{is_rising}
@@ -92,7 +94,8 @@ IsUtf8Text text = is_utf8 text ≡ true
 
 text_of_level : (y : Tree-F tree.Tree) → IsWellFormed (roll-Tree y)
     → IfSome (text_value_level y) IsUtf8Text
-text_of_level (Tree-F.Text s) formed = sym (formed-Text s) ∙ subst IsWellFormed (rolls-Text s) formed
+text_of_level (Tree-F.Text s) formed =
+    sym (formed-Text s) ∙ subst IsWellFormed (rolls-Text s) formed
 text_of_level Tree-F.Null formed = tt
 text_of_level (Tree-F.Truth b) formed = tt
 text_of_level (Tree-F.Number z) formed = tt
@@ -102,7 +105,8 @@ text_of_level (Tree-F.Object ms) formed = tt
 pub text_fine : (most : ℕ) (name : List ℕ) (t : tree.Tree) → IsFine (suc most) t
     → IfSome (text_member name t) IsUtf8Text
 text_fine most name t fine =
-    and_then_holds (IsFine most) IsUtf8Text text_value (member name t) (member_fine most name t fine)
+    and_then_holds (IsFine most) IsUtf8Text text_value (member name t)
+    (member_fine most name t fine)
     (λ v own. text_of_level (out-Tree v) (subst IsWellFormed (sym (roll-out-Tree v)) own.formed))
 
 -- ---- items

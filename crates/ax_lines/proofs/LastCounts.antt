@@ -44,7 +44,8 @@ same_from_Equal a b e =
 apart_from_Greater : (a b name : List ℕ) → slice_cmp nat_cmp a b ≡ Greater
     → bytes_eq b name ≡ true → bytes_eq a name ≡ true → ⊥
 apart_from_Greater a b name e first second =
-    let same : a ≡ b = (bytes_eq-Decides a name).0 second ∙ sym ((bytes_eq-Decides b name).0 first) in
+    let same : a ≡ b =
+    (bytes_eq-Decides a name).0 second ∙ sym ((bytes_eq-Decides b name).0 first) in
     true≢false (sym ((bytes_eq-Decides a b).1 same) ∙ sym (is_eq-slice_cmp a b) ∙ ap is_eq e)
 
 pub found : (name : List ℕ) (ms : List (Member Tree)) (m : Member Tree)
@@ -61,20 +62,23 @@ found name (first ∷ rest) m =
     by_order Less is later = head name m (first ∷ rest)
     by_order Equal is later =
         head name (record { name = first.name; value = m.value }) rest
-        ∙ ap (λ n. unless_it n name m.value (value_of name rest)) (sym (same_from_Equal m.name first.name is))
+        ∙ ap (λ n. unless_it n name m.value (value_of name rest))
+        (sym (same_from_Equal m.name first.name is))
         ∙ twice (bytes_eq m.name name) (Some m.value) (Some first.value) (value_of name rest)
-        ∙ ap (λ n. unless_it m.name name m.value (unless_it n name first.value (value_of name rest)))
+        ∙ ap (λ n. unless_it m.name name m.value
+        (unless_it n name first.value (value_of name rest)))
         (same_from_Equal m.name first.name is)
         ∙ ap (unless_it m.name name m.value) (sym (head name first rest))
     by_order Greater is later =
         head name first (with_member rest m)
         ∙ ap (unless_it first.name name first.value) later
-        ∙ swapped (bytes_eq first.name name) (bytes_eq m.name name) (Some first.value) (Some m.value)
-        (value_of name rest) (apart_from_Greater m.name first.name name is)
+        ∙ swapped (bytes_eq first.name name) (bytes_eq m.name name) (Some first.value)
+        (Some m.value) (value_of name rest) (apart_from_Greater m.name first.name name is)
         ∙ ap (unless_it m.name name m.value) (sym (head name first rest))
 
 pub last_counts : (name : List ℕ) (written : List (Member Tree)) (m : Member Tree)
     → value_of name (by_name (written ++ m ∷ []))
     ≡ unless_it m.name name m.value (value_of name (by_name written))
 last_counts name written m =
-    ap (value_of name) (fold-append with_member [] written (m ∷ [])) ∙ found name (by_name written) m
+    ap (value_of name) (fold-append with_member [] written (m ∷ []))
+    ∙ found name (by_name written) m

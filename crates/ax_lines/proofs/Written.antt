@@ -1,7 +1,8 @@
 -- The parameters as a `BTreeMap` keeps them: what an insertion makes of them, and that their names
 -- rise since its keys do.
 use Rattle.std.proofs.Common.{◌≡◌, List, [], ◌∷◌, ◌++◌, map, ◌&&◌, Option, Some, None, option_map}
-use Rattle.std.proofs.Common.{String, Global, string_bytes, string_cmp, Ordering, Less, Equal, Greater}
+use Rattle.std.proofs.Common.{String, Global, string_bytes, string_cmp}
+use Rattle.std.proofs.Common.{Ordering, Less, Equal, Greater}
 use Rattle.std.proofs.Common.{refl, sym, ap, ◌∙◌, append-nil}
 use Rattle.std.specs.BTreeMap.{insert_entry}
 use Rattle.std.specs.Cmp.Lexicographic.{slice_cmp}
@@ -81,5 +82,6 @@ pub rise_at_end : (done : List (Member Tree)) (rest all : List Entry)
     → done ++ members_of rest ≡ members_of all → rest ≡ []
     → IsStrictlySortedBy string_cmp (keys_of all) → HaveRisingNames done
 rise_at_end done rest all made none sorted =
-    ap (λ l. is_rising (names l)) (sym (append-nil done) ∙ ap (λ l. done ++ members_of l) (sym none) ∙ made)
+    ap (λ l. is_rising (names l))
+    (sym (append-nil done) ∙ ap (λ l. done ++ members_of l) (sym none) ∙ made)
     ∙ rise all sorted

@@ -1,5 +1,5 @@
--- What holds of every line that is not refused: the tree of an upsert is a document that a store can
--- hold, and a query has a body whose parameters can be written down and read back.
+-- What holds of every line that is not refused: the tree of an upsert is a document that a store
+-- can hold, and a query has a body whose parameters can be written down and read back.
 use Rattle.std.specs.Prelude.{◌≡◌, ◌≤◌, length, true}
 use Rattle.std.specs.List.{list_all}
 use Rattle.std.specs.Str.{is_utf8}

@@ -1,5 +1,5 @@
--- Why a line is refused: a list of causes, each a condition with its refusal. The first that applies
--- is answered, and where none does the answer is what the line's form says.
+-- Why a line is refused: a list of causes, each a condition with its refusal. The first that
+-- applies is answered, and where none does the answer is what the line's form says.
 use Rattle.std.specs.Prelude.{List, [], ◌∷◌, Bool, if◌then◌else◌, Result, Err}
 use Rattle.ax_lines.specs.declared.refusal.Refusal.{Refusal}
 

@@ -21,7 +21,7 @@ pub fn the_lines_are_one()
         × (last ≡ rest) }
 {}
 
-/// Parameters by name: their names rise, and of a repeated name the one that is written last counts.
+/// Parameters by name: their names rise, and of a repeated name the one written last counts.
 pub fn the_last_of_a_name_counts()
     ensures rising { (written : List (Member Tree)) → HaveRisingNames (by_name written) }
     ensures last { (name : List ℕ) (written : List (Member Tree)) (m : Member Tree)

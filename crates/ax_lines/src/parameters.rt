@@ -46,7 +46,8 @@ fn put(values: &mut BTreeMap<String, Tree>, parameter: Member<Tree>) -> Result<(
 
 /// The values of the map under their names.
 fn members_from(alloc: Global, values: BTreeMap<String, Tree>) -> Result<Members<Tree>, Memory>
-    ensures { IfOk result (λ members. members ≡ map (λ e. record { name = string_bytes e.0; value = e.1 }) values.entries) }
+    ensures { IfOk result (λ members. members
+        ≡ map (λ e. record { name = string_bytes e.0; value = e.1 }) values.entries) }
 {
     let mut members = Vec::with_capacity(alloc, values.len())?;
     for (name, value) in values {

@@ -14,8 +14,9 @@ use std::alloc::Global;
 /// The most bytes that the canonical text of a body's parameters has.
 const MOST_PARAMS_BYTES: usize = 32_768;
 
-/// The body that the tree is; `None` exactly where it is none: no map with a text member `query`, or
-/// with a member `parameters` that is no list of parameters, or with parameters that are too large.
+/// The body that the tree is; `None` exactly where it is none: no map with a text member `query`,
+/// or with a member `parameters` that is no list of parameters, or with parameters that are too
+/// large.
 pub(crate) fn body_from(alloc: Global, tree: Tree) -> Result<Option<Body>, Memory>
     ensures { IfOk result (λ body. body ≡ spec.body_of tree) }
 {

@@ -20,8 +20,8 @@ pub enum Refusal {
     Large,
     /// `err 9 memory`: out of memory.
     Memory,
-    /// `err 10 query`: the argument of a QUERY is no query body, or its parameters are too large, or
-    /// its text is no query that is served. The text is judged after the line is read.
+    /// `err 10 query`: the argument of a QUERY is no query body, or its parameters are too large,
+    /// or its text is no query that is served. The text is judged after the line is read.
     Query,
     /// `err 15 full`: no document can be created, since there are as many as there may be or no
     /// number is left. No line is refused so before it meets the store.

@@ -9,6 +9,6 @@ abbrev pub invariant-loop-item : goal.invariant-loop-item
 invariant-loop-item l = record {
   next : (goal.iterator-loop-item).can_next l.item-iterator;
   finite : (goal.iterator-loop-item).is_finite l.item-iterator;
-  made : and_then_written l.values.entries (parameters (into_iter_items l.item-iterator)) ≡ option_map
-      by_name (parameters l.fn.items);
+  made : and_then_written l.values.entries (parameters (into_iter_items l.item-iterator))
+      ≡ option_map by_name (parameters l.fn.items);
 }
