@@ -1,2 +1,7 @@
+mod FineBodies
+mod FineTrees
+mod LastCounts
 mod Newlines
+mod Short
 pub mod Splits
+mod Written

@@ -1,11 +1,19 @@
--- What holds of every line that is not refused.
-use Rattle.std.specs.Prelude.{◌≤◌, length}
+-- What holds of every line that is not refused: the tree of an upsert is a document that a store
+-- can hold, and a query has a body whose parameters can be written down and read back.
+use Rattle.std.specs.Prelude.{◌≡◌, ◌≤◌, length, true}
+use Rattle.std.specs.List.{list_all}
+use Rattle.std.specs.Str.{is_utf8}
 use Rattle.ax_tree.specs.declared.tree.Tree.{Tree}
+use Rattle.ax_tree.specs.declared.tree.Tree.TheVariants as tree
 use Rattle.ax_tree.specs.CanonicalText.{canonical_text}
 use Rattle.ax_tree.specs.Document.{IsDocument}
+use Rattle.ax_tree.specs.Names.{names}
 use Rattle.ax_tree.specs.Nesting.{nesting}
 use Rattle.ax_tree.specs.WellFormed.{IsWellFormed}
-use Rattle.ax_lines.specs.Lines.{most_bytes}
+use Rattle.ax_lines.specs.Bodies.{is_parameter_name, most_params_bytes}
+use Rattle.ax_lines.specs.Lines.{deepest, most_bytes}
+use Rattle.ax_lines.specs.ShortNames.{has_short_names}
+use Rattle.ax_lines.specs.declared.body.Body.{Body}
 use Rattle.ax_lines.specs.declared.line.Line.{Line}
 use Rattle.ax_lines.specs.declared.line.Line.TheVariants as line
 
@@ -13,10 +21,20 @@ use Rattle.ax_lines.specs.declared.line.Line.TheVariants as line
 pub record IsStorable (tree : Tree) : Type 0 where
   pub document : IsDocument tree
   pub well_formed : IsWellFormed tree
-  pub shallow : nesting tree ≤ 127
+  pub shallow : nesting tree ≤ deepest
+  pub named : has_short_names tree ≡ true
   pub small : length (canonical_text tree) ≤ most_bytes
 
--- the tree of an upsert is such
-abbrev pub AsksForDocument : Line → Type 0
-AsksForDocument (line.Upsert tree) = IsStorable tree
-AsksForDocument line.Query = Unit {0}
+-- the body can be answered: its text is UTF-8, and its parameters have names of parameters and are
+-- small
+pub record IsAnswerable (body : Body) : Type 0 where
+  pub text : is_utf8 body.text ≡ true
+  pub named : list_all is_parameter_name (names body.params) ≡ true
+  pub well_formed : IsWellFormed (tree.Object body.params)
+  pub shallow : nesting (tree.Object body.params) ≤ deepest
+  pub small : length (canonical_text (tree.Object body.params)) ≤ most_params_bytes
+
+-- the tree of an upsert and the body of a query are such
+abbrev pub IsAsked : Line → Type 0
+IsAsked (line.Upsert tree) = IsStorable tree
+IsAsked (line.Query body) = IsAnswerable body

@@ -1,21 +1,23 @@
 -- What the bytes of a script line ask for, or the refusal of the line: a command word, one space, and
 -- the raw rest of the line as its argument, which may be empty. A carriage return at the end of the
 -- line is dropped, and only one. For each form a table of causes says when it is refused.
-use Rattle.std.specs.Prelude.{ℕ, ◌-◌, List, [], ◌∷◌, length, take, drop, slice_index, Bool, false}
-use Rattle.std.specs.Prelude.{not, ◌==◌, nat_lt, if◌then◌else◌, Option, Some, None, is_some, Result}
-use Rattle.std.specs.Prelude.{Err, codes}
-use Rattle.std.specs.Option.{option_map_or}
+use Rattle.std.specs.Prelude.{ℕ, ◌-◌, List, [], ◌∷◌, length, take, drop, slice_index, not, ◌==◌}
+use Rattle.std.specs.Prelude.{nat_lt, if◌then◌else◌, Option, Some, None, is_some, Result}
+use Rattle.std.specs.Prelude.{Ok, Err, codes}
 use Rattle.std.specs.Str.{bytes_eq}
 use Rattle.ax_tree.specs.declared.tree.Tree.{Tree}
 use Rattle.ax_tree.specs.CanonicalText.{canonical_text}
 use Rattle.ax_tree.specs.Nesting.{nesting}
-use Rattle.ax_tree.specs.Document.{text_member, document_id}
+use Rattle.ax_tree.specs.Document.{document_id}
 use Rattle.ax_text.specs.Reading.{Reading, Stands, NotJson, NotWhole, reading}
+use Rattle.ax_lines.specs.declared.body.Body.{Body}
 use Rattle.ax_lines.specs.declared.line.Line.{Line}
 use Rattle.ax_lines.specs.declared.line.Line.TheVariants as line
 use Rattle.ax_lines.specs.declared.refusal.Refusal.{Refusal}
 use Rattle.ax_lines.specs.declared.refusal.Refusal.TheVariants as refusal
+use Rattle.ax_lines.specs.Bodies.{body_of}
 use Rattle.ax_lines.specs.Causes.{Cause, unless}
+use Rattle.ax_lines.specs.ShortNames.{has_short_names}
 
 abbrev pub carriage_return : ℕ
 carriage_return = 13
@@ -50,6 +52,14 @@ form_of command =
 
 -- ---- the causes of refusal of each form, in their order
 
+-- the most bytes that a line has, with a carriage return at its end, without its newline
+abbrev pub most_line_bytes : ℕ
+most_line_bytes = 262144
+
+abbrev pub line_causes : List ℕ → List Cause
+line_causes bytes =
+    record { applies = nat_lt most_line_bytes (length bytes); refusal = refusal.Line } ∷ []
+
 -- the deepest that an argument may nest
 abbrev pub deepest : ℕ
 deepest = 100
@@ -60,23 +70,19 @@ most_bytes = 60000
 
 abbrev pub upsert_causes : Tree → List Cause
 upsert_causes tree =
-    record { applies = nat_lt deepest (nesting tree); refusal = refusal.Json } ∷
-    record { applies = not (is_some (document_id tree)); refusal = refusal.Json } ∷
+    record { applies = not (is_some (document_id tree)); refusal = refusal.Id } ∷
+    record { applies = nat_lt deepest (nesting tree); refusal = refusal.Large } ∷
+    record { applies = not (has_short_names tree); refusal = refusal.Large } ∷
     record { applies = nat_lt most_bytes (length (canonical_text tree)); refusal = refusal.Large } ∷
     []
 
--- the one query that is served
-abbrev pub all_documents : List ℕ
-all_documents = codes "SELECT * FROM c"
-
-abbrev pub asks_for_all : Tree → Bool
-asks_for_all body = option_map_or (λ text. bytes_eq text all_documents)
-    (text_member (codes "query") body) false
-
 abbrev pub query_causes : Tree → List Cause
-query_causes body =
-    record { applies = nat_lt deepest (nesting body); refusal = refusal.Json } ∷
-    record { applies = not (asks_for_all body); refusal = refusal.Query } ∷ []
+query_causes tree = record { applies = nat_lt deepest (nesting tree); refusal = refusal.Large } ∷ []
+
+-- a query, or the refusal of a tree that is no body
+abbrev pub query_of : Option Body → Result Line Refusal
+query_of (Some body) = Ok (line.Query body)
+query_of None = Err refusal.Query
 
 -- ---- what a line asks for
 
@@ -84,16 +90,17 @@ query_causes body =
 abbrev pub with_tree_of : Reading → (Tree → Result Line Refusal) → Result Line Refusal
 with_tree_of (Stands tree) ask = ask tree
 with_tree_of NotJson ask = Err refusal.Json
-with_tree_of NotWhole ask = Err refusal.Json
+with_tree_of NotWhole ask = Err refusal.Number
 
 abbrev pub line_in : Form → Result Line Refusal
 line_in (Upsert text) = with_tree_of (reading text)
-    (λ tree. unless (upsert_causes tree) (line.Upsert tree))
-line_in (Query text) = with_tree_of (reading text) (λ body. unless (query_causes body) line.Query)
+    (λ tree. unless (upsert_causes tree) (Ok (line.Upsert tree)))
+line_in (Query text) = with_tree_of (reading text)
+    (λ tree. unless (query_causes tree) (query_of (body_of tree)))
 
 abbrev pub of_form : Option Form → Result Line Refusal
 of_form (Some form) = line_in form
 of_form None = Err refusal.Command
 
 abbrev pub line_of : List ℕ → Result Line Refusal
-line_of bytes = of_form (form_of (without_return bytes))
+line_of bytes = unless (line_causes bytes) (of_form (form_of (without_return bytes)))

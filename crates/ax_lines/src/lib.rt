@@ -1,16 +1,22 @@
 //! The lines of a script: where its bytes are split, what each line asks for, and why a line is
 //! refused that asks for nothing.
 //!
-//! Stands on `ax_text`, which reads the JSON in a line, and on `ax_tree`. Its one contract:
-//! `read_line` answers exactly what the line is, or its refusal, out of memory aside.
+//! Stands on `ax_text`, which reads the JSON in a line, on `ax_tree`, and on the words of `ax_lex`
+//! for what a word is. Its one contract: `read_line` answers exactly what the line is, or its
+//! refusal, out of memory aside.
 #![tactic(auto)]
 
+mod body;
 pub mod laws;
 mod line;
+mod parameters;
 mod read;
+mod read_body;
 mod refusal;
 mod script_lines;
+mod short_names;
 
+pub use body::Body;
 pub use line::{Line, LineFault};
 pub use read::read_line;
 pub use refusal::Refusal;

@@ -1,18 +1,24 @@
-ghost use Rattle.std.specs.Prelude.{◌≡◌, ◌≤◌, Some, Result, IfOk, IfErr, option_map};
+ghost use Rattle.std.specs.Prelude.{◌≡◌, length, nat_lt, Ok, Result, IfOk, IfErr, option_map};
 ghost use Rattle.ax_tree.specs.declared.tree.Tree.{Tree as TreeOf};
 ghost use Rattle.ax_tree.specs.Nesting.{nesting as nesting_of};
 ghost use Rattle.ax_tree.specs.WellFormed.{IsWellFormed};
 ghost use Rattle.ax_text.specs.Reading.{reading, Stands};
 ghost use Rattle.ax_lines.specs.Answers.{Answers, IsRefusedBy};
-ghost use Rattle.ax_lines.specs.Asked.{AsksForDocument};
+ghost use Rattle.ax_lines.specs.Asked.{IsAsked};
+ghost use Rattle.ax_lines.specs.Bodies.{body_of};
 ghost use Rattle.ax_lines.specs.Causes.{unless};
 ghost use Rattle.ax_lines.specs.Lines as spec;
 
 use crate::line::{Line, LineFault};
+use crate::read_body::body_from;
 use crate::refusal::Refusal;
+use crate::short_names::has_short_names;
 use ax_text::{TextFault, nesting, read_tree};
 use ax_tree::{Tree, id_of, write_tree};
 use std::alloc::Global;
+
+/// The most bytes that a line has, with a carriage return at its end.
+const MOST_LINE_BYTES: usize = 262_144;
 
 /// The deepest that the argument of a line may nest.
 const DEEPEST: u32 = 100;
@@ -20,16 +26,29 @@ const DEEPEST: u32 = 100;
 /// The most bytes that the canonical text of a document has.
 const MOST_BYTES: usize = 60_000;
 
-/// The one query that is served.
-const ALL_DOCUMENTS: &str = "SELECT * FROM c";
-
 /// What a line asks for, or its first refusal. The line comes without its newline, and before a
 /// carriage return at its end is dropped.
 pub fn read_line(alloc: Global, line: &[u8]) -> Result<Line, LineFault>
     ensures answers { Answers result (spec.line_of line.now) }
-    ensures document { IfOk result AsksForDocument }
+    ensures asked { IfOk result IsAsked }
 {
-    let command = without_return(line);
+    if is_too_long(line) {
+        return Err(LineFault::Refused(Refusal::Line));
+    }
+    command_line(alloc, without_return(line))
+}
+
+fn is_too_long(line: &[u8]) -> bool
+    ensures { result ≡ nat_lt spec.most_line_bytes (length line.now) }
+{
+    line.len() > MOST_LINE_BYTES
+}
+
+/// What a line asks for that is not too long and has lost its carriage return.
+fn command_line(alloc: Global, command: &[u8]) -> Result<Line, LineFault>
+    ensures answers { Answers result (spec.of_form (spec.form_of command.now)) }
+    ensures asked { IfOk result IsAsked }
+{
     if let Some(json) = argument(command, b"UPSERT ") {
         return upsert_line(alloc, json);
     }
@@ -56,7 +75,7 @@ fn argument<'a>(command: &'a [u8], word: &[u8]) -> Option<&'a [u8]>
 
 fn upsert_line(alloc: Global, json: &[u8]) -> Result<Line, LineFault>
     ensures answers { Answers result (spec.line_in (spec.Upsert json.now)) }
-    ensures document { IfOk result AsksForDocument }
+    ensures asked { IfOk result IsAsked }
 {
     let tree = tree_of(alloc, json)?;
     upsert(alloc, tree)
@@ -64,39 +83,41 @@ fn upsert_line(alloc: Global, json: &[u8]) -> Result<Line, LineFault>
 
 fn query_line(alloc: Global, body: &[u8]) -> Result<Line, LineFault>
     ensures answers { Answers result (spec.line_in (spec.Query body.now)) }
-    ensures document { IfOk result AsksForDocument }
+    ensures asked { IfOk result IsAsked }
 {
     let tree = tree_of(alloc, body)?;
-    Ok(query(&tree)?)
+    query(alloc, tree)
 }
 
 /// The tree that an argument stands for.
 fn tree_of(alloc: Global, json: &[u8]) -> Result<Tree, LineFault>
     ensures tree { IfOk result (λ tree. reading json.now ≡ Stands tree) }
     ensures well_formed { IfOk result IsWellFormed }
-    ensures shallow { IfOk result (λ tree. nesting_of tree ≤ 127) }
     ensures refused { IfErr result
         (λ fault. (ask : TreeOf → Result Line Refusal)
         → IsRefusedBy fault (spec.with_tree_of (reading json.now) ask)) }
 {
     match read_tree(alloc, json) {
         Ok(tree) => Ok(tree),
+        Err(TextFault::Json) => Err(LineFault::Refused(Refusal::Json)),
+        Err(TextFault::Number) => Err(LineFault::Refused(Refusal::Number)),
         Err(TextFault::Memory) => Err(LineFault::Memory),
-        Err(_) => Err(LineFault::Refused(Refusal::Json)),
     }
 }
 
 fn upsert(alloc: Global, tree: Tree) -> Result<Line, LineFault>
-    requires well_formed { IsWellFormed tree }
-    requires shallow { nesting_of tree ≤ 127 }
-    ensures answers { Answers result (unless (spec.upsert_causes tree) (Line.Upsert tree)) }
-    ensures document { IfOk result AsksForDocument }
+    requires { IsWellFormed tree }
+    ensures answers { Answers result (unless (spec.upsert_causes tree) (Ok (Line.Upsert tree))) }
+    ensures asked { IfOk result IsAsked }
 {
-    if nesting(&tree) > DEEPEST {
-        return Err(LineFault::Refused(Refusal::Json));
-    }
     if id_of(&tree).is_none() {
-        return Err(LineFault::Refused(Refusal::Json));
+        return Err(LineFault::Refused(Refusal::Id));
+    }
+    if is_too_deep(&tree) {
+        return Err(LineFault::Refused(Refusal::Large));
+    }
+    if !has_short_names(&tree) {
+        return Err(LineFault::Refused(Refusal::Large));
     }
     let Ok(text) = write_tree(alloc, &tree) else {
         return Err(LineFault::Memory);
@@ -107,28 +128,24 @@ fn upsert(alloc: Global, tree: Tree) -> Result<Line, LineFault>
     Ok(Line::Upsert(tree))
 }
 
-fn query(body: &Tree) -> Result<Line, Refusal>
-    ensures answers { result ≡ unless (spec.query_causes body.now) Line.Query }
-    ensures document { IfOk result AsksForDocument }
+fn query(alloc: Global, tree: Tree) -> Result<Line, LineFault>
+    requires { IsWellFormed tree }
+    ensures answers { Answers result
+        (unless (spec.query_causes tree) (spec.query_of (body_of tree))) }
+    ensures asked { IfOk result IsAsked }
 {
-    if nesting(body) > DEEPEST {
-        return Err(Refusal::Json);
+    if is_too_deep(&tree) {
+        return Err(LineFault::Refused(Refusal::Large));
     }
-    if asks_for_all(body) {
-        Ok(Line::Query)
-    } else {
-        Err(Refusal::Query)
+    match body_from(alloc, tree) {
+        Ok(Some(body)) => Ok(Line::Query(body)),
+        Ok(None) => Err(LineFault::Refused(Refusal::Query)),
+        Err(_) => Err(LineFault::Memory),
     }
 }
 
-fn asks_for_all(body: &Tree) -> bool
-    ensures { result ≡ spec.asks_for_all body.now }
+fn is_too_deep(tree: &Tree) -> bool
+    ensures { result ≡ nat_lt spec.deepest (nesting_of tree.now) }
 {
-    let Some(query) = body.member("query") else {
-        return false;
-    };
-    match query.as_text() {
-        Some(text) => text.as_str() == ALL_DOCUMENTS,
-        None => false,
-    }
+    nesting(tree) > DEEPEST
 }

@@ -4,16 +4,24 @@ ghost use Rattle.std.specs.Prelude.{◌≡◌};
 /// word.
 #[derive(Clone, Copy, Debug, PartialEq, Eq)]
 pub enum Refusal {
+    /// `err 1 line`: the line has more than 262,144 bytes, a carriage return at its end counted.
+    Line,
     /// `err 2 command`: the line is none of the forms.
     Command,
-    /// `err 3 json`: the argument is no JSON, or holds a number that is not whole, or nests deeper
-    /// than 100, or, for UPSERT, is no document.
+    /// `err 3 json`: the argument is no JSON.
     Json,
-    /// `err 6 large`: the canonical text of the document has more than 60,000 bytes.
+    /// `err 4 number`: the argument holds a number that is not whole, or not of 64 bits.
+    Number,
+    /// `err 5 id`: the argument of an UPSERT is no map, or has no text member `id` that may be an
+    /// id.
+    Id,
+    /// `err 6 large`: the argument nests deeper than 100; or, for UPSERT, a member name has more
+    /// than 255 bytes, or the canonical text more than 60,000.
     Large,
     /// `err 9 memory`: out of memory.
     Memory,
-    /// `err 10 query`: the query body is no map with the text member `query` that is served.
+    /// `err 10 query`: the argument of a QUERY is no query body, or its parameters are too large,
+    /// or its text is no query that is served. The text is judged after the line is read.
     Query,
     /// `err 15 full`: no document can be created, since there are as many as there may be or no
     /// number is left. No line is refused so before it meets the store.
@@ -28,8 +36,11 @@ impl Refusal {
         ensures { result ≡ number_of self.now }
     {
         match self {
+            Refusal::Line => 1,
             Refusal::Command => 2,
             Refusal::Json => 3,
+            Refusal::Number => 4,
+            Refusal::Id => 5,
             Refusal::Large => 6,
             Refusal::Memory => 9,
             Refusal::Query => 10,
@@ -42,8 +53,11 @@ impl Refusal {
         ensures { result.now ≡ word_of self.now }
     {
         match self {
+            Refusal::Line => "line",
             Refusal::Command => "command",
             Refusal::Json => "json",
+            Refusal::Number => "number",
+            Refusal::Id => "id",
             Refusal::Large => "large",
             Refusal::Memory => "memory",
             Refusal::Query => "query",

@@ -9,19 +9,22 @@ use Rattle.ax_text.proofs.ReadTrees.{IsStanding, stands}
 use Rattle.ax_container.specs.Container.{Container, IsStored, IsSound}
 use Rattle.ax_container.specs.Upsert.{WriteRefusal, upserted}
 use Rattle.ax_container.proofs.Upserts.{upsert_keeps_soundness}
+use Rattle.ax_lines.specs.declared.body.Body.{Body}
 use Rattle.ax_lines.specs.declared.line.Line.{Line}
 use Rattle.ax_lines.specs.declared.line.Line.TheVariants as line
 use Rattle.ax_lines.specs.declared.refusal.Refusal.{Refusal}
+use Rattle.ax_lines.specs.Bodies.{body_of}
 use Rattle.ax_lines.specs.Causes.{Cause, unless}
 use Rattle.ax_lines.specs.Lines.{Form, Upsert, Query, form_of, without_return, with_tree_of}
-use Rattle.ax_lines.specs.Lines.{upsert_causes, query_causes, of_form, line_of}
+use Rattle.ax_lines.specs.Lines.{line_causes, upsert_causes, query_causes, query_of, of_form}
+use Rattle.ax_lines.specs.Lines.{line_of}
 use Rattle.ax_machine.specs.Step.{written, upsert_by, served, step}
 use Rattle.ax_machine.specs.Run.{Exchange, Outcome, Served, OutOfMemory, after_line, after}
 
 -- the tree of an upsert is one that a text can stand for
 abbrev AsksForRead : Line → Type 0
 AsksForRead (line.Upsert tree) = IsStanding tree
-AsksForRead line.Query = Unit {0}
+AsksForRead (line.Query body) = Unit {0}
 
 -- ---- what a line asks for
 
@@ -31,12 +34,16 @@ unless_case : {A : Type 0} (P : A → Type 0) (applies : Bool) (why : Refusal)
 unless_case P true why later holds = tt
 unless_case P false why later holds = holds
 
-unless_holds : {A : Type 0} (P : A → Type 0) (causes : List Cause) (value : A) → P value
-    → IfOk (unless causes value) P
-unless_holds P [] value holds = holds
-unless_holds P (cause ∷ causes) value holds =
-    unless_case P cause.applies cause.refusal (unless causes value)
-    (unless_holds P causes value holds)
+unless_holds : {A : Type 0} (P : A → Type 0) (causes : List Cause) (answer : Result A Refusal)
+    → IfOk answer P → IfOk (unless causes answer) P
+unless_holds P [] answer holds = holds
+unless_holds P (cause ∷ causes) answer holds =
+    unless_case P cause.applies cause.refusal (unless causes answer)
+    (unless_holds P causes answer holds)
+
+query_asks : (body : Option Body) → IfOk (query_of body) AsksForRead
+query_asks (Some body) = tt
+query_asks None = tt
 
 with_tree_holds : (bytes : List ℕ) (found : Reading) (ask : Tree → Result Line Refusal)
     → reading bytes ≡ found
@@ -50,14 +57,18 @@ form_asks : (form : Option Form) → IfOk (of_form form) AsksForRead
 form_asks None = tt
 form_asks (Some (Upsert text)) =
     with_tree_holds text (reading text)
-    (λ tree. unless (upsert_causes tree) (line.Upsert tree)) refl
-    (λ tree good. unless_holds AsksForRead (upsert_causes tree) (line.Upsert tree) good)
+    (λ tree. unless (upsert_causes tree) (Ok (line.Upsert tree))) refl
+    (λ tree good. unless_holds AsksForRead (upsert_causes tree) (Ok (line.Upsert tree)) good)
 form_asks (Some (Query text)) =
-    with_tree_holds text (reading text) (λ body. unless (query_causes body) line.Query) refl
-    (λ body good. unless_holds AsksForRead (query_causes body) line.Query tt)
+    with_tree_holds text (reading text)
+    (λ tree. unless (query_causes tree) (query_of (body_of tree))) refl
+    (λ tree good. unless_holds AsksForRead (query_causes tree) (query_of (body_of tree))
+    (query_asks (body_of tree)))
 
 line_asks : (bytes : List ℕ) → IfOk (line_of bytes) AsksForRead
-line_asks bytes = form_asks (form_of (without_return bytes))
+line_asks bytes =
+    unless_holds AsksForRead (line_causes bytes) (of_form (form_of (without_return bytes)))
+    (form_asks (form_of (without_return bytes)))
 
 -- ---- what the line makes of a container
 
@@ -89,7 +100,7 @@ served_sound : (before : Container) (asked : Result Line Refusal) → IfOk asked
     → IsSound before → IsSound (served before asked).0
 served_sound before (Ok (line.Upsert tree)) good sound =
     upsert_sound before tree (document_id tree) refl good sound
-served_sound before (Ok line.Query) good sound = sound
+served_sound before (Ok (line.Query body)) good sound = sound
 served_sound before (Err why) good sound = sound
 
 pub step_sound : (before : Container) (bytes : List ℕ) → IsSound before

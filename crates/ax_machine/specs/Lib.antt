@@ -1,4 +1,5 @@
 pub mod Reply
 pub mod ReplyTexts
 pub mod Run
+pub mod Served
 pub mod Step

@@ -3,12 +3,13 @@ ghost use Rattle.std.specs.List.{list_any};
 ghost use Rattle.ax_tree.specs.Document.{document_id};
 ghost use Rattle.ax_container.specs.Container.{has_id};
 ghost use Rattle.ax_container.specs.Upsert.{with_tree};
-ghost use Rattle.ax_machine.specs.Step.{step, upsert_by};
+ghost use Rattle.ax_machine.specs.Step.{step, upsert_by, query_reply};
 ghost use Rattle.ax_machine.specs.ReplyTexts.{reply_text};
 
 use crate::plain_document::PlainDocument;
 use crate::reply_lines::{ok_line, refusal_line, rows_lines};
-use ax_lines::{Line, LineFault, Refusal, read_line};
+use ax_lines::{Body, Line, LineFault, Refusal, read_line};
+use ax_machine::is_served;
 use ax_tree::{Memory, Text, Tree, id_of};
 use std::alloc::Global;
 use std::marker::Model;
@@ -62,9 +63,19 @@ impl PlainMachine {
     {
         match read_line(alloc, line) {
             Ok(Line::Upsert(tree)) => self.upsert(alloc, tree),
-            Ok(Line::Query) => rows_lines(alloc, self.documents.as_slice()),
+            Ok(Line::Query(body)) => self.query(alloc, &body),
             Err(LineFault::Refused(refusal)) => refusal_line(alloc, refusal),
             Err(LineFault::Memory) => Err(Memory),
+        }
+    }
+
+    fn query(&self, alloc: Global, body: &Body) -> Result<Vec<u8>, Memory>
+        ensures { IfOk result (λ text. text.items ≡ reply_text (query_reply body.now self.now)) }
+    {
+        if is_served(body) {
+            rows_lines(alloc, self.documents.as_slice())
+        } else {
+            refusal_line(alloc, Refusal::Query)
         }
     }
 
@@ -75,7 +86,7 @@ impl PlainMachine {
         ensures err { OnErr result (self.new ≡ self.old) }
     {
         let Some(id) = id_of(&tree) else {
-            return refusal_line(alloc, Refusal::Json);
+            return refusal_line(alloc, Refusal::Id);
         };
         let text = ok_line(alloc)?;
         if contains(self.documents.as_slice(), id) {

@@ -73,6 +73,10 @@ by_parts contents before after tree id parts are w = record {
   stand = w.2;
 }
 
+-- what a line may nest, a text may nest
+pub within_text : {n : ℕ} → n ≤ 100 → n ≤ 127
+within_text low = omega (arith, low)
+
 some_entry : (o : Option Entry) (number : ℕ) → option_map (λ (e : Entry). e.number) o ≡ Some number
     → (e : Entry) × (o ≡ Some e) × (e.number ≡ number)
 some_entry None number is = absurd cc

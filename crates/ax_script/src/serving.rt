@@ -7,7 +7,7 @@ ghost use Rattle.ax_tree.specs.CanonicalText.{canonical_text};
 ghost use Rattle.ax_tree.specs.Document.{document_id};
 ghost use Rattle.ax_machine.specs.Reply as reply;
 ghost use Rattle.ax_machine.specs.ReplyTexts.{reply_text};
-ghost use Rattle.ax_machine.specs.Step.{step, upsert_by};
+ghost use Rattle.ax_machine.specs.Step.{step, upsert_by, query_reply};
 ghost use Rattle.ax_lines.specs.Asked.{IsStorable};
 ghost use Rattle.ax_script.specs.Documents.{Holds, Works, TellsBy, WorksAfterAnswer};
 ghost use Rattle.ax_script.specs.Progress.{outlets, Serves, BeginsToServe};
@@ -17,7 +17,8 @@ use crate::reply_lines::{ok_line, out_of_memory_line, refusal_line, rows_lines};
 use crate::status::Status;
 use ax_base::{Failed, Sink, write_all};
 use ax_disk::Disk;
-use ax_lines::{Line, LineFault, Refusal, read_line};
+use ax_lines::{Body, Line, LineFault, Refusal, read_line};
+use ax_machine::is_served;
 use ax_tree::Tree;
 use std::alloc::Global;
 
@@ -100,7 +101,7 @@ fn answer<D: Disk>(
 {
     match read_line(alloc, line) {
         Ok(Line::Upsert(tree)) => upsert(alloc, documents, disk, &tree),
-        Ok(Line::Query) => all_rows(alloc, documents),
+        Ok(Line::Query(body)) => query(alloc, documents, &body),
         Err(LineFault::Refused(refusal)) => refused(alloc, refusal),
         Err(LineFault::Memory) => Err(AnswerFault::Memory),
     }
@@ -142,6 +143,19 @@ fn refused(alloc: Global, refusal: Refusal) -> Result<Vec<u8>, AnswerFault>
     match refusal_line(alloc, refusal) {
         Ok(text) => Ok(text),
         Err(_) => Err(AnswerFault::Memory),
+    }
+}
+
+/// The text of the reply to a query, which changes nothing.
+fn query(alloc: Global, documents: &Documents, body: &Body) -> Result<Vec<u8>, AnswerFault>
+    ensures text { (container : Container) → Holds documents.now container → IfOk result (λ text. text.items
+        ≡ reply_text (query_reply body.now container)) }
+    ensures only { IfErr result (λ fault. fault ≡ AnswerFault.Memory) }
+{
+    if is_served(body) {
+        all_rows(alloc, documents)
+    } else {
+        refused(alloc, Refusal::Query)
     }
 }
 

@@ -1,3 +1,5 @@
+mod bodies;
+mod borders;
 mod disks;
 mod faults;
 mod lines;

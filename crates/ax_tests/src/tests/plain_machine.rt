@@ -21,6 +21,8 @@ fn the_plain_machine_answers(rt: HostRuntime) -> Result<(), Fail> {
             "row {\"a\":2,\"id\":\"a\"}\nrow {\"id\":\"b\"}\nend 2\n",
         ),
         ("QUERY {}", "err 10 query\n"),
+        ("QUERY {\"query\":\"select * from c\"}", "err 10 query\n"),
+        ("UPSERT {}", "err 5 id\n"),
     ];
     for (line, expected) in table {
         let reply = machine.answer(alloc, line.as_bytes())?;

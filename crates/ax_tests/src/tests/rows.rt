@@ -14,8 +14,8 @@ const ROWS: [(&str, &str); 11] = [
         "ok\nok\nrow {\"a\":2,\"id\":\"a\"}\nend 1\n",
     ),
     (
-        "READ a\nUPSERT {\nUPSERT {\"id\":\"a\",\"n\":1.5}\nQUERY {\"query\":\"SELECT VALUE 1 FROM c\"}\n",
-        "err 2 command\nerr 3 json\nerr 3 json\nerr 10 query\n",
+        "READ a\nUPSERT {\nUPSERT {\"id\":\"a\",\"n\":1.5}\nUPSERT 5\nQUERY {\"query\":\"SELECT VALUE 1 FROM c\"}\n",
+        "err 2 command\nerr 3 json\nerr 4 number\nerr 5 id\nerr 10 query\n",
     ),
     (
         "UPSERT {\"total\":30,\"id\":\"o1\",\"lines\":[{\"sku\":\"b\",\"qty\":2}]}\nQUERY {\"query\":\"SELECT * FROM c\"}\n",

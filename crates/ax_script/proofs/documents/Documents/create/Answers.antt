@@ -14,13 +14,13 @@ use Rattle.ax_store.specs.Putting.{AreWithin}
 use Rattle.ax_store.proofs.StoreLemmas.{agrees_same}
 use Rattle.ax_script.specs.Documents.{contents_in, Holds, Works}
 use Rattle.ax_script.proofs.Holding.{still, holds_room, holds_same, works_room, made_by, turned_by}
-use Rattle.ax_script.proofs.Writing.{within_next, is_refused, creates, created_leads, numbers_created}
+use Rattle.ax_script.proofs.Writing.{within_text, within_next, is_refused, creates, created_leads, numbers_created}
 use Rattle.ax_script.proofs.documents.Documents.create.Goals as goal
 
 pub returns-then-is_full-clause-tells : goal.returns-then-is_full-clause-tells
 returns-then-is_full-clause-tells g c = λ before holds doc at. (
   is_refused (contents_in c.args.self.now) before c.args.tree.now c.args.id.now holds.stand doc
-      c.requires.storable.well_formed c.requires.storable.shallow (sym (holds.numbers c.args.id.now) ∙ at)
+      c.requires.storable.well_formed (within_text c.requires.storable.shallow) (sym (holds.numbers c.args.id.now) ∙ at)
       (sym c.is_full.ensures ∙ c.if-is_full.true),
   holds,
   still _ c.args.self.now _ before before c.requires.works holds,
@@ -95,11 +95,11 @@ returns-in-Ok-commit-clause-tells g c = λ before holds doc at.
     let full = sym c.is_full.ensures ∙ c.if-is_full.false in
     let next : c.meta-number.result.next ≡ before.next_number = c.meta-number.ensures.next ∙ holds.stand.next in
     let leads = created_leads (contents_in c.args.self.now) before c.args.tree.now id holds.stand doc
-    c.requires.storable.well_formed c.requires.storable.shallow c.meta-number.result.next c.in-Some.policy
+    c.requires.storable.well_formed (within_text c.requires.storable.shallow) c.meta-number.result.next c.in-Some.policy
     placed full next c.in-Some.ensures.now in (
       created id c.args.tree.now before,
       creates (contents_in c.args.self.now) before c.args.tree.now id holds.stand doc
-          c.requires.storable.well_formed c.requires.storable.shallow placed full,
+          c.requires.storable.well_formed (within_text c.requires.storable.shallow) placed full,
       record {
         stand = made_by (contents_in c.args.self.now) (store_contents c.reserve.new.self)
             (store_contents c.commit.new.self) (batch_parts c.in-Ok.batch) _ (created id c.args.tree.now before)
@@ -124,11 +124,11 @@ returns-in-Err-clause-tells g c = λ before holds doc at.
     let full = sym c.is_full.ensures ∙ c.if-is_full.false in
     let next : c.meta-number.result.next ≡ before.next_number = c.meta-number.ensures.next ∙ holds.stand.next in
     let leads = created_leads (contents_in c.args.self.now) before c.args.tree.now id holds.stand doc
-    c.requires.storable.well_formed c.requires.storable.shallow c.meta-number.result.next c.in-Some.policy
+    c.requires.storable.well_formed (within_text c.requires.storable.shallow) c.meta-number.result.next c.in-Some.policy
     placed full next c.in-Some.ensures.now in (
       created id c.args.tree.now before,
       creates (contents_in c.args.self.now) before c.args.tree.now id holds.stand doc
-          c.requires.storable.well_formed c.requires.storable.shallow placed full,
+          c.requires.storable.well_formed (within_text c.requires.storable.shallow) placed full,
       λ honest. turned_by (contents_in c.args.self.now) (store_contents c.reserve.new.self) (batch_parts c.in-Ok.batch) _
           before (created id c.args.tree.now before) _ _ holds.stand leads c.in-Ok.ensures.parts
           c.reserve.ensures.same.contents

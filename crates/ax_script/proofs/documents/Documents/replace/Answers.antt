@@ -13,7 +13,7 @@ use Rattle.ax_store.specs.Putting.{AreWithin}
 use Rattle.ax_store.proofs.StoreLemmas.{agrees_same}
 use Rattle.ax_script.specs.Documents.{contents_in}
 use Rattle.ax_script.proofs.Holding.{still, holds_room, works_room, made_by, turned_by}
-use Rattle.ax_script.proofs.Writing.{within_replacing, replaces, replaced_leads, numbers_replaced}
+use Rattle.ax_script.proofs.Writing.{within_text, within_replacing, replaces, replaced_leads, numbers_replaced}
 use Rattle.ax_script.proofs.documents.Documents.replace.Goals as goal
 
 pub returns-in_default-clause-tells : goal.returns-in_default-clause-tells
@@ -58,11 +58,11 @@ pub returns-in-Ok-commit-clause-tells : goal.returns-in-Ok-commit-clause-tells
 returns-in-Ok-commit-clause-tells g c = λ before id holds doc at.
     let placed = sym (holds.numbers id) ∙ at in
     let leads = replaced_leads (contents_in c.args.self.now) before c.args.tree.now id holds.stand doc
-    c.requires.storable.well_formed c.requires.storable.shallow c.args.number c.in-Some.policy placed
+    c.requires.storable.well_formed (within_text c.requires.storable.shallow) c.args.number c.in-Some.policy placed
     c.in-Some.ensures.now in (
       replaced id c.args.tree.now before,
       replaces (contents_in c.args.self.now) before c.args.tree.now id holds.stand doc
-          c.requires.storable.well_formed c.requires.storable.shallow c.args.number placed,
+          c.requires.storable.well_formed (within_text c.requires.storable.shallow) c.args.number placed,
       record {
         stand = made_by (contents_in c.args.self.now) (store_contents c.reserve.new.self)
             (store_contents c.commit.new.self) (batch_parts c.in-Ok.batch) _ (replaced id c.args.tree.now before)
@@ -79,11 +79,11 @@ pub returns-in-Err-clause-tells : goal.returns-in-Err-clause-tells
 returns-in-Err-clause-tells g c = λ before id holds doc at.
     let placed = sym (holds.numbers id) ∙ at in
     let leads = replaced_leads (contents_in c.args.self.now) before c.args.tree.now id holds.stand doc
-    c.requires.storable.well_formed c.requires.storable.shallow c.args.number c.in-Some.policy placed
+    c.requires.storable.well_formed (within_text c.requires.storable.shallow) c.args.number c.in-Some.policy placed
     c.in-Some.ensures.now in (
       replaced id c.args.tree.now before,
       replaces (contents_in c.args.self.now) before c.args.tree.now id holds.stand doc
-          c.requires.storable.well_formed c.requires.storable.shallow c.args.number placed,
+          c.requires.storable.well_formed (within_text c.requires.storable.shallow) c.args.number placed,
       λ honest. turned_by (contents_in c.args.self.now) (store_contents c.reserve.new.self) (batch_parts c.in-Ok.batch) _
           before (replaced id c.args.tree.now before) _ _ holds.stand leads c.in-Ok.ensures.parts
           c.reserve.ensures.same.contents

@@ -1,0 +1,96 @@
+use crate::tests::lines::word_of;
+use ax_lines::{Line, read_line};
+use ax_tree::{Tree, write_tree};
+use std::alloc::{AllocError, Global};
+use std::test::Fail;
+
+/// What the line of a query with this body is, in one word.
+fn body_word(alloc: Global, body: &str) -> Result<&'static str, AllocError> {
+    let line = format!(in alloc; "QUERY {body}")?;
+    Ok(word_of(alloc, line.as_bytes()))
+}
+
+/// What the line of a query with this list of parameters is, in one word.
+fn items_word(alloc: Global, items: &str) -> Result<&'static str, AllocError> {
+    let line = format!(in alloc; "QUERY {{\"query\":\"q\",\"parameters\":[{items}]}}")?;
+    Ok(word_of(alloc, line.as_bytes()))
+}
+
+/// The canonical text of the parameters of a body, and none of a line that is refused.
+fn params_text(alloc: Global, body: &str) -> Result<Vec<u8>, Fail> {
+    let line = format!(in alloc; "QUERY {body}")?;
+    match read_line(alloc, line.as_bytes()) {
+        Ok(Line::Query(body)) => Ok(write_tree(alloc, &Tree::Object(body.params))?),
+        _ => Ok(Vec::new(alloc)),
+    }
+}
+
+// The words by hand, from the shape of a query body.
+#[test]
+fn bodies_have_a_text_and_maybe_a_list(rt: HostRuntime) -> Result<(), Fail> {
+    let alloc = rt.alloc();
+    let table = [
+        ("{\"query\":\"q\",\"parameters\":[]}", "body"),
+        ("{\"query\":\"q\",\"other\":[null]}", "body"),
+        ("{\"query\":\"q\",\"query\":1}", "query"),
+        ("{\"query\":\"q\",\"parameters\":null}", "query"),
+        ("{\"query\":\"q\",\"parameters\":{}}", "query"),
+        ("{\"query\":1}", "query"),
+        ("{\"parameters\":[]}", "query"),
+        ("[\"query\"]", "query"),
+        ("{\"query\":\"q\",\"other\":1.5}", "number"),
+        ("{\"query\":\"q\",\"other\":1.5,}", "json"),
+    ];
+    for (body, expected) in table {
+        assert_eq!(rt; body_word(alloc, body)?, expected, "{body}");
+    }
+    Ok(())
+}
+
+// The items of the list of parameters.
+#[test]
+fn parameters_have_a_name_and_a_value(rt: HostRuntime) -> Result<(), Fail> {
+    let alloc = rt.alloc();
+    let table = [
+        ("{\"name\":\"@a\",\"value\":null}", "body"),
+        ("{\"name\":\"@_Z9\",\"value\":1,\"type\":2}", "body"),
+        ("{\"name\":\"@select\",\"value\":1}", "body"),
+        ("{\"name\":\"a\",\"value\":1}", "query"),
+        ("{\"name\":\"@\",\"value\":1}", "query"),
+        ("{\"name\":\"@9a\",\"value\":1}", "query"),
+        ("{\"name\":\"@a-b\",\"value\":1}", "query"),
+        ("{\"name\":\"@é\",\"value\":1}", "query"),
+        ("{\"name\":\"\",\"value\":1}", "query"),
+        ("{\"name\":1,\"value\":1}", "query"),
+        ("{\"name\":\"@a\"}", "query"),
+        ("{\"value\":1}", "query"),
+        ("5", "query"),
+        ("{\"name\":\"@a\"},{\"name\":\"@a\",\"value\":1}", "query"),
+    ];
+    for (items, expected) in table {
+        assert_eq!(rt; items_word(alloc, items)?, expected, "{items}");
+    }
+    Ok(())
+}
+
+// The canonical texts by hand: names rise by bytes, and of a repeated one the last counts.
+#[test]
+fn the_last_of_a_repeated_parameter_counts(rt: HostRuntime) -> Result<(), Fail> {
+    let alloc = rt.alloc();
+    let table = [
+        ("{\"query\":\"q\"}", "{}"),
+        (
+            "{\"query\":\"q\",\"parameters\":[{\"name\":\"@b\",\"value\":1},{\"name\":\"@a\",\"value\":[2]},{\"name\":\"@b\",\"value\":null}]}",
+            "{\"@a\":[2],\"@b\":null}",
+        ),
+        (
+            "{\"query\":\"q\",\"parameters\":[{\"value\":{\"z\":0,\"y\":0},\"name\":\"@B\"},{\"name\":\"@a\",\"value\":\"\"}]}",
+            "{\"@B\":{\"y\":0,\"z\":0},\"@a\":\"\"}",
+        ),
+    ];
+    for (body, expected) in table {
+        let params = params_text(alloc, body)?;
+        assert_eq!(rt; params.as_slice(), expected.as_bytes(), "{body}");
+    }
+    Ok(())
+}

@@ -1,0 +1,135 @@
+use crate::tests::lines::word_of;
+use std::alloc::{AllocError, Global};
+use std::test::Fail;
+
+/// A text, then a piece so many times, then another text.
+fn built(
+    alloc: Global,
+    front: &str,
+    piece: &str,
+    count: usize,
+    back: &str,
+) -> Result<String, AllocError> {
+    let mut line = String::from_str(alloc, front)?;
+    for _ in 0..count {
+        line.push_str(piece)?;
+    }
+    line.push_str(back)?;
+    Ok(line)
+}
+
+/// A text with lists that nest so many times in the middle.
+fn nested(alloc: Global, front: &str, count: usize) -> Result<String, AllocError> {
+    let lists = built(alloc, front, "[", count, "")?;
+    built(alloc, lists.as_str(), "]", count, "}")
+}
+
+// `UPSERT {"id":"a"}` has 17 bytes, and spaces behind it are white space of JSON. The return at the
+// end of a line is counted.
+#[test]
+fn a_line_has_262144_bytes_at_most(rt: HostRuntime) -> Result<(), Fail> {
+    let alloc = rt.alloc();
+    let document = "UPSERT {\"id\":\"a\"}";
+    let line = built(alloc, document, " ", 262_127, "")?;
+    assert_eq!(rt; word_of(alloc, line.as_bytes()), "document");
+    let line = built(alloc, document, " ", 262_128, "")?;
+    assert_eq!(rt; word_of(alloc, line.as_bytes()), "line");
+    let line = built(alloc, document, " ", 262_126, "\r")?;
+    assert_eq!(rt; word_of(alloc, line.as_bytes()), "document");
+    let line = built(alloc, document, " ", 262_127, "\r")?;
+    assert_eq!(rt; word_of(alloc, line.as_bytes()), "line");
+    let line = built(alloc, "", "x", 262_144, "")?;
+    assert_eq!(rt; word_of(alloc, line.as_bytes()), "command");
+    let line = built(alloc, "", "x", 262_145, "")?;
+    assert_eq!(rt; word_of(alloc, line.as_bytes()), "line");
+    Ok(())
+}
+
+// An id is 255 bytes long at most, however few letters these are.
+#[test]
+fn ids_are_counted_by_bytes(rt: HostRuntime) -> Result<(), Fail> {
+    let alloc = rt.alloc();
+    for (letter, count, expected) in [
+        ("a", 255usize, "document"),
+        ("a", 256, "id"),
+        ("é", 127, "document"),
+        ("é", 128, "id"),
+    ] {
+        let line = built(alloc, "UPSERT {\"id\":\"", letter, count, "\"}")?;
+        assert_eq!(rt; word_of(alloc, line.as_bytes()), expected, "{count} {letter}");
+    }
+    Ok(())
+}
+
+#[test]
+fn names_at_any_depth_have_255_bytes_at_most(rt: HostRuntime) -> Result<(), Fail> {
+    let alloc = rt.alloc();
+    for (count, expected) in [(255usize, "document"), (256, "large")] {
+        let line = built(alloc, "UPSERT {\"id\":\"a\",\"", "n", count, "\":1}")?;
+        assert_eq!(rt; word_of(alloc, line.as_bytes()), expected, "{count}");
+        let line = built(alloc, "UPSERT {\"id\":\"a\",\"v\":[{\"", "n", count, "\":1}]}")?;
+        assert_eq!(rt; word_of(alloc, line.as_bytes()), expected, "{count} inside");
+        let line = built(alloc, "UPSERT {\"", "n", count, "\":1}")?;
+        assert_eq!(rt; word_of(alloc, line.as_bytes()), "id", "{count} without id");
+    }
+    let line = built(alloc, "QUERY {\"query\":\"q\",\"", "n", 256, "\":1}")?;
+    assert_eq!(rt; word_of(alloc, line.as_bytes()), "body");
+    Ok(())
+}
+
+// `{"id":"a","v":""}` has 17 bytes; what the line has beyond its canonical text does not count.
+#[test]
+fn a_document_has_60000_bytes_at_most(rt: HostRuntime) -> Result<(), Fail> {
+    let alloc = rt.alloc();
+    let line = built(alloc, "UPSERT {\"id\":\"a\",  \"v\":\"", "x", 59_983, "\"}")?;
+    assert_eq!(rt; word_of(alloc, line.as_bytes()), "document");
+    let line = built(alloc, "UPSERT {\"id\":\"a\",\"v\":\"", "x", 59_984, "\"}")?;
+    assert_eq!(rt; word_of(alloc, line.as_bytes()), "large");
+    Ok(())
+}
+
+// The map round the lists is one level more.
+#[test]
+fn an_argument_nests_100_levels_at_most(rt: HostRuntime) -> Result<(), Fail> {
+    let alloc = rt.alloc();
+    for (lists, document, body) in [
+        (99usize, "document", "body"),
+        (100, "large", "large"),
+        (126, "large", "large"),
+        (127, "json", "json"),
+    ] {
+        let line = nested(alloc, "UPSERT {\"id\":\"a\",\"v\":", lists)?;
+        assert_eq!(rt; word_of(alloc, line.as_bytes()), document, "{lists} in a document");
+        let line = nested(alloc, "QUERY {\"query\":\"q\",\"v\":", lists)?;
+        assert_eq!(rt; word_of(alloc, line.as_bytes()), body, "{lists} in a body");
+    }
+    let line = nested(alloc, "UPSERT {\"v\":", 100)?;
+    assert_eq!(rt; word_of(alloc, line.as_bytes()), "id");
+    let line = nested(alloc, "QUERY {\"v\":", 100)?;
+    assert_eq!(rt; word_of(alloc, line.as_bytes()), "large");
+    Ok(())
+}
+
+// `{"@a":""}` has 9 bytes.
+#[test]
+fn parameters_have_32768_bytes_at_most(rt: HostRuntime) -> Result<(), Fail> {
+    let alloc = rt.alloc();
+    let front = "QUERY {\"query\":\"q\",\"parameters\":[{\"name\":\"@a\",\"value\":\"";
+    for (count, expected) in [(32_759usize, "body"), (32_760, "query")] {
+        let line = built(alloc, front, "x", count, "\"}]}")?;
+        assert_eq!(rt; word_of(alloc, line.as_bytes()), expected, "{count}");
+    }
+    Ok(())
+}
+
+// The `@` is not counted.
+#[test]
+fn the_word_of_a_parameter_has_255_bytes_at_most(rt: HostRuntime) -> Result<(), Fail> {
+    let alloc = rt.alloc();
+    let front = "QUERY {\"query\":\"q\",\"parameters\":[{\"name\":\"@";
+    for (count, expected) in [(255usize, "body"), (256, "query")] {
+        let line = built(alloc, front, "w", count, "\",\"value\":1}]}")?;
+        assert_eq!(rt; word_of(alloc, line.as_bytes()), expected, "{count}");
+    }
+    Ok(())
+}
