@@ -1,0 +1,46 @@
+-- Whether a query has groups: GROUP BY is written, or an aggregate stands somewhere in what is picked.
+use Rattle.std.specs.Prelude.{List, [], ◌∷◌, Bool, true, false, ◌||◌}
+use Rattle.std.specs.List.{list_any}
+use Rattle.ax_mean.specs.declared.expr.Expr.{Expr, fold-Expr}
+use Rattle.ax_mean.specs.declared.expr.Expr.TheOpen.{Expr-F}
+use Rattle.ax_mean.specs.declared.query.Pick.{Pick}
+use Rattle.ax_mean.specs.declared.query.Pick.TheVariants as pick
+use Rattle.ax_mean.specs.declared.query.Query.{Query}
+
+-- one level of an expression, whose children are seen as whether they have an aggregate
+abbrev pub aggregate_level : Expr-F Bool → Bool
+aggregate_level (Expr-F.Literal value) = false
+aggregate_level (Expr-F.Alias name) = false
+aggregate_level (Expr-F.Steps base steps) = base
+aggregate_level (Expr-F.Choice test a b) = test || a || b
+aggregate_level (Expr-F.Coalesce items) = list_any (λ item. item) items
+aggregate_level (Expr-F.Or items) = list_any (λ item. item) items
+aggregate_level (Expr-F.And items) = list_any (λ item. item) items
+aggregate_level (Expr-F.Not a) = a
+aggregate_level (Expr-F.Compare operator a b) = a || b
+aggregate_level (Expr-F.Among negated left items) = left || list_any (λ item. item) items
+aggregate_level (Expr-F.Between negated left low high) = left || low || high
+aggregate_level (Expr-F.Like negated left pattern) = left || pattern
+aggregate_level (Expr-F.Join items) = list_any (λ item. item) items
+aggregate_level (Expr-F.Sum first rest) = first || list_any (λ c. c.operand) rest
+aggregate_level (Expr-F.Product first rest) = first || list_any (λ c. c.operand) rest
+aggregate_level (Expr-F.Sign operator a) = a
+aggregate_level (Expr-F.Call func args) = list_any (λ item. item) args
+aggregate_level (Expr-F.Total aggregate a) = true
+aggregate_level (Expr-F.List items) = list_any (λ item. item) items
+aggregate_level (Expr-F.Object members) = list_any (λ m. m.value) members
+
+abbrev pub has_aggregate : Expr → Bool
+has_aggregate = fold-Expr Bool aggregate_level
+
+abbrev pub picks_aggregate : Pick → Bool
+picks_aggregate pick.Star = false
+picks_aggregate (pick.Value expr) = has_aggregate expr
+picks_aggregate (pick.Named items) = list_any (λ item. has_aggregate item.expr) items
+
+abbrev pub is_written : {X : Type 0} → List X → Bool
+is_written [] = false
+is_written (x ∷ xs) = true
+
+abbrev pub has_groups : Query → Bool
+has_groups query = is_written query.groups || picks_aggregate query.pick
