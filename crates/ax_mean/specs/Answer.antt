@@ -2,7 +2,7 @@
 -- text the first is kept where DISTINCT is written, and OFFSET and LIMIT choose among what is left.
 use Rattle.std.specs.Prelude.{ℕ, List, [], ◌∷◌, take, drop, Bool, true, false, ◌||◌, Option, Some, None, if◌then◌else◌}
 use Rattle.std.specs.declared.cmp.Ordering.{Ordering}
-use Rattle.std.specs.Ordering.{is_gt}
+use Rattle.std.specs.Ordering.{is_lt}
 use Rattle.std.specs.List.{flat_map}
 use Rattle.std.specs.Str.{bytes_eq}
 use Rattle.ax_tree.specs.CanonicalText.{canonical_text}
@@ -16,7 +16,7 @@ use Rattle.ax_mean.specs.Rows.{keyed_rows}
 -- an element put before the first that is not below it
 abbrev pub inserted : {X : Type 0} → (X → X → Ordering) → X → List X → List X
 inserted cmp x [] = x ∷ []
-inserted cmp x (y ∷ ys) = if is_gt (cmp x y) then y ∷ inserted cmp x ys else x ∷ y ∷ ys
+inserted cmp x (y ∷ ys) = if is_lt (cmp y x) then y ∷ inserted cmp x ys else x ∷ y ∷ ys
 
 -- in order, and elements that tie as they stood
 abbrev pub sorted : {X : Type 0} → (X → X → Ordering) → List X → List X
@@ -28,7 +28,7 @@ abbrev pub unseen : (List ℕ → Bool) → List KeyedRow → List KeyedRow
 unseen seen [] = []
 unseen seen (row ∷ rows) =
     if seen (canonical_text row.shown) then unseen seen rows
-    else row ∷ unseen (λ text. bytes_eq text (canonical_text row.shown) || seen text) rows
+    else row ∷ unseen (λ text. bytes_eq (canonical_text row.shown) text || seen text) rows
 
 abbrev pub distinct_where : Bool → List KeyedRow → List KeyedRow
 distinct_where false rows = rows
