@@ -3,9 +3,9 @@ ghost use Rattle.std.specs.Prelude.{◌≡◌, option_map};
 ghost use Rattle.std.specs.Option.{option_copied};
 ghost use Rattle.ax_mean.specs.Functions.{only as only_of, two as two_of, three as three_of};
 
-use ax_mean::Value;
+use crate::seen::Seen;
 
-pub fn only(args: &[Value]) -> Option<&Value>
+pub fn only<'s, 'a>(args: &'s [Seen<'a>]) -> Option<&'s Seen<'a>>
     ensures { option_copied result ≡ only_of args.now }
 {
     match args {
@@ -14,7 +14,7 @@ pub fn only(args: &[Value]) -> Option<&Value>
     }
 }
 
-pub fn two(args: &[Value]) -> Option<(&Value, &Value)>
+pub fn two<'s, 'a>(args: &'s [Seen<'a>]) -> Option<(&'s Seen<'a>, &'s Seen<'a>)>
     ensures { option_map (λ p. (p.0.now, p.1.now)) result ≡ two_of args.now }
 {
     match args {
@@ -23,7 +23,7 @@ pub fn two(args: &[Value]) -> Option<(&Value, &Value)>
     }
 }
 
-pub fn three(args: &[Value]) -> Option<(&Value, &Value, &Value)>
+pub fn three<'s, 'a>(args: &'s [Seen<'a>]) -> Option<(&'s Seen<'a>, &'s Seen<'a>, &'s Seen<'a>)>
     ensures { option_map (λ p. (p.0.now, p.1.now, p.2.now)) result ≡ three_of args.now }
 {
     match args {

@@ -8,12 +8,13 @@ mod numbers;
 mod texts;
 
 use crate::out_of_memory::Memory;
+use crate::seen::Seen;
 use ax_mean::{Func, Value};
 use std::alloc::Global;
 
 /// The value of a function at its arguments; undefined where it takes another number of them.
 /// Lengths and places count Unicode scalar values.
-pub fn call(alloc: Global, func: Func, args: &[Value]) -> Result<Value, Memory>
+pub fn call_seen(alloc: Global, func: Func, args: &[Seen]) -> Result<Value, Memory>
     ensures { IfOk result (λ value. value ≡ call_value func args.now) }
 {
     match func {

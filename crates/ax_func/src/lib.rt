@@ -2,7 +2,8 @@
 //! definitions of `ax_mean` name, and fails only out of memory.
 //!
 //! Stands on `ax_mean`. Its one contract: `binary`, `unary`, `call` and `compare` are their
-//! definitions.
+//! definitions, and so are `binary_seen`, `unary_seen` and `call_seen`, whose operands may stand in
+//! a document and are not copied.
 #![tactic(auto)]
 
 mod arguments;
@@ -12,15 +13,21 @@ mod chars;
 mod comparison;
 mod like;
 mod lists;
-mod logic;
+pub mod logic;
 mod operators;
 mod order;
 mod out_of_memory;
+mod owned;
 mod same;
+mod seen;
 mod texts;
 mod values;
 
-pub use calls::call;
-pub use operators::{binary, unary};
+pub use calls::call_seen;
+pub use comparison::{equality, scalar_order};
+pub use operators::{binary_seen, unary_seen};
 pub use order::compare;
 pub use out_of_memory::Memory;
+pub use owned::{binary, call, unary};
+pub use seen::{Held, Seen};
+pub use values::{of_truth, truth_of};

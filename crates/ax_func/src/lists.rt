@@ -5,6 +5,7 @@ ghost use Rattle.ax_mean.specs.Values.{of_truth as truth_value};
 
 use crate::out_of_memory::Memory;
 use crate::same::same;
+use crate::seen::Seen;
 use crate::texts::count;
 use crate::values::{list_of, of_truth};
 use ax_mean::{Tree, Value};
@@ -18,10 +19,10 @@ pub fn has_item(items: &[Tree], tree: &Tree) -> bool
 }
 
 /// Whether some element is the same value; undefined where `list` is no list or `value` undefined.
-pub fn contains(list: &Value, value: &Value) -> Value
+pub fn contains(list: &Seen, value: &Seen) -> Value
     ensures { result ≡ truth_value (contains_item list.now value.now) }
 {
-    let Value::Defined(tree) = value else {
+    let Some(tree) = value.tree() else {
         return Value::Undefined;
     };
     match list_of(list) {
@@ -31,7 +32,7 @@ pub fn contains(list: &Value, value: &Value) -> Value
 }
 
 /// The lists joined; none where a value is no list.
-pub fn joined(alloc: Global, values: &[Value]) -> Result<Option<Vec<Tree>>, Memory>
+pub fn joined(alloc: Global, values: &[Seen]) -> Result<Option<Vec<Tree>>, Memory>
     ensures { IfOk result (λ items. option_map (λ v. v.items) items ≡ joined_lists values.now) }
 {
     let mut joined = Vec::new(alloc);

@@ -2,6 +2,7 @@
 ghost use Rattle.std.specs.Prelude.{◌≡◌};
 ghost use Rattle.ax_mean.specs.Logic.{and_of, or_of, not_of};
 
+/// Whether both are true.
 pub fn and(a: Option<bool>, b: Option<bool>) -> Option<bool>
     ensures { result ≡ and_of a b }
 {
@@ -12,6 +13,7 @@ pub fn and(a: Option<bool>, b: Option<bool>) -> Option<bool>
     }
 }
 
+/// Whether one is true.
 pub fn or(a: Option<bool>, b: Option<bool>) -> Option<bool>
     ensures { result ≡ or_of a b }
 {
@@ -22,6 +24,7 @@ pub fn or(a: Option<bool>, b: Option<bool>) -> Option<bool>
     }
 }
 
+/// Whether it is false.
 pub fn not(a: Option<bool>) -> Option<bool>
     ensures { result ≡ not_of a }
 {

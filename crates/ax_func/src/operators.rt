@@ -8,13 +8,14 @@ ghost use Rattle.ax_mean.specs.Operators.{binary as binary_value, unary as unary
 use crate::comparison::{equality, scalar_order};
 use crate::like::is_like;
 use crate::out_of_memory::Memory;
+use crate::seen::Seen;
 use crate::values::{number_of, of_number, of_string, of_truth, text_of, truth_of};
 use crate::{arithmetic, logic};
 use ax_mean::{BinaryOp, UnaryOp, Value};
 use std::alloc::Global;
 
 /// The value of `a op b`.
-pub fn binary(alloc: Global, op: BinaryOp, a: &Value, b: &Value) -> Result<Value, Memory>
+pub fn binary_seen(alloc: Global, op: BinaryOp, a: &Seen, b: &Seen) -> Result<Value, Memory>
     ensures { IfOk result (λ value. value ≡ binary_value op a.now b.now) }
 {
     match op {
@@ -38,7 +39,7 @@ pub fn binary(alloc: Global, op: BinaryOp, a: &Value, b: &Value) -> Result<Value
 }
 
 /// The value of `op a`.
-pub fn unary(op: UnaryOp, a: &Value) -> Result<Value, Memory>
+pub fn unary_seen(op: UnaryOp, a: &Seen) -> Result<Value, Memory>
     ensures { IfOk result (λ value. value ≡ unary_value op a.now) }
 {
     match op {
@@ -48,7 +49,7 @@ pub fn unary(op: UnaryOp, a: &Value) -> Result<Value, Memory>
     }
 }
 
-fn sum(a: &Value, b: &Value) -> Value
+fn sum(a: &Seen, b: &Seen) -> Value
     ensures { result ≡ on_numbers sum_of a.now b.now }
 {
     match (number_of(a), number_of(b)) {
@@ -57,7 +58,7 @@ fn sum(a: &Value, b: &Value) -> Value
     }
 }
 
-fn difference(a: &Value, b: &Value) -> Value
+fn difference(a: &Seen, b: &Seen) -> Value
     ensures { result ≡ on_numbers difference_of a.now b.now }
 {
     match (number_of(a), number_of(b)) {
@@ -66,7 +67,7 @@ fn difference(a: &Value, b: &Value) -> Value
     }
 }
 
-fn product(a: &Value, b: &Value) -> Value
+fn product(a: &Seen, b: &Seen) -> Value
     ensures { result ≡ on_numbers product_of a.now b.now }
 {
     match (number_of(a), number_of(b)) {
@@ -75,7 +76,7 @@ fn product(a: &Value, b: &Value) -> Value
     }
 }
 
-fn quotient(a: &Value, b: &Value) -> Value
+fn quotient(a: &Seen, b: &Seen) -> Value
     ensures { result ≡ on_numbers quotient_of a.now b.now }
 {
     match (number_of(a), number_of(b)) {
@@ -84,7 +85,7 @@ fn quotient(a: &Value, b: &Value) -> Value
     }
 }
 
-fn remainder(a: &Value, b: &Value) -> Value
+fn remainder(a: &Seen, b: &Seen) -> Value
     ensures { result ≡ on_numbers remainder_of a.now b.now }
 {
     match (number_of(a), number_of(b)) {
@@ -93,7 +94,7 @@ fn remainder(a: &Value, b: &Value) -> Value
     }
 }
 
-fn join(alloc: Global, a: &Value, b: &Value) -> Result<Value, Memory>
+fn join(alloc: Global, a: &Seen, b: &Seen) -> Result<Value, Memory>
     ensures { IfOk result (λ value. value ≡ joined a.now b.now) }
 {
     let (Some(a), Some(b)) = (text_of(a), text_of(b)) else {
@@ -106,16 +107,16 @@ fn join(alloc: Global, a: &Value, b: &Value) -> Result<Value, Memory>
     Ok(of_string(text))
 }
 
-fn coalesce(alloc: Global, a: &Value, b: &Value) -> Result<Value, Memory>
+fn coalesce(alloc: Global, a: &Seen, b: &Seen) -> Result<Value, Memory>
     ensures { IfOk result (λ value. value ≡ first_defined a.now b.now) }
 {
-    match a {
-        Value::Undefined => Ok(b.copy(alloc)?),
-        Value::Defined(_) => Ok(a.copy(alloc)?),
+    match a.tree() {
+        None => b.to_value(alloc),
+        Some(tree) => Ok(Value::Defined(tree.copy(alloc)?)),
     }
 }
 
-fn like(text: &Value, pattern: &Value) -> Value
+fn like(text: &Seen, pattern: &Seen) -> Value
     ensures { result ≡ truth_value (like_test text.now pattern.now) }
 {
     match (text_of(text), text_of(pattern)) {

@@ -4,8 +4,9 @@ ghost use Rattle.ax_mean.specs.TextFunctions.{count_of, left as left_text, right
 
 use crate::chars::{after, before, char_count, ending, last};
 use crate::out_of_memory::Memory;
+use crate::seen::Seen;
 use crate::values::text_of;
-use ax_mean::{Tree, Value, write_tree};
+use ax_mean::{Tree, write_tree};
 use std::alloc::Global;
 
 /// A number of characters or elements: none where it is negative.
@@ -101,7 +102,7 @@ fn place(text: &str, part: &str) -> Option<usize>
 }
 
 /// The texts joined; none where a value is no text.
-pub fn joined(alloc: Global, values: &[Value]) -> Result<Option<String>, Memory>
+pub fn joined(alloc: Global, values: &[Seen]) -> Result<Option<String>, Memory>
     ensures { IfOk result (λ text. option_map string_bytes text ≡ joined_texts values.now) }
 {
     let mut text = String::with_capacity(alloc, room_for(values))?;
@@ -115,7 +116,7 @@ pub fn joined(alloc: Global, values: &[Value]) -> Result<Option<String>, Memory>
 }
 
 /// The bytes of all texts together.
-fn room_for(values: &[Value]) -> usize {
+fn room_for(values: &[Seen]) -> usize {
     let mut room = 0usize;
     for value in values {
         if let Some(text) = text_of(value) {
@@ -141,11 +142,11 @@ fn shown_tree(alloc: Global, tree: &Tree) -> Result<String, Memory>
 }
 
 /// A text itself, of another tree its canonical text; none of undefined.
-pub fn shown(alloc: Global, value: &Value) -> Result<Option<String>, Memory>
+pub fn shown(alloc: Global, value: &Seen) -> Result<Option<String>, Memory>
     ensures { IfOk result (λ text. option_map string_bytes text ≡ shown_text value.now) }
 {
-    match value {
-        Value::Undefined => Ok(None),
-        Value::Defined(tree) => Ok(Some(shown_tree(alloc, tree)?)),
+    match value.tree() {
+        None => Ok(None),
+        Some(tree) => Ok(Some(shown_tree(alloc, tree)?)),
     }
 }

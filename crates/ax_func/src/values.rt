@@ -3,44 +3,47 @@ ghost use Rattle.std.specs.Prelude.{◌≡◌, Some, string_bytes};
 ghost use Rattle.std.specs.Option.{option_copied};
 ghost use Rattle.ax_mean.specs.Values.{truth_of as truth_held, number_of as number_held, text_of as text_held, list_of as list_held, of_truth as truth_value, of_number as number_value, of_text as text_value, of_list as list_value};
 
+use crate::seen::Seen;
 use ax_mean::{Items, Text, Tree, Value};
 
-pub fn truth_of(value: &Value) -> Option<bool>
+/// The truth value; none of another value.
+pub fn truth_of(value: &Seen) -> Option<bool>
     ensures { result ≡ truth_held value.now }
 {
-    match value {
-        Value::Defined(Tree::Truth(truth)) => Some(*truth),
+    match value.tree() {
+        Some(Tree::Truth(truth)) => Some(*truth),
         _ => None,
     }
 }
 
-pub fn number_of(value: &Value) -> Option<i64>
+pub fn number_of(value: &Seen) -> Option<i64>
     ensures { result ≡ number_held value.now }
 {
-    match value {
-        Value::Defined(Tree::Number(number)) => Some(*number),
+    match value.tree() {
+        Some(Tree::Number(number)) => Some(*number),
         _ => None,
     }
 }
 
-pub fn text_of(value: &Value) -> Option<&Text>
+pub fn text_of<'s>(value: &'s Seen) -> Option<&'s Text>
     ensures { option_copied result ≡ text_held value.now }
 {
-    match value {
-        Value::Defined(Tree::Text(text)) => Some(text),
+    match value.tree() {
+        Some(Tree::Text(text)) => Some(text),
         _ => None,
     }
 }
 
-pub fn list_of(value: &Value) -> Option<&Items<Tree>>
+pub fn list_of<'s>(value: &'s Seen) -> Option<&'s Items<Tree>>
     ensures { option_copied result ≡ list_held value.now }
 {
-    match value {
-        Value::Defined(Tree::List(items)) => Some(items),
+    match value.tree() {
+        Some(Tree::List(items)) => Some(items),
         _ => None,
     }
 }
 
+/// The value that a truth is: undefined where there is none.
 pub fn of_truth(truth: Option<bool>) -> Value
     ensures { result ≡ truth_value truth }
 {

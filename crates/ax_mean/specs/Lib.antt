@@ -5,6 +5,8 @@ pub use Rattle.ax_tree.specs.Nesting
 pub use Rattle.ax_tree.specs.Rising
 pub use Rattle.ax_tree.specs.SerdeData
 pub use Rattle.ax_tree.specs.WellFormed
+pub mod Aggregates
+pub mod Answer
 pub mod Arithmetic
 pub mod Building
 pub mod Comparison
@@ -15,6 +17,8 @@ pub mod ListFunctions
 pub mod Logic
 pub mod Meaning
 pub mod Operators
+pub mod RowOrder
+pub mod Rows
 pub mod Sameness
 pub mod Steps
 pub mod TextFunctions

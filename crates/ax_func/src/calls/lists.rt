@@ -7,12 +7,13 @@ ghost use Rattle.ax_mean.specs.Values.{of_list as list_value};
 use crate::arguments::{only, three, two};
 use crate::lists;
 use crate::out_of_memory::Memory;
+use crate::seen::Seen;
 use crate::texts::whole;
 use crate::values::{list_of, number_of, of_number, of_trees};
 use ax_mean::{Func, Value};
 use std::alloc::Global;
 
-pub fn length(args: &[Value]) -> Result<Value, Memory>
+pub fn length(args: &[Seen]) -> Result<Value, Memory>
     ensures { IfOk result (λ value. value ≡ call_value Func.ArrayLength args.now) }
 {
     let Some(value) = only(args) else {
@@ -24,7 +25,7 @@ pub fn length(args: &[Value]) -> Result<Value, Memory>
     }
 }
 
-pub fn contains(args: &[Value]) -> Value
+pub fn contains(args: &[Seen]) -> Value
     ensures { result ≡ call_value Func.ArrayContains args.now }
 {
     match two(args) {
@@ -33,7 +34,7 @@ pub fn contains(args: &[Value]) -> Value
     }
 }
 
-pub fn concat(alloc: Global, args: &[Value]) -> Result<Value, Memory>
+pub fn concat(alloc: Global, args: &[Seen]) -> Result<Value, Memory>
     ensures { IfOk result (λ value. value ≡ call_value Func.ArrayConcat args.now) }
 {
     match lists::joined(alloc, args)? {
@@ -42,7 +43,7 @@ pub fn concat(alloc: Global, args: &[Value]) -> Result<Value, Memory>
     }
 }
 
-pub fn slice(alloc: Global, args: &[Value]) -> Result<Value, Memory>
+pub fn slice(alloc: Global, args: &[Seen]) -> Result<Value, Memory>
     ensures { IfOk result (λ value. value ≡ call_value Func.ArraySlice args.now) }
 {
     if let Some((list, start)) = two(args) {
@@ -54,7 +55,7 @@ pub fn slice(alloc: Global, args: &[Value]) -> Result<Value, Memory>
     }
 }
 
-fn slice_from(alloc: Global, list: &Value, start: &Value) -> Result<Value, Memory>
+fn slice_from(alloc: Global, list: &Seen, start: &Seen) -> Result<Value, Memory>
     ensures { IfOk result (λ value. value ≡ list_value (on_list_and_number elements_from list.now start.now)) }
 {
     match (list_of(list), number_of(start)) {
@@ -66,7 +67,7 @@ fn slice_from(alloc: Global, list: &Value, start: &Value) -> Result<Value, Memor
     }
 }
 
-fn slice_of(alloc: Global, list: &Value, start: &Value, length: &Value) -> Result<Value, Memory>
+fn slice_of(alloc: Global, list: &Seen, start: &Seen, length: &Seen) -> Result<Value, Memory>
     ensures { IfOk result (λ value. value ≡ list_value (on_list_and_numbers elements_of list.now start.now length.now)) }
 {
     match (list_of(list), number_of(start), number_of(length)) {

@@ -3,10 +3,11 @@ ghost use Rattle.std.specs.Prelude.{◌≡◌};
 ghost use Rattle.ax_mean.specs.Functions.{call as call_value, absolute as absolute_of};
 
 use crate::arguments::only;
+use crate::seen::Seen;
 use crate::values::{number_of, of_number};
 use ax_mean::{Func, Value};
 
-pub fn abs(args: &[Value]) -> Value
+pub fn abs(args: &[Seen]) -> Value
     ensures { result ≡ call_value Func.Abs args.now }
 {
     match only(args) {
@@ -25,7 +26,7 @@ fn absolute(number: i64) -> Option<i64>
     number.checked_abs()
 }
 
-pub fn sign(args: &[Value]) -> Value
+pub fn sign(args: &[Seen]) -> Value
     ensures { result ≡ call_value Func.Sign args.now }
 {
     match only(args) {

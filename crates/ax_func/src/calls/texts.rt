@@ -4,12 +4,13 @@ ghost use Rattle.ax_mean.specs.Functions.{call as call_value};
 
 use crate::arguments::{only, three, two};
 use crate::out_of_memory::Memory;
+use crate::seen::Seen;
 use crate::texts;
 use crate::values::{number_of, of_number, of_string, of_truth, text_of};
 use ax_mean::{Func, Value};
 use std::alloc::Global;
 
-pub fn length(args: &[Value]) -> Result<Value, Memory>
+pub fn length(args: &[Seen]) -> Result<Value, Memory>
     ensures { IfOk result (λ value. value ≡ call_value Func.Length args.now) }
 {
     let Some(value) = only(args) else {
@@ -21,7 +22,7 @@ pub fn length(args: &[Value]) -> Result<Value, Memory>
     }
 }
 
-pub fn reverse(alloc: Global, args: &[Value]) -> Result<Value, Memory>
+pub fn reverse(alloc: Global, args: &[Seen]) -> Result<Value, Memory>
     ensures { IfOk result (λ value. value ≡ call_value Func.Reverse args.now) }
 {
     let Some(value) = only(args) else {
@@ -33,7 +34,7 @@ pub fn reverse(alloc: Global, args: &[Value]) -> Result<Value, Memory>
     }
 }
 
-pub fn starts_with(args: &[Value]) -> Value
+pub fn starts_with(args: &[Seen]) -> Value
     ensures { result ≡ call_value Func.StartsWith args.now }
 {
     let Some((text, part)) = two(args) else {
@@ -48,7 +49,7 @@ pub fn starts_with(args: &[Value]) -> Value
     }
 }
 
-pub fn ends_with(args: &[Value]) -> Value
+pub fn ends_with(args: &[Seen]) -> Value
     ensures { result ≡ call_value Func.EndsWith args.now }
 {
     let Some((text, part)) = two(args) else {
@@ -60,7 +61,7 @@ pub fn ends_with(args: &[Value]) -> Value
     }
 }
 
-pub fn contains(args: &[Value]) -> Value
+pub fn contains(args: &[Seen]) -> Value
     ensures { result ≡ call_value Func.Contains args.now }
 {
     let Some((text, part)) = two(args) else {
@@ -72,7 +73,7 @@ pub fn contains(args: &[Value]) -> Value
     }
 }
 
-pub fn index_of(args: &[Value]) -> Result<Value, Memory>
+pub fn index_of(args: &[Seen]) -> Result<Value, Memory>
     ensures { IfOk result (λ value. value ≡ call_value Func.IndexOf args.now) }
 {
     let Some((text, part)) = two(args) else {
@@ -87,7 +88,7 @@ pub fn index_of(args: &[Value]) -> Result<Value, Memory>
     }
 }
 
-pub fn left(alloc: Global, args: &[Value]) -> Result<Value, Memory>
+pub fn left(alloc: Global, args: &[Seen]) -> Result<Value, Memory>
     ensures { IfOk result (λ value. value ≡ call_value Func.Left args.now) }
 {
     let Some((text, number)) = two(args) else {
@@ -99,7 +100,7 @@ pub fn left(alloc: Global, args: &[Value]) -> Result<Value, Memory>
     }
 }
 
-pub fn right(alloc: Global, args: &[Value]) -> Result<Value, Memory>
+pub fn right(alloc: Global, args: &[Seen]) -> Result<Value, Memory>
     ensures { IfOk result (λ value. value ≡ call_value Func.Right args.now) }
 {
     let Some((text, number)) = two(args) else {
@@ -111,7 +112,7 @@ pub fn right(alloc: Global, args: &[Value]) -> Result<Value, Memory>
     }
 }
 
-pub fn substring(alloc: Global, args: &[Value]) -> Result<Value, Memory>
+pub fn substring(alloc: Global, args: &[Seen]) -> Result<Value, Memory>
     ensures { IfOk result (λ value. value ≡ call_value Func.Substring args.now) }
 {
     let Some((text, start, length)) = three(args) else {
@@ -128,7 +129,7 @@ pub fn substring(alloc: Global, args: &[Value]) -> Result<Value, Memory>
     }
 }
 
-pub fn concat(alloc: Global, args: &[Value]) -> Result<Value, Memory>
+pub fn concat(alloc: Global, args: &[Seen]) -> Result<Value, Memory>
     ensures { IfOk result (λ value. value ≡ call_value Func.Concat args.now) }
 {
     match texts::joined(alloc, args)? {
@@ -137,7 +138,7 @@ pub fn concat(alloc: Global, args: &[Value]) -> Result<Value, Memory>
     }
 }
 
-pub fn to_string(alloc: Global, args: &[Value]) -> Result<Value, Memory>
+pub fn to_string(alloc: Global, args: &[Seen]) -> Result<Value, Memory>
     ensures { IfOk result (λ value. value ≡ call_value Func.ToString args.now) }
 {
     let Some(value) = only(args) else {

@@ -1,0 +1,4 @@
+pub mod DirectedKeys
+pub mod RowSort
+pub mod Seen
+pub mod StableSort
