@@ -2,7 +2,7 @@
 use Rattle.std.specs.Prelude.{ℕ, List, codes}
 use Rattle.ax_lines.specs.declared.refusal.Refusal.{Refusal}
 use Rattle.ax_lines.specs.declared.refusal.Refusal.TheVariants.{Line, Command, Json, Number, Id}
-use Rattle.ax_lines.specs.declared.refusal.Refusal.TheVariants.{Large, Memory, Query, Full}
+use Rattle.ax_lines.specs.declared.refusal.Refusal.TheVariants.{Large, Memory, Query, Order, Full}
 
 abbrev pub number_of : Refusal → ℕ
 number_of Line = 1
@@ -13,6 +13,7 @@ number_of Id = 5
 number_of Large = 6
 number_of Memory = 9
 number_of Query = 10
+number_of Order = 11
 number_of Full = 15
 
 abbrev pub word_of : Refusal → List ℕ
@@ -24,4 +25,5 @@ word_of Id = codes "id"
 word_of Large = codes "large"
 word_of Memory = codes "memory"
 word_of Query = codes "query"
+word_of Order = codes "order"
 word_of Full = codes "full"

@@ -23,6 +23,9 @@ pub enum Refusal {
     /// `err 10 query`: the argument of a QUERY is no query body, or its parameters are too large,
     /// or its text is no query that is served. The text is judged after the line is read.
     Query,
+    /// `err 11 order`: the query has an ORDER BY for which the index keeps no order. No line is refused
+    /// so before its query is read.
+    Order,
     /// `err 15 full`: no document can be created, since there are as many as there may be or no
     /// number is left. No line is refused so before it meets the store.
     Full,
@@ -44,6 +47,7 @@ impl Refusal {
             Refusal::Large => 6,
             Refusal::Memory => 9,
             Refusal::Query => 10,
+            Refusal::Order => 11,
             Refusal::Full => 15,
         }
     }
@@ -61,6 +65,7 @@ impl Refusal {
             Refusal::Large => "large",
             Refusal::Memory => "memory",
             Refusal::Query => "query",
+            Refusal::Order => "order",
             Refusal::Full => "full",
         }
     }
