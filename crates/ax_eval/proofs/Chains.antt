@@ -1,6 +1,6 @@
 -- What a chain of one operator comes to, where its value is settled early or its parts are joined at
 -- once.
-use Rattle.std.proofs.Common.{◌≡◌, ℕ, ◌<◌, ◌≤◌, List, [], ◌∷◌, ◌++◌, length, map, Bool, true, false, Option, Some, None, option_map, option_and_then, refl, sym, ap, ◌∙◌, append_assoc, arith}
+use Rattle.std.proofs.Common.{◌≡◌, ℕ, ◌<◌, ◌≤◌, List, [], ◌∷◌, ◌++◌, length, map, Bool, true, false, Option, Some, None, option_map, option_and_then, refl, sym, ap, ◌∙◌, append_assoc, append-nil, arith}
 use Rattle.ax_tree.specs.declared.tree.Tree as tree
 use Rattle.ax_tree.specs.declared.tree.Tree.{Tree}
 use Rattle.ax_mean.specs.declared.expr.Expr.{Expr}
@@ -114,7 +114,7 @@ both_again (Some a) (Some b) (Some c) = ap Some (append_assoc a b c)
 
 both_end : (a : Option (List ℕ)) → both a (Some []) ≡ a
 both_end None = refl
-both_end (Some a) = ap Some (simp refl)
+both_end (Some a) = ap Some (append-nil a)
 
 along_join : (t : Option (List ℕ)) (vs : List Value)
     → along joined (of_text t) vs ≡ of_text (both t (joined_texts vs))
@@ -137,8 +137,7 @@ first_taken Undefined vs h = absurd (let e : ⊥ = cc in e)
 first_taken (Defined t) [] h = refl
 first_taken (Defined t) (v ∷ vs) h = first_taken (Defined t) vs h
 
-pub undefined_skipped : (v : Value) (vs : List Value) → is_defined v ≡ false
-    → along first_defined v vs ≡ chain first_defined vs
-undefined_skipped (Defined t) vs h = absurd (let e : ⊥ = cc in e)
-undefined_skipped Undefined [] h = refl
-undefined_skipped Undefined (v ∷ vs) h = refl
+pub undefined_skipped : (vs : List Value)
+    → along first_defined Undefined vs ≡ chain first_defined vs
+undefined_skipped [] = refl
+undefined_skipped (v ∷ vs) = refl

@@ -12,7 +12,7 @@ ghost use Rattle.ax_eval.specs.Truths.{all_of, some_of, some_equal};
 use crate::members::with_value;
 use crate::out_of_memory::Memory;
 use crate::results::{
-    binary, call, is_at_least, is_at_most, is_equal, is_true, negated_where, negation,
+    binary, call, defined, is_at_least, is_at_most, is_equal, is_true, negated_where, negation,
     push_defined, seen_truth, truth_in, unary,
 };
 use crate::scope::Scope;
@@ -124,7 +124,7 @@ fn alias_in<'a>(name: &Text, scope: &Scope<'a>) -> Seen<'a>
 
 /// The first value that is defined.
 #[cycle(eval)]
-#[tactic(auto, using(crate::proofs::Chains::first_taken, crate::proofs::Chains::undefined_skipped))]
+#[tactic(auto, using(crate::proofs::Chains::undefined_skipped))]
 fn coalesce_in<'a>(
     alloc: Global,
     items: &'a ExprList,
@@ -133,11 +133,9 @@ fn coalesce_in<'a>(
     ensures { IfOk result (λ seen. seen ≡ chain first_defined (map (meaning scope.now) items.now)) }
 {
     for item in items.as_slice() {
-        let value = eval_in(alloc, item, scope)?;
-        if value.is_defined() {
+        if let Some(value) = defined(eval_in(alloc, item, scope)?) {
             return Ok(value);
         }
-        drop(value);
     }
     Ok(Seen::undefined())
 }

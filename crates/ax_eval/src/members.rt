@@ -1,5 +1,5 @@
 //! The members of a map that is being made, in the order of their names.
-ghost use Rattle.std.specs.Prelude.{◌≡◌, ◌∷◌, ◌++◌, ◌+◌, ◌<◌, length, take, drop, IfOk, MatchOption};
+ghost use Rattle.std.specs.Prelude.{◌≡◌, ◌∷◌, ◌++◌, ◌+◌, ◌<◌, length, take, drop, IfOk, OnOk, MatchOption};
 ghost use Rattle.ax_mean.specs.Building.{with_value as value_put, with_member as member_put, without_member as member_removed};
 ghost use Rattle.ax_eval.specs.Places.{IsPlace};
 
@@ -36,13 +36,26 @@ fn with_member(members: Members<Tree>, name: Text, value: Tree) -> Result<Member
     ensures { IfOk result (λ put. put ≡ member_put name value members) }
 {
     let mut members = members.into_vec();
-    match place_for(members.as_slice(), name.as_str()) {
-        Place::Taken(at) => replace(&mut members, at, Member { name, value }),
-        Place::Free(at) => members.insert(at, Member { name, value })?,
-    }
+    put(&mut members, name, value)?;
     Ok(Members::from_vec(members))
 }
 
+fn put(members: &mut Vec<Member<Tree>>, name: Text, value: Tree) -> Result<(), Memory>
+    ensures { OnOk result (members.new.items ≡ member_put name value members.old.items) }
+{
+    match place_for(members.as_slice(), name.as_str()) {
+        Place::Taken(at) => {
+            replace(members, at, Member { name, value });
+            Ok(())
+        }
+        Place::Free(at) => {
+            members.insert(at, Member { name, value })?;
+            Ok(())
+        }
+    }
+}
+
+#[tactic(auto, using(crate::proofs::Puts::set_parts))]
 fn replace(members: &mut Vec<Member<Tree>>, at: usize, member: Member<Tree>)
     requires { at < length members.old.items }
     ensures { members.new.items ≡ take at members.old.items ++ member ∷ drop (at + 1) members.old.items }
@@ -69,10 +82,16 @@ fn without_member(members: Members<Tree>, name: &str) -> Members<Tree>
     ensures { result ≡ member_removed name.now members }
 {
     let mut members = members.into_vec();
+    take_out(&mut members, name);
+    Members::from_vec(members)
+}
+
+fn take_out(members: &mut Vec<Member<Tree>>, name: &str)
+    ensures { members.new.items ≡ member_removed name.now members.old.items }
+{
     if let Some(at) = position(members.as_slice(), name) {
         drop(members.remove(at));
     }
-    Members::from_vec(members)
 }
 
 /// Where the member of that name stands.

@@ -1,10 +1,12 @@
 //! What is made of one or two values.
-ghost use Rattle.std.specs.Prelude.{◌≡◌, [], ◌∷◌, ◌++◌, IfOk, OnOk};
+ghost use Rattle.std.specs.Prelude.{◌≡◌, List, [], ◌∷◌, ◌++◌, IfOk, OnOk, MatchOption};
+ghost use Rattle.ax_mean.specs.declared.value.Value as values;
+ghost use Rattle.ax_mean.specs.declared.value.Value.TheVariants.{Undefined};
 ghost use Rattle.ax_mean.specs.Building.{defined_of};
 ghost use Rattle.ax_mean.specs.Comparison.{equality as equality_of, is_greater_or_equal, is_less_or_equal};
 ghost use Rattle.ax_mean.specs.Functions.{call as call_value};
-ghost use Rattle.ax_mean.specs.Meaning.{is_yes, negated_where as with_not};
-ghost use Rattle.ax_mean.specs.Operators.{binary as binary_value, unary as unary_value, negation as negation_of};
+ghost use Rattle.ax_mean.specs.Meaning.{along, is_yes, negated_where as with_not};
+ghost use Rattle.ax_mean.specs.Operators.{binary as binary_value, unary as unary_value, negation as negation_of, first_defined};
 ghost use Rattle.ax_mean.specs.Values.{truth_of as truth_held, of_truth as truth_value};
 
 use crate::out_of_memory::Memory;
@@ -34,6 +36,19 @@ pub fn seen_truth<'a>(truth: Option<bool>) -> Seen<'a>
     ensures { result ≡ truth_value truth }
 {
     Seen::made(of_truth(truth))
+}
+
+/// The value where it is defined, which is then the first of any chain of `??` that it begins.
+#[tactic(auto, using(crate::proofs::Chains::first_taken))]
+pub fn defined<'a>(value: Seen<'a>) -> Option<Seen<'a>>
+    ensures { MatchOption result (value.entry ≡ Undefined) (λ seen. (seen ≡ value.entry)
+        × ((rest : List values.Value) → along first_defined seen rest ≡ seen)) }
+{
+    if value.is_defined() {
+        Some(value)
+    } else {
+        None
+    }
 }
 
 pub fn negation<'a>(value: Seen<'a>) -> Seen<'a>

@@ -49,9 +49,15 @@ fn item(tree: &Tree, at: u32) -> Option<&Tree>
     ensures { of_tree (option_copied result) ≡ part_from (Defined tree.now) (QueryStep.Position at) }
 {
     match tree {
-        Tree::List(items) => items.as_slice().get(at as usize),
+        Tree::List(items) => element(items, at),
         _ => None,
     }
+}
+
+fn element(items: &Items<Tree>, at: u32) -> Option<&Tree>
+    ensures { option_copied result ≡ slice_get items.now at }
+{
+    items.as_slice().get(at as usize)
 }
 
 fn moved_part(tree: Tree, step: &QueryStep) -> Value
