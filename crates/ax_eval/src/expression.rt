@@ -17,8 +17,8 @@ use crate::results::{
 };
 use crate::scope::Scope;
 use crate::steps::steps_from;
-use ax_func::logic::{and, or};
 use ax_func::Seen;
+use ax_func::logic::{and, or};
 use ax_mean::{
     BinaryOp, Chained, Expr, ExprList, Func, Items, Member, MemberList, Members, OpChain, Text,
     Tree, Value,
@@ -65,10 +65,7 @@ pub fn eval_in<'a>(alloc: Global, expr: &'a Expr, scope: &Scope<'a>) -> Result<S
             items,
         } => {
             let left = eval_in(alloc, left.get(), scope)?;
-            Ok(negated_where(
-                *negated,
-                among_in(alloc, items, left, scope)?,
-            ))
+            Ok(negated_where(*negated, among_in(alloc, items, left, scope)?))
         }
         Expr::Between {
             negated,
@@ -91,10 +88,7 @@ pub fn eval_in<'a>(alloc: Global, expr: &'a Expr, scope: &Scope<'a>) -> Result<S
         } => {
             let left = eval_in(alloc, left.get(), scope)?;
             let pattern = eval_in(alloc, pattern.get(), scope)?;
-            Ok(negated_where(
-                *negated,
-                binary(alloc, BinaryOp::Like, left, pattern)?,
-            ))
+            Ok(negated_where(*negated, binary(alloc, BinaryOp::Like, left, pattern)?))
         }
         Expr::Join(items) => join_in(alloc, items, scope),
         Expr::Sum(first, rest) => {
@@ -155,11 +149,7 @@ fn and_in<'a>(alloc: Global, items: &'a ExprList, scope: &Scope<'a>) -> Result<S
 /// Whether all are true. What is false settles it.
 #[cycle(eval)]
 #[tactic(auto, using(crate::proofs::Chains::and_again, crate::proofs::Chains::and_end))]
-fn all_in<'a>(
-    alloc: Global,
-    items: &'a ExprList,
-    scope: &Scope<'a>,
-) -> Result<Option<bool>, Memory>
+fn all_in<'a>(alloc: Global, items: &'a ExprList, scope: &Scope<'a>) -> Result<Option<bool>, Memory>
     ensures { IfOk result (λ truth. truth ≡ all_of (map (meaning scope.now) items.now)) }
 {
     let mut all = Some(true);
@@ -304,11 +294,7 @@ fn list_in<'a>(alloc: Global, items: &'a ExprList, scope: &Scope<'a>) -> Result<
 
 /// The map of the members that are defined. Of a name that is repeated the last counts.
 #[cycle(eval)]
-fn object_in<'a>(
-    alloc: Global,
-    members: &'a MemberList,
-    scope: &Scope<'a>,
-) -> Result<Value, Memory>
+fn object_in<'a>(alloc: Global, members: &'a MemberList, scope: &Scope<'a>) -> Result<Value, Memory>
     ensures { IfOk result (λ value. value ≡ Value.Defined (Tree.Object (members_of
         (map (λ m. record { name = m.name; value = meaning scope.now m.value }) members.now)))) }
 {

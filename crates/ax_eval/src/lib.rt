@@ -7,6 +7,7 @@
 
 mod env;
 mod expression;
+pub mod laws;
 mod members;
 mod out_of_memory;
 mod owned;

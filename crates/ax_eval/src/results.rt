@@ -10,7 +10,9 @@ ghost use Rattle.ax_mean.specs.Operators.{binary as binary_value, unary as unary
 ghost use Rattle.ax_mean.specs.Values.{truth_of as truth_held, of_truth as truth_value};
 
 use crate::out_of_memory::Memory;
-use ax_func::{Seen, binary_seen, call_seen, equality, of_truth, scalar_order, truth_of, unary_seen};
+use ax_func::{
+    Seen, binary_seen, call_seen, equality, of_truth, scalar_order, truth_of, unary_seen,
+};
 use ax_mean::{BinaryOp, Func, Tree, UnaryOp, Value};
 use std::alloc::Global;
 
