@@ -221,14 +221,14 @@ fn equal_in<'a>(
 ) -> Result<Option<bool>, Memory>
     ensures { IfOk result (λ truth. truth ≡ some_equal left.entry (map (meaning scope.now) items.now)) }
 {
-    let mut some = Some(false);
+    let mut equal = Some(false);
     for item in items.as_slice() {
-        some = or(some, is_equal(&left, eval_in(alloc, item, scope)?));
-        if matches!(some, Some(true)) {
-            return Ok(Some(true));
+        equal = or(equal, is_equal(&left, eval_in(alloc, item, scope)?));
+        if matches!(equal, Some(true)) {
+            return Ok(equal);
         }
     }
-    Ok(some)
+    Ok(equal)
 }
 
 #[cycle(eval)]

@@ -24,7 +24,7 @@ invariant-some_in-loop-item l =
 
 abbrev pub invariant-equal_in-loop-item : goal.invariant-equal_in-loop-item
 invariant-equal_in-loop-item l =
-    or_of l.some (some_equal l.fn.left (map (meaning l.scope) (drop l.item-index l.item-items)))
+    or_of l.equal (some_equal l.fn.left (map (meaning l.scope) (drop l.item-index l.item-items)))
     ≡ some_equal l.fn.left (map (meaning l.scope) l.item-items)
 
 abbrev pub invariant-operated_in-loop-chained : goal.invariant-operated_in-loop-chained
