@@ -2,7 +2,7 @@
 //! give. They show what no contract says: that a call succeeds where memory is there, and that the
 //! definitions mean what is meant.
 //!
-//! Stands on `ax_func` and what it stands on, and on `ax_text`, which reads the tables. It has no
+//! Stands on `ax_eval` and what it stands on, and on `ax_text`, which reads the tables. It has no
 //! contract: it is code of tests alone.
 #![tactic(auto)]
 

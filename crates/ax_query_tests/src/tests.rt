@@ -1,1 +1,2 @@
+mod expressions;
 mod functions;
