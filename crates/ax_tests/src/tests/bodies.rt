@@ -16,9 +16,9 @@ fn items_word(alloc: Global, items: &str) -> Result<&'static str, AllocError> {
     Ok(word_of(alloc, line.as_bytes()))
 }
 
-/// The canonical text of the parameters of a body, and none of a line that is refused.
-fn params_text(alloc: Global, body: &str) -> Result<Vec<u8>, Fail> {
-    let line = format!(in alloc; "QUERY {body}")?;
+/// The canonical text of the parameters of a list, and none of a line that is refused.
+fn params_text(alloc: Global, items: &str) -> Result<Vec<u8>, Fail> {
+    let line = format!(in alloc; "QUERY {{\"query\":\"q\",\"parameters\":[{items}]}}")?;
     match read_line(alloc, line.as_bytes()) {
         Ok(Line::Query(body)) => Ok(write_tree(alloc, &Tree::Object(body.params))?),
         _ => Ok(Vec::new(alloc)),
@@ -78,19 +78,23 @@ fn parameters_have_a_name_and_a_value(rt: HostRuntime) -> Result<(), Fail> {
 fn the_last_of_a_repeated_parameter_counts(rt: HostRuntime) -> Result<(), Fail> {
     let alloc = rt.alloc();
     let table = [
-        ("{\"query\":\"q\"}", "{}"),
+        ("", "{}"),
         (
-            "{\"query\":\"q\",\"parameters\":[{\"name\":\"@b\",\"value\":1},{\"name\":\"@a\",\"value\":[2]},{\"name\":\"@b\",\"value\":null}]}",
-            "{\"@a\":[2],\"@b\":null}",
+            "{\"name\":\"@b\",\"value\":1},{\"name\":\"@a\",\"value\":[2]}",
+            "{\"@a\":[2],\"@b\":1}",
         ),
         (
-            "{\"query\":\"q\",\"parameters\":[{\"value\":{\"z\":0,\"y\":0},\"name\":\"@B\"},{\"name\":\"@a\",\"value\":\"\"}]}",
+            "{\"name\":\"@b\",\"value\":1},{\"name\":\"@b\",\"value\":null}",
+            "{\"@b\":null}",
+        ),
+        (
+            "{\"value\":{\"z\":0,\"y\":0},\"name\":\"@B\"},{\"name\":\"@a\",\"value\":\"\"}",
             "{\"@B\":{\"y\":0,\"z\":0},\"@a\":\"\"}",
         ),
     ];
-    for (body, expected) in table {
-        let params = params_text(alloc, body)?;
-        assert_eq!(rt; params.as_slice(), expected.as_bytes(), "{body}");
+    for (items, expected) in table {
+        let params = params_text(alloc, items)?;
+        assert_eq!(rt; params.as_slice(), expected.as_bytes(), "{items}");
     }
     Ok(())
 }

@@ -56,7 +56,11 @@ fn ids_are_counted_by_bytes(rt: HostRuntime) -> Result<(), Fail> {
         ("é", 128, "id"),
     ] {
         let line = built(alloc, "UPSERT {\"id\":\"", letter, count, "\"}")?;
-        assert_eq!(rt; word_of(alloc, line.as_bytes()), expected, "{count} {letter}");
+        assert_eq!(rt;
+            word_of(alloc, line.as_bytes()),
+            expected,
+            "{count} {letter}"
+        );
     }
     Ok(())
 }
@@ -67,7 +71,13 @@ fn names_at_any_depth_have_255_bytes_at_most(rt: HostRuntime) -> Result<(), Fail
     for (count, expected) in [(255usize, "document"), (256, "large")] {
         let line = built(alloc, "UPSERT {\"id\":\"a\",\"", "n", count, "\":1}")?;
         assert_eq!(rt; word_of(alloc, line.as_bytes()), expected, "{count}");
-        let line = built(alloc, "UPSERT {\"id\":\"a\",\"v\":[{\"", "n", count, "\":1}]}")?;
+        let line = built(
+            alloc,
+            "UPSERT {\"id\":\"a\",\"v\":[{\"",
+            "n",
+            count,
+            "\":1}]}",
+        )?;
         assert_eq!(rt; word_of(alloc, line.as_bytes()), expected, "{count} inside");
         let line = built(alloc, "UPSERT {\"", "n", count, "\":1}")?;
         assert_eq!(rt; word_of(alloc, line.as_bytes()), "id", "{count} without id");
@@ -99,7 +109,11 @@ fn an_argument_nests_100_levels_at_most(rt: HostRuntime) -> Result<(), Fail> {
         (127, "json", "json"),
     ] {
         let line = nested(alloc, "UPSERT {\"id\":\"a\",\"v\":", lists)?;
-        assert_eq!(rt; word_of(alloc, line.as_bytes()), document, "{lists} in a document");
+        assert_eq!(rt;
+            word_of(alloc, line.as_bytes()),
+            document,
+            "{lists} in a document"
+        );
         let line = nested(alloc, "QUERY {\"query\":\"q\",\"v\":", lists)?;
         assert_eq!(rt; word_of(alloc, line.as_bytes()), body, "{lists} in a body");
     }
