@@ -1,6 +1,6 @@
 //! Reading parts and documents into slots.
 
-ghost use Rattle.std.specs.Prelude.{◌≡◌, ◌+◌, ◌<◌, ◌≤◌, true, false, Err, IsTrue, IfOk, length};
+ghost use Rattle.std.specs.Prelude.{◌≡◌, ◌+◌, ◌<◌, ◌≤◌, true, false, Err, IsTrue, IfOk, IfErr, length};
 ghost use Rattle.std.specs.FinMap as map;
 ghost use Rattle.ax_disk.specs.model.Calls.{Idles};
 ghost use Rattle.ax_pages.specs.Contents.{parts_of};
@@ -20,7 +20,7 @@ use std::sync::ledger::Ledger;
 
 impl<C> Store<C> {
     /// Reads a part of a page into the front of a slot, and answers how many bytes it has. For a
-    /// document it counts one step.
+    /// document it counts one step. Its only error is `Disk`.
     pub fn read_part<D: Disk, L: Ledger>(
         &mut self,
         disk: &mut D,
@@ -38,6 +38,7 @@ impl<C> Store<C> {
         ensures ticked { steps.new ≡ steps.old + ticks_of page }
         ensures lists { IsTrue (D.is_honest disk.old)
             → Idles (D.history disk.old (D.attached disk.old)) (D.history disk.new (D.attached disk.new)) }
+        ensures disk_alone { IfErr result (λ fault. fault ≡ StoreFault.Disk) }
         ensures failed_before { store_failed self.old ≡ true → result ≡ Err StoreFault.Disk }
         ensures cause { store_failed self.old ≡ false → HasDiskCause result (D.faults disk.old) (D.faults disk.new) }
         ensures never_falls { D.faults disk.new ≡ D.faults disk.old }
@@ -58,7 +59,8 @@ impl<C> Store<C> {
     }
 
     /// Reads the text of a document into the front of a slot, and answers how many bytes it has.
-    /// `None` exactly where the number is not held. It counts one step.
+    /// `None` exactly where the number is not held. It counts one step, and its only error is
+    /// `Disk`.
     pub fn fetch<D: Disk, L: Ledger>(
         &mut self,
         disk: &mut D,
@@ -74,6 +76,7 @@ impl<C> Store<C> {
         ensures ticked { steps.new ≡ steps.old + 1 }
         ensures lists { IsTrue (D.is_honest disk.old)
             → Idles (D.history disk.old (D.attached disk.old)) (D.history disk.new (D.attached disk.new)) }
+        ensures disk_alone { IfErr result (λ fault. fault ≡ StoreFault.Disk) }
         ensures failed_before { store_failed self.old ≡ true → result ≡ Err StoreFault.Disk }
         ensures cause { store_failed self.old ≡ false → HasDiskCause result (D.faults disk.old) (D.faults disk.new) }
         ensures never_falls { D.faults disk.new ≡ D.faults disk.old }
