@@ -20,6 +20,7 @@ use Rattle.ax_pages.specs.Contents.{Contents}
 use Rattle.ax_pages.specs.AfterPart.{after_parts}
 use Rattle.ax_pages.specs.HasContents.{HasContents}
 use Rattle.ax_image.specs.StandsFor.{ContentsStandFor}
+use Rattle.ax_cache.specs.declared.no_pages.NoPages.{NoPages}
 use Rattle.ax_store.specs.declared.store.Store.{Store}
 use Rattle.ax_store.specs.Store.{SameButRoom, store_contents}
 use Rattle.ax_store.proofs.StoreLemmas.{agrees_rests, agrees_same}
@@ -67,7 +68,7 @@ module _ (honest : Type 0) where
       (stays_start history (Shows before) (rests_of documents history before works holds h))
 
   -- room was made
-  pub works_room : (documents : Documents) (store : Store) (history : History)
+  pub works_room : (documents : Documents) (store : Store NoPages) (history : History)
       → SameButRoom documents.store store
       → Works honest documents history → Works honest (record documents { store = store }) history
   works_room documents store history same works = record {
@@ -75,7 +76,7 @@ module _ (honest : Type 0) where
     agrees = λ h. agrees_same documents.store store history same (works.agrees h);
   }
 
-pub holds_room : (documents : Documents) (store : Store) (before : Container)
+pub holds_room : (documents : Documents) (store : Store NoPages) (before : Container)
     → SameButRoom documents.store store
     → Holds documents before → Holds (record documents { store = store }) before
 holds_room documents store before same holds = record {

@@ -18,6 +18,7 @@ use Rattle.ax_pages.specs.HasContents.{HasContents}
 use Rattle.ax_pages.specs.laws.ImageLaws.{damaged_has_no_frames, newer_has_no_frames}
 use Rattle.ax_pages.proofs.ImageContents.{one_contents, either}
 use Rattle.ax_log.specs.Opening.{Keeps}
+use Rattle.ax_cache.specs.declared.no_pages.NoPages.{NoPages}
 use Rattle.ax_store.specs.declared.store.Store.{Store}
 use Rattle.ax_store.specs.Store.{IsDamagedStore, IsOpened, store_contents, store_failed}
 use Rattle.ax_store.proofs.StoreLemmas.{barrier_weaken}
@@ -105,7 +106,7 @@ module _ (old mid new : List ℕ → History) (name there now : List ℕ) (is : 
   )
 
   -- the contents that the store was opened by are those of the container
-  opened_stand : (store : Store) (before : Container) → IsStore before (old name)
+  opened_stand : (store : Store NoPages) (before : Container) → IsStore before (old name)
       → HasContents (store_contents store) (mid there).reads
       → ContentsStandFor (store_contents store) before
   opened_stand store before was has =
@@ -114,7 +115,7 @@ module _ (old mid new : List ℕ → History) (name there now : List ℕ) (is : 
       (subst (HasContents (store_contents store)) reads_are has))
       was.reads.stand
 
-  pub holds_opened : (result : Result Documents Status) (store : Store) (before : Container)
+  pub holds_opened : (result : Result Documents Status) (store : Store NoPages) (before : Container)
       → IsStore before (old name) → IsOpened store (mid there).reads (new now)
       → IfOk result (λ documents. documents.store ≡ store)
       → ((container : Container) → ContentsStandFor (store_contents store) container
@@ -125,19 +126,19 @@ module _ (old mid new : List ℕ → History) (name there now : List ℕ) (is : 
   holds_opened (Ok documents) store before was opened same numbers =
       let stand = opened_stand store before was opened.has in
       record {
-        stand = subst (λ (s : Store). ContentsStandFor (store_contents s) before) (sym same) stand;
+        stand = subst (λ (s : Store NoPages). ContentsStandFor (store_contents s) before) (sym same) stand;
         numbers = numbers before stand;
       }
 
 -- a store that has not failed, and that agrees with an honest disk, still does under its documents
-pub works_opened : (honest : Type 0) (result : Result Documents Status) (store : Store)
+pub works_opened : (honest : Type 0) (result : Result Documents Status) (store : Store NoPages)
     (before : Image) (history : History) → store_failed store ≡ false
     → (honest → IsOpened store before history) → IfOk result (λ documents. documents.store ≡ store)
     → IfOk result (λ documents. Works honest documents history)
 works_opened honest (Err status) store before history unfailed opened same = tt
 works_opened honest (Ok documents) store before history unfailed opened same = record {
   unfailed = ap store_failed same ∙ unfailed;
-  agrees = λ h. (let A : Store → Type 0 = λ s. IsOpened s before history in
+  agrees = λ h. (let A : Store NoPages → Type 0 = λ s. IsOpened s before history in
       subst A (sym same) (opened h)).agrees;
 }
 

@@ -11,6 +11,7 @@ ghost use Rattle.ax_pages.specs.Contents.{policy_now, is_given};
 ghost use Rattle.ax_script.specs.Documents.{contents_in, Holds, Works, is_full_of, TellsUpsert, WorksAfterUpsert};
 
 use crate::batches::{creating, replacing};
+use ax_cache::NoPages;
 use ax_disk::Disk;
 use ax_pages::Page;
 use ax_store::Store;
@@ -42,7 +43,7 @@ pub enum UpsertFault {
 /// The documents of an open store, and the number under which each id stands.
 #[derive(Drop)]
 pub struct Documents {
-    pub(crate) store: Store,
+    pub(crate) store: Store<NoPages>,
     pub(crate) numbers: BTreeMap<String, u32>,
     pub(crate) alloc: Global,
 }

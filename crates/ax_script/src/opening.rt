@@ -20,6 +20,7 @@ ghost use Rattle.ax_script.specs.Progress.{Shows, EndsEarly};
 
 use crate::documents::Documents;
 use crate::status::Status;
+use ax_cache::NoPages;
 use ax_disk::Disk;
 use ax_store::{Store, StoreFault};
 use ax_text::{TextFault, read_tree};
@@ -52,7 +53,7 @@ pub(crate) fn open_documents<D: Disk>(
     let Ok(()) = disk.attach(name) else {
         return Err(Status::DiskFault);
     };
-    match Store::open_store(alloc, disk) {
+    match Store::open_store(alloc, disk, NoPages) {
         Ok(store) => number_all(alloc, store),
         Err(StoreFault::Disk) => Err(Status::DiskFault),
         Err(StoreFault::Damaged { extent, at }) => Err(Status::Damaged { extent, at }),
@@ -62,7 +63,7 @@ pub(crate) fn open_documents<D: Disk>(
 }
 
 /// Finds under which number each id of an open store stands.
-fn number_all(alloc: Global, store: Store) -> Result<Documents, Status>
+fn number_all(alloc: Global, store: Store<NoPages>) -> Result<Documents, Status>
     ensures store { IfOk result (λ documents. documents.store ≡ store) }
     ensures numbers { (container : Container) → ContentsStandFor (store_contents store) container
         → IfOk result (λ documents. (id : List ℕ) → get_by_text documents.numbers id ≡ number_in id container) }

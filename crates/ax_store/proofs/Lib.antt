@@ -1,5 +1,6 @@
 pub mod Searching
 pub mod RowMaps
+pub mod KeptRows
 pub mod MapLens
 pub mod TakingLemmas
 pub mod CanFrames
@@ -7,3 +8,4 @@ pub mod PuttingLemmas
 pub mod LoadLemmas
 pub mod StoreLemmas
 pub mod NextHeld
+pub mod PartPlaces

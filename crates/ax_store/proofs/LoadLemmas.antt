@@ -84,6 +84,11 @@ pub lead_on_of : (frames : List (List ℕ)) (at : ℕ) (old new : Kept) → Take
 lead_on_of [] at old new on = sym on.0
 lead_on_of (frame ∷ frames) at old new (between, first, others) = (between.contents, lead_of frame (at + 9) old between first, lead_on_of frames (at + 9 + length frame) between new others)
 
+-- the same pages in other room
+pub last_same : (frames : List (List ℕ)) (at : ℕ) (old mid new : Kept) → TakesOn frames at old mid → new.contents ≡ mid.contents → new.offsets ≡ mid.offsets → TakesOn frames at old new
+last_same [] at old mid new on contents offsets = (contents ∙ on.0, offsets ∙ on.1)
+last_same (frame ∷ frames) at old mid new (between, first, others) contents offsets = (between, first, last_same frames (at + 9 + length frame) between mid new others contents offsets)
+
 -- ---- one frame more
 
 pub nothing_loaded : (frames : List (List ℕ)) (pages : Kept) → pages.contents ≡ no_contents → pages.offsets ≡ no_offsets → IsLoadedTo frames 0 pages

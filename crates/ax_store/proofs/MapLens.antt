@@ -6,7 +6,7 @@ use Rattle.std.specs.Cmp.{nat_cmp_total}
 use Rattle.std.specs.FinMap as map
 use Rattle.std.proofs.lemmas.Bool.{cases_lt}
 use Rattle.ax_store.specs.declared.row.Row.{Row}
-use Rattle.ax_store.specs.declared.row.KeptPart.{KeptPart}
+use Rattle.ax_store.specs.declared.kept_part.KeptPart.{KeptPart}
 use Rattle.ax_store.specs.Rows.{add_entry, entries_of, map_of}
 
 true_or_false : true ≡ false → ⊥

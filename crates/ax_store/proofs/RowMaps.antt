@@ -12,7 +12,7 @@ use Rattle.std.proofs.lemmas.List.{get_or_default}
 use Rattle.std.proofs.lemmas.Grind.{common_steps}
 use Rattle.ax_pages.proofs.LastPart.{same_number, other_number, tie}
 use Rattle.ax_store.specs.declared.row.Row.{Row}
-use Rattle.ax_store.specs.declared.row.KeptPart.{KeptPart}
+use Rattle.ax_store.specs.declared.kept_part.KeptPart.{KeptPart}
 use Rattle.ax_store.specs.Rows.{no_row, row_at, number_at, AreRising, add_entry, entries_of, map_of, IsAt, IsGapFor}
 
 abbrev NotBefore : List Row → ℕ → ℕ → Type 0

@@ -33,11 +33,11 @@ use Rattle.ax_store.specs.declared.fault.StoreFault.TheVariants.{Disk, Damaged, 
 use Rattle.ax_store.specs.declared.store.Store.{Store}
 use Rattle.ax_store.specs.Kept.{Kept, Takes, offsets_after_parts}
 use Rattle.ax_store.specs.Change.{IsFrameOf}
-use Rattle.ax_store.specs.Faults.{IsRefused, HasDiskCause}
+use Rattle.ax_store.specs.Faults.{IsRefusal, HasDiskCause}
 use Rattle.ax_store.specs.Loading.{nothing_kept, TakesOn, TellsLoad}
 use Rattle.ax_store.specs.Putting.{Puts}
-use Rattle.ax_store.specs.Store.{Agrees, SameButRoom, IsOpened, TellsStore, of_log, store_contents}
-use Rattle.ax_store.proofs.LoadLemmas.{one_frame_more, lead_on_of}
+use Rattle.ax_store.specs.Store.{Agrees, SameButRoom, SameButSlots, IsOpened, TellsFault, of_log, store_contents}
+use Rattle.ax_store.proofs.LoadLemmas.{one_frame_more, lead_on_of, last_same}
 
 -- ---- the log agrees
 
@@ -63,25 +63,29 @@ pub contents_of : (frames : List (List ℕ)) (kept : Kept) → TakesOn frames 0 
 contents_of frames kept takes image has = record { frames = frames; has = has; lead = lead_on_of frames 0 nothing_kept kept takes }
 
 -- ---- a law for clients: where the store agrees, each image that a crash now may leave has its contents
-pub agrees_rests : (store : Store) (history : History) → Agrees store history → Rests history (HasContents (store_contents store))
+pub agrees_rests : {C : Type 0} (store : Store C) (history : History) → Agrees store history → Rests history (HasContents (store_contents store))
 agrees_rests store history agrees =
     rests_weaken history (HasFrames agrees.frames) (HasContents (store_contents store))
     (contents_of agrees.frames store.pages agrees.takes) (rests_of store.log agrees.frames history agrees.logged)
 
 -- it agrees still where no list changed
-pub agrees_still : (store : Store) (old new : History) → Agrees store old → Idles old new → Agrees store new
+pub agrees_still : {C : Type 0} (store : Store C) (old new : History) → Agrees store old → Idles old new → Agrees store new
 agrees_still store old new agrees idles = record { frames = agrees.frames; logged = agrees_idle store.log agrees.frames old new agrees.logged idles; takes = agrees.takes }
 
 -- and where nothing of it changed but the room
-last_same : (frames : List (List ℕ)) (at : ℕ) (old mid new : Kept) → TakesOn frames at old mid → new.contents ≡ mid.contents → new.offsets ≡ mid.offsets → TakesOn frames at old new
-last_same [] at old mid new on contents offsets = (contents ∙ on.0, offsets ∙ on.1)
-last_same (frame ∷ frames) at old mid new (between, first, others) contents offsets = (between, first, last_same frames (at + 9 + length frame) between mid new others contents offsets)
-
-pub agrees_same : (old new : Store) (history : History) → SameButRoom old new → Agrees old history → Agrees new history
+pub agrees_same : {C : Type 0} (old new : Store C) (history : History) → SameButRoom old new → Agrees old history → Agrees new history
 agrees_same old new history same agrees = record {
   frames = agrees.frames;
   logged = subst (λ l. log.Agrees l agrees.frames history) (sym same.logged) agrees.logged;
   takes = last_same agrees.frames 0 nothing_kept old.pages new.pages agrees.takes same.contents same.offsets;
+}
+
+-- and where nothing of it changed but its slots
+pub agrees_slots : {C : Type 0} (old new : Store C) (history : History) → SameButSlots old new → Agrees old history → Agrees new history
+agrees_slots old new history same agrees = record {
+  frames = agrees.frames;
+  logged = subst (λ l. log.Agrees l agrees.frames history) (sym same.logged) agrees.logged;
+  takes = subst (TakesOn agrees.frames 0 nothing_kept) (sym same.pages) agrees.takes;
 }
 
 -- ---- barriers
@@ -118,19 +122,19 @@ contents_since_on l old mid new contents opened has since idles =
     (λ image frames. record { frames = has.frames; has = subst (λ fs. HasFrames fs image) same frames; lead = has.lead }) (rests_of l opened.frames mid opened.agrees) in
     barrier_goes_on old mid new (HasContents contents) (contents_since old mid contents old.reads has since) rests (idles_stay mid new (HasContents contents) rests idles)
 
-pub refused_store : (fault : LogFault) (before : Image) (history : History) → opening.Tells (Err fault) before history → TellsStore (Err (of_log fault)) before history
+pub refused_store : (fault : LogFault) (before : Image) (history : History) → opening.Tells (Err fault) before history → TellsFault (of_log fault) before
 refused_store by_log.Disk before history tells = tt
 refused_store (by_log.Damaged extent at) before history tells = inl tells
 refused_store (by_log.Newer version) before history tells = tells
 refused_store by_log.Memory before history tells = tt
 
-pub refused_log : (fault : LogFault) → IsRefused {T = Store} (Err (of_log fault)) → log_faults.IsRefused {T = Log} (Err fault)
+pub refused_log : (fault : LogFault) → IsRefusal (of_log fault) → log_faults.IsRefused {T = Log} (Err fault)
 refused_log by_log.Disk refused = absurd refused
 refused_log (by_log.Damaged extent at) refused = λ x. x
 refused_log (by_log.Newer version) refused = λ x. x
 refused_log by_log.Memory refused = absurd refused
 
-pub log_cause : (fault : LogFault) (before now : ℕ) → log_faults.HasDiskCause {T = Log} (Err fault) before now → HasDiskCause {T = Store} (Err (of_log fault)) before now
+pub log_cause : {C : Type 0} (fault : LogFault) (before now : ℕ) → log_faults.HasDiskCause {T = Log} (Err fault) before now → HasDiskCause {T = Store C} (Err (of_log fault)) before now
 log_cause by_log.Disk before now cause = record { never_falls = cause.never_falls; failed = λ failed. cause.failed failed }
 log_cause (by_log.Damaged extent at) before now cause = record { never_falls = cause.never_falls; failed = λ failed. absurd failed }
 log_cause (by_log.Newer version) before now cause = record { never_falls = cause.never_falls; failed = λ failed. absurd failed }
@@ -149,12 +153,12 @@ spoiled_live l before history opened at spoiled =
     ⊎_elim (λ (fresh : IsFresh before × (opened.frames ≡ [])). absurd (no_spoiled opened.frames at spoiled fresh.1))
     (λ (live : IsLive (log_area l) (log_generation l) opened.frames before). live) opened.from
 
-pub load_refused : (fault : StoreFault) (l : Log) (before : Image) (mid new : History) (opened : opening.IsOpened l before mid) → TellsLoad (Err fault) (log_area l) opened.frames → TellsStore (Err fault) before new
-load_refused Disk l before mid new opened tells = tt
-load_refused (Damaged extent at) l before mid new opened tells =
+pub load_refused : (fault : StoreFault) (l : Log) (before : Image) (mid : History) (opened : opening.IsOpened l before mid) → TellsLoad (Err fault) (log_area l) opened.frames → TellsFault fault before
+load_refused Disk l before mid opened tells = tt
+load_refused (Damaged extent at) l before mid opened tells =
     inr (log_area l, tells.0, record { frames = opened.frames; generation = log_generation l; live = spoiled_live l before mid opened at tells.1; spoiled = tells.1 })
-load_refused (Newer version) l before mid new opened tells = absurd tells
-load_refused Memory l before mid new opened tells = tt
+load_refused (Newer version) l before mid opened tells = absurd tells
+load_refused Memory l before mid opened tells = tt
 
 keeps_idle : (old mid new : History) → Keeps old mid → Idles mid new → Keeps old new
 keeps_idle old mid new keeps idles = record {
@@ -163,14 +167,14 @@ keeps_idle old mid new keeps idles = record {
 }
 
 pub load_keeps : (fault : StoreFault) (l : Log) (old mid new : History) (opened : opening.IsOpened l old.reads mid) → TellsLoad (Err fault) (log_area l) opened.frames
-    → ((IsFresh old.reads → ⊥) → Keeps old mid) → Idles mid new → IsRefused {T = Store} (Err fault) → Keeps old new
+    → ((IsFresh old.reads → ⊥) → Keeps old mid) → Idles mid new → IsRefusal fault → Keeps old new
 load_keeps Disk l old mid new opened tells unchanged idles refused = absurd refused
 load_keeps (Damaged extent at) l old mid new opened tells unchanged idles refused =
     keeps_idle old mid new (unchanged (λ fresh. fresh_not_live old.reads (log_area l) (log_generation l) opened.frames fresh (spoiled_live l old.reads mid opened at tells.1))) idles
 load_keeps (Newer version) l old mid new opened tells unchanged idles refused = absurd tells
 load_keeps Memory l old mid new opened tells unchanged idles refused = absurd refused
 
-pub load_opened : (store : Store) (before : Image) (mid new : History) (opened : opening.IsOpened store.log before mid) → TakesOn opened.frames 0 nothing_kept store.pages → Idles mid new → store.failed ≡ false → IsOpened store before new
+pub load_opened : {C : Type 0} (store : Store C) (before : Image) (mid new : History) (opened : opening.IsOpened store.log before mid) → TakesOn opened.frames 0 nothing_kept store.pages → Idles mid new → store.failed ≡ false → IsOpened store before new
 load_opened store before mid new opened takes idles works = record {
   agrees = record { frames = opened.frames; logged = agrees_idle store.log opened.frames mid new opened.agrees idles; takes = takes };
   has = contents_of opened.frames store.pages takes before (opened_frames store.log before mid opened);
@@ -191,12 +195,12 @@ text_len bytes parts spelled = omega (arith, ap length spelled, length-append (f
 takes_of : (parts : List PartValue) (at : ℕ) (old new : Kept) → CanFrame parts → Puts parts at old new → Takes (parts_bytes parts) at old new
 takes_of parts at old new can puts = record { parts = parts; fit = can.fit; spelled = refl; lead = puts.lead; offsets = puts.offsets }
 
-module _ (store : Store) (old : History) (agrees : Agrees store old) (parts : List PartValue) (can : CanFrame parts) where
+module _ {C : Type 0} (store : Store C) (old : History) (agrees : Agrees store old) (parts : List PartValue) (can : CanFrame parts) where
   takes_more : (new : Kept) → Puts parts (log_end store.log + 9) store.pages new → TakesOn (agrees.frames ++ parts_bytes parts ∷ []) 0 nothing_kept new
   takes_more new puts = one_frame_more agrees.frames (parts_bytes parts) 0 (log_end store.log) nothing_kept store.pages new agrees.takes (omega (arith, agrees.logged.end_is))
       (takes_of parts (log_end store.log + 9) store.pages new can puts)
 
-  pub committed : (new : Store) (history : History) → log.Agrees new.log (agrees.frames ++ parts_bytes parts ∷ []) history → Puts parts (log_end store.log + 9) store.pages new.pages → Agrees new history
+  pub committed : (new : Store C) (history : History) → log.Agrees new.log (agrees.frames ++ parts_bytes parts ∷ []) history → Puts parts (log_end store.log + 9) store.pages new.pages → Agrees new history
   committed new history logged puts = record { frames = agrees.frames ++ parts_bytes parts ∷ []; logged = logged; takes = takes_more new.pages puts }
 
   pub turns : (history : History) (new : Contents) → after_parts parts (store_contents store) ≡ Some new

@@ -8,3 +8,5 @@ pub mod Putting
 pub mod Faults
 pub mod Loading
 pub mod Store
+pub mod Slots
+pub mod Places

@@ -5,7 +5,7 @@ use Rattle.std.specs.Prelude.{◌≡◌, ℕ, ◌<◌, ◌≤◌, List, [], ◌�
 use Rattle.std.specs.Ordering.{nat_cmp}
 use Rattle.std.specs.FinMap as map
 use Rattle.ax_store.specs.declared.row.Row.{Row}
-use Rattle.ax_store.specs.declared.row.KeptPart.{KeptPart}
+use Rattle.ax_store.specs.declared.kept_part.KeptPart.{KeptPart}
 
 -- offsets in the area, by number
 abbrev pub Offsets : Type 0

@@ -12,6 +12,7 @@ use Rattle.ax_log.specs.Agreement as log
 use Rattle.ax_log.specs.Opening.{IsDamagedAt}
 use Rattle.ax_log.specs.declared.fault.LogFault.{LogFault}
 use Rattle.ax_log.specs.declared.fault.LogFault.TheVariants as by_log
+use Rattle.ax_pool.specs.Frames.{Frames}
 use Rattle.ax_store.specs.declared.store.Store.{Store}
 use Rattle.ax_store.specs.declared.fault.StoreFault.{StoreFault}
 use Rattle.ax_store.specs.declared.fault.StoreFault.TheVariants.{Disk, Damaged, Newer, Memory}
@@ -19,40 +20,51 @@ use Rattle.ax_store.specs.Kept.{PageOffsets}
 use Rattle.ax_store.specs.Loading.{nothing_kept, TakesOn}
 
 -- what the pages have
-abbrev pub store_contents : Store → Contents
+abbrev pub store_contents : {C : Type 0} → Store C → Contents
 store_contents store = store.pages.contents
 
 -- where the part of each page stands in the area
-abbrev pub store_offsets : Store → PageOffsets
+abbrev pub store_offsets : {C : Type 0} → Store C → PageOffsets
 store_offsets store = store.pages.offsets
 
 -- how many parts may be committed without memory
-abbrev pub store_spare : Store → ℕ
+abbrev pub store_spare : {C : Type 0} → Store C → ℕ
 store_spare store = store.pages.spare
 
+-- the frames of the slots
+abbrev pub store_slots : {C : Type 0} → Store C → Frames
+store_slots store = store.pool
+
 -- a call answered that the disk failed
-abbrev pub store_failed : Store → Bool
+abbrev pub store_failed : {C : Type 0} → Store C → Bool
 store_failed store = store.failed
 
 -- the area that counts
-abbrev pub store_area : Store → Extent
+abbrev pub store_area : {C : Type 0} → Store C → Extent
 store_area store = log_area store.log
 
 -- The log agrees with the disk by some frames, and these lead from nothing to the store's pages.
-pub record Agrees (store : Store) (history : History) : Type 0 where
+pub record Agrees {C : Type 0} (store : Store C) (history : History) : Type 0 where
   pub frames : List (List ℕ)
   pub logged : log.Agrees store.log frames history
   pub takes : TakesOn frames 0 nothing_kept store.pages
 
 -- nothing changed but the room
-pub record SameButRoom (old new : Store) : Type 0 where
+pub record SameButRoom {C : Type 0} (old new : Store C) : Type 0 where
   pub logged : new.log ≡ old.log
   pub contents : store_contents new ≡ store_contents old
   pub offsets : store_offsets new ≡ store_offsets old
   pub works : store_failed new ≡ store_failed old
+  pub slots : store_slots new ≡ store_slots old
+
+-- nothing changed but which slots are free, and their bytes
+pub record SameButSlots {C : Type 0} (old new : Store C) : Type 0 where
+  pub logged : new.log ≡ old.log
+  pub pages : new.pages ≡ old.pages
+  pub works : store_failed new ≡ store_failed old
 
 -- The store agrees with the disk by the contents that the image before has.
-pub record IsOpened (store : Store) (before : Image) (history : History) : Type 0 where
+pub record IsOpened {C : Type 0} (store : Store C) (before : Image) (history : History) : Type 0 where
   pub agrees : Agrees store history
   pub has : HasContents (store_contents store) before
   pub works : store_failed store ≡ false
@@ -63,12 +75,15 @@ IsDamagedStore before extent at =
     IsDamagedAt before extent at ⊎ ((area : Extent) × (extent ≡ extent_number area) × IsSpoiledImage before area at)
 
 -- what each answer says
-abbrev pub TellsStore : Result Store StoreFault → Image → History → Type 0
+abbrev pub TellsFault : StoreFault → Image → Type 0
+TellsFault Disk before = Unit {0}
+TellsFault (Damaged extent at) before = IsDamagedStore before extent at
+TellsFault (Newer version) before = IsNewer before version
+TellsFault Memory before = Unit {0}
+
+abbrev pub TellsStore : {C : Type 0} → Result (Store C) StoreFault → Image → History → Type 0
 TellsStore (Ok store) before history = IsOpened store before history
-TellsStore (Err Disk) before history = Unit {0}
-TellsStore (Err (Damaged extent at)) before history = IsDamagedStore before extent at
-TellsStore (Err (Newer version)) before history = IsNewer before version
-TellsStore (Err Memory) before history = Unit {0}
+TellsStore (Err fault) before history = TellsFault fault before
 
 -- a fault of the log as one of the store
 abbrev pub of_log : LogFault → StoreFault

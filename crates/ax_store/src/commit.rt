@@ -9,7 +9,7 @@ ghost use Rattle.ax_pages.specs.AfterPart.{after_parts};
 ghost use Rattle.ax_store.specs.Batch.{batch_parts, is_sealed};
 ghost use Rattle.ax_store.specs.Faults.{HasDiskCause};
 ghost use Rattle.ax_store.specs.Putting.{AreWithin};
-ghost use Rattle.ax_store.specs.Store.{Agrees, SameButRoom, store_contents, store_area, store_spare, store_failed};
+ghost use Rattle.ax_store.specs.Store.{Agrees, SameButRoom, store_contents, store_area, store_slots, store_spare, store_failed};
 
 use crate::batch::Batch;
 use crate::fault::StoreFault;
@@ -21,7 +21,7 @@ use ax_disk::Disk;
 /// How many bytes stand before what a frame spans.
 const HEAD_BYTES: u64 = 9;
 
-impl Store {
+impl<C> Store<C> {
     /// Makes room for a batch of so many parts. `Memory` where there is none; the store is then as
     /// before but for the room.
     pub fn reserve(&mut self, parts: usize) -> Result<(), Memory>
@@ -60,6 +60,7 @@ impl Store {
             → Idles (D.history disk.old (D.attached disk.old)) (D.history disk.new (D.attached disk.new)) }
         ensures disk_alone { IfErr result (λ fault. fault ≡ StoreFault.Disk) }
         ensures area { store_area self.new ≡ store_area self.old }
+        ensures slots { store_slots self.new ≡ store_slots self.old }
         ensures cause { store_failed self.old ≡ false → HasDiskCause result (D.faults disk.old) (D.faults disk.new) }
         ensures never_falls { D.faults disk.old ≤ D.faults disk.new }
         ensures attached { D.attached disk.new ≡ D.attached disk.old }

@@ -5,8 +5,9 @@ ghost use Rattle.std.specs.FinMap as map;
 ghost use Rattle.ax_store.specs.Rows.{payload_kept, offset_kept};
 ghost use Rattle.ax_store.specs.Listed.{IsNextAfter};
 
+use crate::kept_part::KeptPart;
 use crate::memory::Memory;
-use crate::row::{KeptPart, Row, clear_row, first_held, put_row, search};
+use crate::row::{Row, clear_row, drop_cleared_rows, first_held, put_row, search};
 use std::alloc::Global;
 use std::marker::Model;
 
@@ -81,13 +82,35 @@ impl Directory {
         self.held
     }
 
-    /// Makes room for so many numbers more.
+    /// Drops the rows that were cleared.
+    pub(crate) fn drop_cleared(&mut self)
+        ensures payloads { self.new.payloads ≡ self.old.payloads }
+        ensures offsets { self.new.offsets ≡ self.old.offsets }
+        ensures never_less { self.old.spare ≤ self.new.spare }
+    {
+        drop_cleared_rows(&mut self.rows);
+    }
+
+    /// Drops the rows that were cleared, where they are at least half of all rows.
+    fn drop_half(&mut self)
+        ensures payloads { self.new.payloads ≡ self.old.payloads }
+        ensures offsets { self.new.offsets ≡ self.old.offsets }
+        ensures never_less { self.old.spare ≤ self.new.spare }
+    {
+        if self.held <= self.rows.len() / 2 {
+            self.drop_cleared();
+        }
+    }
+
+    /// Makes room for so many numbers more. Where at least half of the rows were cleared, these are
+    /// dropped.
     pub(crate) fn reserve(&mut self, more: usize) -> Result<(), Memory>
         ensures room { OnOk result (more ≤ self.new.spare) }
         ensures payloads { self.new.payloads ≡ self.old.payloads }
         ensures offsets { self.new.offsets ≡ self.old.offsets }
         ensures never_less { self.old.spare ≤ self.new.spare }
     {
+        self.drop_half();
         self.rows.reserve(more)?;
         Ok(())
     }

@@ -7,7 +7,7 @@ ghost use Rattle.ax_store.specs.Store.{store_contents};
 use crate::reads::text_in;
 use crate::store::Store;
 
-impl Store {
+impl<C> Store<C> {
     /// How many documents are held.
     pub fn documents(&self) -> usize
         ensures { result ≡ map.len (store_contents self.now).documents }

@@ -17,6 +17,7 @@ mod commit;
 mod directory;
 mod fault;
 mod held;
+mod kept_part;
 mod load;
 mod memory;
 mod open;
@@ -24,6 +25,8 @@ mod pages;
 mod put_changes;
 mod reads;
 mod row;
+mod slot_reads;
+mod slots;
 mod store;
 mod take_parts;
 

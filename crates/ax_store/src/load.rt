@@ -40,6 +40,7 @@ pub(crate) fn load<D: Disk>(alloc: Global, disk: &mut D, log: &Log) -> Result<Pa
             Err(fault) => return Err(fault),
         }
     }
+    pages.drop_cleared();
     Ok(pages)
 }
 

@@ -6,25 +6,38 @@ ghost use Rattle.ax_pages.specs.Contents.{Contents};
 ghost use Rattle.ax_pages.specs.HasContents.{HasContents};
 ghost use Rattle.ax_log.specs.Opening.{Keeps};
 ghost use Rattle.ax_store.specs.Faults.{IsRefused, HasDiskCause};
+ghost use Rattle.std.specs.FinMap as map;
+ghost use Rattle.ax_store.specs.Slots.{HasAllFree};
 ghost use Rattle.ax_store.specs.Store.{TellsStore, store_failed};
 
 use crate::fault::{StoreFault, store_fault};
 use crate::load::load;
 use crate::store::Store;
+use ax_cache::PageCache;
 use ax_disk::Disk;
 use ax_log::Log;
+use ax_pool::Pool;
 use std::alloc::Global;
 
-impl Store {
+/// How many slots a store has.
+const SLOTS: u32 = 64;
+
+impl<C: PageCache + Drop> Store<C> {
     /// Opens the store attached, or forms one where it is fresh.
     ///
     /// It begins with a sync, the barrier: until that succeeds a crash leaves what it might have left
     /// before, and from then on the contents that reads gave. `Damaged` is answered where root, frames
     /// or parts are outside the format, and `Newer` where the root slot that counts names a later
-    /// version; both leave the store's lists as they were.
-    pub fn open_store<D: Disk>(alloc: Global, disk: &mut D) -> Result<Store, StoreFault>
+    /// version; both leave the store's lists as they were. All slots are free.
+    pub fn open_store<D: Disk>(
+        alloc: Global,
+        disk: &mut D,
+        cache: C,
+    ) -> Result<Store<C>, StoreFault>
+        requires empty { C.pages cache ≡ map.empty }
         ensures tells { IsTrue (D.is_honest disk.old)
             → TellsStore result (D.history disk.old (D.attached disk.old)).reads (D.history disk.new (D.attached disk.new)) }
+        ensures slots { IfOk result HasAllFree }
         ensures works { IfOk result (λ store. store_failed store ≡ false) }
         ensures refused { IsTrue (D.is_honest disk.old) → IsRefused result
             → Keeps (D.history disk.old (D.attached disk.old)) (D.history disk.new (D.attached disk.new)) }
@@ -42,13 +55,19 @@ impl Store {
             Ok(log) => log,
             Err(fault) => return Err(store_fault(fault)),
         };
-        match load(alloc, disk, &log) {
-            Ok(pages) => Ok(Store {
+        let pages = match load(alloc, disk, &log) {
+            Ok(pages) => pages,
+            Err(fault) => return Err(fault),
+        };
+        match Pool::make(alloc, SLOTS) {
+            Ok(pool) => Ok(Store {
                 log,
                 pages,
+                pool,
+                cache,
                 failed: false,
             }),
-            Err(fault) => Err(fault),
+            Err(_) => Err(StoreFault::Memory),
         }
     }
 }

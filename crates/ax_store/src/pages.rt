@@ -3,15 +3,15 @@
 ghost use Rattle.std.specs.Prelude.{◌≡◌, ℕ, ◌+◌, ◌≤◌, ◌<◌, ◌==◌, length, IsTrue, OnOk, IfSome, IfNone, is_some, Some, None, option_map};
 ghost use Rattle.ax_store.specs.Listed.{IsNextAfter};
 ghost use Rattle.std.specs.FinMap as map;
-ghost use Rattle.ax_pages.specs.Contents.{next_number, policy_now, is_given, next_in, now_in};
+ghost use Rattle.ax_pages.specs.Contents.{next_number, policy_now, is_given, next_in, now_in, payload_of};
 ghost use Rattle.ax_pages.specs.AfterPart.{after_kind, is_meta, is_document, is_gone, has_room};
 ghost use Rattle.ax_store.specs.Rows.{payload_kept, offset_kept};
-ghost use Rattle.ax_store.specs.Kept.{IsNothing, offsets_after};
+ghost use Rattle.ax_store.specs.Kept.{IsNothing, offset_of, offsets_after};
 
 use crate::directory::Directory;
+use crate::kept_part::KeptPart;
 use crate::memory::Memory;
-use crate::row::KeptPart;
-use ax_pages::Kind;
+use ax_pages::{Kind, Page};
 use std::alloc::Global;
 use std::marker::Model;
 
@@ -89,7 +89,7 @@ impl Pages {
     }
 
     /// The part of the meta that counts.
-    pub(crate) fn meta_part(&self) -> Option<&KeptPart>
+    fn meta_part(&self) -> Option<&KeptPart>
         ensures payload { option_map (λ part. payload_kept part.now) result ≡ self.now.contents.meta }
         ensures offset { option_map (λ part. offset_kept part.now) result ≡ self.now.offsets.meta }
     {
@@ -97,7 +97,7 @@ impl Pages {
     }
 
     /// The part of a policy that counts.
-    pub(crate) fn policy(&self, number: u32) -> Option<&KeptPart>
+    fn policy(&self, number: u32) -> Option<&KeptPart>
         ensures payload { option_map (λ part. payload_kept part.now) result ≡ map.get self.now.contents.policies number }
         ensures offset { option_map (λ part. offset_kept part.now) result ≡ map.get self.now.offsets.policies number }
     {
@@ -110,6 +110,19 @@ impl Pages {
         ensures offset { option_map (λ part. offset_kept part.now) result ≡ map.get self.now.offsets.documents number }
     {
         self.documents.get(number)
+    }
+
+    /// The part of a page that counts.
+    pub(crate) fn part(&self, page: Page) -> Option<&KeptPart>
+        ensures payload { option_map (λ part. payload_kept part.now) result ≡ payload_of page self.now.contents }
+        ensures offset { option_map (λ part. offset_kept part.now) result ≡ offset_of page self.now.offsets }
+    {
+        match page {
+            Page::Meta => self.meta_part(),
+            Page::Policy(number) => self.policy(u32::from(number)),
+            Page::Document(number) => self.document(number),
+            Page::Term(_) => None,
+        }
     }
 
     /// How many documents are held.
@@ -125,6 +138,15 @@ impl Pages {
         ensures none { IfNone result ((number : ℕ) → after < number → map.get self.now.contents.documents number ≡ None) }
     {
         self.documents.next_after(after)
+    }
+
+    /// Drops what is kept of documents that are gone.
+    pub(crate) fn drop_cleared(&mut self)
+        ensures contents { self.new.contents ≡ self.old.contents }
+        ensures offsets { self.new.offsets ≡ self.old.offsets }
+        ensures never_less { self.old.spare ≤ self.new.spare }
+    {
+        self.documents.drop_cleared();
     }
 
     /// Makes room for so many parts.

@@ -8,8 +8,8 @@ ghost use Rattle.ax_store.specs.Kept.{offsets_after};
 ghost use Rattle.ax_store.specs.Putting.{AreWithin, IsWithin, Puts};
 
 use crate::change::Change;
+use crate::kept_part::KeptPart;
 use crate::pages::Pages;
-use crate::row::KeptPart;
 use ax_pages::kind_of_number;
 
 /// How many bytes stand before a part's payload.

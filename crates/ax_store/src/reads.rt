@@ -12,8 +12,8 @@ ghost use Rattle.ax_store.specs.Kept.{offset_of};
 ghost use Rattle.ax_store.specs.Store.{store_contents, store_offsets, store_area, store_failed};
 
 use crate::fault::{StoreFault, number_of};
+use crate::kept_part::KeptPart;
 use crate::pages::Meta;
-use crate::row::KeptPart;
 use crate::store::Store;
 use ax_base::Steps;
 use ax_disk::Disk;
@@ -30,7 +30,7 @@ pub struct Head {
     pub text_at: u32,
 }
 
-impl Store {
+impl<C> Store<C> {
     /// The next number, and the number of the policy now.
     pub fn meta(&self) -> Meta
         ensures next { result.next ≡ next_number (store_contents self.now) }
@@ -43,13 +43,7 @@ impl Store {
     pub fn parts(&self, page: Page) -> usize
         ensures { result ≡ length (parts_of page (store_contents self.now)) }
     {
-        let part = match page {
-            Page::Meta => self.pages.meta_part(),
-            Page::Policy(number) => self.pages.policy(u32::from(number)),
-            Page::Document(number) => self.pages.document(number),
-            Page::Term(_) => None,
-        };
-        match part {
+        match self.pages.part(page) {
             Some(_) => 1,
             None => 0,
         }
@@ -64,13 +58,7 @@ impl Store {
         // A page has one part.
         let _ = i;
         let extent = number_of(self.log.area());
-        let at = match page {
-            Page::Meta => offset(self.pages.meta_part()),
-            Page::Policy(number) => offset(self.pages.policy(u32::from(number))),
-            Page::Document(number) => offset(self.pages.document(number)),
-            Page::Term(_) => 0,
-        };
-        (extent, at)
+        (extent, offset(self.pages.part(page)))
     }
 
     /// What the part of a document says in front of its text. `None` exactly where the number is not

@@ -1,18 +1,12 @@
 //! The rows of a directory, and how one is found and changed.
 
-ghost use Rattle.std.specs.Prelude.{◌≡◌, ◌+◌, ◌<◌, ◌≤◌, ℕ, None, IfOk, IfErr, IfSome, IfNone, vec_len, vec_capacity};
+ghost use Rattle.std.specs.Prelude.{◌≡◌, ◌+◌, ◌<◌, ◌≤◌, ℕ, None, IfOk, IfErr, IfSome, IfNone, is_some, filter, vec_len, vec_capacity};
 ghost use Rattle.std.specs.List.{insert};
 ghost use Rattle.std.specs.FinMap as map;
 ghost use Rattle.ax_store.specs.Rows.{AreRising, IsAt, IsGapFor, IsFirstAbove, map_of, payload_kept, offset_kept};
 ghost use Rattle.ax_store.specs.Listed.{IsNextAfter};
 
-/// A part that counts, kept in memory.
-#[derive(Drop)]
-pub(crate) struct KeptPart {
-    /// Where it stands in the area that counts.
-    pub(crate) at: u64,
-    pub(crate) payload: Vec<u8>,
-}
+use crate::kept_part::KeptPart;
 
 /// What is known of a number: its part, or none where the document is gone.
 #[derive(Drop)]
@@ -104,4 +98,25 @@ pub(crate) fn clear_row(rows: &mut Vec<Row>, number: u32) -> bool
         }
         Err(_) => false,
     }
+}
+
+/// Drops the rows whose parts are gone. It takes no memory.
+pub(crate) fn drop_cleared_rows(rows: &mut Vec<Row>)
+    requires { AreRising rows.old.items }
+    ensures rising { AreRising rows.new.items }
+    ensures payloads { map_of payload_kept rows.new.items ≡ map_of payload_kept rows.old.items }
+    ensures offsets { map_of offset_kept rows.new.items ≡ map_of offset_kept rows.old.items }
+    ensures room { vec_capacity rows.new ≡ vec_capacity rows.old }
+    ensures len { vec_len rows.new ≤ vec_len rows.old }
+{
+    keep_held(rows);
+}
+
+/// Keeps the rows that have a part.
+fn keep_held(rows: &mut Vec<Row>)
+    ensures items { rows.new.items ≡ filter (λ row. is_some row.part) rows.old.items }
+    ensures room { vec_capacity rows.new ≡ vec_capacity rows.old }
+    ensures len { vec_len rows.new ≤ vec_len rows.old }
+{
+    rows.retain(|row| row.part.is_some());
 }

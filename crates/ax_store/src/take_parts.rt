@@ -1,11 +1,11 @@
 //! The parts of a log frame are taken into the pages, one after another.
 
-ghost use Rattle.std.specs.Prelude.{◌≡◌, ◌+◌, ◌<◌, ◌^◌, length};
+ghost use Rattle.std.specs.Prelude.{◌≡◌, ◌+◌, ◌<◌, ◌≤◌, ◌^◌, length};
 ghost use Rattle.ax_frame.specs.Part.{part_value};
 ghost use Rattle.ax_store.specs.Taking.{TellsPart, TellsParts};
 
+use crate::kept_part::KeptPart;
 use crate::pages::Pages;
-use crate::row::KeptPart;
 use ax_frame::{Part, split_part};
 use ax_pages::kind_of_number;
 use std::alloc::Global;
@@ -49,6 +49,7 @@ pub(crate) fn take_parts(
 
 /// Takes one part, which stands at an offset of the area.
 fn take_part(alloc: Global, pages: &mut Pages, part: Part<'_>, at: u64) -> Result<(), TakeFault>
+    requires { length part.payload.now ≤ 65536 }
     ensures { TellsPart result (part_value part.entry) at pages.old pages.new }
 {
     let Some(kind) = kind_of_number(part.kind) else {

@@ -1,7 +1,8 @@
 use Rattle.std.proofs.Common.{sym, subst, ◌∙◌, arith}
 use Rattle.std.specs.Prelude.{IsTrue}
 use Rattle.ax_disk.specs.laws.StaysLaws.{idles_join}
-use Rattle.ax_store.proofs.LoadLemmas.{all_loaded, refused_load}
+use Rattle.ax_store.specs.Loading.{nothing_kept}
+use Rattle.ax_store.proofs.LoadLemmas.{all_loaded, last_same, refused_load}
 use Rattle.ax_store.proofs.load.load.Goals as goal
 
 pub loop-at-preserved : goal.loop-at-preserved
@@ -30,5 +31,7 @@ returns-in-Err-clause-lists g c = λ honest.
 
 pub returns-clause-tells : goal.returns-clause-tells
 returns-clause-tells g c = λ honest frames agrees.
-    all_loaded frames c.loop-at.at c.loop-at.pages (c.loop-at.invariant.loaded honest frames agrees)
-    (omega (arith, c.loop-at-test.false, c.end.ensures, agrees.end_is))
+    last_same frames 0 nothing_kept c.loop-at.pages c.drop_cleared.new.self
+    (all_loaded frames c.loop-at.at c.loop-at.pages (c.loop-at.invariant.loaded honest frames agrees)
+    (omega (arith, c.loop-at-test.false, c.end.ensures, agrees.end_is)))
+    c.drop_cleared.ensures.contents c.drop_cleared.ensures.offsets

@@ -7,14 +7,14 @@ pub returns-in-Err-clause-any_moment : goal.returns-in-Err-clause-any_moment
 returns-in-Err-clause-any_moment g c = λ honest contents has.
     contents_since _ _ contents _ has (c.open_log.ensures.any_moment honest)
 
-pub returns-in-Ok-load-clause-tells : goal.returns-in-Ok-load-clause-tells
-returns-in-Ok-load-clause-tells g c = λ honest.
+pub returns-in-Ok-make-clause-tells : goal.returns-in-Ok-make-clause-tells
+returns-in-Ok-make-clause-tells g c = λ honest.
     let opened = c.in-Ok.ensures.tells honest in
     let still = subst IsTrue (sym c.open_log.ensures.honest) honest in
     load_opened _ _ _ _ opened (c.in-Ok-load.ensures.tells still opened.frames opened.agrees) (c.load.ensures.lists still) refl
 
-pub returns-in-Ok-load-clause-any_moment : goal.returns-in-Ok-load-clause-any_moment
-returns-in-Ok-load-clause-any_moment g c = λ honest contents has.
+pub returns-in-Ok-make-clause-any_moment : goal.returns-in-Ok-make-clause-any_moment
+returns-in-Ok-make-clause-any_moment g c = λ honest contents has.
     let opened = c.in-Ok.ensures.tells honest in
     let still = subst IsTrue (sym c.open_log.ensures.honest) honest in
     contents_since_on c.in-Ok.log _ _ _ contents opened has (c.open_log.ensures.any_moment honest) (c.load.ensures.lists still)
@@ -23,7 +23,7 @@ pub returns-in-Err-load-clause-tells : goal.returns-in-Err-load-clause-tells
 returns-in-Err-load-clause-tells g c = λ honest.
     let opened = c.in-Ok.ensures.tells honest in
     let still = subst IsTrue (sym c.open_log.ensures.honest) honest in
-    load_refused c.in-Err-load.fault c.in-Ok.log _ _ _ opened (c.in-Err-load.ensures.tells still opened.frames opened.agrees)
+    load_refused c.in-Err-load.fault c.in-Ok.log _ _ opened (c.in-Err-load.ensures.tells still opened.frames opened.agrees)
 
 pub returns-in-Err-load-clause-refused : goal.returns-in-Err-load-clause-refused
 returns-in-Err-load-clause-refused g c = λ honest refused.
@@ -33,6 +33,12 @@ returns-in-Err-load-clause-refused g c = λ honest refused.
 
 pub returns-in-Err-load-clause-any_moment : goal.returns-in-Err-load-clause-any_moment
 returns-in-Err-load-clause-any_moment g c = λ honest contents has.
+    let opened = c.in-Ok.ensures.tells honest in
+    let still = subst IsTrue (sym c.open_log.ensures.honest) honest in
+    contents_since_on c.in-Ok.log _ _ _ contents opened has (c.open_log.ensures.any_moment honest) (c.load.ensures.lists still)
+
+pub returns-in-Err-make-clause-any_moment : goal.returns-in-Err-make-clause-any_moment
+returns-in-Err-make-clause-any_moment g c = λ honest contents has.
     let opened = c.in-Ok.ensures.tells honest in
     let still = subst IsTrue (sym c.open_log.ensures.honest) honest in
     contents_since_on c.in-Ok.log _ _ _ contents opened has (c.open_log.ensures.any_moment honest) (c.load.ensures.lists still)

@@ -1,0 +1,16 @@
+//! Page caches: what keeps payloads of parts in memory, under the place at which each stands.
+//!
+//! It stands on no other crate. Its one contract: what a cache answers under a key is what was put
+//! there last; it forgets a key only to make room for another, and only where it is full.
+#![tactic(auto)]
+
+mod no_pages;
+mod page_cache;
+mod part_key;
+
+pub use no_pages::NoPages;
+pub use page_cache::PageCache;
+pub use part_key::PartKey;
+
+#[cfg(test)]
+mod tests;
