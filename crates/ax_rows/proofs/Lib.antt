@@ -1,4 +1,6 @@
 pub mod DirectedKeys
+pub mod Nowhere
 pub mod RowSort
 pub mod Seen
 pub mod StableSort
+pub mod Walking
