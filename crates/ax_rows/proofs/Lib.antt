@@ -1,5 +1,6 @@
 pub mod DirectedKeys
 pub mod Nowhere
+pub mod Places
 pub mod RowSort
 pub mod Seen
 pub mod StableSort

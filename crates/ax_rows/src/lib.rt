@@ -4,6 +4,7 @@
 mod aggregates;
 mod answer;
 mod keyed;
+pub mod laws;
 mod out_of_memory;
 mod parts;
 mod passed;
