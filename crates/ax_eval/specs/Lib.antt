@@ -1,0 +1,3 @@
+pub mod Bindings
+pub mod Places
+pub mod Truths
