@@ -3,11 +3,13 @@
 use Rattle.std.specs.Prelude.{ℕ, ◌+◌, List, [], ◌∷◌, ◌++◌, map, Bool, true, false, Option, Some, None, if◌then◌else◌}
 use Rattle.std.specs.List.{flat_map, filter_map}
 use Rattle.ax_tree.specs.Document.{member}
+use Rattle.ax_tree.specs.declared.members.Member.{Member}
 use Rattle.ax_tree.specs.declared.tree.Tree as tree
 use Rattle.ax_tree.specs.declared.tree.Tree.{Tree}
 use Rattle.ax_mean.specs.declared.expr.Expr.{Expr}
 use Rattle.ax_mean.specs.declared.query.FromItem.{FromItem}
 use Rattle.ax_mean.specs.declared.query.KeyedRow.{KeyedRow}
+use Rattle.ax_mean.specs.declared.query.Named.{Named}
 use Rattle.ax_mean.specs.declared.query.Pick.{Pick}
 use Rattle.ax_mean.specs.declared.query.Pick.TheVariants as pick
 use Rattle.ax_mean.specs.declared.query.Query.{Query}
@@ -104,12 +106,14 @@ abbrev pub first_bound : Env → Value
 first_bound [] = Undefined
 first_bound ((alias, value) ∷ env) = value
 
+-- an item with its name and its value
+abbrev pub named_member : Env → Named → Member Value
+named_member env item = record { name = item.name; value = meaning env item.expr }
+
 abbrev pub shown : Pick → Env → Value
 shown pick.Star env = first_bound env
 shown (pick.Value expr) env = meaning env expr
-shown (pick.Named items) env =
-    Defined (tree.Object (members_of
-    (map (λ item. record { name = item.name; value = meaning env item.expr }) items)))
+shown (pick.Named items) env = Defined (tree.Object (members_of (map (named_member env) items)))
 
 -- a row with its key, where what it shows is defined
 abbrev pub keyed : List Value → ℕ → List ℕ → Value → Option KeyedRow

@@ -1,5 +1,5 @@
 -- Sorting rows by keys that were made of their order values is sorting them by the values.
-use Rattle.std.proofs.Common.{◌≡◌, ℕ, List, [], ◌∷◌, Bool, true, false, refl, sym, ap, ◌∙◌, map, length, arith}
+use Rattle.std.proofs.Common.{◌≡◌, List, [], ◌∷◌, Bool, true, false, refl, sym, ap, ◌∙◌, map, length, arith}
 use borrow.Author.Tests.{eqb-true}
 use Rattle.std.specs.Bool.{◌==◌}
 use Rattle.std.specs.declared.cmp.Ordering.{Ordering}

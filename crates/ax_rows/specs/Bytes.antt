@@ -1,5 +1,5 @@
 -- The order of bytes as the laws of comparisons want it.
-use Rattle.std.proofs.Common.{◌≡◌, ℕ, List, [], ◌∷◌, refl, sym, ap, ◌∙◌, Some, nat_eq}
+use Rattle.std.proofs.Common.{◌≡◌, ℕ, List, sym, Some, nat_eq}
 use Rattle.std.specs.Ordering.{nat_cmp, eq_by_cmp}
 use Rattle.std.specs.Cmp.{IsPartialOrder, po}
 use Rattle.std.specs.Cmp.Lexicographic.{slice_cmp, pointwise}

@@ -21,3 +21,15 @@ impl From<ax_mean::Memory> for Memory {
         Memory
     }
 }
+
+impl From<ax_eval::Memory> for Memory {
+    fn from(_: ax_eval::Memory) -> Memory {
+        Memory
+    }
+}
+
+impl From<ax_func::Memory> for Memory {
+    fn from(_: ax_func::Memory) -> Memory {
+        Memory
+    }
+}

@@ -1,0 +1,183 @@
+//! The walk over what the sources of a query bind in a document. Nothing of the document is copied.
+ghost use Rattle.std.specs.Prelude.{◌≡◌, List, [], ◌∷◌, ◌++◌, IfOk, OnOk};
+ghost use Rattle.std.specs.List.{flat_map};
+ghost use Rattle.ax_mean.specs.Rows.{Bound, choices, elements_from, rows_from, rows_of_tree, with_choice};
+ghost use Rattle.ax_mean.specs.Steps.{steps_from};
+ghost use Rattle.ax_mean.specs.declared.value.Value.TheVariants.{Defined};
+
+use crate::out_of_memory::Memory;
+use crate::parts::{items_of, part_at};
+use ax_eval::Scope;
+use ax_mean::{FromItem, FromList, Items, Text, Tree};
+use std::alloc::Global;
+
+/// What takes the rows of a document, one after another.
+pub trait Taker {
+    /// What a taker is after it took some rows.
+    ghost Took: { Self → List Bound → Self → Type 0 };
+
+    /// Takes the row whose aliases stand for what they do in `scope`.
+    fn take(&mut self, alloc: Global, scope: &Scope, place: &[u32]) -> Result<(), Memory>
+        ensures { OnOk result
+            (Took self.old (record { env = scope.now; place = place.now } ∷ []) self.new) };
+
+    ghost none: { (taker : Self) → Took taker [] taker };
+
+    ghost both: { (a b c : Self) (xs ys : List Bound)
+        → Took a xs b → Took b ys c → Took a (xs ++ ys) c };
+}
+
+/// Where a walk stands: what the sources so far bind, and the positions that they chose.
+#[derive(Drop)]
+pub struct Walk<'a, T> {
+    alloc: Global,
+    scope: Scope<'a>,
+    place: Vec<u32>,
+    taker: T,
+}
+
+/// Gives a taker the rows of a document, in their order.
+pub fn walk_tree<'a, T: Taker + Drop>(
+    alloc: Global,
+    froms: &'a FromList,
+    tree: &'a Tree,
+    taker: T,
+) -> Result<T, Memory>
+    ensures { IfOk result (λ after. T.Took taker (rows_of_tree froms.now tree.now) after) }
+{
+    let Some((first, rest)) = froms.as_slice().split_first() else {
+        return Ok(taker);
+    };
+    let mut walk = Walk {
+        alloc,
+        scope: Scope::new(alloc),
+        place: Vec::new(alloc),
+        taker,
+    };
+    walk.choose(first, rest, tree)?;
+    Ok(walk.into_taker())
+}
+
+impl<'a, T: Taker> Walk<'a, T> {
+    /// The rows that the row so far grows to.
+    #[cycle(walk)]
+    fn rows(&mut self, items: &'a [FromItem]) -> Result<(), Memory>
+        ensures took { OnOk result (T.Took self.old.taker (rows_from items.now
+            (record { env = self.old.scope; place = self.old.place.items })) self.new.taker) }
+        ensures scope { OnOk result (self.new.scope ≡ self.old.scope) }
+        ensures place { OnOk result (self.new.place.items ≡ self.old.place.items) }
+    {
+        let Some((item, rest)) = items.split_first() else {
+            return self
+                .taker
+                .take(self.alloc, &self.scope, self.place.as_slice());
+        };
+        match self.scope.get(item.base.as_str()) {
+            Some(tree) => self.choose(item, rest, tree),
+            None => Ok(()),
+        }
+    }
+
+    /// The rows for what a source binds that begins at `tree`.
+    #[cycle(walk)]
+    fn choose(
+        &mut self,
+        item: &'a FromItem,
+        rest: &'a [FromItem],
+        tree: &'a Tree,
+    ) -> Result<(), Memory>
+        ensures took { OnOk result (T.Took self.old.taker
+            (flat_map (λ choice. rows_from rest.now (with_choice item.now.alias
+            (record { env = self.old.scope; place = self.old.place.items }) choice))
+            (choices item.now.each (steps_from (Defined tree.now) item.now.steps))) self.new.taker) }
+        ensures scope { OnOk result (self.new.scope ≡ self.old.scope) }
+        ensures place { OnOk result (self.new.place.items ≡ self.old.place.items) }
+    {
+        let Some(part) = part_at(tree, &item.steps) else {
+            return Ok(());
+        };
+        if !item.each {
+            return self.bind(&item.alias, part, rest);
+        }
+        match items_of(part) {
+            Some(trees) => self.bind_each(&item.alias, trees, rest),
+            None => Ok(()),
+        }
+    }
+
+    #[cycle(walk)]
+    fn bind_each(
+        &mut self,
+        alias: &'a Text,
+        trees: &'a Items<Tree>,
+        rest: &'a [FromItem],
+    ) -> Result<(), Memory>
+        ensures took { OnOk result (T.Took self.old.taker
+            (flat_map (λ choice. rows_from rest.now (with_choice alias.now
+            (record { env = self.old.scope; place = self.old.place.items }) choice))
+            (elements_from 0 trees.now)) self.new.taker) }
+        ensures scope { OnOk result (self.new.scope ≡ self.old.scope) }
+        ensures place { OnOk result (self.new.place.items ≡ self.old.place.items) }
+    {
+        for (at, tree) in trees.as_slice().iter().enumerate() {
+            self.bind_at(alias, tree, at, rest)?;
+        }
+        Ok(())
+    }
+
+    /// Where a position needs more than 32 bits, no row can have it as its place: the answer is that
+    /// of want of memory.
+    #[cycle(walk)]
+    fn bind_at(
+        &mut self,
+        alias: &'a Text,
+        tree: &'a Tree,
+        at: usize,
+        rest: &'a [FromItem],
+    ) -> Result<(), Memory>
+        ensures took { OnOk result (T.Took self.old.taker (rows_from rest.now (record {
+          env = self.old.scope ++ (alias.now, Defined tree.now) ∷ [];
+          place = self.old.place.items ++ at ∷ [];
+        })) self.new.taker) }
+        ensures scope { OnOk result (self.new.scope ≡ self.old.scope) }
+        ensures place { OnOk result (self.new.place.items ≡ self.old.place.items) }
+    {
+        let Ok(position) = u32::try_from(at) else {
+            return Err(Memory);
+        };
+        self.place.push(position)?;
+        self.bind(alias, tree, rest)?;
+        let _ = self.place.pop();
+        Ok(())
+    }
+
+    /// The rows for one tree that a source binds.
+    #[cycle(walk)]
+    fn bind(&mut self, alias: &'a Text, tree: &'a Tree, rest: &'a [FromItem]) -> Result<(), Memory>
+        ensures took { OnOk result (T.Took self.old.taker (rows_from rest.now (record {
+          env = self.old.scope ++ (alias.now, Defined tree.now) ∷ [];
+          place = self.old.place.items;
+        })) self.new.taker) }
+        ensures scope { OnOk result (self.new.scope ≡ self.old.scope) }
+        ensures place { OnOk result (self.new.place.items ≡ self.old.place.items) }
+    {
+        self.scope.push(alias, tree)?;
+        self.rows(rest)?;
+        self.scope.pop();
+        Ok(())
+    }
+
+    fn into_taker(self) -> T
+        ensures { result ≡ self.entry.taker }
+    {
+        let Walk {
+            alloc: _,
+            scope,
+            place,
+            taker,
+        } = self;
+        drop(scope);
+        drop(place);
+        taker
+    }
+}
