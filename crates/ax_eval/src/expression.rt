@@ -1,5 +1,5 @@
 //! One function for each form of expression that has many parts; each stops as soon as its value is
-//! settled.
+//! decided.
 ghost use Rattle.std.specs.Prelude.{◌≡◌, IfOk, map};
 ghost use Rattle.ax_tree.specs.declared.members.Member.{Member};
 ghost use Rattle.ax_mean.specs.Building.{defined_of, members_of};
@@ -146,7 +146,7 @@ fn and_in<'a>(alloc: Global, items: &'a ExprList, scope: &Scope<'a>) -> Result<S
     }
 }
 
-/// Whether all are true. What is false settles it.
+/// Whether all are true. What is false decides it.
 #[cycle(eval)]
 #[tactic(auto, using(crate::proofs::Chains::and_again, crate::proofs::Chains::and_end))]
 fn all_in<'a>(alloc: Global, items: &'a ExprList, scope: &Scope<'a>) -> Result<Option<bool>, Memory>
@@ -174,7 +174,7 @@ fn or_in<'a>(alloc: Global, items: &'a ExprList, scope: &Scope<'a>) -> Result<Se
     }
 }
 
-/// Whether one is true. What is true settles it.
+/// Whether one is true. What is true decides it.
 #[cycle(eval)]
 #[tactic(auto, using(crate::proofs::Chains::or_again, crate::proofs::Chains::or_end))]
 fn some_in<'a>(
@@ -210,7 +210,7 @@ fn among_in<'a>(
     Ok(seen_truth(equal_in(alloc, items, left, scope)?))
 }
 
-/// Whether one is equal. The first that is equal settles it.
+/// Whether one is equal. The first that is equal decides it.
 #[cycle(eval)]
 #[tactic(auto, using(crate::proofs::Chains::or_again, crate::proofs::Chains::or_end))]
 fn equal_in<'a>(
