@@ -17,6 +17,7 @@ mod steps;
 
 pub use env::Env;
 pub use expression::{eval_in, is_true_in};
+pub use members::with_value;
 pub use out_of_memory::Memory;
 pub use owned::eval;
 pub use scope::Scope;

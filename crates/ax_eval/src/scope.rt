@@ -1,11 +1,13 @@
-ghost use Rattle.std.specs.Prelude.{◌≡◌, ℕ, List, [], ◌∷◌, ◌++◌, ◌-◌, map, take, length, OnOk, OnErr};
+ghost use Rattle.std.specs.Prelude.{◌≡◌, ℕ, List, [], ◌∷◌, ◌++◌, ◌-◌, map, take, length, IfOk, OnOk, OnErr};
 ghost use Rattle.std.specs.Option.{option_copied};
 ghost use Rattle.ax_mean.specs.Meaning.{bound};
+ghost use Rattle.ax_mean.specs.Rows.{first_bound};
 ghost use Rattle.ax_mean.specs.Values.{of_tree};
 ghost use Rattle.ax_mean.specs.declared.value.Value.{Value};
 ghost use Rattle.ax_mean.specs.declared.value.Value.TheVariants.{Defined};
 ghost use Rattle.ax_eval.specs.Bindings.{binding_pair};
 
+use crate::env::Env;
 use crate::out_of_memory::Memory;
 use ax_mean::{Text, Tree, Value};
 use std::alloc::Global;
@@ -79,11 +81,47 @@ impl<'a> Scope<'a> {
         let _ = self.bindings.pop();
     }
 
+    /// The tree that the alias bound first stands for; none where that is undefined, or none is bound.
+    pub fn first(&self) -> Option<&'a Tree>
+        ensures { of_tree (option_copied result) ≡ first_bound self.now }
+    {
+        match self.bindings.first() {
+            Some(binding) => binding.tree,
+            None => None,
+        }
+    }
+
+    /// The same aliases with copies of what they stand for.
+    pub fn to_env(&self, alloc: Global) -> Result<Env, Memory>
+        ensures { IfOk result (λ env. env ≡ self.now) }
+    {
+        copies_of(alloc, self.bindings.as_slice())
+    }
+
     /// The tree that an alias stands for; none where that is undefined, or the alias is not bound.
     pub fn get(&self, alias: &str) -> Option<&'a Tree>
         ensures { of_tree (option_copied result) ≡ bound self.now alias.now }
     {
         tree_bound(self.bindings.as_slice(), alias)
+    }
+}
+
+fn copies_of(alloc: Global, bindings: &[Binding]) -> Result<Env, Memory>
+    ensures { IfOk result (λ env. env ≡ map binding_pair bindings.now) }
+{
+    let mut env = Env::new(alloc);
+    for binding in bindings {
+        env.push(binding.alias.copy(alloc)?, copy_of(alloc, binding.tree)?)?;
+    }
+    Ok(env)
+}
+
+fn copy_of(alloc: Global, tree: Option<&Tree>) -> Result<Value, Memory>
+    ensures { IfOk result (λ value. value ≡ of_tree (option_copied tree.entry)) }
+{
+    match tree {
+        None => Ok(Value::Undefined),
+        Some(tree) => Ok(Value::Defined(tree.copy(alloc)?)),
     }
 }
 

@@ -1,5 +1,5 @@
 //! The rows of a document.
-ghost use Rattle.std.specs.Prelude.{◌≡◌, ◌+◌, ◌++◌, IfOk, OnOk};
+ghost use Rattle.std.specs.Prelude.{◌≡◌, ◌+◌, [], ◌++◌, IfOk, OnOk, OnErr};
 ghost use Rattle.ax_mean.specs.Rows.{envs_of_tree, keyed_rows};
 
 use crate::keyed::KeyedTaker;
@@ -15,6 +15,9 @@ use std::sync::ledger::Ledger;
 
 /// The rows of a document that pass WHERE and show something, each with its key, in the order of
 /// their places. It takes one step, also where it runs out of memory.
+///
+/// A position of more than 32 bits, which a row would have in its place, is answered as want of
+/// memory.
 pub fn rows_of<L: Ledger>(
     alloc: Global,
     query: &Query,
@@ -42,6 +45,7 @@ pub fn append_rows<L: Ledger>(
 ) -> Result<(), Memory>
     ensures rows { OnOk result
         (rows.new.items ≡ rows.old.items ++ keyed_rows query.now number tree.now) }
+    ensures lost { OnErr result (rows.new.items ≡ []) }
     ensures steps { steps.new ≡ steps.old + 1 }
 {
     steps.tick();
