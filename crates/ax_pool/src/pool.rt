@@ -53,6 +53,7 @@ impl Pool {
     /// A free frame, which is taken from then on. `None` exactly where no frame is free.
     pub fn take(&mut self) -> Option<Slot>
         ensures was_free { IfSome result (λ slot. IsFree self.old slot.number) }
+        ensures is_taken { IfSome result (λ slot. IsTaken self.new slot.number) }
         ensures taken { IfSome result (λ slot. self.new.taken ≡ slice_set self.old.taken slot.number true) }
         ensures one_less { IfSome result (λ slot. free_count self.old ≡ free_count self.new + 1) }
         ensures none { IfNone result (free_count self.old ≡ 0) }

@@ -12,6 +12,7 @@ impl<C> Store<C> {
     /// Takes one of the 64 slots. `None` exactly where none is free.
     pub fn take_slot(&mut self) -> Option<Slot>
         ensures was_free { IfSome result (λ slot. IsFree (store_slots self.old) slot.number) }
+        ensures is_taken { IfSome result (IsSlotOf self.new) }
         ensures taken { IfSome result (λ slot. (store_slots self.new).taken ≡ slice_set (store_slots self.old).taken slot.number true) }
         ensures one_less { IfSome result (λ slot. free_count (store_slots self.old) ≡ free_count (store_slots self.new) + 1) }
         ensures none { IfNone result (free_count (store_slots self.old) ≡ 0) }
