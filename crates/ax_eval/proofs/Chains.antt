@@ -1,4 +1,4 @@
--- What a chain of one operator comes to, where its value is settled early or its parts are joined at
+-- What a chain of one operator comes to, where its value is decided early or its parts are joined at
 -- once.
 use Rattle.std.proofs.Common.{◌≡◌, ℕ, ◌≤◌, List, [], ◌∷◌, ◌++◌, length, map, Bool, true, false, Option, Some, None, option_map, option_and_then, refl, sym, ap, ◌∙◌, append_assoc, append-nil, arith}
 use Rattle.ax_tree.specs.declared.tree.Tree as tree

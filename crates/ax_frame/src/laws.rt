@@ -1,4 +1,4 @@
-//! Laws of the formats: what spells of the definitions themselves, whichever call reads or writes.
+//! Laws of the formats: what is true of the definitions themselves, whichever call reads or writes.
 
 ghost use Rattle.std.specs.Prelude.{◌≡◌, ◌≢◌, ◌<◌, ◌≤◌, ◌↔◌, ℕ, List, ◌++◌, length, take, drop, slice_index};
 ghost use Rattle.ax_frame.specs.RootSlot.{IsSlot};
