@@ -33,7 +33,7 @@ begun text done e = rw e (record {
   within = omega arith;
 })
 
-space_class : (class : ByteClass) → is_space_class class ≡ true → class ≡ Space
+pub space_class : (class : ByteClass) → is_space_class class ≡ true → class ≡ Space
 space_class Space e = refl
 space_class Letter e = absurd (cc)
 space_class Digit e = absurd (cc)

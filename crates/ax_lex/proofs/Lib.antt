@@ -1,4 +1,5 @@
 pub mod KeywordLaws
+pub mod LexemeLaws
 pub mod Lexing
 pub mod Meanings
 pub mod Numbers

@@ -3,6 +3,7 @@ pub mod Inside
 pub mod Keywords
 pub mod Lexeme
 pub mod Lexemes
+pub mod LexemesIn
 pub mod Reading
 pub mod Spans
 pub mod Symbols

@@ -1,6 +1,6 @@
 -- Reading a token from the front of a list of bytes, as functions on lists that answer what was
--- read and the rest. Only the clauses of private functions, and `text_of`, cite these: what is read
--- is said by the grammar in `Tokens`.
+-- read and the rest. Only the clauses of private functions, `text_of` and `lexemes_in` cite these:
+-- what is read is said by the grammar in `Tokens`.
 use Rattle.std.specs.Prelude.{ℕ, Bool, true, false, ◌&&◌, ◌==◌, List, [], ◌∷◌, ◌++◌, Option, Some, None, zero, suc, length, nat_le, option_and_then, encode_utf8, if◌then◌else◌}
 use Rattle.std.specs.Option.{option_map}
 use lib.Utf8.{scalar}

@@ -7,6 +7,7 @@ ghost use Rattle.ax_lex.specs.declared.token.TokenKind.{TokenKind};
 ghost use Rattle.ax_lex.specs.Lexeme.{Lexeme, kind_of};
 ghost use Rattle.ax_lex.specs.Lexeme.Lexeme.{text as text_lexeme};
 ghost use Rattle.ax_lex.specs.Lexemes.{lexemes_of, meaning, text_of};
+ghost use Rattle.ax_lex.specs.LexemesIn.{lexemes_in};
 ghost use Rattle.ax_lex.specs.Spans.{SpansRise};
 ghost use Rattle.ax_lex.specs.Tokens.{AreTokens, IsToken};
 
@@ -14,6 +15,13 @@ ghost use Rattle.ax_lex.specs.Tokens.{AreTokens, IsToken};
 pub fn tokens_are_the_ones()
     ensures { (text : List ℕ) (a b : List Token) (x y : List Lexeme)
         → AreTokens text a x → AreTokens text b y → (a ≡ b) × (x ≡ y) }
+{}
+
+/// The lexemes that are read of a text are those of its tokens, and are read where it has tokens.
+pub fn lexemes_in_a_text_are_those_of_its_tokens()
+    ensures { (text : List ℕ) (lexemes : List Lexeme)
+        → (lexemes_in text ≡ Some lexemes)
+        ↔ ((tokens : List Token) × AreTokens text tokens lexemes) }
 {}
 
 /// What the tokens of a text say is what their bytes say.
