@@ -1,0 +1,10 @@
+//! The parser of queries: the query that a text is.
+//!
+//! Stands on `ax_grammar`, which says what query a text is, on `ax_lex`, whose tokens it reads, and
+//! on `ax_mean`, whose queries it makes. Its one contract is that of `parse`.
+#![tactic(auto)]
+
+mod fault;
+mod lexeme;
+
+pub use fault::ParseFault;
