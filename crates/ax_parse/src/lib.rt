@@ -6,5 +6,8 @@
 
 mod fault;
 mod lexeme;
+mod mark;
+mod step;
+mod value;
 
 pub use fault::ParseFault;
