@@ -1,7 +1,6 @@
 -- What a call that reads a phrase gives, beside what the reader of the grammar gives. Out of memory it
 -- gives nothing, and nothing is said.
-use Rattle.std.specs.Prelude.{◌≡◌, ℕ, List, Option, Some, None, Result, Ok, Err}
-use Rattle.std.specs.Borrow.{Bor}
+use Rattle.std.specs.Prelude.{◌≡◌, List, [], ◌∷◌, Option, Some, None, Result, Ok, Err}
 use Rattle.ax_lex.specs.declared.fault.LexFault.{LexFault}
 use Rattle.ax_lex.specs.declared.fault.LexFault.TheVariants as lex
 use Rattle.ax_lex.specs.Lexeme.{Lexeme}
@@ -10,32 +9,38 @@ use Rattle.ax_grammar.specs.Reading.Turn.{ended, failed, went_on}
 use Rattle.ax_parse.specs.declared.fault.ParseFault.{ParseFault}
 use Rattle.ax_parse.specs.declared.fault.ParseFault.TheVariants as parse
 use Rattle.ax_parse.specs.declared.lexeme.Lexeme.{Lexeme as Written}
-use Rattle.ax_parse.specs.Said.{all_said}
+use Rattle.ax_parse.specs.declared.lexeme.Rest.{Rest}
+use Rattle.ax_parse.specs.Said.{said, rest_said}
 
 abbrev pub fault_of : LexFault → ParseFault
 fault_of lex.Text = parse.Text
 fault_of lex.Memory = parse.Memory
 
+-- the first lexeme and the rest, or that there is none
+abbrev pub Splits : Option (Written × Rest) → List Lexeme → Type 0
+Splits (Some parts) lexemes = lexemes ≡ said parts.0 ∷ rest_said parts.1
+Splits None lexemes = lexemes ≡ []
+
 -- the rest behind what was looked for, or that it is not there
-abbrev pub Finds : Option (Bor (List Written)) → Option (List Lexeme) → Type 0
-Finds (Some rest) found = found ≡ Some (all_said rest.now)
+abbrev pub Finds : Option Rest → Option (List Lexeme) → Type 0
+Finds (Some rest) found = found ≡ Some (rest_said rest)
 Finds None found = found ≡ None
 
 -- a value and the rest, or that it is not there
-abbrev pub Sees : {X : Type 0} → Option (X × Bor (List Written)) → Option (X × List Lexeme)
+abbrev pub Sees : {X : Type 0} → Option (X × Rest) → Option (X × List Lexeme)
     → Type 0
-Sees (Some seen) found = found ≡ Some (seen.0, all_said seen.1.now)
+Sees (Some seen) found = found ≡ Some (seen.0, rest_said seen.1)
 Sees None found = found ≡ None
 
 -- the value that was read and the rest, or that there is none
-abbrev pub Reads : {X : Type 0} → Result (X × Bor (List Written)) ParseFault
+abbrev pub Reads : {X : Type 0} → Result (X × Rest) ParseFault
     → Option (X × List Lexeme) → Type 0
-Reads (Ok read) found = found ≡ Some (read.0, all_said read.1.now)
+Reads (Ok read) found = found ≡ Some (read.0, rest_said read.1)
 Reads (Err fault) found = fault ≡ parse.Text → found ≡ None
 
 -- the rest behind what has to stand first
-abbrev pub Goes : Result (Bor (List Written)) ParseFault → Option (List Lexeme) → Type 0
-Goes (Ok rest) found = found ≡ Some (all_said rest.now)
+abbrev pub Goes : Result Rest ParseFault → Option (List Lexeme) → Type 0
+Goes (Ok rest) found = found ≡ Some (rest_said rest)
 Goes (Err fault) found = fault ≡ parse.Text → found ≡ None
 
 -- the value that there is, or that there is none
@@ -44,8 +49,8 @@ IsValue (Ok value) found = found ≡ Some value
 IsValue (Err fault) found = fault ≡ parse.Text → found ≡ None
 
 -- one turn of a repetition
-abbrev pub Turns : {X : Type 0} → Result (Option (X × Bor (List Written))) ParseFault → Turn X
+abbrev pub Turns : {X : Type 0} → Result (Option (X × Rest)) ParseFault → Turn X
     → Type 0
-Turns (Ok (Some read)) turn = turn ≡ went_on read.0 (all_said read.1.now)
+Turns (Ok (Some read)) turn = turn ≡ went_on read.0 (rest_said read.1)
 Turns (Ok None) turn = turn ≡ ended
 Turns (Err fault) turn = fault ≡ parse.Text → turn ≡ failed

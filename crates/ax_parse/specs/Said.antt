@@ -6,6 +6,7 @@ use Rattle.ax_lex.specs.Lexemes.{text_lexeme, text_of}
 use Rattle.ax_lex.specs.Tokens.{number_of}
 use Rattle.ax_parse.specs.declared.lexeme.Lexeme.{Lexeme as Written}
 use Rattle.ax_parse.specs.declared.lexeme.Lexeme.TheVariants as written
+use Rattle.ax_parse.specs.declared.lexeme.Rest.{Rest}
 
 abbrev pub said : Written → Lexeme
 said (written.Name word) = Lexeme.name word.now
@@ -18,6 +19,10 @@ said (written.Nothing kind) = Lexeme.nothing kind
 
 abbrev pub all_said : List Written → List Lexeme
 all_said = map said
+
+-- what is still to be read
+abbrev pub rest_said : Rest → List Lexeme
+rest_said rest = all_said rest.lexemes.now
 
 -- the word of the lexeme is UTF-8
 abbrev pub HasUtf8 : Lexeme → Type 0

@@ -1,9 +1,10 @@
 //! What the tokens of a text say, asked once.
 
-ghost use Rattle.std.specs.Prelude.{◌≡◌, IfSome, IfOk, Err, None, drop};
+ghost use Rattle.std.specs.Prelude.{◌≡◌, IfSome, IfOk, Err, None, drop, length};
 ghost use Rattle.std.specs.Str.{IsUtf8};
 ghost use Rattle.ax_lex.specs.Lexemes.{lexeme_of, lexemes_of};
-ghost use Rattle.ax_parse.specs.Said.{said, all_said, HasUtf8, HaveUtf8};
+ghost use Rattle.ax_parse.specs.Reads.{Splits};
+ghost use Rattle.ax_parse.specs.Said.{said, all_said, rest_said, HasUtf8, HaveUtf8};
 
 use crate::fault::ParseFault;
 use ax_lex::{Keyword, Symbol, Token, TokenKind};
@@ -25,6 +26,36 @@ pub(crate) enum Lexeme<'a> {
     Symbol(Symbol),
     /// Bytes that are no token of their kind. No token of a text says so.
     Nothing(TokenKind),
+}
+
+/// Lexemes that are still to be read.
+#[derive(Clone, Copy, Debug)]
+pub(crate) struct Rest<'a> {
+    lexemes: &'a [Lexeme<'a>],
+}
+
+impl<'a> Rest<'a> {
+    pub(crate) fn of(lexemes: &'a [Lexeme<'a>]) -> Rest<'a>
+        ensures { rest_said result ≡ all_said lexemes.now }
+    {
+        Rest { lexemes }
+    }
+
+    /// How many lexemes there are.
+    pub(crate) fn len(self) -> usize
+        ensures { result ≡ length (rest_said self.entry) }
+    {
+        self.lexemes.len()
+    }
+
+    /// The first lexeme, and the rest behind it.
+    #[inline]
+    pub(crate) fn split(self) -> Option<(Lexeme<'a>, Rest<'a>)>
+        ensures { Splits result (rest_said self.entry) }
+    {
+        let (first, lexemes) = self.lexemes.split_first()?;
+        Some((*first, Rest { lexemes }))
+    }
 }
 
 /// What the tokens of a text say. `ParseFault::Text` where a word is not UTF-8, which no token has.

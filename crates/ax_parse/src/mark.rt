@@ -5,10 +5,10 @@ ghost use Rattle.ax_grammar.specs.Fronts.{is_mark};
 ghost use Rattle.ax_grammar.specs.Reading.{take};
 ghost use Rattle.ax_parse.specs.Marks.{mark_of};
 ghost use Rattle.ax_parse.specs.Reads.{Finds, Goes};
-ghost use Rattle.ax_parse.specs.Said.{said, all_said};
+ghost use Rattle.ax_parse.specs.Said.{said, rest_said};
 
 use crate::fault::ParseFault;
-use crate::lexeme::Lexeme;
+use crate::lexeme::{Lexeme, Rest};
 use ax_lex::{Keyword, Symbol};
 
 /// A lexeme that the grammar names.
@@ -34,21 +34,18 @@ impl Mark {
 
 /// What is behind the mark, where it stands first.
 #[inline]
-pub(crate) fn behind<'a>(mark: Mark, lexemes: &'a [Lexeme<'a>]) -> Option<&'a [Lexeme<'a>]>
-    ensures { Finds result (take (mark_of mark) (all_said lexemes.now)) }
+pub(crate) fn behind(mark: Mark, lexemes: Rest<'_>) -> Option<Rest<'_>>
+    ensures { Finds result (take (mark_of mark) (rest_said lexemes.entry)) }
 {
-    let (first, rest) = lexemes.split_first()?;
-    if mark.is(*first) { Some(rest) } else { None }
+    let (first, rest) = lexemes.split()?;
+    if mark.is(first) { Some(rest) } else { None }
 }
 
 
 /// What is behind the mark, which has to stand first.
 #[inline]
-pub(crate) fn expect<'a>(
-    mark: Mark,
-    lexemes: &'a [Lexeme<'a>],
-) -> Result<&'a [Lexeme<'a>], ParseFault>
-    ensures { Goes result (take (mark_of mark) (all_said lexemes.now)) }
+pub(crate) fn expect(mark: Mark, lexemes: Rest<'_>) -> Result<Rest<'_>, ParseFault>
+    ensures { Goes result (take (mark_of mark) (rest_said lexemes.entry)) }
 {
     behind(mark, lexemes).ok_or(ParseFault::Text)
 }

@@ -6,10 +6,10 @@ ghost use Rattle.ax_grammar.specs.Reading.{take, take_word};
 ghost use Rattle.ax_grammar.specs.StepReader.{read_in_brackets, read_name_in_brackets, read_name_steps, read_steps, turn_name_step, turn_step};
 ghost use Rattle.ax_grammar.specs.Takes.Mark.{the_symbol};
 ghost use Rattle.ax_parse.specs.Reads.{Goes, Reads, Turns};
-ghost use Rattle.ax_parse.specs.Said.{all_said};
+ghost use Rattle.ax_parse.specs.Said.{rest_said};
 
 use crate::fault::ParseFault;
-use crate::lexeme::Lexeme;
+use crate::lexeme::{Lexeme, Rest};
 use crate::mark::{Mark, expect};
 use crate::value::{copy_of, count, text_of};
 use ax_lex::Symbol;
@@ -17,14 +17,14 @@ use ax_mean::{Items, QueryStep, StepList, Text};
 use std::alloc::Global;
 
 /// A value that was read, and the rest behind it.
-pub(crate) type Parsed<'a, T> = Result<(T, &'a [Lexeme<'a>]), ParseFault>;
+pub(crate) type Parsed<'a, T> = Result<(T, Rest<'a>), ParseFault>;
 
 /// As `Parsed`, `None` where the phrase does not begin here.
-pub(crate) type Turned<'a, T> = Result<Option<(T, &'a [Lexeme<'a>])>, ParseFault>;
+pub(crate) type Turned<'a, T> = Result<Option<(T, Rest<'a>)>, ParseFault>;
 
 /// Steps, as many as there are.
-pub(crate) fn steps<'a>(alloc: Global, lexemes: &'a [Lexeme<'a>]) -> Parsed<'a, StepList>
-    ensures { Reads result (read_steps (all_said lexemes.now)) }
+pub(crate) fn steps<'a>(alloc: Global, lexemes: Rest<'a>) -> Parsed<'a, StepList>
+    ensures { Reads result (read_steps (rest_said lexemes.entry)) }
 {
     let mut found = Items::new(alloc);
     let mut rest = lexemes;
@@ -39,8 +39,8 @@ pub(crate) fn steps<'a>(alloc: Global, lexemes: &'a [Lexeme<'a>]) -> Parsed<'a, 
 }
 
 /// Steps to names, as many as there are.
-pub(crate) fn name_steps<'a>(alloc: Global, lexemes: &'a [Lexeme<'a>]) -> Parsed<'a, Items<Text>>
-    ensures { Reads result (read_name_steps (all_said lexemes.now)) }
+pub(crate) fn name_steps<'a>(alloc: Global, lexemes: Rest<'a>) -> Parsed<'a, Items<Text>>
+    ensures { Reads result (read_name_steps (rest_said lexemes.entry)) }
 {
     let mut found = Items::new(alloc);
     let mut rest = lexemes;
@@ -54,10 +54,10 @@ pub(crate) fn name_steps<'a>(alloc: Global, lexemes: &'a [Lexeme<'a>]) -> Parsed
     Ok((found, rest))
 }
 
-fn step<'a>(alloc: Global, lexemes: &'a [Lexeme<'a>]) -> Turned<'a, QueryStep>
-    ensures { Turns result (turn_step (all_said lexemes.now)) }
+fn step<'a>(alloc: Global, lexemes: Rest<'a>) -> Turned<'a, QueryStep>
+    ensures { Turns result (turn_step (rest_said lexemes.entry)) }
 {
-    match lexemes.split_first() {
+    match lexemes.split() {
         Some((Lexeme::Symbol(Symbol::Dot), rest)) => {
             let (name, rest) = word(alloc, rest)?;
             Ok(Some((QueryStep::Member(name), rest)))
@@ -70,10 +70,10 @@ fn step<'a>(alloc: Global, lexemes: &'a [Lexeme<'a>]) -> Turned<'a, QueryStep>
     }
 }
 
-fn name_step<'a>(alloc: Global, lexemes: &'a [Lexeme<'a>]) -> Turned<'a, Text>
-    ensures { Turns result (turn_name_step (all_said lexemes.now)) }
+fn name_step<'a>(alloc: Global, lexemes: Rest<'a>) -> Turned<'a, Text>
+    ensures { Turns result (turn_name_step (rest_said lexemes.entry)) }
 {
-    match lexemes.split_first() {
+    match lexemes.split() {
         Some((Lexeme::Symbol(Symbol::Dot), rest)) => {
             let (name, rest) = word(alloc, rest)?;
             Ok(Some((name, rest)))
@@ -87,10 +87,10 @@ fn name_step<'a>(alloc: Global, lexemes: &'a [Lexeme<'a>]) -> Turned<'a, Text>
 }
 
 /// What is behind `[`.
-fn in_brackets<'a>(alloc: Global, lexemes: &'a [Lexeme<'a>]) -> Parsed<'a, QueryStep>
-    ensures { Reads result (read_in_brackets (all_said lexemes.now)) }
+fn in_brackets<'a>(alloc: Global, lexemes: Rest<'a>) -> Parsed<'a, QueryStep>
+    ensures { Reads result (read_in_brackets (rest_said lexemes.entry)) }
 {
-    match lexemes.split_first() {
+    match lexemes.split() {
         Some((Lexeme::Text(text), rest)) => {
             let name = text_of(alloc, text)?;
             Ok((QueryStep::Member(name), behind_bracket(rest)?))
@@ -104,10 +104,10 @@ fn in_brackets<'a>(alloc: Global, lexemes: &'a [Lexeme<'a>]) -> Parsed<'a, Query
 }
 
 /// A name behind `[`.
-fn name_in_brackets<'a>(alloc: Global, lexemes: &'a [Lexeme<'a>]) -> Parsed<'a, Text>
-    ensures { Reads result (read_name_in_brackets (all_said lexemes.now)) }
+fn name_in_brackets<'a>(alloc: Global, lexemes: Rest<'a>) -> Parsed<'a, Text>
+    ensures { Reads result (read_name_in_brackets (rest_said lexemes.entry)) }
 {
-    match lexemes.split_first() {
+    match lexemes.split() {
         Some((Lexeme::Text(text), rest)) => {
             let name = text_of(alloc, text)?;
             Ok((name, behind_bracket(rest)?))
@@ -117,17 +117,17 @@ fn name_in_brackets<'a>(alloc: Global, lexemes: &'a [Lexeme<'a>]) -> Parsed<'a, 
 }
 
 /// What is behind `]`, which has to stand first.
-fn behind_bracket<'a>(lexemes: &'a [Lexeme<'a>]) -> Result<&'a [Lexeme<'a>], ParseFault>
-    ensures { Goes result (take (the_symbol CloseBracket) (all_said lexemes.now)) }
+fn behind_bracket(lexemes: Rest<'_>) -> Result<Rest<'_>, ParseFault>
+    ensures { Goes result (take (the_symbol CloseBracket) (rest_said lexemes.entry)) }
 {
     expect(Mark::Symbol(Symbol::CloseBracket), lexemes)
 }
 
 /// A name or a keyword, as it is written.
-fn word<'a>(alloc: Global, lexemes: &'a [Lexeme<'a>]) -> Parsed<'a, Text>
-    ensures { Reads result (take_word (all_said lexemes.now)) }
+fn word<'a>(alloc: Global, lexemes: Rest<'a>) -> Parsed<'a, Text>
+    ensures { Reads result (take_word (rest_said lexemes.entry)) }
 {
-    match lexemes.split_first() {
+    match lexemes.split() {
         Some((Lexeme::Name(word) | Lexeme::Keyword(_, word), rest)) => {
             Ok((copy_of(alloc, word)?, rest))
         }
