@@ -4,7 +4,9 @@
 //! on `ax_mean`, whose queries it makes. Its one contract is that of `parse`.
 #![tactic(auto)]
 
+mod build;
 mod fault;
+mod level;
 mod lexeme;
 mod mark;
 mod step;

@@ -6,7 +6,9 @@ use Rattle.ax_parse.proofs.step.steps.Goals as goal
 
 pub returns-in_err-step : goal.returns-in_err-step
 returns-in_err-step c =
-    grind (arith, c.loop-turn.invariant, c.in_err-step.ensures, turns-failed turn_step c.len-turn-end.result c.loop-turn._turn c.loop-turn.found (rest_said c.loop-turn.rest) (omega arith))
+    grind (arith, c.loop-turn.invariant, c.in_err-step.ensures, turns-failed turn_step
+    c.len-turn-end.result c.loop-turn._turn c.loop-turn.found (rest_said c.loop-turn.rest)
+    (omega arith))
 
 pub returns-in_default : goal.returns-in_default
 returns-in_default c =
