@@ -8,7 +8,7 @@ use Rattle.ax_mean.specs.declared.expr.Chained.{Chained}
 use Rattle.ax_mean.specs.declared.expr.Expr.{Expr}
 use Rattle.ax_mean.specs.declared.expr.Expr.TheVariants as expr
 use Rattle.ax_mean.specs.declared.operator.UnaryOp.{UnaryOp}
-use Rattle.ax_grammar.specs.ExprReader.{inner_at, read_level}
+use Rattle.ax_grammar.specs.ExprReader.{inner_at, read_level, read_atom, read_chain, read_comparison, read_negation, read_operated, read_postfix, read_sign}
 use Rattle.ax_grammar.specs.Levels as grammar
 use Rattle.ax_grammar.specs.Reading.{Reader, nothing_read, at_once}
 use Rattle.ax_grammar.specs.Takes.{Mark}
@@ -71,6 +71,31 @@ denied_at params n = (inner_at params n).denied
 -- what is read behind a sign
 unfoldable pub signed_at : List (Member Tree) → ℕ → UnaryOp → Reader Expr
 signed_at params n = (inner_at params n).signed
+
+-- what is read at a level, from what is read within
+abbrev pub read_by : List (Member Tree) → ℕ → Level → Reader Expr
+read_by params n level.Choice = read_at params n grammar.Level.choice
+read_by params n level.Coalesce =
+    read_chain expr.Coalesce (the_symbol symbol.Coalesce) (read_at params n grammar.Level.disjunction)
+read_by params n level.Disjunction =
+    read_chain expr.Or (the_keyword keyword.Or) (read_at params n grammar.Level.conjunction)
+read_by params n level.Conjunction =
+    read_chain expr.And (the_keyword keyword.And) (read_at params n grammar.Level.negation)
+read_by params n level.Negation =
+    read_negation (denied_at params n) (read_at params n grammar.Level.comparison)
+read_by params n level.Comparison =
+    read_comparison (read_at params n grammar.Level.choice)
+    (read_at params n grammar.Level.concatenation)
+read_by params n level.Concatenation =
+    read_chain expr.Join (the_symbol symbol.Join) (read_at params n grammar.Level.sum)
+read_by params n level.Sum =
+    read_operated expr.Sum grammar.Level.product (read_at params n grammar.Level.product)
+read_by params n level.Product =
+    read_operated expr.Product grammar.Level.sign (read_at params n grammar.Level.sign)
+read_by params n level.Sign =
+    read_sign (signed_at params n) (read_at params n grammar.Level.postfix)
+read_by params n level.Postfix = read_postfix (read_at params n grammar.Level.atom)
+read_by params n level.Atom = read_atom params (read_at params n grammar.Level.choice)
 
 -- what is read where no predicate follows: nothing behind NOT, and else the operand
 abbrev pub alone : Bool → Expr → Reader Expr

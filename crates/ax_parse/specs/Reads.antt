@@ -1,11 +1,13 @@
 -- What a call that reads a phrase gives, beside what the reader of the grammar gives. Out of memory it
 -- gives nothing, and nothing is said.
-use Rattle.std.specs.Prelude.{◌≡◌, List, [], ◌∷◌, Option, Some, None, Result, Ok, Err}
+use Rattle.std.specs.Prelude.{◌≡◌, ℕ, suc, List, [], ◌∷◌, length, nat_le, Option, Some, None, Result, Ok, Err, if◌then◌else◌}
+use Rattle.std.specs.Borrow.{Bor}
 use Rattle.ax_lex.specs.declared.fault.LexFault.{LexFault}
 use Rattle.ax_lex.specs.declared.fault.LexFault.TheVariants as lex
 use Rattle.ax_lex.specs.Lexeme.{Lexeme}
 use Rattle.ax_grammar.specs.Reading.{Turn}
 use Rattle.ax_grammar.specs.Reading.Turn.{ended, failed, went_on}
+use Rattle.ax_grammar.specs.Tables.{most_items}
 use Rattle.ax_parse.specs.declared.fault.ParseFault.{ParseFault}
 use Rattle.ax_parse.specs.declared.fault.ParseFault.TheVariants as parse
 use Rattle.ax_parse.specs.declared.lexeme.Lexeme.{Lexeme as Written}
@@ -48,9 +50,23 @@ abbrev pub IsValue : {X : Type 0} → Result X ParseFault → Option X → Type 
 IsValue (Ok value) found = found ≡ Some value
 IsValue (Err fault) found = fault ≡ parse.Text → found ≡ None
 
+-- as `IsValue`, of a value that is lent
+abbrev pub Values : {X : Type 0} → Result (Bor X) ParseFault → Option X → Type 0
+Values (Ok value) found = found ≡ Some value.now
+Values (Err fault) found = fault ≡ parse.Text → found ≡ None
+
 -- one turn of a repetition
 abbrev pub Turns : {X : Type 0} → Result (Option (X × Rest)) ParseFault → Turn X
     → Type 0
 Turns (Ok (Some read)) turn = turn ≡ went_on read.0 (rest_said read.1)
 Turns (Ok None) turn = turn ≡ ended
 Turns (Err fault) turn = fault ≡ parse.Text → turn ≡ failed
+
+-- one less, where there is one
+abbrev pub IsInside : Option ℕ → ℕ → Type 0
+IsInside (Some inner) depth = depth ≡ suc inner
+IsInside None depth = depth ≡ 0
+
+-- a list of at most so many elements as may be written
+abbrev pub limited : {X : Type 0} → List X → Option (List X)
+limited items = if nat_le (length items) most_items then Some items else None

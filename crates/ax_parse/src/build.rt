@@ -1,13 +1,13 @@
 //! The variants of expressions, each from its parts.
 
-ghost use Rattle.std.specs.Prelude.{◌≡◌, IfOk, pos};
+ghost use Rattle.std.specs.Prelude.{◌≡◌, ◌∷◌, IfOk};
 ghost use Rattle.ax_mean.specs.declared.expr.Expr.TheVariants as expr;
-ghost use Rattle.ax_grammar.specs.ExprReader.{literal, operated_of, stepped_of};
-ghost use Rattle.ax_parse.specs.Levels.{operated_variant};
+ghost use Rattle.ax_grammar.specs.ExprReader.{chain_of, literal, operated_of, stepped_of};
+ghost use Rattle.ax_parse.specs.Levels.{chain_variant, operated_variant};
 
-use crate::level::Operated;
+use crate::level::{Chain, Operated};
 use ax_mean::{
-    Aggregate, BinaryOp, Boxed, Expr, ExprList, Memory, OpChain, StepList, Tree, UnaryOp, Value,
+    Aggregate, BinaryOp, Boxed, Expr, ExprList, Items, Memory, OpChain, StepList, Tree, UnaryOp, Value,
 };
 use std::alloc::Global;
 
@@ -108,6 +108,35 @@ pub(crate) fn total(alloc: Global, aggregate: Aggregate, of: Expr) -> Result<Exp
     ensures { IfOk result (λ built. built ≡ expr.Total aggregate of) }
 {
     Ok(Expr::Total(aggregate, Boxed::new(alloc, of)?))
+}
+
+/// The first, and those behind it.
+pub(crate) fn joined<T: Drop>(first: T, more: Items<T>) -> Result<Items<T>, Memory>
+    ensures { IfOk result (λ items. items ≡ first ∷ more) }
+{
+    let mut items = more.into_vec();
+    items.insert(0, first)?;
+    Ok(Items::from_vec(items))
+}
+
+/// The operand alone, where nothing follows it.
+pub(crate) fn chained(
+    chain: Chain,
+    first: Expr,
+    more: ExprList,
+) -> Result<Expr, Memory>
+    ensures { IfOk result (λ built. built ≡ chain_of (chain_variant chain) (first ∷ more)) }
+{
+    if more.as_slice().is_empty() {
+        return Ok(first);
+    }
+    let operands = joined(first, more)?;
+    match chain {
+        Chain::Coalesce => Ok(Expr::Coalesce(operands)),
+        Chain::Or => Ok(Expr::Or(operands)),
+        Chain::And => Ok(Expr::And(operands)),
+        Chain::Join => Ok(Expr::Join(operands)),
+    }
 }
 
 /// The operand alone, where nothing follows it.

@@ -1,16 +1,16 @@
 //! Expressions, a level at a time. `depth` is how many choices, NOTs and signs may still stand inside
 //! one another.
 
-ghost use Rattle.std.specs.Prelude.{◌≡◌, ◌∷◌};
+ghost use Rattle.std.specs.Prelude.{◌≡◌};
 ghost use Rattle.ax_lex.specs.declared.symbol.Symbol.TheVariants.{Comma, OpenParenthesis};
 ghost use Rattle.ax_mean.specs.declared.expr.Expr.TheVariants as expr;
-ghost use Rattle.ax_grammar.specs.ExprReader.{compare_or_predicate, read_among, read_atom, read_between, read_bracketed, read_branches, read_call, read_chain, read_comparison, read_like, read_list, read_member, read_members, read_negation, read_operated, read_postfix, read_predicate, read_sign, turn_chained};
-ghost use Rattle.ax_grammar.specs.Levels.Level as grammar;
+ghost use Rattle.ax_grammar.specs.ExprReader.{compare_or_predicate, read_among, read_atom, read_between, read_bracketed, read_branches, read_call, read_chain, read_choice, read_comparison, read_like, read_list, read_member, read_members, read_negation, read_operated, read_postfix, read_predicate, read_sign, read_signed, turn_chained};
+ghost use Rattle.ax_grammar.specs.Levels as grammar;
 ghost use Rattle.ax_grammar.specs.Reading.{all_turns, at_once, changed, marked, parted, take_operator, where_marked};
 ghost use Rattle.ax_grammar.specs.Tables.{callee_of, comparison_of};
 ghost use Rattle.ax_grammar.specs.Takes.Mark.{the_symbol};
 ghost use Rattle.ax_parse.specs.Callees.{callee_said};
-ghost use Rattle.ax_parse.specs.Levels.{alone, chain_mark, chain_operand, chain_variant, denied_at, level_of, operated_operand, operated_variant, read_at, signed_at};
+ghost use Rattle.ax_parse.specs.Levels.{alone, chain_mark, chain_operand, chain_variant, denied_at, level_of, operated_operand, operated_variant, read_at, read_by, signed_at};
 ghost use Rattle.ax_parse.specs.Marks.{mark_of};
 ghost use Rattle.ax_parse.specs.Reads.{Reads, Turns};
 ghost use Rattle.ax_parse.specs.Said.{rest_said};
@@ -53,6 +53,14 @@ impl Parser<'_> {
         ensures { Reads result
             (read_at self.now.params.now depth (level_of level) (rest_said lexemes.entry)) }
     {
+        self.by_level(depth, level, lexemes)
+    }
+
+    #[cycle(expr)]
+    fn by_level<'a>(&self, depth: u32, level: Level, lexemes: Rest<'a>) -> Parsed<'a, Expr>
+        ensures { Reads result
+            (read_by self.now.params.now depth level (rest_said lexemes.entry)) }
+    {
         match level {
             Level::Choice => self.choice(depth, lexemes),
             Level::Coalesce => self.chain(depth, Chain::Coalesce, lexemes),
@@ -73,9 +81,21 @@ impl Parser<'_> {
     #[cycle(expr)]
     fn choice<'a>(&self, depth: u32, lexemes: Rest<'a>) -> Parsed<'a, Expr>
         ensures { Reads result
-            (read_at self.now.params.now depth grammar.choice (rest_said lexemes.entry)) }
+            (read_at self.now.params.now depth grammar.Level.choice (rest_said lexemes.entry)) }
     {
-        let depth = inside(depth)?;
+        match inside(depth) {
+            Some(depth) => self.chosen(depth, lexemes),
+            None => Err(ParseFault::Text),
+        }
+    }
+
+    #[cycle(expr)]
+    fn chosen<'a>(&self, depth: u32, lexemes: Rest<'a>) -> Parsed<'a, Expr>
+        ensures { Reads result (read_choice
+            (read_at self.now.params.now depth grammar.Level.coalesce)
+            (read_at self.now.params.now depth grammar.Level.choice)
+            (rest_said lexemes.entry)) }
+    {
         let (test, rest) = self.level(depth, Level::Coalesce, lexemes)?;
         match behind(Mark::Symbol(Symbol::Question), rest) {
             Some(rest) => self.branches(depth, test, rest),
@@ -86,7 +106,7 @@ impl Parser<'_> {
     /// What is behind `test ?`.
     #[cycle(expr)]
     fn branches<'a>(&self, depth: u32, test: Expr, lexemes: Rest<'a>) -> Parsed<'a, Expr>
-        ensures { Reads result (read_branches (read_at self.now.params.now depth grammar.choice)
+        ensures { Reads result (read_branches (read_at self.now.params.now depth grammar.Level.choice)
             test (rest_said lexemes.entry)) }
     {
         let (first, rest) = self.level(depth, Level::Choice, lexemes)?;
@@ -103,47 +123,23 @@ impl Parser<'_> {
             (rest_said lexemes.entry)) }
     {
         let (first, rest) = self.level(depth, chain.operand(), lexemes)?;
-        match behind(chain.mark(), rest) {
-            Some(_) => self.chained(depth, chain, first, rest),
-            None => Ok((first, rest)),
-        }
+        let (more, rest) = self.parts(depth, chain.mark(), chain.operand(), rest)?;
+        Ok((build::chained(chain, first, more)?, rest))
     }
 
-    /// A chain from behind its first operand on, with a mark there.
-    #[cycle(expr)]
-    fn chained<'a>(
-        &self,
-        depth: u32,
-        chain: Chain,
-        first: Expr,
-        lexemes: Rest<'a>,
-    ) -> Parsed<'a, Expr>
-        ensures { Reads result (changed (λ more. chain_of (chain_variant chain) (first ∷ more))
-            (all_turns (marked (chain_mark chain)
-            (read_at self.now.params.now depth (level_of (chain_operand chain))))
-            (rest_said lexemes.entry))) }
-    {
-        let (operands, rest) = self.parts(depth, chain.mark(), chain.operand(), first, lexemes)?;
-        Ok((chain.whole(operands), rest))
-    }
-
-    /// The first and those behind it: `{mark phrase}`.
+    /// `{mark phrase}`
     #[cycle(expr)]
     fn parts<'a>(
         &self,
         depth: u32,
         mark: Mark,
         level: Level,
-        first: Expr,
         lexemes: Rest<'a>,
     ) -> Parsed<'a, ExprList>
-        ensures { Reads result (changed (λ more. first ∷ more)
-            (all_turns (marked (mark_of mark)
-            (read_at self.now.params.now depth (level_of level)))
-            (rest_said lexemes.entry))) }
+        ensures { Reads result (all_turns (marked (mark_of mark)
+            (read_at self.now.params.now depth (level_of level))) (rest_said lexemes.entry)) }
     {
         let mut found = Items::new(self.alloc);
-        found.push(first)?;
         let mut rest = lexemes;
         for _turn in 0..lexemes.len() {
             let Some((part, after)) = self.part(depth, mark, level, rest)? else {
@@ -169,14 +165,15 @@ impl Parser<'_> {
         let Some(rest) = behind(mark, lexemes) else {
             return Ok(None);
         };
-        Ok(Some(self.level(depth, level, rest)?))
+        let (part, rest) = self.level(depth, level, rest)?;
+        Ok(Some((part, rest)))
     }
 
     /// `NOT negation | comparison`
     #[cycle(expr)]
     fn negation<'a>(&self, depth: u32, lexemes: Rest<'a>) -> Parsed<'a, Expr>
         ensures { Reads result (read_negation (denied_at self.now.params.now depth)
-            (read_at self.now.params.now depth grammar.comparison) (rest_said lexemes.entry)) }
+            (read_at self.now.params.now depth grammar.Level.comparison) (rest_said lexemes.entry)) }
     {
         match behind(Mark::Keyword(Keyword::Not), lexemes) {
             Some(rest) => self.denied(depth, rest),
@@ -189,7 +186,18 @@ impl Parser<'_> {
     fn denied<'a>(&self, depth: u32, lexemes: Rest<'a>) -> Parsed<'a, Expr>
         ensures { Reads result (denied_at self.now.params.now depth (rest_said lexemes.entry)) }
     {
-        let depth = inside(depth)?;
+        match inside(depth) {
+            Some(depth) => self.denied_inside(depth, lexemes),
+            None => Err(ParseFault::Text),
+        }
+    }
+
+    #[cycle(expr)]
+    fn denied_inside<'a>(&self, depth: u32, lexemes: Rest<'a>) -> Parsed<'a, Expr>
+        ensures { Reads result (changed expr.Not
+            (read_at self.now.params.now depth grammar.Level.negation
+            (rest_said lexemes.entry))) }
+    {
         let (operand, rest) = self.level(depth, Level::Negation, lexemes)?;
         Ok((build::not(self.alloc, operand)?, rest))
     }
@@ -198,8 +206,8 @@ impl Parser<'_> {
     #[cycle(expr)]
     fn comparison<'a>(&self, depth: u32, lexemes: Rest<'a>) -> Parsed<'a, Expr>
         ensures { Reads result (read_comparison
-            (read_at self.now.params.now depth grammar.choice)
-            (read_at self.now.params.now depth grammar.concatenation)
+            (read_at self.now.params.now depth grammar.Level.choice)
+            (read_at self.now.params.now depth grammar.Level.concatenation)
             (rest_said lexemes.entry)) }
     {
         let (left, rest) = self.level(depth, Level::Concatenation, lexemes)?;
@@ -210,8 +218,8 @@ impl Parser<'_> {
     #[cycle(expr)]
     fn compared<'a>(&self, depth: u32, left: Expr, lexemes: Rest<'a>) -> Parsed<'a, Expr>
         ensures { Reads result (compare_or_predicate
-            (read_at self.now.params.now depth grammar.choice)
-            (read_at self.now.params.now depth grammar.concatenation)
+            (read_at self.now.params.now depth grammar.Level.choice)
+            (read_at self.now.params.now depth grammar.Level.concatenation)
             left (take_operator comparison_of (rest_said lexemes.entry))
             (rest_said lexemes.entry)) }
     {
@@ -233,7 +241,7 @@ impl Parser<'_> {
         lexemes: Rest<'a>,
     ) -> Parsed<'a, Expr>
         ensures { Reads result (changed (expr.Compare op left)
-            (read_at self.now.params.now depth grammar.concatenation
+            (read_at self.now.params.now depth grammar.Level.concatenation
             (rest_said lexemes.entry))) }
     {
         let (right, rest) = self.level(depth, Level::Concatenation, lexemes)?;
@@ -250,8 +258,8 @@ impl Parser<'_> {
         lexemes: Rest<'a>,
     ) -> Parsed<'a, Expr>
         ensures { Reads result (read_predicate
-            (read_at self.now.params.now depth grammar.choice)
-            (read_at self.now.params.now depth grammar.concatenation)
+            (read_at self.now.params.now depth grammar.Level.choice)
+            (read_at self.now.params.now depth grammar.Level.concatenation)
             negated left (alone negated left) (rest_said lexemes.entry)) }
     {
         match predicate_at(lexemes) {
@@ -277,7 +285,7 @@ impl Parser<'_> {
         lexemes: Rest<'a>,
     ) -> Parsed<'a, Expr>
         ensures { Reads result (read_among
-            (read_at self.now.params.now depth grammar.choice) negated left
+            (read_at self.now.params.now depth grammar.Level.choice) negated left
             (rest_said lexemes.entry)) }
     {
         let rest = expect(Mark::Symbol(Symbol::OpenParenthesis), lexemes)?;
@@ -297,7 +305,7 @@ impl Parser<'_> {
         lexemes: Rest<'a>,
     ) -> Parsed<'a, Expr>
         ensures { Reads result (read_between
-            (read_at self.now.params.now depth grammar.concatenation) negated left
+            (read_at self.now.params.now depth grammar.Level.concatenation) negated left
             (rest_said lexemes.entry)) }
     {
         let (low, rest) = self.level(depth, Level::Concatenation, lexemes)?;
@@ -316,7 +324,7 @@ impl Parser<'_> {
         lexemes: Rest<'a>,
     ) -> Parsed<'a, Expr>
         ensures { Reads result (read_like
-            (read_at self.now.params.now depth grammar.concatenation) negated left
+            (read_at self.now.params.now depth grammar.Level.concatenation) negated left
             (rest_said lexemes.entry)) }
     {
         let (pattern, rest) = self.level(depth, Level::Concatenation, lexemes)?;
@@ -376,7 +384,7 @@ impl Parser<'_> {
     #[cycle(expr)]
     fn sign<'a>(&self, depth: u32, lexemes: Rest<'a>) -> Parsed<'a, Expr>
         ensures { Reads result (read_sign (signed_at self.now.params.now depth)
-            (read_at self.now.params.now depth grammar.postfix) (rest_said lexemes.entry)) }
+            (read_at self.now.params.now depth grammar.Level.postfix) (rest_said lexemes.entry)) }
     {
         match sign_at(lexemes) {
             Some((op, rest)) => self.signed(depth, op, rest),
@@ -390,7 +398,23 @@ impl Parser<'_> {
         ensures { Reads result
             (signed_at self.now.params.now depth op (rest_said lexemes.entry)) }
     {
-        let depth = inside(depth)?;
+        match inside(depth) {
+            Some(depth) => self.signed_inside(depth, op, lexemes),
+            None => Err(ParseFault::Text),
+        }
+    }
+
+    #[cycle(expr)]
+    fn signed_inside<'a>(
+        &self,
+        depth: u32,
+        op: UnaryOp,
+        lexemes: Rest<'a>,
+    ) -> Parsed<'a, Expr>
+        ensures { Reads result (read_signed
+            (read_at self.now.params.now depth grammar.Level.sign) op
+            (rest_said lexemes.entry)) }
+    {
         if begins_least(op, lexemes) {
             let (_, rest) = lexemes.split().ok_or(ParseFault::Text)?;
             return Ok((build::literal(Tree::Number(i64::MIN)), rest));
@@ -403,7 +427,7 @@ impl Parser<'_> {
     #[cycle(expr)]
     fn postfix<'a>(&self, depth: u32, lexemes: Rest<'a>) -> Parsed<'a, Expr>
         ensures { Reads result (read_postfix
-            (read_at self.now.params.now depth grammar.atom) (rest_said lexemes.entry)) }
+            (read_at self.now.params.now depth grammar.Level.atom) (rest_said lexemes.entry)) }
     {
         let (first, rest) = self.level(depth, Level::Atom, lexemes)?;
         let (steps, rest) = steps(self.alloc, rest)?;
@@ -414,7 +438,7 @@ impl Parser<'_> {
     #[cycle(expr)]
     fn atom<'a>(&self, depth: u32, lexemes: Rest<'a>) -> Parsed<'a, Expr>
         ensures { Reads result (read_atom self.now.params.now
-            (read_at self.now.params.now depth grammar.choice) (rest_said lexemes.entry)) }
+            (read_at self.now.params.now depth grammar.Level.choice) (rest_said lexemes.entry)) }
     {
         let (first, rest) = lexemes.split().ok_or(ParseFault::Text)?;
         match first {
@@ -441,7 +465,7 @@ impl Parser<'_> {
     #[cycle(expr)]
     fn named<'a>(&self, depth: u32, word: &str, lexemes: Rest<'a>) -> Parsed<'a, Expr>
         ensures { Reads result (where_marked (the_symbol OpenParenthesis)
-            (read_call (read_at self.now.params.now depth grammar.choice) (callee_of word.now))
+            (read_call (read_at self.now.params.now depth grammar.Level.choice) (callee_of word.now))
             (at_once (expr.Alias word.now)) (rest_said lexemes.entry)) }
     {
         match behind(Mark::Symbol(Symbol::OpenParenthesis), lexemes) {
@@ -453,7 +477,7 @@ impl Parser<'_> {
     /// What is behind the `(` of a call.
     #[cycle(expr)]
     fn call<'a>(&self, depth: u32, callee: Callee, lexemes: Rest<'a>) -> Parsed<'a, Expr>
-        ensures { Reads result (read_call (read_at self.now.params.now depth grammar.choice)
+        ensures { Reads result (read_call (read_at self.now.params.now depth grammar.Level.choice)
             (callee_said callee) (rest_said lexemes.entry)) }
     {
         match callee {
@@ -471,11 +495,11 @@ impl Parser<'_> {
 
     /// What is behind an opening bracket.
     #[cycle(expr)]
-    fn bracketed<'a>(&self, depth: u32, open: Symbol, lexemes: Rest<'a>) -> Parsed<'a, Expr>
-        ensures { Reads result (read_bracketed (read_at self.now.params.now depth grammar.choice)
-            open (rest_said lexemes.entry)) }
+    fn bracketed<'a>(&self, depth: u32, begin: Symbol, lexemes: Rest<'a>) -> Parsed<'a, Expr>
+        ensures { Reads result (read_bracketed (read_at self.now.params.now depth grammar.Level.choice)
+            begin (rest_said lexemes.entry)) }
     {
-        match open {
+        match begin {
             Symbol::OpenParenthesis => {
                 let (inner, rest) = self.level(depth, Level::Choice, lexemes)?;
                 Ok((inner, expect(Mark::Symbol(Symbol::CloseParenthesis), rest)?))
@@ -496,7 +520,7 @@ impl Parser<'_> {
     #[cycle(expr)]
     fn list<'a>(&self, depth: u32, close: Symbol, lexemes: Rest<'a>) -> Parsed<'a, ExprList>
         ensures { Reads result (read_list (the_symbol close)
-            (read_at self.now.params.now depth grammar.choice) (rest_said lexemes.entry)) }
+            (read_at self.now.params.now depth grammar.Level.choice) (rest_said lexemes.entry)) }
     {
         if let Some(rest) = behind(Mark::Symbol(close), lexemes) {
             return Ok((Items::new(self.alloc), rest));
@@ -509,41 +533,47 @@ impl Parser<'_> {
     #[cycle(expr)]
     pub(crate) fn expressions<'a>(&self, depth: u32, lexemes: Rest<'a>) -> Parsed<'a, ExprList>
         ensures { Reads result (parted (the_symbol Comma)
-            (read_at self.now.params.now depth grammar.choice) (rest_said lexemes.entry)) }
+            (read_at self.now.params.now depth grammar.Level.choice) (rest_said lexemes.entry)) }
     {
         let (first, rest) = self.level(depth, Level::Choice, lexemes)?;
-        self.parts(depth, Mark::Symbol(Symbol::Comma), Level::Choice, first, rest)
+        let comma = Mark::Symbol(Symbol::Comma);
+        let (more, rest) = self.parts(depth, comma, Level::Choice, rest)?;
+        Ok((build::joined(first, more)?, rest))
     }
 
     /// `[member {"," member}] "}"`
     #[cycle(expr)]
     fn members<'a>(&self, depth: u32, lexemes: Rest<'a>) -> Parsed<'a, MemberList>
-        ensures { Reads result (read_members (read_at self.now.params.now depth grammar.choice)
+        ensures { Reads result (read_members (read_at self.now.params.now depth grammar.Level.choice)
             (rest_said lexemes.entry)) }
     {
         if let Some(rest) = behind(Mark::Symbol(Symbol::CloseBrace), lexemes) {
             return Ok((Items::new(self.alloc), rest));
         }
-        let (first, rest) = self.member(depth, lexemes)?;
-        let (members, rest) = self.more_members(depth, first, rest)?;
+        let (members, rest) = self.some_members(depth, lexemes)?;
         Ok((members, expect(Mark::Symbol(Symbol::CloseBrace), rest)?))
     }
 
-    /// The first and those behind it: `{"," member}`.
+    /// `member {"," member}`
     #[cycle(expr)]
-    fn more_members<'a>(
-        &self,
-        depth: u32,
-        first: Member<Expr>,
-        lexemes: Rest<'a>,
-    ) -> Parsed<'a, MemberList>
-        ensures { Reads result (changed (λ more. first ∷ more)
-            (all_turns (marked (the_symbol Comma)
-            (read_member (read_at self.now.params.now depth grammar.choice)))
-            (rest_said lexemes.entry))) }
+    fn some_members<'a>(&self, depth: u32, lexemes: Rest<'a>) -> Parsed<'a, MemberList>
+        ensures { Reads result (parted (the_symbol Comma)
+            (read_member (read_at self.now.params.now depth grammar.Level.choice))
+            (rest_said lexemes.entry)) }
+    {
+        let (first, rest) = self.member(depth, lexemes)?;
+        let (more, rest) = self.more_members(depth, rest)?;
+        Ok((build::joined(first, more)?, rest))
+    }
+
+    /// `{"," member}`
+    #[cycle(expr)]
+    fn more_members<'a>(&self, depth: u32, lexemes: Rest<'a>) -> Parsed<'a, MemberList>
+        ensures { Reads result (all_turns (marked (the_symbol Comma)
+            (read_member (read_at self.now.params.now depth grammar.Level.choice)))
+            (rest_said lexemes.entry)) }
     {
         let mut found = Items::new(self.alloc);
-        found.push(first)?;
         let mut rest = lexemes;
         for _turn in 0..lexemes.len() {
             let Some((member, after)) = self.next_member(depth, rest)? else {
@@ -558,19 +588,20 @@ impl Parser<'_> {
     #[cycle(expr)]
     fn next_member<'a>(&self, depth: u32, lexemes: Rest<'a>) -> Turned<'a, Member<Expr>>
         ensures { Turns result (marked (the_symbol Comma)
-            (read_member (read_at self.now.params.now depth grammar.choice))
+            (read_member (read_at self.now.params.now depth grammar.Level.choice))
             (rest_said lexemes.entry)) }
     {
         let Some(rest) = behind(Mark::Symbol(Symbol::Comma), lexemes) else {
             return Ok(None);
         };
-        Ok(Some(self.member(depth, rest)?))
+        let (member, rest) = self.member(depth, rest)?;
+        Ok(Some((member, rest)))
     }
 
     /// `label ":" choice`
     #[cycle(expr)]
     fn member<'a>(&self, depth: u32, lexemes: Rest<'a>) -> Parsed<'a, Member<Expr>>
-        ensures { Reads result (read_member (read_at self.now.params.now depth grammar.choice)
+        ensures { Reads result (read_member (read_at self.now.params.now depth grammar.Level.choice)
             (rest_said lexemes.entry)) }
     {
         let (name, rest) = label(self.alloc, lexemes)?;

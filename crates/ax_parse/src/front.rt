@@ -31,14 +31,11 @@ pub(crate) enum Predicate {
     Like,
 }
 
-/// How much may stand inside: one less. `ParseFault::Text` where nothing may.
-pub(crate) fn inside(depth: u32) -> Result<u32, ParseFault>
+/// How much may stand inside: one less. `None` where nothing may.
+pub(crate) fn inside(depth: u32) -> Option<u32>
     ensures { IsInside result depth }
 {
-    if depth == 0 {
-        return Err(ParseFault::Text);
-    }
-    Ok(depth - 1)
+    depth.checked_sub(1)
 }
 
 /// The list, where it has no more elements than may be written.

@@ -1,14 +1,13 @@
 //! The levels of expressions, and the chains of them.
 
 ghost use Rattle.std.specs.Prelude.{◌≡◌};
-ghost use Rattle.ax_grammar.specs.ExprReader.{chain_of, operated_of};
 ghost use Rattle.ax_grammar.specs.Tables.{additive_of, multiplicative_of, operator_before};
-ghost use Rattle.ax_parse.specs.Levels.{chain_mark, chain_operand, chain_variant, level_of, operated_operand, operated_variant};
+ghost use Rattle.ax_parse.specs.Levels.{chain_mark, chain_operand, level_of, operated_operand};
 ghost use Rattle.ax_parse.specs.Marks.{mark_of};
 
 use crate::mark::Mark;
 use ax_lex::{Keyword, Symbol};
-use ax_mean::{BinaryOp, Expr, ExprList};
+use ax_mean::BinaryOp;
 
 /// A level of expressions, from `a ? b : c` to what stands alone or in brackets.
 #[derive(Clone, Copy, Debug)]
@@ -57,18 +56,6 @@ impl Chain {
             Chain::Or => Level::Conjunction,
             Chain::And => Level::Negation,
             Chain::Join => Level::Sum,
-        }
-    }
-
-    /// The chain of these operands.
-    pub(crate) fn whole(self, operands: ExprList) -> Expr
-        ensures { result ≡ chain_variant self operands }
-    {
-        match self {
-            Chain::Coalesce => Expr::Coalesce(operands),
-            Chain::Or => Expr::Or(operands),
-            Chain::And => Expr::And(operands),
-            Chain::Join => Expr::Join(operands),
         }
     }
 }

@@ -5,7 +5,10 @@
 #![tactic(auto)]
 
 mod build;
+mod callee;
+mod expr;
 mod fault;
+mod front;
 mod level;
 mod lexeme;
 mod mark;
