@@ -1,6 +1,0 @@
-pub mod Callees
-pub mod Levels
-pub mod Marks
-pub mod Predicates
-pub mod Reads
-pub mod Said
