@@ -1,6 +1,6 @@
 //! Expressions over one document, with the values worked out by hand from the definitions of the
 //! query language.
-use ax_eval::{Env, Scope, eval, eval_in, is_true_in};
+use ax_eval::{Env, Memory as OutOfMemory, Scope, eval, eval_in, is_true_in};
 use ax_mean::{
     BinaryOp, Boxed, Expr, ExprList, Items, Member, Memory, QueryStep, Text, Tree, Value,
     write_tree,
@@ -77,6 +77,38 @@ fn value_in(alloc: Global, expr: &Expr) -> Result<Vec<u8>, Fail> {
     Ok(printed(alloc, &eval(alloc, expr, &env)?)?)
 }
 
+/// Whether the condition is true of the document, and whether it is where no alias is bound.
+fn holds<'a>(
+    alloc: Global,
+    condition: &'a Expr,
+    alias: &'a Text,
+    document: &'a Tree,
+) -> Result<(bool, bool), OutOfMemory> {
+    let mut scope = Scope::new(alloc);
+    scope.push(alias, document)?;
+    let bound = is_true_in(alloc, condition, &scope)?;
+    scope.pop();
+    let unbound = is_true_in(alloc, condition, &scope)?;
+    Ok((bound, unbound))
+}
+
+/// Whether the expression's value in the document is the number.
+fn is_number<'a>(
+    alloc: Global,
+    expr: &'a Expr,
+    alias: &'a Text,
+    document: &'a Tree,
+    number: i64,
+) -> Result<bool, OutOfMemory> {
+    let mut scope = Scope::new(alloc);
+    scope.push(alias, document)?;
+    let seen = eval_in(alloc, expr, &scope)?;
+    match seen.tree() {
+        Some(Tree::Number(found)) => Ok(*found == number),
+        _ => Ok(false),
+    }
+}
+
 #[test]
 fn a_condition_holds_of_the_bound_document(rt: HostRuntime) -> Result<(), Fail> {
     let alloc = rt.alloc();
@@ -84,11 +116,9 @@ fn a_condition_holds_of_the_bound_document(rt: HostRuntime) -> Result<(), Fail> 
     let document = read_tree(alloc, DOCUMENT.as_bytes())?;
     for (kind, expected) in [("3", true), ("4", false), ("\"3\"", false)] {
         let condition = condition(alloc, kind)?;
-        let mut scope = Scope::new(alloc);
-        scope.push(&alias, &document)?;
-        assert_eq!(rt; is_true_in(alloc, &condition, &scope)?, expected, "{kind}");
-        scope.pop();
-        assert!(rt; !is_true_in(alloc, &condition, &scope)?, "{kind}");
+        let (bound, unbound) = holds(alloc, &condition, &alias, &document)?;
+        assert_eq!(rt; bound, expected, "{kind}");
+        assert!(rt; !unbound, "{kind}");
     }
     Ok(())
 }
@@ -133,10 +163,7 @@ fn what_stands_in_the_document_is_seen_there(rt: HostRuntime) -> Result<(), Fail
     let alloc = rt.alloc();
     let alias = text(alloc, "c")?;
     let document = read_tree(alloc, DOCUMENT.as_bytes())?;
-    let mut scope = Scope::new(alloc);
-    scope.push(&alias, &document)?;
     let expr = member(alloc, "kind")?;
-    let seen = eval_in(alloc, &expr, &scope)?;
-    assert!(rt; matches!(seen.tree(), Some(Tree::Number(3))));
+    assert!(rt; is_number(alloc, &expr, &alias, &document, 3)?);
     Ok(())
 }
