@@ -1,0 +1,5 @@
+pub mod Callees
+pub mod Levels
+pub mod Marks
+pub mod Reads
+pub mod Said
