@@ -1,7 +1,9 @@
-//! The parser of queries: the query that a text is.
+//! The parser of queries, up to expressions: what the tokens of a text say, steps, and expressions of
+//! every level. SELECT and the query that a text is are not read yet, so nothing calls it.
 //!
-//! Stands on `ax_grammar`, which says what query a text is, on `ax_lex`, whose tokens it reads, and
-//! on `ax_mean`, whose queries it makes. Its one contract is that of `parse`.
+//! Stands on `ax_grammar`, which says what is read, on `ax_lex`, whose tokens it reads, and on
+//! `ax_mean`, whose expressions it makes. Each function gives what the reader of `ax_grammar` gives
+//! of the same lexemes; by its laws that is what the grammar relates to them.
 #![tactic(auto)]
 
 mod atoms;
