@@ -1,2 +1,1 @@
-mod expressions;
 mod functions;
