@@ -1,5 +1,6 @@
+pub mod Needs
+pub mod Querying
 pub mod Reply
 pub mod ReplyTexts
 pub mod Run
-pub mod Served
 pub mod Step

@@ -1,19 +1,17 @@
 -- The step of a script line: from a container and the line's bytes to a container and the reply. A
 -- refused line changes nothing.
-use Rattle.std.specs.Prelude.{ℕ, List, map, if◌then◌else◌, Option, Some, None, Result, Ok, Err}
+use Rattle.std.specs.Prelude.{ℕ, List, Option, Some, None, Result, Ok, Err}
 use Rattle.ax_tree.specs.declared.tree.Tree.{Tree}
-use Rattle.ax_tree.specs.CanonicalText.{canonical_text}
 use Rattle.ax_tree.specs.Document.{document_id}
-use Rattle.ax_container.specs.Container.{Container, trees}
+use Rattle.ax_container.specs.Container.{Container}
 use Rattle.ax_container.specs.Upsert.{WriteRefusal, Full, upserted}
-use Rattle.ax_lines.specs.declared.body.Body.{Body}
 use Rattle.ax_lines.specs.declared.line.Line.{Line}
 use Rattle.ax_lines.specs.declared.line.Line.TheVariants as line
 use Rattle.ax_lines.specs.declared.refusal.Refusal.{Refusal}
 use Rattle.ax_lines.specs.declared.refusal.Refusal.TheVariants as refusal
 use Rattle.ax_lines.specs.Lines.{line_of}
 use Rattle.ax_machine.specs.Reply as reply
-use Rattle.ax_machine.specs.Served.{is_served}
+use Rattle.ax_machine.specs.Querying.{query_reply}
 
 -- the refusal of a line whose write is refused
 abbrev pub refusal_of : WriteRefusal → Refusal
@@ -28,12 +26,6 @@ written before (Err why) = (before, reply.Refused (refusal_of why))
 abbrev pub upsert_by : Option (List ℕ) → Tree → Container → Container × reply.Reply
 upsert_by (Some id) tree container = written container (upserted id tree container)
 upsert_by None tree container = (container, reply.Refused refusal.Id)
-
--- the reply to a query: all documents as rows, where it is one that is served
-abbrev pub query_reply : Body → Container → reply.Reply
-query_reply body container =
-    if is_served body then reply.Rows (map canonical_text (trees container)) reply.End
-    else reply.Refused refusal.Query
 
 -- what a line does that is read, and its reply
 abbrev pub served : Container → Result Line Refusal → Container × reply.Reply

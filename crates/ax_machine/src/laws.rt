@@ -1,7 +1,10 @@
 //! Laws of the definitions, each the contract of a function that does nothing.
-ghost use Rattle.std.specs.Prelude.{◌≡◌, ◌++◌, ℕ, List};
+ghost use Rattle.std.specs.Prelude.{◌≡◌, ◌++◌, ℕ, List, Ok};
 ghost use Rattle.std.specs.List.{AllByRecursion};
 ghost use Rattle.ax_container.specs.Container.{Container, IsSound};
+ghost use Rattle.ax_lines.specs.declared.body.Body.{Body};
+ghost use Rattle.ax_lines.specs.declared.line.Line.TheVariants as line_form;
+ghost use Rattle.ax_lines.specs.Lines.{line_of};
 ghost use Rattle.ax_machine.specs.Step.{step};
 ghost use Rattle.ax_machine.specs.Run.{Exchange, Served, lines_of, after, texts, text_of};
 
@@ -32,4 +35,10 @@ pub fn a_step_keeps_soundness()
 pub fn a_run_keeps_soundness()
     ensures { (before : Container) (run : List Exchange) → IsSound before
         → IsSound (after before run) }
+{}
+
+/// A query changes nothing, whatever it is answered.
+pub fn a_query_changes_nothing()
+    ensures { (before : Container) (line : List ℕ) (body : Body)
+        → line_of line ≡ Ok (line_form.Query body) → (step before line).0 ≡ before }
 {}

@@ -1,3 +1,7 @@
+pub mod At
 pub mod Levels
 pub mod Names
+pub mod Seen
 pub mod Turning
+pub mod Whole
+pub mod Words

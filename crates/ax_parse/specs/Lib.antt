@@ -3,3 +3,4 @@ pub mod Levels
 pub mod Marks
 pub mod Reads
 pub mod Said
+pub mod Views

@@ -1,26 +1,32 @@
-//! The parser of queries, up to expressions: what the tokens of a text say, steps, and expressions of
-//! every level. SELECT and the query that a text is are not read yet, so nothing calls it.
+//! The parser of queries: the query that a text is.
 //!
-//! Stands on `ax_grammar`, which says what is read, on `ax_lex`, whose tokens it reads, and on
-//! `ax_mean`, whose expressions it makes. Each function gives what the reader of `ax_grammar` gives
-//! of the same lexemes; by its laws that is what the grammar relates to them.
+//! Stands on `ax_grammar`, which says what query a text is, on `ax_lex`, whose tokens it reads, and
+//! on `ax_mean`, whose queries it makes. Its one contract is that of `parse`.
 #![tactic(auto)]
 
 mod atoms;
 mod build;
 mod callee;
 mod chains;
+mod clause;
 mod comparisons;
 mod expr;
 mod fault;
+mod from;
 mod front;
+mod head;
 mod level;
 mod lexeme;
 mod lists;
 mod mark;
+mod pick;
 mod plain;
 mod prefixes;
+mod query;
 mod step;
+mod tail;
+mod top;
 mod value;
 
 pub use fault::ParseFault;
+pub use top::parse;

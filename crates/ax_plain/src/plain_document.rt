@@ -3,7 +3,8 @@ ghost use Rattle.std.specs.Str.{bytes_eq};
 ghost use Rattle.ax_container.specs.Container.{has_id};
 ghost use Rattle.ax_container.specs.Upsert.{with_tree};
 
-use ax_tree::{Memory, Text, Tree};
+use crate::out_of_memory::Memory;
+use ax_tree::{Text, Tree};
 use std::alloc::Global;
 use std::marker::Model;
 
@@ -36,6 +37,12 @@ impl PlainDocument {
         ensures { result ≡ record { number = number; id = id; tree = tree } }
     {
         PlainDocument { number, id, tree }
+    }
+
+    pub fn number(&self) -> u32
+        ensures { result ≡ self.now.number }
+    {
+        self.number
     }
 
     pub fn tree(&self) -> &Tree

@@ -1,16 +1,20 @@
-ghost use Rattle.std.specs.Prelude.{◌≡◌, map, IfOk, OnOk, OnErr};
+ghost use Rattle.std.specs.Prelude.{◌≡◌, map, Some, IfOk, OnOk, OnErr};
 ghost use Rattle.std.specs.List.{list_any};
 ghost use Rattle.ax_tree.specs.Document.{document_id};
 ghost use Rattle.ax_container.specs.Container.{has_id};
 ghost use Rattle.ax_container.specs.Upsert.{with_tree};
-ghost use Rattle.ax_machine.specs.Step.{step, upsert_by, query_reply};
+ghost use Rattle.ax_machine.specs.Querying.{asked, query_reply, rows_reply};
+ghost use Rattle.ax_machine.specs.Step.{step, upsert_by};
 ghost use Rattle.ax_machine.specs.ReplyTexts.{reply_text};
 
+use crate::out_of_memory::Memory;
 use crate::plain_document::PlainDocument;
+use crate::query_rows::{answer_rows, query_in};
 use crate::reply_lines::{ok_line, refusal_line, rows_lines};
 use ax_lines::{Body, Line, LineFault, Refusal, read_line};
-use ax_machine::is_served;
-use ax_tree::{Memory, Text, Tree, id_of};
+use ax_machine::refusal_of;
+use ax_mean::Query;
+use ax_tree::{Text, Tree, id_of};
 use std::alloc::Global;
 use std::marker::Model;
 
@@ -72,11 +76,22 @@ impl PlainMachine {
     fn query(&self, alloc: Global, body: &Body) -> Result<Vec<u8>, Memory>
         ensures { IfOk result (λ text. text.items ≡ reply_text (query_reply body.now self.now)) }
     {
-        if is_served(body) {
-            rows_lines(alloc, self.documents.as_slice())
-        } else {
-            refusal_line(alloc, Refusal::Query)
+        match query_in(alloc, body)? {
+            Some(query) => self.asked(alloc, &query),
+            None => refusal_line(alloc, Refusal::Query),
         }
+    }
+
+    /// The reply to a query that was read.
+    fn asked(&self, alloc: Global, query: &Query) -> Result<Vec<u8>, Memory>
+        ensures { IfOk result (λ text. text.items ≡ reply_text
+            (rows_reply (asked (Some query.now) self.now))) }
+    {
+        if let Some(refusal) = refusal_of(query) {
+            return refusal_line(alloc, refusal);
+        }
+        let rows = answer_rows(alloc, query, self.documents.as_slice())?;
+        rows_lines(alloc, rows.as_slice())
     }
 
     fn upsert(&mut self, alloc: Global, tree: Tree) -> Result<Vec<u8>, Memory>

@@ -3,9 +3,10 @@ ghost use Rattle.ax_tree.specs.CanonicalText.{canonical_text};
 ghost use Rattle.ax_machine.specs.Reply as reply;
 ghost use Rattle.ax_machine.specs.ReplyTexts.{reply_text, row_text, end_text, refusal_text};
 
-use crate::plain_document::PlainDocument;
+use crate::out_of_memory::Memory;
 use ax_lines::Refusal;
-use ax_tree::{Memory, Tree, write_tree};
+use ax_mean::KeyedRow;
+use ax_tree::{Tree, write_tree};
 use std::alloc::Global;
 
 /// The reply to a write that was made.
@@ -15,17 +16,16 @@ pub fn ok_line(alloc: Global) -> Result<Vec<u8>, Memory>
     Ok(Vec::from_slice(alloc, b"ok\n")?)
 }
 
-/// The reply to a query whose rows are the trees of these documents: a line for each, and a last
-/// line with their count.
-pub fn rows_lines(alloc: Global, documents: &[PlainDocument]) -> Result<Vec<u8>, Memory>
+/// The reply to a query that answers these rows: a line for each, and a last line with their count.
+pub fn rows_lines(alloc: Global, rows: &[KeyedRow]) -> Result<Vec<u8>, Memory>
     ensures { IfOk result (λ text. text.items ≡ reply_text
-        (reply.Rows (map canonical_text (map (λ entry. entry.tree) documents.now)) reply.End)) }
+        (reply.Rows (map (λ row. canonical_text row.shown) rows.now) reply.End)) }
 {
     let mut text = Vec::new(alloc);
-    for document in documents {
-        push_row(alloc, &mut text, document.tree())?;
+    for row in rows {
+        push_row(alloc, &mut text, &row.shown)?;
     }
-    push_end(alloc, &mut text, documents.len())?;
+    push_end(alloc, &mut text, rows.len())?;
     Ok(text)
 }
 

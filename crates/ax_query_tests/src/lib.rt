@@ -1,9 +1,9 @@
 //! Tests of the query language that cross crates: tables of operators and functions with what they
-//! give. They show what no contract says: that a call succeeds where memory is there, and that the
-//! definitions mean what is meant.
+//! give, and of texts that are queries or none. They show what no contract says: that a call succeeds
+//! where memory is there, and that the definitions mean what is meant.
 //!
-//! Stands on `ax_eval` and what it stands on, and on `ax_text`, which reads the tables. It has no
-//! contract: it is code of tests alone.
+//! Stands on `ax_eval` and `ax_parse` and what these stand on, and on `ax_text`, which reads the
+//! tables. It has no contract: it is code of tests alone.
 #![tactic(auto)]
 
 #[cfg(test)]

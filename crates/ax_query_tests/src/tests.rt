@@ -1,1 +1,3 @@
+mod expressions;
 mod functions;
+mod grammar;

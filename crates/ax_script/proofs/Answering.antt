@@ -1,8 +1,8 @@
 -- What runs of lines are answered, one after another.
-use Rattle.std.proofs.Common.{◌≡◌, ℕ, List, [], ◌∷◌, ◌++◌, refl, sym, ap, ◌∙◌, subst, append_assoc}
+use Rattle.std.proofs.Common.{◌≡◌, ℕ, List, [], ◌++◌, refl, sym, ap, ◌∙◌, subst, append_assoc}
 use Rattle.std.proofs.Common.{append-nil, ◌≤◌, length, length-append, arith}
 use Rattle.ax_container.specs.Container.{Container}
-use Rattle.ax_machine.specs.Run.{Exchange, lines_of, after, text_of}
+use Rattle.ax_machine.specs.Run.{Exchange, after, text_of}
 use Rattle.ax_machine.proofs.Runs.{there_is_a_run, lines_of-append, after-append, text_of-append}
 use Rattle.ax_script.specs.Script.{Answers, BeginsToAnswer}
 

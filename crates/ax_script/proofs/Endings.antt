@@ -1,6 +1,6 @@
 -- How a run goes on from piece to piece, and how it ends.
 use Rattle.std.proofs.Common.{◌≡◌, ℕ, ◌+◌, ◌<◌, ◌≤◌, ◌⊎◌, ◌↔◌, List, [], ◌++◌, length, Option, inl}
-use Rattle.std.proofs.Common.{inr, refl, sym, ap, subst, append-nil, length-append, arith}
+use Rattle.std.proofs.Common.{inr, refl, ap, subst, append-nil, length-append, arith}
 use Rattle.std.specs.Io.KnownBytes.{Consumes, Keeps, IsAtEnd}
 use Rattle.std.proofs.KnownBytes.{Consumes-nil, Consumes-trans, Consumes-kept, Appends-nil}
 use Rattle.std.proofs.KnownBytes.{Appends-trans}
@@ -15,15 +15,17 @@ use Rattle.ax_machine.specs.Run.{text_of}
 use Rattle.ax_script.specs.Progress.{ServesLines, BeginsLines, ServesLast, BeginsLast, Progress}
 use Rattle.ax_script.specs.Progress.{Shows, BreaksOff, Ends, BreaksOffWith, EndsEarly, IsOfServing, outlets}
 use Rattle.ax_script.specs.Script.{most_input, BeginsToAnswer, IsTextAt, Runs}
-use Rattle.ax_script.specs.Streams.{Streams, Moves}
+use Rattle.ax_script.specs.Streams.{Streams}
 use Rattle.ax_script.proofs.Answering.{Answers-nil, Answers-append, BeginsToAnswer-append}
 use Rattle.ax_script.proofs.Answering.{stands-append, BeginsToAnswer-all, begins_more}
+use Rattle.ax_script.proofs.Counting.{bounded_append, bounded_longer}
 use Rattle.ax_script.proofs.DiskMoments.{passes_nothing, passes_on}
 use Rattle.ax_script.proofs.DiskMoments.{breaks_off_after, breaks_off_longer, breaks_off_behind}
 
 -- the streams, of which the source or the sink has gone on
-abbrev pub streams : Option (List ℕ) → Option (List ℕ) → Streams
-streams remaining written = record { remaining = remaining; written = written }
+abbrev pub streams : Option (List ℕ) → Option (List ℕ) → ℕ → Streams
+streams remaining written steps =
+    record { remaining = remaining; written = written; steps = steps }
 
 -- no status but `Long` is answered where no more was taken than one run takes
 not_long : (ended : Status) (taken : List ℕ) → length taken ≤ most_input → (ended ≡ status.Long → ⊥)
@@ -80,6 +82,7 @@ runs_nothing before ended at is_text other = record {
     split = AreLines-none [] refl;
     is_text = is_text;
     long = not_long ended [] (omega arith) other;
+    bounded = omega arith;
   };
   no_line = refl;
   no_text = refl;
@@ -113,19 +116,22 @@ module _ (honest : Type 0) where
     stands = refl;
     counted = refl;
     disk = passes_nothing honest before entry rests;
+    bounded = omega arith;
   }
 
   module _ (before : Container) (old new : Streams) (entry here : History) (now : Container)
       (pending : List ℕ) (count : ℕ)
       (p : Progress honest before old new entry here now pending count) where
     -- a piece was read and served
-    pub progress_goes_on : (remaining written : Option (List ℕ)) (exit : History) (later : Container)
+    pub progress_goes_on : (remaining written : Option (List ℕ)) (exit : History) (steps : ℕ)
+        (later : Container)
         (piece rest : List ℕ) (n : ℕ) → Consumes new.remaining remaining piece
         → length piece ≡ n
-        → ServesLines honest now (pending ++ piece) later rest (outlets new.written here)
-        (outlets written exit)
-        → Progress honest before old (streams remaining written) entry exit later rest (count + n)
-    progress_goes_on remaining written exit later piece rest n consumed size more = record {
+        → ServesLines honest now (pending ++ piece) later rest (outlets new.written here new.steps)
+        (outlets written exit steps)
+        → Progress honest before old (streams remaining written steps) entry exit later rest
+        (count + n)
+    progress_goes_on remaining written exit steps later piece rest n consumed size more = record {
       taken = p.taken ++ piece;
       lines = p.lines ++ more.lines;
       run = p.run ++ more.run;
@@ -143,6 +149,9 @@ module _ (honest : Type 0) where
       counted = omega (arith, length-append p.taken piece, p.counted, size);
       disk = passes_on honest before now later p.run more.run entry here exit p.stands p.disk
           more.disk;
+      bounded = bounded_append before now p.run more.run old.steps new.steps steps p.stands
+          p.bounded
+          more.bounded;
     }
 
     -- all that was taken is served
@@ -155,7 +164,8 @@ module _ (honest : Type 0) where
     -- a read failed
     pub ends_by_read_fault : (remaining : Option (List ℕ)) → Keeps new.remaining remaining
         → count ≤ most_input
-        → Ends honest before status.ReadFault old (streams remaining new.written) entry here
+        → Ends honest before status.ReadFault old
+        (streams remaining new.written new.steps) entry here
     ends_by_read_fault remaining kept within = record {
       script = record {
         taken = p.taken;
@@ -172,6 +182,7 @@ module _ (honest : Type 0) where
         split = p.split;
         is_text = p.answers;
         long = not_long status.ReadFault p.taken (omega (arith, within, p.counted)) (λ e. cc);
+        bounded = p.bounded;
       };
       disk = all_behind;
     }
@@ -179,7 +190,8 @@ module _ (honest : Type 0) where
     -- more was taken than one run takes
     pub ends_long : (remaining : Option (List ℕ)) (piece : List ℕ) (n : ℕ)
         → Consumes new.remaining remaining piece → length piece ≡ n
-        → most_input < count + n → Ends honest before status.Long old (streams remaining new.written) entry here
+        → most_input < count + n → Ends honest before status.Long old
+        (streams remaining new.written new.steps) entry here
     ends_long remaining piece n consumed size more =
         let later = there_are_lines (pending ++ piece) in
         let longer = begins_more before p.lines later.0 p.run p.text
@@ -201,20 +213,24 @@ module _ (honest : Type 0) where
             is_text = inl longer.1;
             long =
                 ((λ _. omega (arith, more, size, p.counted, length-append p.taken piece)), (λ _. refl));
+            bounded = bounded_longer before p.run longer.0 old.steps new.steps p.bounded;
           };
           disk = breaks_off_longer honest before p.run longer.0 p.text entry here whole_len all_behind;
         }
 
     -- the serving of a piece broke off
-    record_of_break : (remaining written : Option (List ℕ)) (exit : History) (piece : List ℕ) (n : ℕ) (ended : Status)
+    record_of_break : (remaining written : Option (List ℕ)) (exit : History) (steps : ℕ)
+        (piece : List ℕ) (n : ℕ) (ended : Status)
         → Consumes new.remaining remaining piece → length piece ≡ n
         → count + n ≤ most_input → (begun : BeginsLines honest now (pending ++ piece)
-        (outlets new.written here) (outlets written exit))
+        (outlets new.written here new.steps) (outlets written exit steps))
         → (BeginsToAnswer before (p.lines ++ begun.lines) (p.run ++ begun.run) (p.text ++ begun.text)
         → IsTextAt ended before remaining (p.lines ++ begun.lines) begun.last (p.run ++ begun.run)
         (p.text ++ begun.text))
-        → (ended ≡ status.Long → ⊥) → Ends honest before ended old (streams remaining written) entry exit
-    record_of_break remaining written exit piece n ended consumed size within begun is_text other =
+        → (ended ≡ status.Long → ⊥) → Ends honest before ended old
+        (streams remaining written steps) entry exit
+    record_of_break remaining written exit steps piece n ended consumed size within begun is_text
+        other =
         record {
           script = record {
             taken = p.taken ++ piece;
@@ -235,35 +251,50 @@ module _ (honest : Type 0) where
                 p.answers p.stands begun.answers);
             long = not_long ended (p.taken ++ piece)
                 (omega (arith, within, size, p.counted, length-append p.taken piece)) other;
+            bounded = bounded_append before now p.run begun.run old.steps new.steps steps p.stands
+                p.bounded begun.bounded;
           };
           disk = breaks_off_after honest before now p.run begun.run p.text begun.text entry here exit
               p.stands p.answers.replies p.disk begun.disk;
         }
 
-    pub ends_in_piece : (remaining written : Option (List ℕ)) (exit : History) (piece : List ℕ) (n : ℕ)
+    pub ends_in_piece : (remaining written : Option (List ℕ)) (exit : History) (steps : ℕ)
+        (piece : List ℕ) (n : ℕ)
         (ended : Status) → Consumes new.remaining remaining piece → length piece ≡ n
         → count + n ≤ most_input
-        → BeginsLines honest now (pending ++ piece) (outlets new.written here) (outlets written exit)
+        → BeginsLines honest now (pending ++ piece) (outlets new.written here new.steps)
+        (outlets written exit steps)
         → BreaksOffWith ended
-        → Ends honest before ended old (streams remaining written) entry exit
-    ends_in_piece remaining written exit piece n status.WriteFault consumed size within begun is =
-        record_of_break remaining written exit piece n status.WriteFault consumed size within begun
+        → Ends honest before ended old (streams remaining written steps) entry exit
+    ends_in_piece remaining written exit steps piece n status.WriteFault consumed size within begun
+        is =
+        record_of_break remaining written exit steps piece n status.WriteFault consumed size within
+        begun
         (λ b. inl b) (λ e. cc)
-    ends_in_piece remaining written exit piece n status.DiskFault consumed size within begun is =
-        record_of_break remaining written exit piece n status.DiskFault consumed size within begun
+    ends_in_piece remaining written exit steps piece n status.DiskFault consumed size within begun
+        is =
+        record_of_break remaining written exit steps piece n status.DiskFault consumed size within
+        begun
         (λ b. inl b) (λ e. cc)
-    ends_in_piece remaining written exit piece n status.Memory consumed size within begun is =
-        record_of_break remaining written exit piece n status.Memory consumed size within begun
+    ends_in_piece remaining written exit steps piece n status.Memory consumed size within begun is =
+        record_of_break remaining written exit steps piece n status.Memory consumed size within
+        begun
         (λ b. inl b) (λ e. cc)
-    ends_in_piece remaining written exit piece n status.Done consumed size within begun is = absurd is
-    ends_in_piece remaining written exit piece n status.Words consumed size within begun is = absurd is
-    ends_in_piece remaining written exit piece n status.ReadFault consumed size within begun is =
+    ends_in_piece remaining written exit steps piece n status.Done consumed size within begun is =
         absurd is
-    ends_in_piece remaining written exit piece n (status.Damaged extent at) consumed size within begun
+    ends_in_piece remaining written exit steps piece n status.Words consumed size within begun is =
+        absurd is
+    ends_in_piece remaining written exit steps piece n status.ReadFault consumed size within begun
+        is =
+        absurd is
+    ends_in_piece remaining written exit steps piece n
+        (status.Damaged extent at) consumed size within begun
         is = absurd is
-    ends_in_piece remaining written exit piece n (status.Newer version) consumed size within begun is =
+    ends_in_piece remaining written exit steps piece n
+        (status.Newer version) consumed size within begun is =
         absurd is
-    ends_in_piece remaining written exit piece n status.Long consumed size within begun is = absurd is
+    ends_in_piece remaining written exit steps piece n status.Long consumed size within begun is =
+        absurd is
 
     all_taken : (remaining : Option (List ℕ)) → Consumes new.remaining remaining []
         → Consumes old.remaining remaining p.taken
@@ -272,11 +303,12 @@ module _ (honest : Type 0) where
         (Consumes-trans old.remaining new.remaining remaining p.taken [] p.moves.consumed consumed)
 
     -- the source has ended, and the last piece was served
-    pub ends_done : (remaining written : Option (List ℕ)) (exit : History)
+    pub ends_done : (remaining written : Option (List ℕ)) (exit : History) (steps : ℕ)
         → Consumes new.remaining remaining [] → IsAtEnd remaining → count ≤ most_input
-        → ServesLast honest now pending (outlets new.written here) (outlets written exit)
-        → Ends honest before status.Done old (streams remaining written) entry exit
-    ends_done remaining written exit consumed at_end within last = record {
+        → ServesLast honest now pending (outlets new.written here new.steps)
+        (outlets written exit steps)
+        → Ends honest before status.Done old (streams remaining written steps) entry exit
+    ends_done remaining written exit steps consumed at_end within last = record {
       script = record {
         taken = p.taken;
         lines = p.lines;
@@ -296,80 +328,104 @@ module _ (honest : Type 0) where
               (last_line pending) p.run last.run p.text last.text p.answers p.stands last.answers,
         );
         long = not_long status.Done p.taken (omega (arith, within, p.counted)) (λ e. cc);
+        bounded = bounded_append before now p.run last.run old.steps new.steps steps p.stands
+            p.bounded
+            last.bounded;
       };
       disk = breaks_off_after honest before now p.run last.run p.text last.text entry here exit
           p.stands p.answers.replies p.disk last.disk;
     }
 
     -- the source has ended, and the serving of the last piece broke off
-    last_broke : (remaining written : Option (List ℕ)) (exit : History) (ended : Status)
+    last_broke : (remaining written : Option (List ℕ)) (exit : History) (steps : ℕ) (ended : Status)
         → Consumes new.remaining remaining [] → IsAtEnd remaining → count ≤ most_input
-        → (last : BeginsLast honest now pending (outlets new.written here) (outlets written exit))
+        → (last : BeginsLast honest now pending (outlets new.written here new.steps)
+        (outlets written exit steps))
         → (BeginsToAnswer before (p.lines ++ last_line pending) (p.run ++ last.run)
         (p.text ++ last.text)
         → IsTextAt ended before remaining p.lines pending (p.run ++ last.run) (p.text ++ last.text))
         → (ended ≡ status.Long → ⊥)
-        → Ends honest before ended old (streams remaining written) entry exit
-    last_broke remaining written exit ended consumed at_end within last is_text other = record {
-      script = record {
-        taken = p.taken;
-        lines = p.lines;
-        last = pending;
-        run = p.run ++ last.run;
-        text = p.text ++ last.text;
-        moves = record {
-          consumed = all_taken remaining consumed;
-          appended =
-              Appends-trans old.written new.written written p.text last.text p.moves.appended
-              last.appended;
-        };
-        split = p.split;
-        is_text = is_text (BeginsToAnswer-append before now p.lines
-            (last_line pending) p.run last.run p.text last.text p.answers p.stands last.answers);
-        long = not_long ended p.taken (omega (arith, within, p.counted)) other;
-      };
-      disk = breaks_off_after honest before now p.run last.run p.text last.text entry here exit
-          p.stands p.answers.replies p.disk last.disk;
-    }
+        → Ends honest before ended old (streams remaining written steps) entry exit
+    last_broke remaining written exit steps ended consumed at_end within last is_text other =
+        record {
+          script = record {
+            taken = p.taken;
+            lines = p.lines;
+            last = pending;
+            run = p.run ++ last.run;
+            text = p.text ++ last.text;
+            moves = record {
+              consumed = all_taken remaining consumed;
+              appended =
+                  Appends-trans old.written new.written written p.text last.text p.moves.appended
+                  last.appended;
+            };
+            split = p.split;
+            is_text = is_text (BeginsToAnswer-append before now p.lines
+                (last_line pending) p.run last.run p.text last.text p.answers p.stands last.answers);
+            long = not_long ended p.taken (omega (arith, within, p.counted)) other;
+            bounded = bounded_append before now p.run last.run old.steps new.steps steps p.stands
+                p.bounded
+                last.bounded;
+          };
+          disk = breaks_off_after honest before now p.run last.run p.text last.text entry here exit
+              p.stands p.answers.replies p.disk last.disk;
+        }
 
-    pub ends_at_end : (remaining written : Option (List ℕ)) (exit : History) (ended : Status)
+    pub ends_at_end : (remaining written : Option (List ℕ)) (exit : History) (steps : ℕ)
+        (ended : Status)
         → Consumes new.remaining remaining [] → IsAtEnd remaining → count ≤ most_input
         → (ended ≡ status.Done
-        → ServesLast honest now pending (outlets new.written here) (outlets written exit))
+        → ServesLast honest now pending (outlets new.written here new.steps)
+        (outlets written exit steps))
         → (BreaksOffWith ended
-        → BeginsLast honest now pending (outlets new.written here) (outlets written exit))
+        → BeginsLast honest now pending (outlets new.written here new.steps)
+        (outlets written exit steps))
         → (ended ≡ status.Done) ⊎ BreaksOffWith ended
-        → Ends honest before ended old (streams remaining written) entry exit
-    ends_at_end remaining written exit status.Done consumed at_end within whole prefix only =
-        ends_done remaining written exit consumed at_end within (whole refl)
-    ends_at_end remaining written exit status.WriteFault consumed at_end within whole prefix only =
-        last_broke remaining written exit status.WriteFault consumed at_end within (prefix tt)
+        → Ends honest before ended old (streams remaining written steps) entry exit
+    ends_at_end remaining written exit steps status.Done consumed at_end within whole prefix only =
+        ends_done remaining written exit steps consumed at_end within (whole refl)
+    ends_at_end remaining written exit steps status.WriteFault consumed at_end within whole prefix
+        only =
+        last_broke remaining written exit steps status.WriteFault consumed at_end within (prefix tt)
         (λ b. inr (at_end, b)) (λ e. cc)
-    ends_at_end remaining written exit status.DiskFault consumed at_end within whole prefix only =
-        last_broke remaining written exit status.DiskFault consumed at_end within (prefix tt)
+    ends_at_end remaining written exit steps status.DiskFault consumed at_end within whole prefix
+        only =
+        last_broke remaining written exit steps status.DiskFault consumed at_end within (prefix tt)
         (λ b. inr (at_end, b)) (λ e. cc)
-    ends_at_end remaining written exit status.Memory consumed at_end within whole prefix only =
-        last_broke remaining written exit status.Memory consumed at_end within (prefix tt)
+    ends_at_end remaining written exit steps status.Memory consumed at_end within whole prefix only
+        =
+        last_broke remaining written exit steps status.Memory consumed at_end within (prefix tt)
         (λ b. inr (at_end, b)) (λ e. cc)
-    ends_at_end remaining written exit status.Words consumed at_end within whole prefix (inl is) =
+    ends_at_end remaining written exit steps status.Words consumed at_end within whole prefix
+        (inl is) =
         absurd cc
-    ends_at_end remaining written exit status.Words consumed at_end within whole prefix (inr is) =
+    ends_at_end remaining written exit steps status.Words consumed at_end within whole prefix
+        (inr is) =
         absurd is
-    ends_at_end remaining written exit status.ReadFault consumed at_end within whole prefix (inl is) =
+    ends_at_end remaining written exit steps status.ReadFault consumed at_end within whole prefix
+        (inl is) =
         absurd cc
-    ends_at_end remaining written exit status.ReadFault consumed at_end within whole prefix (inr is) =
+    ends_at_end remaining written exit steps status.ReadFault consumed at_end within whole prefix
+        (inr is) =
         absurd is
-    ends_at_end remaining written exit (status.Damaged extent at) consumed at_end within whole prefix
+    ends_at_end remaining written exit steps
+        (status.Damaged extent at) consumed at_end within whole prefix
         (inl is) = absurd cc
-    ends_at_end remaining written exit (status.Damaged extent at) consumed at_end within whole prefix
+    ends_at_end remaining written exit steps
+        (status.Damaged extent at) consumed at_end within whole prefix
         (inr is) = absurd is
-    ends_at_end remaining written exit (status.Newer version) consumed at_end within whole prefix
+    ends_at_end remaining written exit steps
+        (status.Newer version) consumed at_end within whole prefix
         (inl is) = absurd cc
-    ends_at_end remaining written exit (status.Newer version) consumed at_end within whole prefix
+    ends_at_end remaining written exit steps
+        (status.Newer version) consumed at_end within whole prefix
         (inr is) = absurd is
-    ends_at_end remaining written exit status.Long consumed at_end within whole prefix (inl is) =
+    ends_at_end remaining written exit steps status.Long consumed at_end within whole prefix
+        (inl is) =
         absurd cc
-    ends_at_end remaining written exit status.Long consumed at_end within whole prefix (inr is) =
+    ends_at_end remaining written exit steps status.Long consumed at_end within whole prefix
+        (inr is) =
         absurd is
 
 -- ---- the statuses of a run whose disk, source and sink did not fail

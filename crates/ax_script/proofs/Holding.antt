@@ -1,10 +1,8 @@
 -- What holds of open documents: what a crash leaves of them, and what changes them.
-use Rattle.std.proofs.Common.{◌≡◌, ◌⊎◌, inl, inr, ℕ, ◌+◌, ◌<◌, ◌≤◌, Bool, true, false, List, [], ◌∷◌, ◌++◌, map, length}
-use Rattle.std.proofs.Common.{find, Option, Some, None, is_some, Result, Ok, Err, refl, sym, ap, subst, ◌∙◌, arith}
+use Rattle.std.proofs.Common.{◌≡◌, ◌⊎◌, inl, inr, ℕ, ◌+◌, ◌≤◌, true, List, [], ◌∷◌, length}
+use Rattle.std.proofs.Common.{Option, Some, None, Result, Ok, Err, refl, sym, ap, subst, ◌∙◌, arith}
 use Rattle.std.specs.Prelude.{IsSome, IfOk, IfErr}
 use Rattle.std.proofs.lemmas.Bool.{false≢true}
-use Rattle.std.specs.List.{list_any}
-use Rattle.std.specs.Str.{bytes_eq}
 use Rattle.std.specs.BTreeMap.{get_by_text}
 use Rattle.std.specs.Global.{Vec}
 use Rattle.ax_disk.specs.model.Image.{Image}
@@ -13,8 +11,8 @@ use Rattle.ax_disk.specs.model.Stays.{Rests, Turns}
 use Rattle.ax_disk.specs.laws.StaysLaws.{rests_weaken, stays_start, stays_turn, turns_weaken}
 use Rattle.ax_tree.specs.declared.tree.Tree.{Tree}
 use Rattle.ax_tree.specs.Document.{document_id}
-use Rattle.ax_container.specs.Container.{Entry, Container, has_id, contains, entry_of}
-use Rattle.ax_container.specs.Upsert.{with_tree, replaced, created, upserted, Full}
+use Rattle.ax_container.specs.Container.{Container}
+use Rattle.ax_container.specs.Upsert.{upserted, Full}
 use Rattle.ax_frame.specs.Part.{PartValue}
 use Rattle.ax_pages.specs.Contents.{Contents}
 use Rattle.ax_pages.specs.AfterPart.{after_parts}
@@ -22,7 +20,7 @@ use Rattle.ax_pages.specs.HasContents.{HasContents}
 use Rattle.ax_image.specs.StandsFor.{ContentsStandFor}
 use Rattle.ax_cache.specs.declared.no_pages.NoPages.{NoPages}
 use Rattle.ax_store.specs.declared.store.Store.{Store}
-use Rattle.ax_store.specs.Store.{SameButRoom, store_contents}
+use Rattle.ax_store.specs.Store.{SameButRoom}
 use Rattle.ax_store.proofs.StoreLemmas.{agrees_rests, agrees_same}
 use Rattle.ax_machine.specs.Reply as reply
 use Rattle.ax_machine.specs.ReplyTexts.{reply_text}
@@ -34,11 +32,12 @@ use Rattle.ax_script.specs.declared.serving.AnswerFault.{AnswerFault}
 use Rattle.ax_lines.specs.declared.refusal.Refusal.TheVariants as refusal
 use Rattle.ax_script.specs.declared.documents.Documents.{Documents}
 use Rattle.ax_script.specs.declared.serving.AnswerFault.TheVariants as answer
-use Rattle.ax_script.specs.Documents.{contents_in, number_in, Holds, Works, TellsBy}
+use Rattle.ax_script.specs.Documents.{contents_in, Holds, Works, TellsBy}
 use Rattle.std.proofs.Common.{take, ◌==◌}
 use Rattle.std.specs.Io.KnownBytes.{Appends}
 use Rattle.std.proofs.KnownBytes.{Appends-nil}
 use Rattle.ax_base.specs.Bytes.{AppendsPrefix}
+use Rattle.ax_machine.specs.Needs.{most_steps}
 use Rattle.ax_machine.specs.Run.{Outcome, after_line, reply_to}
 use Rattle.ax_script.specs.Streams.{Outlets}
 use Rattle.ax_script.specs.Progress.{Shows, Reaches, Serves, BeginsToServe, outlets}
@@ -213,20 +212,23 @@ module _ (honest : Type 0) (documents : Documents) (before : Container) (line : 
   pub serves_by : (bytes : List ℕ) → bytes ≡ answered → Appends old.written new.written bytes
       → Works honest documents new.history → Holds documents after
       → (honest → Turns old.history new.history (Shows before) (Shows after))
+      → new.steps ≤ old.steps + most_steps before line
       → Serves honest before line after old new
-  serves_by bytes is added works holds turns = record {
+  serves_by bytes is added works holds turns bounded = record {
     outcome = outcome;
     made = refl;
     replied = subst (Appends old.written new.written) is added;
     turns = turns;
     rests = rests_of honest documents new.history after works holds;
+    bounded = bounded;
   }
 
   pub begins_by : (bytes : List ℕ) → bytes ≡ answered → AppendsPrefix old.written new.written bytes
       → Works honest documents new.history → Holds documents after
       → (honest → Turns old.history new.history (Shows before) (Shows after))
+      → new.steps ≤ old.steps + most_steps before line
       → BeginsToServe honest before line old new
-  begins_by bytes is added works holds turns =
+  begins_by bytes is added works holds turns bounded =
       let prefix = subst (AppendsPrefix old.written new.written) is added in
       record {
         outcome = outcome;
@@ -236,6 +238,7 @@ module _ (honest : Type 0) (documents : Documents) (before : Container) (line : 
             (Reaches before (record { line = line; outcome = outcome } ∷ []) (take prefix.0 answered))
             (λ image shows. reaches_served before line outcome (take prefix.0 answered) image shows)
             (rests_of honest documents new.history after works holds h);
+        bounded = bounded;
       }
 
 either_reached : (before : Container) (line : List ℕ) (outcome : Outcome) (image : Image)
@@ -246,16 +249,18 @@ either_reached before line outcome image (inr shows) = reaches_served before lin
 
 -- nothing was written of the reply
 pub begins_without : (honest : Type 0) (before : Container) (line : List ℕ) (outcome : Outcome)
-    (written : Option (List ℕ)) (old new : History)
+    (written : Option (List ℕ)) (old new : History) (steps now : ℕ)
     → (honest → Turns old new (Shows before) (Shows (after_line before line outcome)))
-    → BeginsToServe honest before line (outlets written old) (outlets written new)
-begins_without honest before line outcome written old new turns = record {
+    → now ≤ steps + most_steps before line
+    → BeginsToServe honest before line (outlets written old steps) (outlets written new now)
+begins_without honest before line outcome written old new steps now turns bounded = record {
   outcome = outcome;
   replied = (0, omega arith, Appends-nil written);
   turns = turns;
   rests = λ h. rests_weaken new (λ image. Shows before image ⊎ Shows (after_line before line outcome) image)
       (Reaches before (record { line = line; outcome = outcome } ∷ []) [])
       (λ image shows. either_reached before line outcome image shows) (turns h).rests;
+  bounded = bounded;
 }
 
 zero_len : (n : ℕ) → true ≡ (n == 0) → n ≡ 0

@@ -1,26 +1,29 @@
 -- The documents in the order of their numbers: those that are still to come behind a number.
-use Rattle.std.proofs.Common.{◌≡◌, ℕ, ◌<◌, ◌≤◌, true, false, cond, List, [], ◌∷◌, ◌++◌, map, length}
+use Rattle.std.proofs.Common.{◌≡◌, ℕ, ◌+◌, ◌<◌, ◌≤◌, true, false, cond, List, [], ◌∷◌, ◌++◌, map, length}
 use Rattle.std.proofs.Common.{find, Option, Some, None, is_some, refl, sym, ap, subst, ◌∙◌}
 use Rattle.std.proofs.Common.{inl, inr, arith}
 use Rattle.std.proofs.Common.{append_assoc, drop}
-use Rattle.std.proofs.lemmas.List.{length-map}
-use Rattle.std.specs.Prelude.{◌≢◌, option_map, nat_lt, if◌then◌else◌}
-use Rattle.std.specs.List.{list_any, flat_map, AllByRecursion}
+use Rattle.std.specs.Prelude.{◌≢◌, IsTrue, option_map, nat_lt, if◌then◌else◌}
+use Rattle.std.specs.List.{list_any, AllByRecursion}
 use Rattle.std.specs.Ordering.{nat_cmp, eq_by_cmp}
 use Rattle.std.specs.Str.{bytes_eq}
 use Rattle.std.specs.FinMap as finite
 use Rattle.std.proofs.lemmas.Bool.{cases_lt, lt-ltb, le-ltb}
 use Rattle.ax_tree.specs.CanonicalText.{canonical_text}
-use Rattle.ax_container.specs.Container.{Entry, Container, has_id, trees}
+use Rattle.ax_container.specs.Container.{Entry, Container, has_id}
 use Rattle.ax_container.specs.Container.{NumbersRise, IdsAreDistinct, IsStored}
 use Rattle.ax_container.proofs.Ids.{same_from_eq}
 use Rattle.ax_container.proofs.Upserts.{or_none}
-use Rattle.ax_pages.specs.Contents.{Contents}
+use Rattle.ax_pages.specs.Contents.{Contents, Numbered}
 use Rattle.ax_pages.proofs.LastPart.{same_number, other_number}
 use Rattle.ax_image.specs.StandsFor.{AreShown, ContentsStandFor}
-use Rattle.ax_image.proofs.Shown.{as_many}
-use Rattle.ax_machine.specs.ReplyTexts.{row_text}
+use Rattle.ax_mean.specs.Answer.{all_rows}
+use Rattle.ax_mean.specs.Rows.{keyed_rows}
+use Rattle.ax_mean.specs.declared.query.KeyedRow.{KeyedRow}
+use Rattle.ax_mean.specs.declared.query.Query.{Query}
 use Rattle.ax_store.specs.Listed.{IsNextAfter}
+use Rattle.ax_text.proofs.RoundTrip.{text-stands}
+use Rattle.ax_text.specs.Reading.{reading, Stands}
 
 -- the entries from the first on whose number is above
 abbrev pub above : ℕ → List Entry → List Entry
@@ -157,14 +160,17 @@ none_above n (p ∷ ps) (e ∷ es) shown none =
 
 -- ---- rows
 
-abbrev pub rows_of : List Entry → List ℕ
-rows_of es = flat_map row_text (map canonical_text (map (λ (entry : Entry). entry.tree) es))
+-- the rows of the entries that are still to come
+abbrev pub keyed_left : Query → List Entry → List KeyedRow
+keyed_left query es = all_rows query (map (λ (entry : Entry). (entry.number, entry.tree)) es)
 
-one_row : (text row : List ℕ) (e : Entry) (later : List Entry) → row ≡ canonical_text e.tree
-    → text ++ rows_of (e ∷ later) ≡ (text ++ row_text row) ++ rows_of later
-one_row text row e later is =
-    ap (λ r. text ++ (row_text r ++ rows_of later)) (sym is)
-    ∙ sym (append_assoc text (row_text row) (rows_of later))
+more_rows : (query : Query) (rows : List KeyedRow) (k : ℕ) (e : Entry) (later : List Entry)
+    → k ≡ e.number
+    → rows ++ keyed_left query (e ∷ later)
+    ≡ (rows ++ keyed_rows query k e.tree) ++ keyed_left query later
+more_rows query rows k e later is =
+    ap (λ n. rows ++ (keyed_rows query n e.tree ++ keyed_left query later)) (sym is)
+    ∙ sym (append_assoc rows (keyed_rows query k e.tree) (keyed_left query later))
 
 -- ---- numbers of ids
 
@@ -217,6 +223,19 @@ stored_above n (e ∷ es) stored =
       | false ↦ stored_above n es stored.1
     ]
 
+-- a number that is held has a text
+pub has_text : (payloads : Numbered) (number : ℕ) (text : Option (List ℕ))
+    → IsTrue (finite.contains_key payloads number)
+    → text ≡ option_map (λ (payload : List ℕ). drop 1 payload) (finite.get payloads number)
+    → is_some text ≡ true
+has_text payloads number text held is =
+    ap is_some is ∙ some_of (finite.get payloads number) held
+  where
+    some_of : (found : Option (List ℕ)) → is_some found ≡ true
+        → is_some (option_map (λ (payload : List ℕ). drop 1 payload) found) ≡ true
+    some_of None e = absurd cc
+    some_of (Some payload) e = refl
+
 -- ---- of what stands for a container
 
 module _ (contents : Contents) (container : Container)
@@ -239,12 +258,6 @@ module _ (contents : Contents) (container : Container)
   at_the_start = all_above 0 0 container.next_number container.entries (omega arith)
       stand.sound.numbers
 
-  pub as_many_rows : finite.len contents.documents ≡ length (map canonical_text (trees container))
-  as_many_rows =
-      finite.len-entries contents.documents ∙ as_many pages container.entries stand.shown
-      ∙ sym (length-map container.entries (λ (entry : Entry). entry.tree))
-      ∙ sym (length-map (trees container) canonical_text)
-
   -- the text that the next document's page has
   pub text_here : (n k : ℕ) (text : Option (List ℕ)) (next : Next n k pages container.entries)
       → text ≡ option_map (λ (payload : List ℕ). drop 1 payload) (finite.get contents.documents k)
@@ -262,14 +275,33 @@ module _ (contents : Contents) (container : Container)
   distinct_here n k next = subst IdsAreDistinct next.here
       (distinct_above n container.entries stand.sound.distinct)
 
-  -- one row more
-  pub rows_on : (n k : ℕ) (text row : List ℕ) (next : Next n k pages container.entries)
-      → row ≡ canonical_text next.entry.tree
-      → rows_of container.entries ≡ text ++ rows_of (above n container.entries)
-      → rows_of container.entries ≡ (text ++ row_text row) ++ rows_of (above k container.entries)
-  rows_on n k text row next is known =
-      known ∙ ap (λ es. text ++ rows_of es) next.here ∙ one_row text row next.entry next.later is
-      ∙ ap (λ es. (text ++ row_text row) ++ rows_of es) (sym next.left)
+  -- the next document's text stands for its tree
+  pub read_here : (n k : ℕ) (text : List ℕ) (next : Next n k pages container.entries)
+      → Some text ≡ option_map (λ (payload : List ℕ). drop 1 payload)
+      (finite.get contents.documents k)
+      → reading text ≡ Stands next.entry.tree
+  read_here n k text next is =
+      let stored = stored_here n k next in
+      let some : Some text ≡ Some (canonical_text next.entry.tree) =
+      text_here n k (Some text) next is in
+      let same : text ≡ canonical_text next.entry.tree = cc in
+      ap reading same ∙ text-stands next.entry.tree stored.well_formed stored.shallow
+
+  -- the rows of one document more
+  pub keyed_on : (query : Query) (n k : ℕ) (rows more all : List KeyedRow)
+      (next : Next n k pages container.entries)
+      → more ≡ rows ++ keyed_rows query k next.entry.tree
+      → all ≡ rows ++ keyed_left query (above n container.entries)
+      → all ≡ more ++ keyed_left query (above k container.entries)
+  keyed_on query n k rows more all next is known =
+      known ∙ ap (λ es. rows ++ keyed_left query es) next.here
+      ∙ more_rows query rows k next.entry next.later next.number_is
+      ∙ (λ i. sym is i ++ keyed_left query (sym next.left i))
+
+  -- one document less is to come
+  pub one_less : (n k : ℕ) (next : Next n k pages container.entries)
+      → length (above n container.entries) ≡ length (above k container.entries) + 1
+  one_less n k next = omega (arith, ap length next.here, ap length next.left)
 
   -- one id more
   pub numbers_on : (n k : ℕ) (id : List ℕ) (old new meant : Option ℕ)

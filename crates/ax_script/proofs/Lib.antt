@@ -1,4 +1,5 @@
 mod Answering
+mod Counting
 mod DiskMoments
 mod Endings
 mod Holding
@@ -6,5 +7,8 @@ mod InOrder
 mod OnDisk
 mod Opened
 mod Outcomes
+mod QueryTexts
+mod Replying
+mod RowLines
 mod ServedLines
 mod Writing

@@ -20,7 +20,7 @@ use Rattle.ax_script.specs.Opening.{Refuses}
 use Rattle.ax_script.specs.Progress.{Shows, Reaches, EndsEarly, Ends, IsOfServing}
 use Rattle.ax_script.specs.Streams.{Streams}
 use Rattle.ax_script.proofs.DiskMoments.{reaches_keeps}
-use Rattle.ax_script.proofs.Endings.{EarlyRun, runs_early, runs_words, complete_of}
+use Rattle.ax_script.proofs.Endings.{EarlyRun}
 use Rattle.ax_script.proofs.Opened.{of_name, idle_since, not_damaged, not_newer}
 
 -- ---- no line was served
@@ -146,27 +146,20 @@ early_not_words (status.Newer version) is e = cc
 early_not_words status.Memory is e = cc
 early_not_words status.Long is e = cc
 
--- over a store that stands for a container no run refuses it
-of_store : (before : Container) (ended : Status) (old new : History) → IsStore before old
-    → Refuses ended old new → (ended ≡ status.Words → ⊥) → IsOfServing ended
-of_store before status.Done old new store refuses other = tt
-of_store before status.Words old new store refuses other = absurd (other refl)
-of_store before status.DiskFault old new store refuses other = tt
-of_store before status.ReadFault old new store refuses other = tt
-of_store before status.WriteFault old new store refuses other = tt
-of_store before (status.Damaged extent at) old new store refuses other =
-    absurd (not_damaged old.reads store.reads.contents extent at store.reads.has refuses.0)
-of_store before (status.Newer version) old new store refuses other =
-    absurd (not_newer old.reads store.reads.contents version store.reads.has refuses.0)
-of_store before status.Memory old new store refuses other = tt
-of_store before status.Long old new store refuses other = tt
-
-pub completes : (DiskRose SourceRose SinkRose : Type 0) (before : Container) (ended : Status)
-    (old new : History) → IsStore before old → Refuses ended old new
-    → (ended ≡ status.Words → ⊥)
-    → (ended ≡ status.DiskFault → DiskRose) → (ended ≡ status.ReadFault → SourceRose)
-    → (ended ≡ status.WriteFault → SinkRose)
-    → (DiskRose → ⊥) → (SourceRose → ⊥) → (SinkRose → ⊥)
+-- over a store that stands for a container opening ends a run for a fault or for want of memory
+pub early_complete : (DiskRose : Type 0) (before : Container) (ended : Status) (old new : History)
+    → IsStore before old → Refuses ended old new → EndsEarly ended
+    → (ended ≡ status.DiskFault → DiskRose) → (DiskRose → ⊥)
     → (ended ≡ status.Done) ⊎ (ended ≡ status.Memory) ⊎ (ended ≡ status.Long)
-completes D R K before ended old new store refuses other disk read write =
-    complete_of D R K ended disk read write (of_store before ended old new store refuses other)
+early_complete D before status.DiskFault old new store refuses early disk no_disk =
+    absurd (no_disk (disk refl))
+early_complete D before (status.Damaged extent at) old new store refuses early disk no_disk =
+    absurd (not_damaged old.reads store.reads.contents extent at store.reads.has refuses.0)
+early_complete D before (status.Newer version) old new store refuses early disk no_disk =
+    absurd (not_newer old.reads store.reads.contents version store.reads.has refuses.0)
+early_complete D before status.Memory old new store refuses early disk no_disk = inr (inl refl)
+early_complete D before status.Done old new store refuses early disk no_disk = absurd early
+early_complete D before status.Words old new store refuses early disk no_disk = absurd early
+early_complete D before status.ReadFault old new store refuses early disk no_disk = absurd early
+early_complete D before status.WriteFault old new store refuses early disk no_disk = absurd early
+early_complete D before status.Long old new store refuses early disk no_disk = absurd early

@@ -1,6 +1,6 @@
 -- What the serving of lines and of pieces of the input leaves.
-use Rattle.std.proofs.Common.{◌≡◌, ◌==◌, false, true≢false, ℕ, ◌≤◌, List, [], ◌∷◌, ◌++◌, length}
-use Rattle.std.proofs.Common.{Option, refl, sym, ap, ◌∙◌, subst, append_assoc, append-nil, take}
+use Rattle.std.proofs.Common.{◌≡◌, ◌==◌, false, true≢false, ℕ, List, [], ◌∷◌, ◌++◌, length}
+use Rattle.std.proofs.Common.{refl, sym, ap, ◌∙◌, subst, append_assoc, append-nil, take}
 use Rattle.std.proofs.Common.{drop, take-append-drop, arith}
 use Rattle.std.proofs.KnownBytes.{Appends-nil, Appends-trans}
 use Rattle.ax_container.specs.Container.{Container}
@@ -8,7 +8,7 @@ use Rattle.ax_lines.specs.ScriptLines.{with_newline, IsOneLine, last_line}
 use Rattle.ax_lines.proofs.Splits.{IsOneLine-append, AreLines-more, AreLines-none, AreLines-one}
 use Rattle.ax_lines.proofs.Splits.{there_are_lines}
 use Rattle.ax_machine.specs.ReplyTexts.{reply_text}
-use Rattle.ax_machine.specs.Run.{Served, Exchange, reply_to, text_of}
+use Rattle.ax_machine.specs.Run.{reply_to, text_of}
 use Rattle.ax_machine.proofs.Runs.{text_of-one}
 use Rattle.ax_disk.specs.model.Stays.{Rests, Turns}
 use Rattle.ax_script.specs.Script.{Answers, BeginsToAnswer}
@@ -16,8 +16,9 @@ use Rattle.ax_script.specs.Progress.{Serves, BeginsToServe, ServesLines, BeginsL
 use Rattle.ax_script.specs.Progress.{BeginsLast, Shows, Passes, BreaksOff}
 use Rattle.ax_script.specs.Streams.{Outlets}
 use Rattle.ax_script.proofs.Answering.{Answers-nil, answers_some, Answers-append}
-use Rattle.ax_script.proofs.Answering.{BeginsToAnswer-append, stands-append, BeginsToAnswer-all}
+use Rattle.ax_script.proofs.Answering.{BeginsToAnswer-append, stands-append}
 use Rattle.ax_script.proofs.Answering.{begins_more, prefix_len}
+use Rattle.ax_script.proofs.Counting.{bounded_one, bounded_append, bounded_longer}
 use Rattle.ax_script.proofs.DiskMoments.{moments_one, passes_nothing, passes_on}
 use Rattle.ax_script.proofs.DiskMoments.{breaks_off_after, breaks_off_longer, breaks_off_behind}
 
@@ -82,6 +83,8 @@ module _ (honest : Type 0) where
     stands = served.made;
     appended = served.replied;
     disk = line_passed before now (pending ++ head) old new served;
+    bounded = bounded_one before (pending ++ head) served.outcome old.steps new.steps
+        served.bounded;
   }
 
   pub begins_line : (before : Container) (pending head : List ℕ) (old new : Outlets)
@@ -97,6 +100,8 @@ module _ (honest : Type 0) where
     answers = begins_to_answer_line before (pending ++ head) old new served;
     appended = served.replied.2;
     disk = line_begun before (pending ++ head) old new served;
+    bounded = bounded_one before (pending ++ head) served.outcome old.steps new.steps
+        served.bounded;
   }
 
   -- ---- some lines, and then more
@@ -114,6 +119,7 @@ module _ (honest : Type 0) where
     stands = refl;
     appended = Appends-nil old.written;
     disk = passes_nothing honest before old.history rests;
+    bounded = omega arith;
   }
 
   pub serves_more : (a b c : Container) (bytes piece pending rest : List ℕ)
@@ -132,6 +138,8 @@ module _ (honest : Type 0) where
     appended = Appends-trans old.written between.written new.written first.text second.text first.appended second.appended;
     disk = passes_on honest a b c first.run second.run old.history between.history new.history
         first.stands first.disk second.disk;
+    bounded = bounded_append a b first.run second.run old.steps between.steps new.steps first.stands
+        first.bounded second.bounded;
   }
 
   pub begins_after : (a b : Container) (bytes piece pending : List ℕ)
@@ -150,6 +158,8 @@ module _ (honest : Type 0) where
     appended = Appends-trans old.written between.written new.written first.text second.text first.appended second.appended;
     disk = breaks_off_after honest a b first.run second.run first.text second.text old.history
         between.history new.history first.stands first.answers.replies first.disk second.disk;
+    bounded = bounded_append a b first.run second.run old.steps between.steps new.steps first.stands
+        first.bounded second.bounded;
   }
 
   -- what begins with some of the bytes begins with all
@@ -168,6 +178,7 @@ module _ (honest : Type 0) where
         appended = begun.appended;
         disk = breaks_off_longer honest a begun.run longer.0 begun.text old.history new.history
             (prefix_len a begun.lines begun.run begun.text begun.answers) begun.disk;
+        bounded = bounded_longer a begun.run longer.0 old.steps new.steps begun.bounded;
       }
 
   -- nothing was written of what the lines among the bytes are answered
@@ -187,6 +198,7 @@ module _ (honest : Type 0) where
         disk = breaks_off_longer honest before [] some.0 [] old.history old.history (omega arith)
             (breaks_off_behind honest before before [] [] old.history old.history refl
             (passes_nothing honest before old.history rests));
+        bounded = omega arith;
       }
 
   -- ---- a piece: a prefix of it is served, and the rest is to do
@@ -279,6 +291,7 @@ module _ (honest : Type 0) where
         (record { line = last; outcome = served.outcome } ∷ [])
         (reply_text (reply_to before last served.outcome)) old.history new.history served.made
         (line_passed before now last old new served);
+    bounded = bounded_one before last served.outcome old.steps new.steps served.bounded;
   }
 
   -- no piece is left, which is no line
@@ -291,6 +304,7 @@ module _ (honest : Type 0) where
     appended = Appends-nil old.written;
     disk = breaks_off_behind honest before before [] [] old.history old.history refl
         (passes_nothing honest before old.history rests);
+    bounded = omega arith;
   }
 
   pub begins_last : (before : Container) (last : List ℕ) (old new : Outlets)
@@ -305,4 +319,5 @@ module _ (honest : Type 0) where
         (sym (last_line-some last some)) (begins_to_answer_line before last old new served);
     appended = served.replied.2;
     disk = line_begun before last old new served;
+    bounded = bounded_one before last served.outcome old.steps new.steps served.bounded;
   }

@@ -1,6 +1,6 @@
 -- The parts of an upsert: they are within the format, and they lead to the upserted container.
-use Rattle.std.proofs.Common.{◌≡◌, ℕ, ◌+◌, ◌^◌, ◌<◌, ◌≤◌, Bool, true, false, cond, List, [], ◌∷◌, ◌++◌, map, length}
-use Rattle.std.proofs.Common.{find, Option, Some, None, is_some, Result, Ok, Err, refl, sym, ap, subst, ◌∙◌, arith}
+use Rattle.std.proofs.Common.{◌≡◌, ℕ, ◌+◌, ◌<◌, ◌≤◌, Bool, true, false, cond, List, [], ◌∷◌, ◌++◌, map, length}
+use Rattle.std.proofs.Common.{find, Option, Some, None, is_some, Ok, Err, refl, sym, ap, subst, ◌∙◌, arith}
 use Rattle.std.specs.Prelude.{option_map, option_and_then, if◌then◌else◌, ◌||◌, nat_le, nat_lt}
 use Rattle.std.specs.List.{list_any}
 use Rattle.std.specs.Option.{option_map_or}
@@ -11,7 +11,7 @@ use Rattle.ax_tree.specs.declared.tree.Tree.{Tree}
 use Rattle.ax_tree.specs.Document.{document_id}
 use Rattle.ax_tree.specs.Nesting.{nesting}
 use Rattle.ax_tree.specs.WellFormed.{IsWellFormed}
-use Rattle.ax_container.specs.Container.{Entry, Container, has_id, contains, entry_of, most_documents, last_number}
+use Rattle.ax_container.specs.Container.{Entry, Container, has_id, entry_of, most_documents, last_number}
 use Rattle.ax_container.specs.Upsert.{Full, with_tree, replaced, created, creation, is_full, upserted}
 use Rattle.ax_container.proofs.Ids.{same_from_eq, bytes_eq-false_sym}
 use Rattle.ax_container.proofs.Upserts.{or_none, upsert_keeps_soundness}

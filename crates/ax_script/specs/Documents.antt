@@ -2,6 +2,8 @@
 use Rattle.std.specs.Prelude.{◌≡◌, ℕ, List, Bool, ◌||◌, nat_le, false, Option, option_map, Result, Ok, Err}
 use Rattle.std.specs.BTreeMap.{get_by_text}
 use Rattle.std.specs.FinMap as map
+use Rattle.std.specs.Io.KnownBytes.{Appends}
+use Rattle.ax_base.specs.Bytes.{AppendsPrefix}
 use Rattle.std.specs.Global.{Vec}
 use Rattle.ax_disk.specs.model.Moments.{History}
 use Rattle.ax_disk.specs.model.Stays.{Turns}
@@ -11,7 +13,7 @@ use Rattle.ax_tree.specs.declared.tree.Tree.{Tree}
 use Rattle.ax_container.specs.Container.{Container, entry_of, most_documents, last_number}
 use Rattle.ax_container.specs.Upsert.{Full, upserted}
 use Rattle.ax_image.specs.StandsFor.{ContentsStandFor}
-use Rattle.ax_machine.specs.Reply.{Reply}
+use Rattle.ax_machine.specs.Reply.{Reply, out_of_memory}
 use Rattle.ax_machine.specs.ReplyTexts.{reply_text}
 use Rattle.ax_script.specs.Progress.{Shows}
 use Rattle.ax_script.specs.declared.documents.Documents.{Documents}
@@ -79,3 +81,15 @@ abbrev pub WorksAfterAnswer : Type 0 → Result (Vec ℕ) AnswerFault → Docume
 WorksAfterAnswer honest (Ok text) documents history = Works honest documents history
 WorksAfterAnswer honest (Err answer.Memory) documents history = Works honest documents history
 WorksAfterAnswer honest (Err answer.Disk) documents history = Unit {0}
+
+-- the reply to an answer was written whole; none is written where the disk failed
+abbrev pub WritesWhole : Result (Vec ℕ) AnswerFault → Option (List ℕ) → Option (List ℕ) → Type 0
+WritesWhole (Ok text) old new = Appends old new text.items
+WritesWhole (Err answer.Memory) old new = Appends old new (reply_text out_of_memory)
+WritesWhole (Err answer.Disk) old new = ⊥
+
+-- a prefix of it was written
+abbrev pub WritesPart : Result (Vec ℕ) AnswerFault → Option (List ℕ) → Option (List ℕ) → Type 0
+WritesPart (Ok text) old new = AppendsPrefix old new text.items
+WritesPart (Err answer.Memory) old new = AppendsPrefix old new (reply_text out_of_memory)
+WritesPart (Err answer.Disk) old new = old ≡ new

@@ -1,5 +1,4 @@
 -- What opening a store answers, by what reads of it gave.
-use Rattle.std.specs.Prelude.{◌≡◌, ℕ, List, Result, Ok, Err}
 use Rattle.ax_disk.specs.model.Moments.{History}
 use Rattle.ax_log.specs.Opening.{Keeps}
 use Rattle.ax_pages.specs.Image.{IsNewer}

@@ -1,6 +1,6 @@
 -- How far a run has come, for the private parts of the top call: in the streams, and on the disk where
 -- that is honest.
-use Rattle.std.specs.Prelude.{◌≡◌, ℕ, ◌≤◌, List, [], ◌∷◌, length, take, Option}
+use Rattle.std.specs.Prelude.{◌≡◌, ℕ, ◌+◌, ◌≤◌, List, [], ◌∷◌, length, take, Option}
 use Rattle.std.specs.List.{concat}
 use Rattle.std.specs.Io.KnownBytes.{Appends}
 use Rattle.ax_base.specs.Bytes.{AppendsPrefix}
@@ -10,6 +10,7 @@ use Rattle.ax_disk.specs.model.Stays.{Rests, Turns}
 use Rattle.ax_container.specs.Container.{Container}
 use Rattle.ax_image.specs.StandsFor.{StandsFor}
 use Rattle.ax_lines.specs.ScriptLines.{AreLines, last_line}
+use Rattle.ax_machine.specs.Needs.{most_steps, most_steps_in}
 use Rattle.ax_machine.specs.ReplyTexts.{reply_text}
 use Rattle.ax_machine.specs.Run.{Outcome, Exchange, after_line, after_lines, reply_to, after, texts}
 use Rattle.ax_script.specs.Script.{Answers, BeginsToAnswer, Runs}
@@ -40,8 +41,8 @@ IsOfServing (status.Damaged extent at) = ⊥
 IsOfServing (status.Newer version) = ⊥
 IsOfServing other = Unit {0}
 
-abbrev pub outlets : Option (List ℕ) → History → Outlets
-outlets written history = record { written = written; history = history }
+abbrev pub outlets : Option (List ℕ) → History → ℕ → Outlets
+outlets written history steps = record { written = written; history = history; steps = steps }
 
 -- the image stands for the container
 abbrev pub Shows : Container → Image → Type 0
@@ -77,6 +78,7 @@ pub record Serves (honest : Type 0) (before : Container) (line : List ℕ) (now 
   pub replied : Appends old.written new.written (reply_text (reply_to before line outcome))
   pub turns : honest → Turns old.history new.history (Shows before) (Shows now)
   pub rests : honest → Rests new.history (Shows now)
+  pub bounded : new.steps ≤ old.steps + most_steps before line
 
 -- the line was answered, and a prefix of its reply was written
 pub record BeginsToServe (honest : Type 0) (before : Container) (line : List ℕ)
@@ -88,6 +90,7 @@ pub record BeginsToServe (honest : Type 0) (before : Container) (line : List ℕ
   pub rests : honest → Rests new.history (Reaches before
       (record { line = line; outcome = outcome } ∷ [])
       (take replied.0 (reply_text (reply_to before line outcome))))
+  pub bounded : new.steps ≤ old.steps + most_steps before line
 
 -- the lines among the bytes were served, and the last piece of the bytes is pending
 pub record ServesLines (honest : Type 0) (before : Container) (bytes : List ℕ) (now : Container)
@@ -100,6 +103,7 @@ pub record ServesLines (honest : Type 0) (before : Container) (bytes : List ℕ)
   pub stands : now ≡ after before run
   pub appended : Appends old.written new.written text
   pub disk : Passes honest before run now old.history new.history
+  pub bounded : new.steps ≤ old.steps + most_steps_in before run
 
 -- a prefix was written of what the lines among the bytes are answered
 pub record BeginsLines (honest : Type 0) (before : Container) (bytes : List ℕ)
@@ -112,6 +116,7 @@ pub record BeginsLines (honest : Type 0) (before : Container) (bytes : List ℕ)
   pub answers : BeginsToAnswer before lines run text
   pub appended : Appends old.written new.written text
   pub disk : BreaksOff honest before run text old.history new.history
+  pub bounded : new.steps ≤ old.steps + most_steps_in before run
 
 -- the last piece was served, if it is a line, and its reply was written
 pub record ServesLast (honest : Type 0) (before : Container) (last : List ℕ)
@@ -121,6 +126,7 @@ pub record ServesLast (honest : Type 0) (before : Container) (last : List ℕ)
   pub answers : Answers before (last_line last) run text
   pub appended : Appends old.written new.written text
   pub disk : BreaksOff honest before run text old.history new.history
+  pub bounded : new.steps ≤ old.steps + most_steps_in before run
 
 -- a prefix was written of what the last piece is answered
 pub record BeginsLast (honest : Type 0) (before : Container) (last : List ℕ)
@@ -130,6 +136,7 @@ pub record BeginsLast (honest : Type 0) (before : Container) (last : List ℕ)
   pub answers : BeginsToAnswer before (last_line last) run text
   pub appended : Appends old.written new.written text
   pub disk : BreaksOff honest before run text old.history new.history
+  pub bounded : new.steps ≤ old.steps + most_steps_in before run
 
 -- so many bytes were taken, the lines among them were served, and the last piece of them is pending
 pub record Progress (honest : Type 0) (before : Container) (old new : Streams) (entry here : History)
@@ -144,6 +151,7 @@ pub record Progress (honest : Type 0) (before : Container) (old new : Streams) (
   pub stands : now ≡ after before run
   pub counted : length taken ≡ count
   pub disk : Passes honest before run now entry here
+  pub bounded : new.steps ≤ old.steps + most_steps_in before run
 
 -- how a run over an open store has ended
 pub record Ends (honest : Type 0) (before : Container) (ended : Status) (old new : Streams)

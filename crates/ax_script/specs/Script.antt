@@ -1,9 +1,10 @@
 -- What a run of the program did with the script that its source held: the bytes that it took, their
 -- lines, how each was answered, and what of the replies it wrote.
-use Rattle.std.specs.Prelude.{◌≡◌, ℕ, ◌^◌, ◌<◌, List, [], ◌++◌, ◌⊎◌, ◌↔◌, length, Option}
+use Rattle.std.specs.Prelude.{◌≡◌, ℕ, ◌+◌, ◌^◌, ◌<◌, ◌≤◌, List, [], ◌++◌, ◌⊎◌, ◌↔◌, length, Option}
 use Rattle.std.specs.Io.KnownBytes.{IsAtEnd}
 use Rattle.ax_container.specs.Container.{Container}
 use Rattle.ax_lines.specs.ScriptLines.{AreLines, last_line}
+use Rattle.ax_machine.specs.Needs.{most_steps_in}
 use Rattle.ax_machine.specs.Run.{Exchange, lines_of, text_of}
 use Rattle.ax_script.specs.Streams.{Streams, Moves}
 use Rattle.ax_script.specs.declared.status.Status.{Status}
@@ -51,3 +52,5 @@ pub record Runs (before : Container) (ended : Status) (old new : Streams) : Type
   pub split : AreLines taken lines last
   pub is_text : IsTextAt ended before new.remaining lines last run text
   pub long : (ended ≡ status.Long) ↔ (most_input < length taken)
+  -- no more steps of work were counted than these lines may count
+  pub bounded : new.steps ≤ old.steps + most_steps_in before run

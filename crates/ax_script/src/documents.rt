@@ -1,13 +1,15 @@
 //! The documents of an open store, and how one is upserted.
 
-ghost use Rattle.std.specs.Prelude.{◌≡◌, ◌<◌, ◌≤◌, ℕ, List, Err, IsTrue, IfSome, None, Some, true};
+ghost use Rattle.std.specs.Prelude.{◌≡◌, ◌<◌, ◌≤◌, ℕ, List, drop, Err, IsTrue, IfSome, IfNone, None, Some, option_map, true};
 ghost use Rattle.std.specs.BTreeMap.{get_by_text};
 ghost use Rattle.ax_faults.specs.Faults.{Rose};
 ghost use Rattle.std.specs.FinMap as map;
 ghost use Rattle.ax_tree.specs.Document.{document_id};
 ghost use Rattle.ax_lines.specs.Asked.{IsStorable};
 ghost use Rattle.ax_container.specs.Container.{Container};
-ghost use Rattle.ax_pages.specs.Contents.{policy_now, is_given};
+ghost use Rattle.ax_pages.specs.Contents.{next_number as next_number_of, policy_now, is_given};
+ghost use Rattle.ax_store.specs.Listed.{IsNextAfter};
+ghost use Rattle.ax_store.specs.Store.{store_contents};
 ghost use Rattle.ax_script.specs.Documents.{contents_in, Holds, Works, is_full_of, TellsUpsert, WorksAfterUpsert};
 
 use crate::batches::{creating, replacing};
@@ -27,6 +29,20 @@ const LAST_NUMBER: u32 = 4_294_967_295;
 
 /// The greatest number of a policy.
 const LAST_POLICY: u8 = 8;
+
+/// The next document after a number, with its text.
+#[tactic(auto, using(crate::proofs::InOrder::has_text))]
+pub(crate) fn next_text(store: &Store<NoPages>, after: u32) -> Option<(u32, &[u8])>
+    ensures found { IfSome result (λ next. IsNextAfter (store_contents store.now).documents after next.0) }
+    ensures text { IfSome result (λ next. Some next.1.now
+        ≡ option_map (λ payload. drop 1 payload) (map.get (store_contents store.now).documents next.0)) }
+    ensures none { IfNone result ((number : ℕ) → after < number
+        → map.get (store_contents store.now).documents number ≡ None) }
+{
+    let number = store.next_document(after)?;
+    let text = store.text_of(number)?;
+    Some((number, text))
+}
 
 /// Why an upsert was not made.
 #[derive(Clone, Copy, Debug, PartialEq, Eq)]
@@ -78,6 +94,13 @@ impl Documents {
         ensures { result ≡ get_by_text self.now.numbers id.now }
     {
         self.numbers.get(id).copied()
+    }
+
+    /// The number that the next creation takes.
+    fn next_number(&self) -> u32
+        ensures { result ≡ next_number_of (contents_in self.now) }
+    {
+        self.store.meta().next
     }
 
     /// Whether no document can be created.
@@ -171,7 +194,7 @@ impl Documents {
         let Some(policy) = self.policy() else {
             return Err(UpsertFault::Memory);
         };
-        let number = self.store.meta().next;
+        let number = self.next_number();
         if number == 0 {
             return Err(UpsertFault::Memory);
         }

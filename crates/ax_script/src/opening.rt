@@ -18,7 +18,7 @@ ghost use Rattle.ax_script.specs.Documents.{Holds, Works};
 ghost use Rattle.ax_script.specs.Opening.{Refuses};
 ghost use Rattle.ax_script.specs.Progress.{Shows, EndsEarly};
 
-use crate::documents::Documents;
+use crate::documents::{Documents, next_text};
 use crate::status::Status;
 use ax_cache::NoPages;
 use ax_disk::Disk;
@@ -71,11 +71,8 @@ fn number_all(alloc: Global, store: Store<NoPages>) -> Result<Documents, Status>
 {
     let mut numbers = BTreeMap::new(alloc);
     let mut number = 0;
-    while let Some(next) = store.next_document(number) {
+    'texts: while let Some((next, text)) = next_text(&store, number) {
         number = next;
-        let Some(text) = store.text_of(number) else {
-            continue;
-        };
         let Ok(()) = put_id(alloc, &mut numbers, number, text) else {
             return Err(Status::Memory);
         };

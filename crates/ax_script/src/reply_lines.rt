@@ -1,13 +1,11 @@
 ghost use Rattle.std.specs.Prelude.{◌≡◌, ◌++◌, map, IfOk, OnOk};
-ghost use Rattle.ax_container.specs.Container.{Container, trees};
-ghost use Rattle.ax_script.specs.Documents.{Holds};
 ghost use Rattle.ax_tree.specs.CanonicalText.{canonical_text};
 ghost use Rattle.ax_machine.specs.Reply as reply;
 ghost use Rattle.ax_machine.specs.ReplyTexts.{reply_text, row_text, end_text, refusal_text};
 
-use crate::documents::Documents;
 use ax_lines::Refusal;
-use ax_tree::Memory;
+use ax_mean::KeyedRow;
+use ax_tree::{Memory, Tree, append_tree};
 use std::alloc::Global;
 
 /// The reply to a line that is not served because memory ran out. It takes none itself.
@@ -24,29 +22,25 @@ pub fn ok_line(alloc: Global) -> Result<Vec<u8>, Memory>
     Ok(Vec::from_slice(alloc, b"ok\n")?)
 }
 
-/// The reply to a query whose rows are all documents: a line for each, written straight into the
-/// reply from the text that the store has, and a last line with their count.
-pub fn rows_lines(alloc: Global, documents: &Documents) -> Result<Vec<u8>, Memory>
-    ensures { (container : Container) → Holds documents.now container → IfOk result (λ text. text.items
-        ≡ reply_text (reply.Rows (map canonical_text (trees container)) reply.End)) }
+/// The reply to a query with these rows: a line for each, whose text is written straight into the
+/// reply, and a last line with their count.
+pub fn rows_lines(alloc: Global, rows: &[KeyedRow]) -> Result<Vec<u8>, Memory>
+    ensures { IfOk result (λ text. text.items
+        ≡ reply_text (reply.Rows (map (λ row. canonical_text row.shown) rows.now) reply.End)) }
 {
     let mut text = Vec::new(alloc);
-    let mut number = 0;
-    while let Some(next) = documents.store.next_document(number) {
-        number = next;
-        if let Some(row) = documents.store.text_of(number) {
-            push_row(&mut text, row)?;
-        }
+    for row in rows {
+        push_row(&mut text, &row.shown)?;
     }
-    push_end(alloc, &mut text, documents.store.documents())?;
+    push_end(alloc, &mut text, rows.len())?;
     Ok(text)
 }
 
-fn push_row(text: &mut Vec<u8>, row: &[u8]) -> Result<(), Memory>
-    ensures { OnOk result (text.new.items ≡ text.old.items ++ row_text row.now) }
+fn push_row(text: &mut Vec<u8>, row: &Tree) -> Result<(), Memory>
+    ensures { OnOk result (text.new.items ≡ text.old.items ++ row_text (canonical_text row.now)) }
 {
     text.extend_from_slice(b"row ")?;
-    text.extend_from_slice(row)?;
+    append_tree(text, row)?;
     text.push(b'\n')?;
     Ok(())
 }

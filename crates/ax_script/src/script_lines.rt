@@ -8,30 +8,32 @@ ghost use Rattle.ax_lines.specs.ScriptLines.{IsOneLine};
 use crate::documents::Documents;
 use crate::serving::serve_line;
 use crate::status::Status;
-use ax_base::{Sink, Source};
+use ax_base::{Sink, Source, Steps};
 use ax_disk::Disk;
 use ax_lines::first_line;
 use std::alloc::Global;
+use std::sync::ledger::Ledger;
 
 /// The most bytes that one run takes.
 const MOST_INPUT: u64 = 1 << 40;
 
 /// Reads the source to its end, piece by piece into `buffer`, and serves each line as soon as its
 /// newline has come, and the last piece at the end.
-pub fn serve_source<D: Disk, S: Source, K: Sink>(
+pub fn serve_source<D: Disk, S: Source, K: Sink, L: Ledger>(
     alloc: Global,
     documents: &mut Documents,
     disk: &mut D,
     source: &mut S,
     sink: &mut K,
+    steps: &mut Steps<L>,
     buffer: &mut [u8],
 ) -> Status
     requires some { 0 < length buffer.old }
     requires few { length buffer.old ≤ 2 ^ 20 }
     requires works { Works (IsTrue (D.is_honest disk.old)) documents.old (D.history disk.old (D.attached disk.old)) }
     ensures script { (before : Container) → Holds documents.old before → Ends (IsTrue (D.is_honest disk.old)) before result
-        (record { remaining = S.rest source.old; written = K.written sink.old })
-        (record { remaining = S.rest source.new; written = K.written sink.new })
+        (record { remaining = S.rest source.old; written = K.written sink.old; steps = steps.old })
+        (record { remaining = S.rest source.new; written = K.written sink.new; steps = steps.new })
         (D.history disk.old (D.attached disk.old)) (D.history disk.new (D.attached disk.new)) }
     ensures disk_fault { result ≡ Status.DiskFault → Rose (D.faults disk.old) (D.faults disk.new) }
     ensures read_fault { result ≡ Status.ReadFault
@@ -43,6 +45,7 @@ pub fn serve_source<D: Disk, S: Source, K: Sink>(
     ensures sink_faults { K.faults sink.old ≤ K.faults sink.new }
     ensures attached { D.attached disk.new ≡ D.attached disk.old }
     ensures honest { D.is_honest disk.new ≡ D.is_honest disk.old }
+    ensures steps { steps.old ≤ steps.new }
     ensures of_serving { IsOfServing result }
 {
     let mut pending = Vec::new(alloc);
@@ -52,13 +55,21 @@ pub fn serve_source<D: Disk, S: Source, K: Sink>(
             return Status::ReadFault;
         };
         if count == 0 {
-            return serve_last(alloc, documents, disk, pending.as_slice(), sink);
+            return serve_last(alloc, documents, disk, pending.as_slice(), sink, steps);
         }
         taken += count as u64;
         if taken > MOST_INPUT {
             return Status::Long;
         }
-        let served = serve_piece(alloc, documents, disk, &mut pending, &buffer[..count], sink);
+        let served = serve_piece(
+            alloc,
+            documents,
+            disk,
+            &mut pending,
+            &buffer[..count],
+            sink,
+            steps,
+        );
         if let Err(status) = served {
             return status;
         }
@@ -67,23 +78,24 @@ pub fn serve_source<D: Disk, S: Source, K: Sink>(
 
 /// Serves the lines whose newline is in the piece; the first of them begins with what is pending.
 /// What follows the last newline is pending then.
-fn serve_piece<D: Disk, K: Sink>(
+fn serve_piece<D: Disk, K: Sink, L: Ledger>(
     alloc: Global,
     documents: &mut Documents,
     disk: &mut D,
     pending: &mut Vec<u8>,
     piece: &[u8],
     sink: &mut K,
+    steps: &mut Steps<L>,
 ) -> Result<(), Status>
     requires line { IsOneLine pending.old.items }
     requires works { Works (IsTrue (D.is_honest disk.old)) documents.old (D.history disk.old (D.attached disk.old)) }
     ensures ok { (before : Container) → Holds documents.old before → OnOk result ((now : Container) × Holds documents.new now
         × ServesLines (IsTrue (D.is_honest disk.old)) before (pending.old.items ++ piece.now) now pending.new.items
-        (outlets (K.written sink.old) (D.history disk.old (D.attached disk.old)))
-        (outlets (K.written sink.new) (D.history disk.new (D.attached disk.new)))) }
+        (outlets (K.written sink.old) (D.history disk.old (D.attached disk.old)) steps.old)
+        (outlets (K.written sink.new) (D.history disk.new (D.attached disk.new)) steps.new)) }
     ensures err { (before : Container) → Holds documents.old before → OnErr result (BeginsLines (IsTrue (D.is_honest disk.old)) before (pending.old.items ++ piece.now)
-        (outlets (K.written sink.old) (D.history disk.old (D.attached disk.old)))
-        (outlets (K.written sink.new) (D.history disk.new (D.attached disk.new)))) }
+        (outlets (K.written sink.old) (D.history disk.old (D.attached disk.old)) steps.old)
+        (outlets (K.written sink.new) (D.history disk.new (D.attached disk.new)) steps.new)) }
     ensures works { OnOk result (Works (IsTrue (D.is_honest disk.old)) documents.new (D.history disk.new (D.attached disk.new))) }
     ensures line { OnOk result (IsOneLine pending.new.items) }
     ensures only { IfErr result BreaksOffWith }
@@ -93,10 +105,11 @@ fn serve_piece<D: Disk, K: Sink>(
     ensures sink_faults { K.faults sink.old ≤ K.faults sink.new }
     ensures attached { D.attached disk.new ≡ D.attached disk.old }
     ensures honest { D.is_honest disk.new ≡ D.is_honest disk.old }
+    ensures steps { steps.old ≤ steps.new }
 {
     let mut rest = piece;
     'lines: while let Some((head, tail)) = first_line(rest) {
-        if let Err(status) = serve_head(alloc, documents, disk, pending, head, sink) {
+        if let Err(status) = serve_head(alloc, documents, disk, pending, head, sink, steps) {
             return Err(status);
         }
         rest = tail;
@@ -109,23 +122,24 @@ fn serve_piece<D: Disk, K: Sink>(
 
 /// Serves the line that is pending and ends with `head`, whose newline has come. A line of which
 /// nothing is pending is served where it stands.
-fn serve_head<D: Disk, K: Sink>(
+fn serve_head<D: Disk, K: Sink, L: Ledger>(
     alloc: Global,
     documents: &mut Documents,
     disk: &mut D,
     pending: &mut Vec<u8>,
     head: &[u8],
     sink: &mut K,
+    steps: &mut Steps<L>,
 ) -> Result<(), Status>
     requires works { Works (IsTrue (D.is_honest disk.old)) documents.old (D.history disk.old (D.attached disk.old)) }
     ensures ok { (before : Container) → Holds documents.old before → OnOk result ((now : Container) × Holds documents.new now
         × Serves (IsTrue (D.is_honest disk.old)) before (pending.old.items ++ head.now) now
-        (outlets (K.written sink.old) (D.history disk.old (D.attached disk.old)))
-        (outlets (K.written sink.new) (D.history disk.new (D.attached disk.new)))) }
+        (outlets (K.written sink.old) (D.history disk.old (D.attached disk.old)) steps.old)
+        (outlets (K.written sink.new) (D.history disk.new (D.attached disk.new)) steps.new)) }
     ensures empty { OnOk result (pending.new.items ≡ []) }
     ensures err { (before : Container) → Holds documents.old before → OnErr result (BeginsToServe (IsTrue (D.is_honest disk.old)) before (pending.old.items ++ head.now)
-        (outlets (K.written sink.old) (D.history disk.old (D.attached disk.old)))
-        (outlets (K.written sink.new) (D.history disk.new (D.attached disk.new)))) }
+        (outlets (K.written sink.old) (D.history disk.old (D.attached disk.old)) steps.old)
+        (outlets (K.written sink.new) (D.history disk.new (D.attached disk.new)) steps.new)) }
     ensures works { OnOk result (Works (IsTrue (D.is_honest disk.old)) documents.new (D.history disk.new (D.attached disk.new))) }
     ensures only { IfErr result BreaksOffWith }
     ensures disk_cause { result ≡ Err Status.DiskFault → Rose (D.faults disk.old) (D.faults disk.new) }
@@ -134,14 +148,15 @@ fn serve_head<D: Disk, K: Sink>(
     ensures sink_faults { K.faults sink.old ≤ K.faults sink.new }
     ensures attached { D.attached disk.new ≡ D.attached disk.old }
     ensures honest { D.is_honest disk.new ≡ D.is_honest disk.old }
+    ensures steps { steps.old ≤ steps.new }
 {
     if pending.is_empty() {
-        return serve_line(alloc, documents, disk, head, sink);
+        return serve_line(alloc, documents, disk, head, sink, steps);
     }
     let Ok(()) = pending.extend_from_slice(head) else {
         return Err(Status::Memory);
     };
-    let served = serve_line(alloc, documents, disk, pending.as_slice(), sink);
+    let served = serve_line(alloc, documents, disk, pending.as_slice(), sink, steps);
     if let Err(status) = served {
         return Err(status);
     }
@@ -150,20 +165,21 @@ fn serve_head<D: Disk, K: Sink>(
 }
 
 /// Serves the last piece of the input, which is a line unless it is empty.
-fn serve_last<D: Disk, K: Sink>(
+fn serve_last<D: Disk, K: Sink, L: Ledger>(
     alloc: Global,
     documents: &mut Documents,
     disk: &mut D,
     pending: &[u8],
     sink: &mut K,
+    steps: &mut Steps<L>,
 ) -> Status
     requires works { Works (IsTrue (D.is_honest disk.old)) documents.old (D.history disk.old (D.attached disk.old)) }
     ensures done { (before : Container) → Holds documents.old before → result ≡ Status.Done → ServesLast (IsTrue (D.is_honest disk.old)) before pending.now
-        (outlets (K.written sink.old) (D.history disk.old (D.attached disk.old)))
-        (outlets (K.written sink.new) (D.history disk.new (D.attached disk.new))) }
+        (outlets (K.written sink.old) (D.history disk.old (D.attached disk.old)) steps.old)
+        (outlets (K.written sink.new) (D.history disk.new (D.attached disk.new)) steps.new) }
     ensures prefix { (before : Container) → Holds documents.old before → BreaksOffWith result → BeginsLast (IsTrue (D.is_honest disk.old)) before pending.now
-        (outlets (K.written sink.old) (D.history disk.old (D.attached disk.old)))
-        (outlets (K.written sink.new) (D.history disk.new (D.attached disk.new))) }
+        (outlets (K.written sink.old) (D.history disk.old (D.attached disk.old)) steps.old)
+        (outlets (K.written sink.new) (D.history disk.new (D.attached disk.new)) steps.new) }
     ensures only { (result ≡ Status.Done) ⊎ BreaksOffWith result }
     ensures disk_cause { result ≡ Status.DiskFault → Rose (D.faults disk.old) (D.faults disk.new) }
     ensures sink_cause { result ≡ Status.WriteFault → Rose (K.faults sink.old) (K.faults sink.new) }
@@ -171,11 +187,12 @@ fn serve_last<D: Disk, K: Sink>(
     ensures sink_faults { K.faults sink.old ≤ K.faults sink.new }
     ensures attached { D.attached disk.new ≡ D.attached disk.old }
     ensures honest { D.is_honest disk.new ≡ D.is_honest disk.old }
+    ensures steps { steps.old ≤ steps.new }
 {
     if pending.is_empty() {
         return Status::Done;
     }
-    match serve_line(alloc, documents, disk, pending, sink) {
+    match serve_line(alloc, documents, disk, pending, sink, steps) {
         Ok(()) => Status::Done,
         Err(status) => status,
     }

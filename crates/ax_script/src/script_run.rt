@@ -39,13 +39,14 @@ pub fn run<D: Disk, S: Source, K: Sink, L: Ledger>(
     ensures untouched { result ≡ Status.Words
         → (disk.new ≡ disk.old) × (source.new ≡ source.old) × (sink.new ≡ sink.old) }
 
-    // What was written is the text of a run of the lines that were taken, whole at `Done`; and at each
-    // moment a crash leaves the container after some of these lines.
+    // What was written is the text of a run of the lines that were taken, whole at `Done`; no more
+    // steps of work were counted than these lines may count; and at each moment a crash leaves the
+    // container after some of these lines.
     ensures script { IsTrue (D.is_honest disk.old) → (before : Container)
         → IsStore before (D.history disk.old (D.store_named (store_word words.now)))
         → RunsOnDisk before result
-        (record { remaining = S.rest source.old; written = K.written sink.old })
-        (record { remaining = S.rest source.new; written = K.written sink.new })
+        (record { remaining = S.rest source.old; written = K.written sink.old; steps = steps.old })
+        (record { remaining = S.rest source.new; written = K.written sink.new; steps = steps.new })
         (D.history disk.old (D.store_named (store_word words.now)))
         (D.history disk.new (D.store_named (store_word words.now))) }
 
@@ -70,46 +71,53 @@ pub fn run<D: Disk, S: Source, K: Sink, L: Ledger>(
     ensures sink_faults { K.faults sink.old ≤ K.faults sink.new }
     ensures honest { D.is_honest disk.new ≡ D.is_honest disk.old }
 
-    // No step is counted yet.
-    ensures steps { steps.new ≡ steps.old }
+    ensures steps { steps.old ≤ steps.new }
 {
     if !is_run(words) {
         return Status::Words;
     }
-    serve(alloc, store_name(words), disk, source, sink)
+    serve(alloc, words, disk, source, sink, steps)
 }
 
-/// Opens the store of a name, and serves the source over it.
-fn serve<D: Disk, S: Source, K: Sink>(
+/// Opens the store that the words name, and serves the source over it.
+fn serve<D: Disk, S: Source, K: Sink, L: Ledger>(
     alloc: Global,
-    name: &str,
+    words: &[String],
     disk: &mut D,
     source: &mut S,
     sink: &mut K,
+    steps: &mut Steps<L>,
 ) -> Status
     ensures script { IsTrue (D.is_honest disk.old) → (before : Container)
-        → IsStore before (D.history disk.old (D.store_named name.now))
+        → IsStore before (D.history disk.old (D.store_named (store_word words.now)))
         → RunsOnDisk before result
-        (record { remaining = S.rest source.old; written = K.written sink.old })
-        (record { remaining = S.rest source.new; written = K.written sink.new })
-        (D.history disk.old (D.store_named name.now)) (D.history disk.new (D.store_named name.now)) }
+        (record { remaining = S.rest source.old; written = K.written sink.old; steps = steps.old })
+        (record { remaining = S.rest source.new; written = K.written sink.new; steps = steps.new })
+        (D.history disk.old (D.store_named (store_word words.now))) (D.history disk.new (D.store_named (store_word words.now))) }
     ensures disk_fault { result ≡ Status.DiskFault → Rose (D.faults disk.old) (D.faults disk.new) }
     ensures read_fault { result ≡ Status.ReadFault
         → Rose (S.faults source.old) (S.faults source.new) }
     ensures write_fault { result ≡ Status.WriteFault
         → Rose (K.faults sink.old) (K.faults sink.new) }
     ensures refused { IsTrue (D.is_honest disk.old) → Refuses result
-        (D.history disk.old (D.store_named name.now)) (D.history disk.new (D.store_named name.now)) }
+        (D.history disk.old (D.store_named (store_word words.now))) (D.history disk.new (D.store_named (store_word words.now))) }
     ensures disk_faults { D.faults disk.old ≤ D.faults disk.new }
     ensures source_faults { S.faults source.old ≤ S.faults source.new }
     ensures sink_faults { K.faults sink.old ≤ K.faults sink.new }
     ensures honest { D.is_honest disk.new ≡ D.is_honest disk.old }
+    ensures complete { IsTrue (D.is_honest disk.old) → (before : Container)
+        → IsStore before (D.history disk.old (D.store_named (store_word words.now)))
+        → ¬ Rose (D.faults disk.old) (D.faults disk.new)
+        → ¬ Rose (S.faults source.old) (S.faults source.new)
+        → ¬ Rose (K.faults sink.old) (K.faults sink.new) → (result ≡ Status.Done)
+        ⊎ (result ≡ Status.Memory) ⊎ (result ≡ Status.Long) }
+    ensures steps { steps.old ≤ steps.new }
     ensures not_words { result ≢ Status.Words }
 {
     let Ok(mut buffer) = vec![in alloc; 0u8; PIECE] else {
         return Status::Memory;
     };
-    match open_documents(alloc, disk, name) {
+    match open_documents(alloc, disk, store_name(words)) {
         Ok(mut documents) => {
             serve_source(
                 alloc,
@@ -117,6 +125,7 @@ fn serve<D: Disk, S: Source, K: Sink>(
                 disk,
                 source,
                 sink,
+                steps,
                 buffer.as_mut_slice(),
             )
         }

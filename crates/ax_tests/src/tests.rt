@@ -1,9 +1,11 @@
 mod bodies;
 mod borders;
+mod crashes;
 mod disks;
 mod faults;
 mod lines;
 mod plain_machine;
+mod queries;
 mod rows;
 mod script;
 mod statuses;

@@ -66,6 +66,7 @@ fn refusals_have_numbers_and_words(rt: HostRuntime) {
         (Refusal::Large, 6, "large"),
         (Refusal::Memory, 9, "memory"),
         (Refusal::Query, 10, "query"),
+        (Refusal::Order, 11, "order"),
         (Refusal::Full, 15, "full"),
     ] {
         assert_eq!(rt; refusal.number(), number, "{word}");

@@ -21,7 +21,26 @@ fn the_plain_machine_answers(rt: HostRuntime) -> Result<(), Fail> {
             "row {\"a\":2,\"id\":\"a\"}\nrow {\"id\":\"b\"}\nend 2\n",
         ),
         ("QUERY {}", "err 10 query\n"),
-        ("QUERY {\"query\":\"select * from c\"}", "err 10 query\n"),
+        (
+            "QUERY {\"query\":\"select value c.a from c\"}",
+            "row 2\nend 1\n",
+        ),
+        (
+            "QUERY {\"query\":\"SELECT VALUE c.id FROM c ORDER BY c.a\"}",
+            "row \"b\"\nrow \"a\"\nend 2\n",
+        ),
+        (
+            "QUERY {\"query\":\"SELECT * FROM c ORDER BY c._etag\"}",
+            "err 11 order\n",
+        ),
+        (
+            "QUERY {\"query\":\"SELECT VALUE COUNT(1) FROM c\"}",
+            "err 10 query\n",
+        ),
+        (
+            "QUERY {\"query\":\"SELECT VALUE d FROM c\"}",
+            "err 10 query\n",
+        ),
         ("UPSERT {}", "err 5 id\n"),
     ];
     for (line, expected) in table {
@@ -31,38 +50,126 @@ fn the_plain_machine_answers(rt: HostRuntime) -> Result<(), Fail> {
     Ok(())
 }
 
-/// A script line by a draw: writes of some thirty ids, queries and lines that are refused.
-fn mixed_line(alloc: Global, draw: u32) -> Result<String, AllocError> {
-    let id = draw / 8 % 31;
-    match draw % 8 {
-        0 => format!(in alloc; "QUERY {{\"query\":\"SELECT * FROM c\"}}"),
-        1 => format!(in alloc; "READ d{id}"),
-        2 => format!(in alloc; "UPSERT {{\"id\":\"d{id}\",\"n\":{id}.5}}"),
-        3 => format!(in alloc; "UPSERT {{\"n\":{draw},\"id\":\"d{id}\",\"tags\":[\"x\",{{}}]}}\r"),
-        _ => format!(in alloc; "UPSERT {{\"id\":\"d{id}\",\"n\":{draw}}}"),
+/// A generator of numbers, by multiplying and adding.
+#[derive(Drop)]
+struct Draws {
+    state: u32,
+}
+
+impl Draws {
+    /// The next number below a bound, which is not 0.
+    fn below(&mut self, bound: usize) -> usize {
+        self.state = self
+            .state
+            .wrapping_mul(1_664_525)
+            .wrapping_add(1_013_904_223);
+        (self.state >> 8) as usize % bound.max(1)
+    }
+
+    fn one_of<'a>(&mut self, texts: &'a [&'a str]) -> &'a str {
+        let at = self.below(texts.len());
+        texts.get(at).copied().unwrap_or("")
     }
 }
 
-// The program and the plain machine answer some 200 lines alike, whatever the reads.
+// What queries are made of. Not every choice of one of each is a query.
+const PICKS: [&str; 10] = [
+    "*",
+    "VALUE c.id",
+    "DISTINCT VALUE c.n % 3",
+    "c.id, c.n AS n, t",
+    "VALUE [c.id, t]",
+    "TOP 3 VALUE c.n % @k",
+    "DISTINCT TOP @k c.tags[0] ?? 'none' AS tag",
+    "VALUE {'id': c.id, 'big': c.n > @k}",
+    "VALUE CONCAT(c.id, '-', TOSTRING(c.n))",
+    "c.id, c.id",
+];
+
+const SOURCES: [&str; 6] = [
+    "c",
+    "root c",
+    "c JOIN t IN c.tags",
+    "c JOIN t IN c.tags JOIN u IN c.tags",
+    "t IN c.tags",
+    "c.tags[1] AS c",
+];
+
+const CONDITIONS: [&str; 10] = [
+    "",
+    "WHERE c.n > @k",
+    "WHERE c.id >= 'd2' AND c.n % 2 = 0",
+    "WHERE NOT (c.n = @k) OR c.tags[0] = 'x'",
+    "WHERE c.n NOT BETWEEN @k AND @k * 100000",
+    "WHERE c.id IN ('d1', 'd7', CONCAT('d', TOSTRING(@k)))",
+    "WHERE c.id LIKE 'd1%'",
+    "WHERE IS_DEFINED(c.tags) AND t != 'x'",
+    "WHERE c.zz",
+    "WHERE",
+];
+
+const ENDINGS: [&str; 10] = [
+    "",
+    "ORDER BY c.n",
+    "ORDER BY c.n DESC",
+    "ORDER BY c.tags",
+    "ORDER BY c.id DESC OFFSET 2 LIMIT @k",
+    "ORDER BY c._etag",
+    "ORDER BY c.id, c.n",
+    "OFFSET @k LIMIT 7",
+    "LIMIT 3",
+    "GROUP BY c.id",
+];
+
+/// The line of a query by draws, with one parameter.
+fn query_line(alloc: Global, draws: &mut Draws) -> Result<String, AllocError> {
+    let pick = draws.one_of(PICKS.as_slice());
+    let source = draws.one_of(SOURCES.as_slice());
+    let condition = draws.one_of(CONDITIONS.as_slice());
+    let ending = draws.one_of(ENDINGS.as_slice());
+    let value = draws.below(30);
+    format!(in alloc;
+        "QUERY {{\"query\":\"SELECT {pick} FROM {source} {condition} {ending}\",\"parameters\":[{{\"name\":\"@k\",\"value\":{value}}}]}}"
+    )
+}
+
+/// A script line by draws: writes of some thirty ids, queries and lines that are refused.
+fn mixed_line(alloc: Global, draws: &mut Draws) -> Result<String, AllocError> {
+    let id = draws.below(31);
+    let number = draws.below(1000);
+    match draws.below(8) {
+        0 => format!(in alloc; "UPSERT {{\"id\":\"d{id}\",\"n\":{id}.5}}"),
+        1 => format!(in alloc;
+            "UPSERT {{\"n\":{number},\"id\":\"d{id}\",\"tags\":[\"x\",{{}},{id}]}}\r"
+        ),
+        2 => format!(in alloc; "UPSERT {{\"id\":\"d{id}\",\"n\":\"{number}\",\"tags\":[]}}"),
+        3 => format!(in alloc; "UPSERT {{\"id\":\"d{id}\",\"n\":{number}}}"),
+        4 => format!(in alloc; "READ d{id}"),
+        _ => query_line(alloc, draws),
+    }
+}
+
+// The program and the plain machine answer some lines alike, whatever the reads.
 #[test]
 fn the_program_and_the_plain_machine_agree(rt: HostRuntime) -> Result<(), Fail> {
     let alloc = rt.alloc();
-    let mut machine = PlainMachine::new(alloc);
-    let mut script = Vec::new(alloc);
-    let mut expected = Vec::new(alloc);
-    let mut draw = 7u32;
-    for _ in 0..200 {
-        draw = draw.wrapping_mul(1_664_525).wrapping_add(1_013_904_223);
-        let line = mixed_line(alloc, draw >> 8)?;
-        script.extend_from_slice(line.as_bytes())?;
-        script.extend_from_slice(b"\n")?;
-        expected.extend_from_slice(machine.answer(alloc, line.as_bytes())?.as_slice())?;
+    for seed in [7u32, 2026] {
+        let mut machine = PlainMachine::new(alloc);
+        let mut script = Vec::new(alloc);
+        let mut expected = Vec::new(alloc);
+        let mut draws = Draws { state: seed };
+        for _ in 0..150 {
+            let line = mixed_line(alloc, &mut draws)?;
+            script.extend_from_slice(line.as_bytes())?;
+            script.extend_from_slice(b"\n")?;
+            expected.extend_from_slice(machine.answer(alloc, line.as_bytes())?.as_slice())?;
+        }
+        let (status, output) = output_of(alloc, script.as_slice(), &[], &[], ROOM)?;
+        assert_eq!(rt; status, Status::Done, "seed {seed}");
+        assert_eq!(rt; output.as_slice(), expected.as_slice(), "seed {seed}");
+        let (status, output) = output_by_bytes(alloc, script.as_slice())?;
+        assert_eq!(rt; status, Status::Done, "seed {seed}");
+        assert_eq!(rt; output.as_slice(), expected.as_slice(), "seed {seed}");
     }
-    let (status, output) = output_of(alloc, script.as_slice(), &[], &[], ROOM)?;
-    assert_eq!(rt; status, Status::Done);
-    assert_eq!(rt; output.as_slice(), expected.as_slice());
-    let (status, output) = output_by_bytes(alloc, script.as_slice())?;
-    assert_eq!(rt; status, Status::Done);
-    assert_eq!(rt; output.as_slice(), expected.as_slice());
     Ok(())
 }

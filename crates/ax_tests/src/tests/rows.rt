@@ -3,7 +3,7 @@ use ax_script::Status;
 use std::test::Fail;
 
 // The outputs by hand, from the meaning of each line.
-const ROWS: [(&str, &str); 11] = [
+const ROWS: [(&str, &str); 12] = [
     ("", ""),
     ("UPSERT {\"id\":\"a\"}", "ok\n"),
     ("UPSERT {\"id\":\"a\"}\r\n", "ok\n"),
@@ -14,8 +14,12 @@ const ROWS: [(&str, &str); 11] = [
         "ok\nok\nrow {\"a\":2,\"id\":\"a\"}\nend 1\n",
     ),
     (
-        "READ a\nUPSERT {\nUPSERT {\"id\":\"a\",\"n\":1.5}\nUPSERT 5\nQUERY {\"query\":\"SELECT VALUE 1 FROM c\"}\n",
+        "READ a\nUPSERT {\nUPSERT {\"id\":\"a\",\"n\":1.5}\nUPSERT 5\nQUERY {\"query\":\"SELECT\"}\n",
         "err 2 command\nerr 3 json\nerr 4 number\nerr 5 id\nerr 10 query\n",
+    ),
+    (
+        "UPSERT {\"id\":\"a\",\"n\":1.5}\nUPSERT {\"id\":\"b\",\"n\":9223372036854775807}\nUPSERT {\"id\":\"c\",\"n\":9223372036854775808}\n",
+        "err 4 number\nok\nerr 4 number\n",
     ),
     (
         "UPSERT {\"total\":30,\"id\":\"o1\",\"lines\":[{\"sku\":\"b\",\"qty\":2}]}\nQUERY {\"query\":\"SELECT * FROM c\"}\n",

@@ -5,8 +5,8 @@ use Rattle.ax_tree.specs.CanonicalText.{canonical_text}
 use Rattle.ax_machine.specs.ReplyTexts.{row_text}
 use Rattle.ax_plain.proofs.reply_lines.rows_lines.Given as goal
 
-abbrev pub invariant-loop-document : goal.invariant-loop-document
-invariant-loop-document l =
+abbrev pub invariant-loop-row : goal.invariant-loop-row
+invariant-loop-row l =
     l.text.items ++ flat_map row_text
-    (map canonical_text (map (λ entry. entry.tree) (drop l.document-index l.documents)))
-    ≡ flat_map row_text (map canonical_text (map (λ entry. entry.tree) l.documents))
+    (map (λ row. canonical_text row.shown) (drop l.row-index l.rows))
+    ≡ flat_map row_text (map (λ row. canonical_text row.shown) l.rows)

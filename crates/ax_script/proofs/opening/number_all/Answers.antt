@@ -23,36 +23,36 @@ none_in {X} {Y} m id empty =
     lookup (is_at (λ k. slice_cmp nat_cmp id (string_bytes k))) in
     ap looked empty
 
-pub loop-next-init : goal.loop-next-init
-loop-next-init c = λ container stand id.
+pub texts-init : goal.texts-init
+texts-init c = λ container stand id.
     ap (λ known. number_or (find (has_id id) (above 0 container.entries)) known)
     (none_in c.new-numbers.result id c.new-numbers.ensures.empty)
     ∙ ap (λ es. number_or (find (has_id id) es) None)
     (at_the_start (store_contents c.args.store) container stand)
     ∙ number_or-none (entry_of id container)
 
-pub loop-next-preserved : goal.loop-next-preserved
-loop-next-preserved c = λ container stand id.
+pub texts-preserved : goal.texts-preserved
+texts-preserved c = λ container stand id.
     let contents = store_contents c.args.store in
-    let next = next_entry contents container stand c.loop-next.number c.in-Some.next
+    let next = next_entry contents container stand c.texts.number c.in-Some.next
     c.in-Some.ensures.found in
-    let some : Some c.in-Some-text_of.text.now ≡ Some (canonical_text next.entry.tree) =
-    text_here contents container stand c.loop-next.number c.in-Some.next
-    (Some c.in-Some-text_of.text.now) next c.in-Some-text_of.ensures in
-    let text : c.in-Some-text_of.text.now ≡ canonical_text next.entry.tree = cc in
-    let stored = stored_here contents container stand c.loop-next.number c.in-Some.next next in
-    let reads : reading c.in-Some-text_of.text.now ≡ Stands next.entry.tree =
+    let some : Some c.in-Some.text.now ≡ Some (canonical_text next.entry.tree) =
+    text_here contents container stand c.texts.number c.in-Some.next
+    (Some c.in-Some.text.now) next c.in-Some.ensures.text in
+    let text : c.in-Some.text.now ≡ canonical_text next.entry.tree = cc in
+    let stored = stored_here contents container stand c.texts.number c.in-Some.next next in
+    let reads : reading c.in-Some.text.now ≡ Stands next.entry.tree =
     ap reading text ∙ text-stands next.entry.tree stored.well_formed stored.shallow in
     let put : get_by_text c.put_id.new.numbers id
-    ≡ cond (bytes_eq next.entry.id id) (Some c.in-Some.next) (get_by_text c.loop-next.numbers id) =
+    ≡ cond (bytes_eq next.entry.id id) (Some c.in-Some.next) (get_by_text c.texts.numbers id) =
     c.in-Ok.ensures next.entry.tree next.entry.id reads stored.own_id id in
-    numbers_on contents container stand c.loop-next.number c.in-Some.next id
-    (get_by_text c.loop-next.numbers id) (get_by_text c.put_id.new.numbers id)
-    (number_in id container) next put (c.loop-next.invariant container stand id)
+    numbers_on contents container stand c.texts.number c.in-Some.next id
+    (get_by_text c.texts.numbers id) (get_by_text c.put_id.new.numbers id)
+    (number_in id container) next put (c.texts.invariant container stand id)
 
 pub returns-clause-numbers : goal.returns-clause-numbers
 returns-clause-numbers c = λ container stand id.
-    let end = at_the_end (store_contents c.args.store) container stand c.loop-next.number
+    let end = at_the_end (store_contents c.args.store) container stand c.texts.number
     c.in_default.ensures.none in
-    ap (λ es. number_or (find (has_id id) es) (get_by_text c.loop-next.numbers id)) (sym end)
-    ∙ c.loop-next.invariant container stand id
+    ap (λ es. number_or (find (has_id id) es) (get_by_text c.texts.numbers id)) (sym end)
+    ∙ c.texts.invariant container stand id

@@ -7,12 +7,12 @@ use Rattle.ax_script.specs.Documents.{number_in}
 use Rattle.ax_script.proofs.InOrder.{above, number_or}
 use Rattle.ax_script.proofs.opening.number_all.Given as goal
 
-abbrev pub decreases-loop-next : goal.decreases-loop-next
-decreases-loop-next l = 2 ^ 32 - l.number
+abbrev pub decreases-texts : goal.decreases-texts
+decreases-texts l = 2 ^ 32 - l.number
 
 -- the map has the ids of the documents up to the number
-abbrev pub invariant-loop-next : goal.invariant-loop-next
-invariant-loop-next l = (container : Container)
+abbrev pub invariant-texts : goal.invariant-texts
+invariant-texts l = (container : Container)
     → ContentsStandFor (store_contents l.store) container → (id : List ℕ)
     → number_or (find (has_id id) (above l.number container.entries)) (get_by_text l.numbers id)
     ≡ number_in id container

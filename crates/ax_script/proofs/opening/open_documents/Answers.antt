@@ -1,7 +1,7 @@
 -- The store of the name is attached, and then opened.
 use Rattle.std.proofs.Common.{IsTrue, sym, subst}
 use Rattle.ax_script.specs.Progress.{Shows}
-use Rattle.ax_script.proofs.Opened.{idle_since, since_opening, damaged_at, newer_than}
+use Rattle.ax_script.proofs.Opened.{idle_since, since_opening}
 use Rattle.ax_script.proofs.Opened.{holds_opened, works_opened}
 use Rattle.ax_script.proofs.opening.open_documents.Goals as goal
 

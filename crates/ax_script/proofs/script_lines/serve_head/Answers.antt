@@ -1,5 +1,5 @@
 -- The line is what is pending and the head.
-use Rattle.std.proofs.Common.{◌≡◌, List, ℕ, [], ◌++◌, OnOk, IsTrue, sym, subst, ap, ◌∙◌, arith}
+use Rattle.std.proofs.Common.{◌≡◌, List, ℕ, [], ◌++◌, OnOk, IsTrue, sym, subst, ◌∙◌, arith}
 use Rattle.ax_container.specs.Container.{Container}
 use Rattle.ax_machine.specs.Run.{Served}
 use Rattle.ax_script.specs.Documents.{Holds}
@@ -12,24 +12,28 @@ returns-then-is_empty-clause-ok g c = λ before holds.
     let P : List ℕ → Type 0 = λ pending. OnOk c.serve_line.result ((now : Container)
     × Holds c.serve_line.new.documents now × Serves (IsTrue (g.D.Disk.is_honest c.args.disk.now)) before
     (pending ++ c.args.head.now) now
-    (outlets (g.K.Sink.written c.args.sink.now) (g.D.Disk.history c.args.disk.now (g.D.Disk.attached c.args.disk.now)))
+    (outlets (g.K.Sink.written c.args.sink.now) (g.D.Disk.history c.args.disk.now
+    (g.D.Disk.attached c.args.disk.now)) c.args.steps.now)
     (outlets (g.K.Sink.written c.serve_line.new.sink)
-    (g.D.Disk.history c.serve_line.new.disk (g.D.Disk.attached c.serve_line.new.disk)))) in
+    (g.D.Disk.history c.serve_line.new.disk
+    (g.D.Disk.attached c.serve_line.new.disk)) c.serve_line.new.steps)) in
     let none : c.args.pending.now.items ≡ [] =
     empty_list c.args.pending.now.items c.args.pending.now.len (omega (arith, c.args.pending.now.ok)) (sym c.if-is_empty.true ∙ c.is_empty.ensures) in
     subst P (sym none) (c.serve_line.ensures.whole before holds)
 
 pub returns-in_default-clause-err : goal.returns-in_default-clause-err
 returns-in_default-clause-err g c = λ before holds.
-    begins_without _ before _ Served _ _ _
-    (still _ c.args.documents.now _ before _ c.requires.works holds)
+    begins_without _ before _ Served _ _ _ _ _
+    (still _ c.args.documents.now _ before _ c.requires.works holds) (omega arith)
 
 pub returns-clause-ok : goal.returns-clause-ok
 returns-clause-ok g c = λ before holds.
     let P : List ℕ → Type 0 = λ line. (now : Container)
     × Holds c.serve_line-served.new.documents now × Serves (IsTrue (g.D.Disk.is_honest c.args.disk.now)) before
     line now
-    (outlets (g.K.Sink.written c.args.sink.now) (g.D.Disk.history c.args.disk.now (g.D.Disk.attached c.args.disk.now)))
+    (outlets (g.K.Sink.written c.args.sink.now) (g.D.Disk.history c.args.disk.now
+    (g.D.Disk.attached c.args.disk.now)) c.args.steps.now)
     (outlets (g.K.Sink.written c.serve_line-served.new.sink)
-    (g.D.Disk.history c.serve_line-served.new.disk (g.D.Disk.attached c.serve_line-served.new.disk))) in
+    (g.D.Disk.history c.serve_line-served.new.disk
+    (g.D.Disk.attached c.serve_line-served.new.disk)) c.serve_line-served.new.steps) in
     subst P (c.as_slice.ensures.value ∙ c.in-Ok.ensures.items) (c.in_default-served.ensures.whole before holds)

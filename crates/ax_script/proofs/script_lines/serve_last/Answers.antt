@@ -19,6 +19,6 @@ returns-then-is_empty-clause-done g c = λ before holds _.
     let none : c.args.pending.now ≡ [] =
     empty_list c.args.pending.now (length c.args.pending.now) refl (sym c.if-is_empty.true ∙ c.is_empty.ensures) in
     let here = outlets (g.K.Sink.written c.args.sink.now)
-    (g.D.Disk.history c.args.disk.now (g.D.Disk.attached c.args.disk.now)) in
+    (g.D.Disk.history c.args.disk.now (g.D.Disk.attached c.args.disk.now)) c.args.steps.now in
     let P : List ℕ → Type 0 = λ last. ServesLast (IsTrue (g.D.Disk.is_honest c.args.disk.now)) before last here here in
     subst P (sym none) (serves_no_last _ before here (rests_of _ c.args.documents.now _ before c.requires.works holds))

@@ -22,6 +22,7 @@ lines-init g c = record {
   works = c.requires.works;
   disk_faults = omega arith;
   sink_faults = omega arith;
+  steps = omega arith;
   attached = refl;
   honest = refl;
 }
@@ -32,16 +33,19 @@ lines-preserved g c = record {
       let p = c.lines.invariant.part before holds in
       let S : Bool → Type 0 = λ honest. (now : Container) × Holds c.serve_head.new.documents now
       × Serves (IsTrue honest) p.0 (c.lines.pending.items ++ c.in-Some.head.now) now
-      (outlets (g.K.Sink.written c.lines.sink) (g.D.Disk.history c.lines.disk (g.D.Disk.attached c.lines.disk)))
+      (outlets (g.K.Sink.written c.lines.sink) (g.D.Disk.history c.lines.disk
+      (g.D.Disk.attached c.lines.disk)) c.lines.steps)
       (outlets (g.K.Sink.written c.serve_head.new.sink)
-      (g.D.Disk.history c.serve_head.new.disk (g.D.Disk.attached c.serve_head.new.disk))) in
+      (g.D.Disk.history c.serve_head.new.disk
+      (g.D.Disk.attached c.serve_head.new.disk)) c.serve_head.new.steps) in
       let served = subst S c.lines.invariant.honest (c.in_default-serve_head.ensures.ok p.0 p.1) in
       let P : List ℕ → Type 0 = λ pending. InPiece (IsTrue (g.D.Disk.is_honest c.args.disk.now)) before served.0
       c.args.pending.now.items pending c.args.piece.now c.in-Some.tail.now
       (outlets (g.K.Sink.written c.args.sink.now)
-      (g.D.Disk.history c.args.disk.now (g.D.Disk.attached c.args.disk.now)))
+      (g.D.Disk.history c.args.disk.now (g.D.Disk.attached c.args.disk.now)) c.args.steps.now)
       (outlets (g.K.Sink.written c.serve_head.new.sink)
-      (g.D.Disk.history c.serve_head.new.disk (g.D.Disk.attached c.serve_head.new.disk))) in (
+      (g.D.Disk.history c.serve_head.new.disk
+      (g.D.Disk.attached c.serve_head.new.disk)) c.serve_head.new.steps) in (
         served.0,
         served.1,
         subst P (sym c.in_default-serve_head.ensures.empty)
@@ -54,6 +58,7 @@ lines-preserved g c = record {
       (sym c.in_default-serve_head.ensures.honest) c.in_default-serve_head.ensures.works;
   disk_faults = omega (arith, c.lines.invariant.disk_faults, c.in_default-serve_head.ensures.disk_faults);
   sink_faults = omega (arith, c.lines.invariant.sink_faults, c.in_default-serve_head.ensures.sink_faults);
+  steps = omega (arith, c.lines.invariant.steps, c.in_default-serve_head.ensures.steps);
   attached = c.in_default-serve_head.ensures.attached ∙ c.lines.invariant.attached;
   honest = c.in_default-serve_head.ensures.honest ∙ c.lines.invariant.honest;
 }
@@ -63,9 +68,11 @@ returns-in-Err-clause-err g c = λ before holds.
     let p = c.lines.invariant.part before holds in
     let S : Bool → Type 0 = λ honest.
     BeginsToServe (IsTrue honest) p.0 (c.lines.pending.items ++ c.in-Some.head.now)
-    (outlets (g.K.Sink.written c.lines.sink) (g.D.Disk.history c.lines.disk (g.D.Disk.attached c.lines.disk)))
+    (outlets (g.K.Sink.written c.lines.sink) (g.D.Disk.history c.lines.disk
+    (g.D.Disk.attached c.lines.disk)) c.lines.steps)
     (outlets (g.K.Sink.written c.serve_head.new.sink)
-    (g.D.Disk.history c.serve_head.new.disk (g.D.Disk.attached c.serve_head.new.disk))) in
+    (g.D.Disk.history c.serve_head.new.disk
+    (g.D.Disk.attached c.serve_head.new.disk)) c.serve_head.new.steps) in
     let begun = subst S c.lines.invariant.honest (c.in-Err.ensures.err p.0 p.1) in
     piece_fails _ before p.0 _ _ _ _ _ _ p.2 c.in-Some.head.now c.in-Some.tail.now _
     c.in-Some.ensures.split c.in-Some.ensures.line begun
@@ -76,8 +83,9 @@ returns-in-Ok-clause-ok g c = λ before holds.
     let P : List ℕ → Type 0 = λ pending. ServesLines (IsTrue (g.D.Disk.is_honest c.args.disk.now)) before
     (c.args.pending.now.items ++ c.args.piece.now) p.0 pending
     (outlets (g.K.Sink.written c.args.sink.now)
-    (g.D.Disk.history c.args.disk.now (g.D.Disk.attached c.args.disk.now)))
-    (outlets (g.K.Sink.written c.lines.sink) (g.D.Disk.history c.lines.disk (g.D.Disk.attached c.lines.disk))) in (
+    (g.D.Disk.history c.args.disk.now (g.D.Disk.attached c.args.disk.now)) c.args.steps.now)
+    (outlets (g.K.Sink.written c.lines.sink) (g.D.Disk.history c.lines.disk
+    (g.D.Disk.attached c.lines.disk)) c.lines.steps) in (
       p.0,
       p.1,
       subst P (sym c.in-Ok.ensures.items)

@@ -14,13 +14,15 @@ invariant-lines g l = record {
       × InPiece (IsTrue (g.D.Disk.is_honest l.fn.disk)) before now l.fn.pending.items l.pending.items
       l.piece l.rest
       (outlets (g.K.Sink.written l.fn.sink)
-      (g.D.Disk.history l.fn.disk (g.D.Disk.attached l.fn.disk)))
-      (outlets (g.K.Sink.written l.sink) (g.D.Disk.history l.disk (g.D.Disk.attached l.disk)));
+      (g.D.Disk.history l.fn.disk (g.D.Disk.attached l.fn.disk)) l.fn.steps)
+      (outlets (g.K.Sink.written l.sink) (g.D.Disk.history l.disk
+      (g.D.Disk.attached l.disk)) l.steps);
   line : IsOneLine l.pending.items;
   works : Works (IsTrue (g.D.Disk.is_honest l.disk)) l.documents
       (g.D.Disk.history l.disk (g.D.Disk.attached l.disk));
   disk_faults : g.D.Disk.faults l.fn.disk ≤ g.D.Disk.faults l.disk;
   sink_faults : g.K.Sink.faults l.fn.sink ≤ g.K.Sink.faults l.sink;
+  steps : l.fn.steps ≤ l.steps;
   attached : g.D.Disk.attached l.disk ≡ g.D.Disk.attached l.fn.disk;
   honest : g.D.Disk.is_honest l.disk ≡ g.D.Disk.is_honest l.fn.disk;
 }

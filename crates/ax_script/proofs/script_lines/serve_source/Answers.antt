@@ -1,5 +1,5 @@
 -- Each way to end, from how far the run has come.
-use Rattle.std.proofs.Common.{◌≡◌, ℕ, List, [], Bool, ◌++◌, ◌∙◌, IsTrue, take, refl, sym, subst, arith}
+use Rattle.std.proofs.Common.{ℕ, List, [], Bool, ◌++◌, ◌∙◌, IsTrue, take, refl, sym, subst, arith}
 use Rattle.std.specs.Io.KnownBytes.{Consumes}
 use Rattle.ax_container.specs.Container.{Container}
 use Rattle.ax_lines.specs.ScriptLines.{IsOneLine}
@@ -12,7 +12,8 @@ use Rattle.ax_script.proofs.script_lines.serve_source.Goals as goal
 
 pub pieces-init : goal.pieces-init
 pieces-init g c =
-    let here = streams (g.S.Source.rest c.args.source.now) (g.K.Sink.written c.args.sink.now) in
+    let here = streams (g.S.Source.rest c.args.source.now)
+    (g.K.Sink.written c.args.sink.now) c.args.steps.now in
     record {
       progress = λ before holds.
           let P : List ℕ → Type 0 = λ pending. Progress (IsTrue (g.D.Disk.is_honest c.args.disk.now)) before here here
@@ -29,6 +30,7 @@ pieces-init g c =
       disk_faults = omega arith;
       source_faults = omega arith;
       sink_faults = omega arith;
+      steps = omega arith;
       attached = refl;
       honest = refl;
     }
@@ -49,15 +51,17 @@ returns-then-count-eq0-clause-script g c = λ before holds.
     subst P c.if-count-eq0.true c.in-Ok.ensures.taken in
     let Whole : Bool → List ℕ → Type 0 = λ honest last. ServesLast (IsTrue honest) p.0 last
     (outlets (g.K.Sink.written c.pieces.sink)
-    (g.D.Disk.history c.pieces.disk (g.D.Disk.attached c.pieces.disk)))
+    (g.D.Disk.history c.pieces.disk (g.D.Disk.attached c.pieces.disk)) c.pieces.steps)
     (outlets (g.K.Sink.written c.serve_last.new.sink)
-    (g.D.Disk.history c.serve_last.new.disk (g.D.Disk.attached c.serve_last.new.disk))) in
+    (g.D.Disk.history c.serve_last.new.disk
+    (g.D.Disk.attached c.serve_last.new.disk)) c.serve_last.new.steps) in
     let Prefix : Bool → List ℕ → Type 0 = λ honest last. BeginsLast (IsTrue honest) p.0 last
     (outlets (g.K.Sink.written c.pieces.sink)
-    (g.D.Disk.history c.pieces.disk (g.D.Disk.attached c.pieces.disk)))
+    (g.D.Disk.history c.pieces.disk (g.D.Disk.attached c.pieces.disk)) c.pieces.steps)
     (outlets (g.K.Sink.written c.serve_last.new.sink)
-    (g.D.Disk.history c.serve_last.new.disk (g.D.Disk.attached c.serve_last.new.disk))) in
-    ends_at_end _ before _ _ _ _ p.0 _ _ p.2 _ _ _ c.serve_last.result nothing
+    (g.D.Disk.history c.serve_last.new.disk
+    (g.D.Disk.attached c.serve_last.new.disk)) c.serve_last.new.steps) in
+    ends_at_end _ before _ _ _ _ p.0 _ _ p.2 _ _ _ _ c.serve_last.result nothing
     (c.in-Ok.ensures.ended c.if-count-eq0.true
     (omega (arith, c.requires.some, c.pieces.auto.buffer, c.read_some.auto.buf)))
     c.pieces.invariant.within
@@ -83,10 +87,11 @@ returns-in-Err-clause-script g c = λ before holds.
     let S : Bool → Type 0 = λ honest. BeginsLines (IsTrue honest) p.0
     (c.pieces.pending.items ++ take c.in-Ok.count c.read_some.new.buf)
     (outlets (g.K.Sink.written c.pieces.sink)
-    (g.D.Disk.history c.pieces.disk (g.D.Disk.attached c.pieces.disk)))
+    (g.D.Disk.history c.pieces.disk (g.D.Disk.attached c.pieces.disk)) c.pieces.steps)
     (outlets (g.K.Sink.written c.serve_piece-served.new.sink)
-    (g.D.Disk.history c.serve_piece-served.new.disk (g.D.Disk.attached c.serve_piece-served.new.disk))) in
-    ends_in_piece _ before _ _ _ _ p.0 _ _ p.2 _ _ _
+    (g.D.Disk.history c.serve_piece-served.new.disk
+    (g.D.Disk.attached c.serve_piece-served.new.disk)) c.serve_piece-served.new.steps) in
+    ends_in_piece _ before _ _ _ _ p.0 _ _ p.2 _ _ _ _
     (take c.in-Ok.count c.read_some.new.buf) c.in-Ok.count c.in-Err.status c.in-Ok.ensures.taken
     (sym c.in-Ok.ensures.bound.1)
     c.if-taken-gt-MOST_INPUT.false
@@ -101,13 +106,14 @@ pieces-preserved g c = record {
       × ServesLines (IsTrue honest) p.0
       (c.pieces.pending.items ++ take c.in-Ok.count c.read_some.new.buf) now c.serve_piece-served.new.pending.items
       (outlets (g.K.Sink.written c.pieces.sink)
-      (g.D.Disk.history c.pieces.disk (g.D.Disk.attached c.pieces.disk)))
+      (g.D.Disk.history c.pieces.disk (g.D.Disk.attached c.pieces.disk)) c.pieces.steps)
       (outlets (g.K.Sink.written c.serve_piece-served.new.sink)
-      (g.D.Disk.history c.serve_piece-served.new.disk (g.D.Disk.attached c.serve_piece-served.new.disk))) in
+      (g.D.Disk.history c.serve_piece-served.new.disk
+      (g.D.Disk.attached c.serve_piece-served.new.disk)) c.serve_piece-served.new.steps) in
       let more = subst S c.pieces.invariant.honest (c.in_default-served.ensures.ok p.0 p.1) in (
         more.0,
         more.1,
-        progress_goes_on _ before _ _ _ _ p.0 _ _ p.2 _ _ _ more.0
+        progress_goes_on _ before _ _ _ _ p.0 _ _ p.2 _ _ _ _ more.0
             (take c.in-Ok.count c.read_some.new.buf) _ c.in-Ok.count c.in-Ok.ensures.taken
             (sym c.in-Ok.ensures.bound.1) more.2,
       );
@@ -122,6 +128,7 @@ pieces-preserved g c = record {
       omega (arith, c.pieces.invariant.source_faults, c.read_some.ensures.cause.never_falls);
   sink_faults =
       omega (arith, c.pieces.invariant.sink_faults, c.serve_piece-served.ensures.sink_faults);
+  steps = omega (arith, c.pieces.invariant.steps, c.serve_piece-served.ensures.steps);
   attached = c.in_default-served.ensures.attached ∙ c.pieces.invariant.attached;
   honest = c.in_default-served.ensures.honest ∙ c.pieces.invariant.honest;
 }

@@ -13,8 +13,8 @@ invariant-pieces g l = record {
   progress : (before : Container) → Holds l.fn.documents before
       → (now : Container) × Holds l.documents now
       × Progress (IsTrue (g.D.Disk.is_honest l.fn.disk)) before
-      (streams (g.S.Source.rest l.fn.source) (g.K.Sink.written l.fn.sink))
-      (streams (g.S.Source.rest l.source) (g.K.Sink.written l.sink))
+      (streams (g.S.Source.rest l.fn.source) (g.K.Sink.written l.fn.sink) l.fn.steps)
+      (streams (g.S.Source.rest l.source) (g.K.Sink.written l.sink) l.steps)
       (g.D.Disk.history l.fn.disk (g.D.Disk.attached l.fn.disk))
       (g.D.Disk.history l.disk (g.D.Disk.attached l.disk))
       now l.pending.items l.taken;
@@ -25,6 +25,7 @@ invariant-pieces g l = record {
   disk_faults : g.D.Disk.faults l.fn.disk ≤ g.D.Disk.faults l.disk;
   source_faults : g.S.Source.faults l.fn.source ≤ g.S.Source.faults l.source;
   sink_faults : g.K.Sink.faults l.fn.sink ≤ g.K.Sink.faults l.sink;
+  steps : l.fn.steps ≤ l.steps;
   attached : g.D.Disk.attached l.disk ≡ g.D.Disk.attached l.fn.disk;
   honest : g.D.Disk.is_honest l.disk ≡ g.D.Disk.is_honest l.fn.disk;
 }

@@ -1,11 +1,11 @@
 -- A query and a refused line change nothing.
-use Rattle.std.proofs.Common.{◌≡◌, Ok, Err, refl, subst, ap, ◌∙◌}
+use Rattle.std.proofs.Common.{Ok, Err, refl, subst, ap, ◌∙◌}
 use Rattle.ax_lines.specs.declared.line.Line.TheVariants as line
 use Rattle.ax_lines.specs.declared.line.LineFault.{LineFault}
 use Rattle.ax_lines.specs.Lines.{line_of}
 use Rattle.ax_lines.specs.Answers.{IsRefusedBy}
 use Rattle.ax_machine.specs.Reply as reply
-use Rattle.ax_machine.specs.Step.{query_reply}
+use Rattle.ax_machine.specs.Querying.{query_reply}
 use Rattle.ax_script.proofs.Holding.{still, tells_still}
 use Rattle.ax_script.proofs.serving.answer.Goals as goal
 

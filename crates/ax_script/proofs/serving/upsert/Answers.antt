@@ -1,5 +1,5 @@
 -- What the documents tell of an upsert, as the answer to its line.
-use Rattle.std.proofs.Common.{◌≡◌, Err, subst, IsTrue}
+use Rattle.std.proofs.Common.{Err, subst, IsTrue}
 use Rattle.ax_script.specs.declared.documents.UpsertFault.{UpsertFault}
 use Rattle.ax_script.specs.Documents.{TellsUpsert}
 use Rattle.ax_script.proofs.Holding.{still, some_id, tells_made, tells_refused, tells_disk}

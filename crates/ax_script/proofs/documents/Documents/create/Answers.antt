@@ -1,9 +1,7 @@
 -- The parts lead from the container to the one in which the document is created.
-use Rattle.std.proofs.Common.{refl, ◌≡◌, ◌<◌, List, ℕ, Some, cond, string_bytes, sym, subst, ap, ◌∙◌, arith}
-use Rattle.std.specs.BTreeMap.{get_by_text}
+use Rattle.std.proofs.Common.{refl, ◌≡◌, ◌<◌, List, ℕ, Some, cond, string_bytes, sym, subst, ◌∙◌, arith}
 use Rattle.std.specs.Str.{bytes_eq}
 use Rattle.std.proofs.lemmas.Map.Text.{btree_map_updates_text}
-use Rattle.ax_container.specs.Container.{Container}
 use Rattle.ax_container.specs.Upsert.{created}
 use Rattle.ax_frame.specs.Part.{PartValue}
 use Rattle.ax_image.specs.UpsertParts.{creating_parts}
@@ -12,7 +10,7 @@ use Rattle.ax_store.specs.Store.{store_contents}
 use Rattle.ax_store.specs.Batch.{batch_parts}
 use Rattle.ax_store.specs.Putting.{AreWithin}
 use Rattle.ax_store.proofs.StoreLemmas.{agrees_same}
-use Rattle.ax_script.specs.Documents.{contents_in, Holds, Works}
+use Rattle.ax_script.specs.Documents.{contents_in}
 use Rattle.ax_script.proofs.Holding.{still, holds_room, holds_same, works_room, made_by, turned_by}
 use Rattle.ax_script.proofs.Writing.{within_text, within_next, is_refused, creates, created_leads, numbers_created}
 use Rattle.ax_script.proofs.documents.Documents.create.Goals as goal
@@ -77,7 +75,7 @@ commit-requires-clause-agrees g c = λ honest _.
 
 pub commit-requires-clause-within : goal.commit-requires-clause-within
 commit-requires-clause-within g c =
-    let next : ℕ = c.meta-number.result.next in
+    let next : ℕ = c.next_number-number.result in
     let some : 0 < next = omega (arith, c.if-number-eq0.false) in
     let P : List PartValue → Type 0 = λ parts. AreWithin parts (store_contents c.reserve.new.self) in
     let Q : Contents → Type 0 = λ contents. AreWithin
@@ -85,7 +83,8 @@ commit-requires-clause-within g c =
     subst P (sym c.in-Ok.ensures.parts)
     (subst Q (sym c.reserve.ensures.same.contents)
     (within_next next c.in-Some.policy c.args.tree.now (contents_in c.args.self.now) some
-    (sym c.is_full.ensures ∙ c.if-is_full.false) c.meta-number.ensures.next c.in-Some.ensures.small
+    (sym c.is_full.ensures ∙ c.if-is_full.false) c.next_number-number.ensures
+    c.in-Some.ensures.small
     c.in-Some.ensures.given))
 
 pub returns-in-Ok-commit-clause-tells : goal.returns-in-Ok-commit-clause-tells
@@ -93,9 +92,11 @@ returns-in-Ok-commit-clause-tells g c = λ before holds doc at.
     let id : List ℕ = c.args.id.now in
     let placed = sym (holds.numbers id) ∙ at in
     let full = sym c.is_full.ensures ∙ c.if-is_full.false in
-    let next : c.meta-number.result.next ≡ before.next_number = c.meta-number.ensures.next ∙ holds.stand.next in
+    let next : c.next_number-number.result ≡ before.next_number =
+    c.next_number-number.ensures ∙ holds.stand.next in
     let leads = created_leads (contents_in c.args.self.now) before c.args.tree.now id holds.stand doc
-    c.requires.storable.well_formed (within_text c.requires.storable.shallow) c.meta-number.result.next c.in-Some.policy
+    c.requires.storable.well_formed (within_text c.requires.storable.shallow)
+    c.next_number-number.result c.in-Some.policy
     placed full next c.in-Some.ensures.now in (
       created id c.args.tree.now before,
       creates (contents_in c.args.self.now) before c.args.tree.now id holds.stand doc
@@ -106,7 +107,8 @@ returns-in-Ok-commit-clause-tells g c = λ before holds doc at.
             leads c.in-Ok.ensures.parts c.reserve.ensures.same.contents c.in-Ok-commit.ensures.ok;
         numbers = λ other.
             btree_map_updates_text (string_bytes c.in-Ok-from_str.key) c.args.self.now.numbers
-            c.insert.new.self (Some c.meta-number.result.next) c.in-Ok-insert.ensures.updates other
+            c.insert.new.self (Some c.next_number-number.result) c.in-Ok-insert.ensures.updates
+            other
             ∙ (λ i. cond (bytes_eq (c.in-Ok-from_str.ensures.ok i) other) (Some (next i))
             (holds.numbers other i))
             ∙ sym (numbers_created other id c.args.tree.now before placed);
@@ -122,9 +124,11 @@ returns-in-Err-clause-tells g c = λ before holds doc at.
     let id : List ℕ = c.args.id.now in
     let placed = sym (holds.numbers id) ∙ at in
     let full = sym c.is_full.ensures ∙ c.if-is_full.false in
-    let next : c.meta-number.result.next ≡ before.next_number = c.meta-number.ensures.next ∙ holds.stand.next in
+    let next : c.next_number-number.result ≡ before.next_number =
+    c.next_number-number.ensures ∙ holds.stand.next in
     let leads = created_leads (contents_in c.args.self.now) before c.args.tree.now id holds.stand doc
-    c.requires.storable.well_formed (within_text c.requires.storable.shallow) c.meta-number.result.next c.in-Some.policy
+    c.requires.storable.well_formed (within_text c.requires.storable.shallow)
+    c.next_number-number.result c.in-Some.policy
     placed full next c.in-Some.ensures.now in (
       created id c.args.tree.now before,
       creates (contents_in c.args.self.now) before c.args.tree.now id holds.stand doc

@@ -1,12 +1,9 @@
 -- The parts lead from the container to the one in which the document is replaced.
-use Rattle.std.proofs.Common.{◌≡◌, List, ℕ, Some, sym, subst, ap, ◌∙◌}
+use Rattle.std.proofs.Common.{List, sym, subst, ◌∙◌}
 use Rattle.ax_container.specs.Upsert.{replaced}
 use Rattle.ax_frame.specs.Part.{PartValue}
 use Rattle.ax_image.specs.UpsertParts.{replacing_parts}
 use Rattle.ax_pages.specs.Contents.{Contents}
-use Rattle.ax_pages.specs.AfterPart.{after_parts}
-use Rattle.ax_pages.specs.HasContents.{HasContents}
-use Rattle.ax_disk.specs.model.Stays.{Turns}
 use Rattle.ax_store.specs.Store.{store_contents}
 use Rattle.ax_store.specs.Batch.{batch_parts}
 use Rattle.ax_store.specs.Putting.{AreWithin}

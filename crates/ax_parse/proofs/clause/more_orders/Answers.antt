@@ -1,0 +1,39 @@
+use Rattle.std.proofs.Common.{map, sym, ◌∙◌, arith}
+use Rattle.ax_lex.specs.declared.symbol.Symbol.TheVariants.{Comma}
+use Rattle.ax_grammar.specs.Takes.Mark.{the_symbol}
+use Rattle.ax_grammar.specs.QueryReader.{read_order}
+use Rattle.ax_grammar.specs.Reading.{marked}
+use Rattle.ax_scope.specs.AsWritten.{ordered_of}
+use Rattle.ax_parse.specs.Said.{rest_said}
+use Rattle.ax_parse.proofs.Seen.{seen-more}
+use Rattle.ax_parse.proofs.Turning.{turns-ended, turns-failed, turns-over}
+use Rattle.ax_parse.proofs.clause.more_orders.Goals as goal
+
+pub returns-in_err-ordered : goal.returns-in_err-ordered
+returns-in_err-ordered c =
+    grind (
+      arith,
+      c.loop-turn.invariant,
+      c.in_err-ordered.ensures,
+      turns-failed (marked (the_symbol Comma) read_order)
+          c.len-turn-end.result c.loop-turn._turn (map ordered_of c.loop-turn.found) (rest_said c.loop-turn.rest)
+          (omega arith),
+    )
+
+pub returns-in_default : goal.returns-in_default
+returns-in_default c =
+    sym c.loop-turn.invariant
+    ∙ turns-ended (marked (the_symbol Comma) read_order) _ _ (map ordered_of c.loop-turn.found) _ (omega arith)
+    (rw c.in_default.is at c.in_ok-ordered.ensures)
+
+pub loop-turn-preserved : goal.loop-turn-preserved
+loop-turn-preserved c =
+    let e = rw c.in-Some.is at c.in_ok-ordered.ensures in
+    rw c.in_ok-push.ensures.ok (sym (seen-more ordered_of (marked (the_symbol Comma) read_order) _ _ c.loop-turn.found
+    c.in-Some.ordered (rest_said c.loop-turn.rest) (rest_said c.in-Some.after) (omega arith) e)
+    ∙ c.loop-turn.invariant)
+
+pub returns : goal.returns
+returns c =
+    sym c.loop-turn.invariant
+    ∙ turns-over (marked (the_symbol Comma) read_order) _ (map ordered_of c.loop-turn.found) (rest_said c.loop-turn.rest) (omega arith)

@@ -1,0 +1,320 @@
+//! Texts that are queries, and texts beside them that are none, worked out by hand from the grammar
+//! and the rules of names. The parameters are `@k`, 3, `@n`, -1, and `@t`, a text.
+use ax_mean::{Query, Tree};
+use ax_parse::{ParseFault, parse};
+use ax_text::read_tree;
+use std::alloc::{AllocError, Global};
+use std::test::Fail;
+
+/// What a text is: a query, or none, or what memory did not suffice for.
+#[derive(Clone, Copy, Debug, PartialEq, Eq)]
+enum Found {
+    AQuery,
+    NoQuery,
+    OutOfMemory,
+}
+
+fn found_of(read: Result<Query, ParseFault>) -> Found {
+    match read {
+        Ok(_) => Found::AQuery,
+        Err(ParseFault::Text) => Found::NoQuery,
+        Err(ParseFault::Memory) => Found::OutOfMemory,
+    }
+}
+
+fn found_in(alloc: Global, text: &str) -> Result<Found, Fail> {
+    let params = read_tree(alloc, b"{\"@k\":3,\"@n\":-1,\"@t\":\"x\"}".as_slice())?;
+    match params {
+        Tree::Object(params) => Ok(found_of(parse(alloc, text.as_bytes(), &params))),
+        _ => Ok(Found::OutOfMemory),
+    }
+}
+
+/// What the text is that picks the value of an expression.
+fn found_value(alloc: Global, expr: &str) -> Result<Found, Fail> {
+    let text = format!(in alloc; "SELECT VALUE {expr} FROM c")?;
+    found_in(alloc, text.as_str())
+}
+
+/// A text, then a piece so many times, then another text.
+fn built(
+    alloc: Global,
+    front: &str,
+    piece: &str,
+    count: usize,
+    back: &str,
+) -> Result<String, AllocError> {
+    let mut text = String::from_str(alloc, front)?;
+    for _ in 0..count {
+        text.push_str(piece)?;
+    }
+    text.push_str(back)?;
+    Ok(text)
+}
+
+#[test]
+fn tokens_are_as_long_as_they_can_be(rt: HostRuntime) -> Result<(), Fail> {
+    let alloc = rt.alloc();
+    for expr in [
+        "1.a",
+        "1 .a",
+        "c[01]",
+        "--5",
+        "c.Order",
+        "@k",
+        "c . a",
+        "\"it's\"",
+        "'\\u00e9\\ud83d\\ude00'",
+        "NULL",
+    ] {
+        assert_eq!(rt; found_value(alloc, expr)?, Found::AQuery, "{expr}");
+    }
+    for expr in [
+        "1a",
+        "1_",
+        "1.5",
+        "1..2",
+        "c.5",
+        "1 .5",
+        "@ k",
+        "@z",
+        "'a",
+        "'\\x'",
+        "'\\ud83d'",
+        "c;",
+        "c.é",
+        "!c",
+        "c | c",
+    ] {
+        assert_eq!(rt; found_value(alloc, expr)?, Found::NoQuery, "{expr}");
+    }
+    Ok(())
+}
+
+#[test]
+fn numbers_fit_64_bits(rt: HostRuntime) -> Result<(), Fail> {
+    let alloc = rt.alloc();
+    for expr in [
+        "9223372036854775807",
+        "-9223372036854775808",
+        "- 09223372036854775808",
+        "--9223372036854775808",
+        "c[4294967295]",
+    ] {
+        assert_eq!(rt; found_value(alloc, expr)?, Found::AQuery, "{expr}");
+    }
+    for expr in [
+        "9223372036854775808",
+        "+9223372036854775808",
+        "-(9223372036854775808)",
+        "1 -9223372036854775808",
+        "-9223372036854775808.a",
+        "-9223372036854775809",
+        "c[4294967296]",
+        "c[-1]",
+    ] {
+        assert_eq!(rt; found_value(alloc, expr)?, Found::NoQuery, "{expr}");
+    }
+    Ok(())
+}
+
+#[test]
+fn operators_have_levels(rt: HostRuntime) -> Result<(), Fail> {
+    let alloc = rt.alloc();
+    for expr in [
+        "c.a ? 1 : c.b ? 2 : 3",
+        "c.a ?? c.b ? 1 : 2",
+        "NOT NOT c.a AND c.b OR c.d",
+        "c.a BETWEEN 1 AND 2 AND c.b",
+        "c.a NOT IN (1, 'x', @k) OR c.b NOT LIKE @t",
+        "-c.a + +c.b || 'x' <> ('y' || 'z')",
+        "(c.a = c.b) = c.d",
+        "{a: 1, 'b c': [], select: {}}",
+    ] {
+        assert_eq!(rt; found_value(alloc, expr)?, Found::AQuery, "{expr}");
+    }
+    for expr in [
+        "c.a = c.b = c.d",
+        "c.a < 1 IN (true)",
+        "c.a NOT = 1",
+        "c.a IN ()",
+        "c.a BETWEEN 1 OR 2",
+        "c.a = NOT c.b",
+        "c.a ? 1",
+        "(c.a",
+        "[1,]",
+        "{1: 2}",
+        "",
+    ] {
+        assert_eq!(rt; found_value(alloc, expr)?, Found::NoQuery, "{expr}");
+    }
+    Ok(())
+}
+
+#[test]
+fn functions_have_numbers_of_arguments(rt: HostRuntime) -> Result<(), Fail> {
+    let alloc = rt.alloc();
+    for expr in [
+        "concat('a', 'b')",
+        "Array_Slice(c.a, 1)",
+        "ARRAY_SLICE(c.a, 1, 2)",
+        "IS_DEFINED (c.a)",
+        "LEFT(c.a, 1)",
+    ] {
+        assert_eq!(rt; found_value(alloc, expr)?, Found::AQuery, "{expr}");
+    }
+    for expr in [
+        "CONCAT('a')",
+        "ARRAY_SLICE(c.a)",
+        "IS_DEFINED()",
+        "LENGTH('a', 'b')",
+        "FOO(1)",
+        "c(1)",
+        "SELECT(1)",
+    ] {
+        assert_eq!(rt; found_value(alloc, expr)?, Found::NoQuery, "{expr}");
+    }
+    Ok(())
+}
+
+#[test]
+fn clauses_have_an_order(rt: HostRuntime) -> Result<(), Fail> {
+    let alloc = rt.alloc();
+    for text in [
+        "select distinct top @k * from c where c.a order by c.a desc",
+        "SELECT * FROM c OFFSET 1 LIMIT 0",
+        "SELECT c.a b, c.d AS e FROM root AS c JOIN t IN c.t JOIN u IN t['x'][0]",
+        "SELECT VALUE count FROM count ORDER BY count.a, count.a ASC",
+        "SELECT * FROM x IN c.t WHERE x > 1",
+    ] {
+        assert_eq!(rt; found_in(alloc, text)?, Found::AQuery, "{text}");
+    }
+    for text in [
+        "SELECT * FROM c LIMIT 2",
+        "SELECT * FROM c OFFSET 1",
+        "SELECT * FROM c ORDER BY c.a WHERE c.a",
+        "SELECT TOP 4294967296 * FROM c",
+        "SELECT TOP @n * FROM c",
+        "SELECT TOP @t * FROM c",
+        "SELECT FROM c",
+        "SELECT *",
+        "SELECT * FROM c, d",
+        "SELECT * FROM c JOIN c.t",
+    ] {
+        assert_eq!(rt; found_in(alloc, text)?, Found::NoQuery, "{text}");
+    }
+    Ok(())
+}
+
+#[test]
+fn aliases_are_declared_once(rt: HostRuntime) -> Result<(), Fail> {
+    let alloc = rt.alloc();
+    for text in [
+        "SELECT VALUE t FROM c.t",
+        "SELECT VALUE t FROM c['t']",
+        "SELECT VALUE x FROM c[0] x",
+        "SELECT VALUE x FROM x IN c",
+        "SELECT VALUE root FROM c JOIN root IN c.t",
+    ] {
+        assert_eq!(rt; found_in(alloc, text)?, Found::AQuery, "{text}");
+    }
+    for text in [
+        "SELECT VALUE d.a FROM c",
+        "SELECT VALUE c.a FROM c.t",
+        "SELECT VALUE 1 FROM c[0]",
+        "SELECT VALUE 1 FROM c.select",
+        "SELECT VALUE 1 FROM c['x y']",
+        "SELECT VALUE 1 FROM root c JOIN x IN root.t",
+        "SELECT VALUE 1 FROM c JOIN c IN c.t",
+        "SELECT VALUE 1 FROM c JOIN x IN y.t JOIN y IN c.t",
+        "SELECT VALUE 1 FROM c ORDER BY d.a",
+        "SELECT VALUE 1 FROM select",
+    ] {
+        assert_eq!(rt; found_in(alloc, text)?, Found::NoQuery, "{text}");
+    }
+    Ok(())
+}
+
+#[test]
+fn picks_orders_and_groups_have_rules(rt: HostRuntime) -> Result<(), Fail> {
+    let alloc = rt.alloc();
+    for text in [
+        "SELECT c.a, c.b.a AS b, 1, 2 FROM c",
+        "SELECT c.k, COUNT(1) AS n FROM c GROUP BY c.k",
+        "SELECT VALUE SUM(c.v) + 1 FROM c WHERE c.v > 0",
+        "SELECT DISTINCT VALUE t FROM c JOIN t IN c.t ORDER BY c.a",
+    ] {
+        assert_eq!(rt; found_in(alloc, text)?, Found::AQuery, "{text}");
+    }
+    for text in [
+        "SELECT c.a, c['a'] FROM c",
+        "SELECT c['$1'], 1 FROM c",
+        "SELECT * FROM c JOIN t IN c.t",
+        "SELECT * FROM c ORDER BY c",
+        "SELECT * FROM c ORDER BY c[0]",
+        "SELECT TOP 1 * FROM c OFFSET 0 LIMIT 1",
+        "SELECT VALUE x FROM x IN c.t ORDER BY x.a",
+    ] {
+        assert_eq!(rt; found_in(alloc, text)?, Found::NoQuery, "{text}");
+    }
+    for text in [
+        "SELECT c.v, COUNT(1) AS n FROM c GROUP BY c.k",
+        "SELECT VALUE COUNT(COUNT(1)) FROM c",
+        "SELECT VALUE 1 FROM c WHERE COUNT(1) = 1",
+        "SELECT VALUE COUNT(1) FROM c ORDER BY c.k",
+        "SELECT VALUE COUNT() FROM c",
+        "SELECT * FROM c GROUP BY c.k",
+    ] {
+        assert_eq!(rt; found_in(alloc, text)?, Found::NoQuery, "{text}");
+    }
+    Ok(())
+}
+
+// A bare expression is one level, and each pair of brackets one more.
+#[test]
+fn expressions_nest_64_deep(rt: HostRuntime) -> Result<(), Fail> {
+    let alloc = rt.alloc();
+    let open = built(alloc, "SELECT VALUE ", "(", 63, "1")?;
+    let text = built(alloc, open.as_str(), ")", 63, " FROM c")?;
+    assert_eq!(rt; found_in(alloc, text.as_str())?, Found::AQuery);
+    let open = built(alloc, "SELECT VALUE ", "(", 64, "1")?;
+    let text = built(alloc, open.as_str(), ")", 64, " FROM c")?;
+    assert_eq!(rt; found_in(alloc, text.as_str())?, Found::NoQuery);
+    Ok(())
+}
+
+#[test]
+fn texts_names_and_lists_have_limits(rt: HostRuntime) -> Result<(), Fail> {
+    let alloc = rt.alloc();
+    let text = built(alloc, "SELECT * FROM c", " ", 16_369, "")?;
+    assert_eq!(rt; found_in(alloc, text.as_str())?, Found::AQuery);
+    let text = built(alloc, "SELECT * FROM c", " ", 16_370, "")?;
+    assert_eq!(rt; found_in(alloc, text.as_str())?, Found::NoQuery);
+    let text = built(alloc, "SELECT VALUE c.", "a", 255, " FROM c")?;
+    assert_eq!(rt; found_in(alloc, text.as_str())?, Found::AQuery);
+    let text = built(alloc, "SELECT VALUE c.", "a", 256, " FROM c")?;
+    assert_eq!(rt; found_in(alloc, text.as_str())?, Found::NoQuery);
+    let text = built(alloc, "SELECT VALUE c.a IN (1", ",1", 255, ") FROM c")?;
+    assert_eq!(rt; found_in(alloc, text.as_str())?, Found::AQuery);
+    let text = built(alloc, "SELECT VALUE c.a IN (1", ",1", 256, ") FROM c")?;
+    assert_eq!(rt; found_in(alloc, text.as_str())?, Found::NoQuery);
+    Ok(())
+}
+
+#[test]
+fn joins_and_orders_have_limits(rt: HostRuntime) -> Result<(), Fail> {
+    let alloc = rt.alloc();
+    let text = built(alloc, "SELECT * FROM c ORDER BY c.a", ",c.a", 7, "")?;
+    assert_eq!(rt; found_in(alloc, text.as_str())?, Found::AQuery);
+    let text = built(alloc, "SELECT * FROM c ORDER BY c.a", ",c.a", 8, "")?;
+    assert_eq!(rt; found_in(alloc, text.as_str())?, Found::NoQuery);
+    let mut text = String::from_str(alloc, "SELECT VALUE 1 FROM c")?;
+    for at in 0..8u32 {
+        let join = format!(in alloc; " JOIN t{at} IN c.t")?;
+        text.push_str(join.as_str())?;
+    }
+    assert_eq!(rt; found_in(alloc, text.as_str())?, Found::AQuery);
+    text.push_str(" JOIN t IN c.t")?;
+    assert_eq!(rt; found_in(alloc, text.as_str())?, Found::NoQuery);
+    Ok(())
+}

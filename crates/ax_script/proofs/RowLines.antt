@@ -1,0 +1,9 @@
+-- The lines of rows.
+use Rattle.std.proofs.Common.{ℕ, List, map}
+use Rattle.std.specs.List.{flat_map}
+use Rattle.ax_mean.specs.declared.query.KeyedRow.{KeyedRow}
+use Rattle.ax_machine.specs.ReplyTexts.{row_text}
+use Rattle.ax_tree.specs.CanonicalText.{canonical_text}
+
+abbrev pub lines_of_rows : List KeyedRow → List ℕ
+lines_of_rows rows = flat_map row_text (map (λ row. canonical_text row.shown) rows)

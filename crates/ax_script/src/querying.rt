@@ -1,0 +1,128 @@
+//! The rows of a query over all documents of an open store, and the reply that has them.
+
+ghost use Rattle.std.specs.Prelude.{◌≡◌, ◌≤◌, ◌+◌, ◌++◌, length, Some, IfOk, OnOk};
+ghost use Rattle.ax_container.specs.Container.{Container};
+ghost use Rattle.ax_grammar.specs.Query.{query_in};
+ghost use Rattle.ax_machine.specs.Needs.{query_need};
+ghost use Rattle.ax_machine.specs.Querying.{asked, numbered, query_reply, rows_reply};
+ghost use Rattle.ax_machine.specs.ReplyTexts.{reply_text};
+ghost use Rattle.ax_mean.specs.Answer.{all_rows as all_rows_lem};
+ghost use Rattle.ax_mean.specs.Rows.{keyed_rows};
+ghost use Rattle.ax_script.specs.Documents.{Holds};
+ghost use Rattle.ax_text.specs.Reading.{reading, Stands};
+ghost use Rattle.ax_tree.specs.declared.tree.Tree.{Tree as TreeOf};
+
+use crate::documents::{Documents, next_text};
+use crate::reply_lines::{refusal_line, rows_lines};
+use ax_base::Steps;
+use ax_lines::{Body, Refusal};
+use ax_machine::refusal_of;
+use ax_mean::{KeyedRow, Query};
+use ax_parse::{ParseFault, parse};
+use ax_rows::{append_rows, finish};
+use ax_text::read_tree;
+use ax_tree::Memory;
+use std::alloc::Global;
+use std::sync::ledger::Ledger;
+
+/// The text of the reply to a query, which changes nothing: a refusal where the body's text is no
+/// query, or one that is not served; else the rows of its answer over all documents, and how many
+/// there are. Each document that is evaluated takes one step.
+pub(crate) fn reply_to_query<L: Ledger>(
+    alloc: Global,
+    documents: &Documents,
+    body: &Body,
+    steps: &mut Steps<L>,
+) -> Result<Vec<u8>, Memory>
+    ensures text { (container : Container) → Holds documents.now container → IfOk result (λ text. text.items
+        ≡ reply_text (query_reply body.now container)) }
+    ensures bound { (container : Container) → Holds documents.now container → steps.new ≤ steps.old
+        + query_need (asked (query_in body.now.params body.now.text) container) container }
+    ensures never_falls { steps.old ≤ steps.new }
+{
+    match query_of(alloc, body)? {
+        Some(query) => reply_to_read(alloc, documents, &query, steps),
+        None => refusal_line(alloc, Refusal::Query),
+    }
+}
+
+/// The query that a body's text is, with its parameters; `None` where it is none.
+#[tactic(auto, using(crate::proofs::QueryTexts::some_query, crate::proofs::QueryTexts::no_query))]
+fn query_of(alloc: Global, body: &Body) -> Result<Option<Query>, Memory>
+    ensures { IfOk result (λ query. query ≡ query_in body.now.params body.now.text) }
+{
+    match parse(alloc, body.text.as_str().as_bytes(), &body.params) {
+        Ok(query) => Ok(Some(query)),
+        Err(ParseFault::Text) => Ok(None),
+        Err(ParseFault::Memory) => Err(Memory),
+    }
+}
+
+/// The text of the reply to a query that was read.
+fn reply_to_read<L: Ledger>(
+    alloc: Global,
+    documents: &Documents,
+    query: &Query,
+    steps: &mut Steps<L>,
+) -> Result<Vec<u8>, Memory>
+    ensures text { (container : Container) → Holds documents.now container → IfOk result (λ text. text.items
+        ≡ reply_text (rows_reply (asked (Some query.now) container))) }
+    ensures bound { (container : Container) → Holds documents.now container → steps.new ≤ steps.old
+        + query_need (asked (Some query.now) container) container }
+    ensures never_falls { steps.old ≤ steps.new }
+{
+    if let Some(refusal) = refusal_of(query) {
+        return refusal_line(alloc, refusal);
+    }
+    let rows = all_rows(alloc, documents, query, steps)?;
+    let Ok(rows) = finish(alloc, query, rows) else {
+        return Err(Memory);
+    };
+    rows_lines(alloc, rows.as_slice())
+}
+
+/// The rows of all documents, in the order of their numbers, as no ORDER BY and no LIMIT has them.
+fn all_rows<L: Ledger>(
+    alloc: Global,
+    documents: &Documents,
+    query: &Query,
+    steps: &mut Steps<L>,
+) -> Result<Vec<KeyedRow>, Memory>
+    ensures rows { (container : Container) → Holds documents.now container → IfOk result (λ rows. rows.items
+        ≡ all_rows_lem query.now (numbered container)) }
+    ensures bound { (container : Container) → Holds documents.now container
+        → steps.new ≤ steps.old + length container.entries }
+    ensures never_falls { steps.old ≤ steps.new }
+{
+    let mut rows = Vec::new(alloc);
+    let mut number = 0;
+    'texts: while let Some((next, text)) = next_text(&documents.store, number) {
+        number = next;
+        append_document(alloc, query, number, text, steps, &mut rows)?;
+    }
+    Ok(rows)
+}
+
+/// Appends the rows of the document whose text it is. Where a text is no JSON, which no document's
+/// is, the answer is that of want of memory.
+fn append_document<L: Ledger>(
+    alloc: Global,
+    query: &Query,
+    number: u32,
+    text: &[u8],
+    steps: &mut Steps<L>,
+    rows: &mut Vec<KeyedRow>,
+) -> Result<(), Memory>
+    ensures rows { (tree : TreeOf) → reading text.now ≡ Stands tree
+        → OnOk result (rows.new.items ≡ rows.old.items ++ keyed_rows query.now number tree) }
+    ensures one { steps.new ≤ steps.old + 1 }
+    ensures never_falls { steps.old ≤ steps.new }
+{
+    let Ok(tree) = read_tree(alloc, text) else {
+        return Err(Memory);
+    };
+    let Ok(()) = append_rows(alloc, query, number, &tree, steps, rows) else {
+        return Err(Memory);
+    };
+    Ok(())
+}
