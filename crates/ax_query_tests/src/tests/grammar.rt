@@ -52,6 +52,44 @@ fn built(
     Ok(text)
 }
 
+/// What the text is that has a piece so many times between two others.
+fn found_built(
+    alloc: Global,
+    front: &str,
+    piece: &str,
+    count: usize,
+    back: &str,
+) -> Result<Found, Fail> {
+    let text = built(alloc, front, piece, count, back)?;
+    found_in(alloc, text.as_str())
+}
+
+/// What the text is that picks 1 in so many pairs of brackets.
+fn found_nested(alloc: Global, depth: usize) -> Result<Found, Fail> {
+    let front = built(alloc, "SELECT VALUE ", "(", depth, "1")?;
+    found_built(alloc, front.as_str(), ")", depth, " FROM c")
+}
+
+fn push_join(alloc: Global, text: &mut String, at: u32) -> Result<(), AllocError> {
+    let join = format!(in alloc; " JOIN t{at} IN c.t")?;
+    text.push_str(join.as_str())
+}
+
+/// A text with so many joins.
+fn joined(alloc: Global, count: u32) -> Result<String, AllocError> {
+    let mut text = String::from_str(alloc, "SELECT VALUE 1 FROM c")?;
+    for at in 0..count {
+        push_join(alloc, &mut text, at)?;
+    }
+    Ok(text)
+}
+
+/// What the text is that has so many joins.
+fn found_joined(alloc: Global, count: u32) -> Result<Found, Fail> {
+    let text = joined(alloc, count)?;
+    found_in(alloc, text.as_str())
+}
+
 #[test]
 fn tokens_are_as_long_as_they_can_be(rt: HostRuntime) -> Result<(), Fail> {
     let alloc = rt.alloc();
@@ -274,47 +312,45 @@ fn picks_orders_and_groups_have_rules(rt: HostRuntime) -> Result<(), Fail> {
 #[test]
 fn expressions_nest_64_deep(rt: HostRuntime) -> Result<(), Fail> {
     let alloc = rt.alloc();
-    let open = built(alloc, "SELECT VALUE ", "(", 63, "1")?;
-    let text = built(alloc, open.as_str(), ")", 63, " FROM c")?;
-    assert_eq!(rt; found_in(alloc, text.as_str())?, Found::AQuery);
-    let open = built(alloc, "SELECT VALUE ", "(", 64, "1")?;
-    let text = built(alloc, open.as_str(), ")", 64, " FROM c")?;
-    assert_eq!(rt; found_in(alloc, text.as_str())?, Found::NoQuery);
+    assert_eq!(rt; found_nested(alloc, 63)?, Found::AQuery);
+    assert_eq!(rt; found_nested(alloc, 64)?, Found::NoQuery);
     Ok(())
 }
 
 #[test]
 fn texts_names_and_lists_have_limits(rt: HostRuntime) -> Result<(), Fail> {
     let alloc = rt.alloc();
-    let text = built(alloc, "SELECT * FROM c", " ", 16_369, "")?;
-    assert_eq!(rt; found_in(alloc, text.as_str())?, Found::AQuery);
-    let text = built(alloc, "SELECT * FROM c", " ", 16_370, "")?;
-    assert_eq!(rt; found_in(alloc, text.as_str())?, Found::NoQuery);
-    let text = built(alloc, "SELECT VALUE c.", "a", 255, " FROM c")?;
-    assert_eq!(rt; found_in(alloc, text.as_str())?, Found::AQuery);
-    let text = built(alloc, "SELECT VALUE c.", "a", 256, " FROM c")?;
-    assert_eq!(rt; found_in(alloc, text.as_str())?, Found::NoQuery);
-    let text = built(alloc, "SELECT VALUE c.a IN (1", ",1", 255, ") FROM c")?;
-    assert_eq!(rt; found_in(alloc, text.as_str())?, Found::AQuery);
-    let text = built(alloc, "SELECT VALUE c.a IN (1", ",1", 256, ") FROM c")?;
-    assert_eq!(rt; found_in(alloc, text.as_str())?, Found::NoQuery);
+    for (front, piece, count, back) in [
+        ("SELECT * FROM c", " ", 16_369, ""),
+        ("SELECT VALUE c.", "a", 255, " FROM c"),
+        ("SELECT VALUE c.a IN (1", ",1", 255, ") FROM c"),
+        ("SELECT * FROM c ORDER BY c.a", ",c.a", 7, ""),
+    ] {
+        assert_eq!(rt;
+            found_built(alloc, front, piece, count, back)?,
+            Found::AQuery,
+            "{front}"
+        );
+    }
+    for (front, piece, count, back) in [
+        ("SELECT * FROM c", " ", 16_370, ""),
+        ("SELECT VALUE c.", "a", 256, " FROM c"),
+        ("SELECT VALUE c.a IN (1", ",1", 256, ") FROM c"),
+        ("SELECT * FROM c ORDER BY c.a", ",c.a", 8, ""),
+    ] {
+        assert_eq!(rt;
+            found_built(alloc, front, piece, count, back)?,
+            Found::NoQuery,
+            "{front}"
+        );
+    }
     Ok(())
 }
 
 #[test]
-fn joins_and_orders_have_limits(rt: HostRuntime) -> Result<(), Fail> {
+fn joins_have_a_limit(rt: HostRuntime) -> Result<(), Fail> {
     let alloc = rt.alloc();
-    let text = built(alloc, "SELECT * FROM c ORDER BY c.a", ",c.a", 7, "")?;
-    assert_eq!(rt; found_in(alloc, text.as_str())?, Found::AQuery);
-    let text = built(alloc, "SELECT * FROM c ORDER BY c.a", ",c.a", 8, "")?;
-    assert_eq!(rt; found_in(alloc, text.as_str())?, Found::NoQuery);
-    let mut text = String::from_str(alloc, "SELECT VALUE 1 FROM c")?;
-    for at in 0..8u32 {
-        let join = format!(in alloc; " JOIN t{at} IN c.t")?;
-        text.push_str(join.as_str())?;
-    }
-    assert_eq!(rt; found_in(alloc, text.as_str())?, Found::AQuery);
-    text.push_str(" JOIN t IN c.t")?;
-    assert_eq!(rt; found_in(alloc, text.as_str())?, Found::NoQuery);
+    assert_eq!(rt; found_joined(alloc, 8)?, Found::AQuery);
+    assert_eq!(rt; found_joined(alloc, 9)?, Found::NoQuery);
     Ok(())
 }
