@@ -8,8 +8,7 @@ use Rattle.ax_mean.specs.declared.query.Order.{Order}
 use Rattle.ax_mean.specs.declared.query.Query.{Query}
 use Rattle.ax_mean.specs.declared.query.Step.{Step}
 use Rattle.ax_mean.specs.declared.query.Step.TheVariants.{Name, Item}
-use Rattle.ax_mean.specs.Aggregates.{has_groups}
-use Rattle.ax_mean.specs.Answer.{answer}
+use Rattle.ax_answer.specs.Answers.{answer_of}
 use Rattle.ax_grammar.specs.Query.{query_in}
 use Rattle.ax_container.specs.Container.{Container}
 use Rattle.ax_lines.specs.declared.body.Body.{Body}
@@ -36,16 +35,15 @@ is_orderable [] = true
 is_orderable (order ∷ []) = not (is_etag order.path)
 is_orderable (order ∷ other ∷ orders) = false
 
--- The causes of refusal of a query that was read, in their order. Groups are not served yet.
+-- The causes of refusal of a query that was read.
 abbrev pub causes : Query → List Cause
 causes query =
-    record { applies = has_groups query; refusal = refusal.Query } ∷
     record { applies = not (is_orderable query.orders); refusal = refusal.Order } ∷ []
 
 -- the rows of a query over all documents, as texts
 abbrev pub rows_of : Query → Container → List (List ℕ)
 rows_of query container =
-    map (λ row. canonical_text row.shown) (answer query (numbered container))
+    map (λ row. canonical_text row.shown) (answer_of query (numbered container))
 
 -- the rows of a query, or the first refusal of it; a text that is no query is refused
 abbrev pub asked : Option Query → Container → Result (List (List ℕ)) Refusal

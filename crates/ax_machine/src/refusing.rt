@@ -6,19 +6,15 @@ ghost use Rattle.ax_machine.specs.Querying.{causes, is_etag as is_etag_path, is_
 
 use ax_lines::Refusal;
 use ax_mean::{OrderList, Path, Query, Step};
-use ax_rows::has_groups;
 
-/// The refusal of a query that was read, and none of one that is answered: `Query` where it has
-/// groups, which are not served yet, and `Order` where no order is kept for its ORDER BY.
+/// The refusal of a query that was read, and none of one that is answered: `Order` where no order is
+/// kept for its ORDER BY.
 pub fn refusal_of(query: &Query) -> Option<Refusal>
     ensures refused { IfSome result (λ why. (answer : Result (List (List ℕ)) refused.Refusal)
         → unless (causes query.now) answer ≡ Err why) }
     ensures answered { IfNone result ((answer : Result (List (List ℕ)) refused.Refusal)
         → unless (causes query.now) answer ≡ answer) }
 {
-    if has_groups(query) {
-        return Some(Refusal::Query);
-    }
     if !is_orderable(&query.orders) {
         return Some(Refusal::Order);
     }

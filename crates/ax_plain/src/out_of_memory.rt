@@ -22,8 +22,8 @@ impl From<ax_tree::Memory> for Memory {
     }
 }
 
-impl From<ax_rows::Memory> for Memory {
-    fn from(_: ax_rows::Memory) -> Memory {
+impl From<ax_answer::Memory> for Memory {
+    fn from(_: ax_answer::Memory) -> Memory {
         Memory
     }
 }

@@ -1,16 +1,18 @@
 //! The rows of a query over whole documents, each looked at in turn.
-ghost use Rattle.std.specs.Prelude.{◌≡◌, ◌<◌, ◌++◌, map, IfOk, OnOk};
-ghost use Rattle.ax_mean.specs.Answer.{all_rows as rows_of_all, answer};
-ghost use Rattle.ax_mean.specs.Rows.{keyed_rows};
+ghost use Rattle.std.specs.Prelude.{◌≡◌, ◌<◌, ℕ, List, [], ◌∷◌, ◌++◌, map, IfOk, OnOk};
+ghost use Rattle.ax_tree.specs.declared.tree.Tree as trees;
+ghost use Rattle.ax_mean.specs.declared.query.Query as queries;
+ghost use Rattle.ax_answer.specs.Answers.{answer_of};
+ghost use Rattle.ax_answer.specs.Gathering.{Gathers};
 ghost use Rattle.ax_grammar.specs.Query.{query_in as query_of};
 
 use crate::out_of_memory::Memory;
 use crate::plain_document::PlainDocument;
+use ax_answer::Answer;
 use ax_base::Steps;
 use ax_lines::Body;
 use ax_mean::{KeyedRow, Query};
 use ax_parse::{ParseFault, parse};
-use ax_rows::{finish, rows_of};
 use std::alloc::Global;
 use std::marker::Brand;
 use std::sync::ledger::{Blank, Ledger};
@@ -33,56 +35,42 @@ pub fn answer_rows(
     query: &Query,
     documents: &[PlainDocument],
 ) -> Result<Vec<KeyedRow>, Memory>
-    ensures { IfOk result (λ rows. rows.items ≡ answer query.now
+    ensures { IfOk result (λ rows. rows.items ≡ answer_of query.now
         (map (λ entry. (entry.number, entry.tree)) documents.now)) }
 {
-    let rows = all_rows(alloc, query, documents)?;
-    Ok(finish(alloc, query, rows)?)
+    let mut answer = Answer::begin(alloc, query)?;
+    add_documents(alloc, &mut answer, documents)?;
+    Ok(answer.finish(alloc)?)
 }
 
-/// The rows of all documents.
-fn all_rows(
+fn add_documents(
     alloc: Global,
-    query: &Query,
+    answer: &mut Answer<'_>,
     documents: &[PlainDocument],
-) -> Result<Vec<KeyedRow>, Memory>
-    ensures { IfOk result (λ rows. rows.items ≡ rows_of_all query.now
-        (map (λ entry. (entry.number, entry.tree)) documents.now)) }
-{
-    let mut rows = Vec::new(alloc);
-    for document in documents {
-        add_rows(alloc, query, document, &mut rows)?;
-    }
-    Ok(rows)
-}
-
-fn add_rows(
-    alloc: Global,
-    query: &Query,
-    document: &PlainDocument,
-    rows: &mut Vec<KeyedRow>,
 ) -> Result<(), Memory>
-    ensures { OnOk result (rows.new.items
-        ≡ rows.old.items ++ keyed_rows query.now document.now.number document.now.tree) }
+    ensures { OnOk result ((query : queries.Query) → Gathers answer.old query []
+        → Gathers answer.new query (map (λ entry. (entry.number, entry.tree)) documents.now)) }
 {
-    let mut more = counted_rows::<Brand>(alloc, query, document, Blank::new(1))?;
-    rows.append(&mut more)?;
+    for document in documents {
+        add_document::<Brand>(alloc, answer, document, Blank::new(1))?;
+    }
     Ok(())
 }
 
-/// The rows of a document, with a counter of steps that nobody sees.
-fn counted_rows<L: Ledger>(
+/// Takes in a document, with a counter of steps that nobody sees.
+fn add_document<L: Ledger>(
     alloc: Global,
-    query: &Query,
+    answer: &mut Answer<'_>,
     document: &PlainDocument,
     blank: Blank,
-) -> Result<Vec<KeyedRow>, Memory>
+) -> Result<(), Memory>
     requires name { blank.name ≡ L.name }
     requires parts { blank.parts ≡ L.parts }
     requires some { 0 < blank.parts }
-    ensures { IfOk result (λ rows. rows.items
-        ≡ keyed_rows query.now document.now.number document.now.tree) }
+    ensures { OnOk result ((query : queries.Query) → (entries : List (ℕ × trees.Tree))
+        → Gathers answer.old query entries
+        → Gathers answer.new query (entries ++ (document.now.number, document.now.tree) ∷ [])) }
 {
     let mut steps = Steps::<L>::begin(blank);
-    Ok(rows_of(alloc, query, document.number(), document.tree(), &mut steps)?)
+    Ok(answer.add(alloc, document.number(), document.tree(), &mut steps)?)
 }

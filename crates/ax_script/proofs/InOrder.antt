@@ -17,10 +17,7 @@ use Rattle.ax_container.proofs.Upserts.{or_none}
 use Rattle.ax_pages.specs.Contents.{Contents, Numbered}
 use Rattle.ax_pages.proofs.LastPart.{same_number, other_number}
 use Rattle.ax_image.specs.StandsFor.{AreShown, ContentsStandFor}
-use Rattle.ax_mean.specs.Answer.{all_rows}
-use Rattle.ax_mean.specs.Rows.{keyed_rows}
-use Rattle.ax_mean.specs.declared.query.KeyedRow.{KeyedRow}
-use Rattle.ax_mean.specs.declared.query.Query.{Query}
+use Rattle.ax_tree.specs.declared.tree.Tree.{Tree}
 use Rattle.ax_store.specs.Listed.{IsNextAfter}
 use Rattle.ax_text.proofs.RoundTrip.{text-stands}
 use Rattle.ax_text.specs.Reading.{reading, Stands}
@@ -158,19 +155,11 @@ none_above n (p ∷ ps) (e ∷ es) shown none =
           sym (found_later b p ps other) ∙ none b low)
     ]
 
--- ---- rows
+-- ---- what was taken in
 
--- the rows of the entries that are still to come
-abbrev pub keyed_left : Query → List Entry → List KeyedRow
-keyed_left query es = all_rows query (map (λ (entry : Entry). (entry.number, entry.tree)) es)
-
-more_rows : (query : Query) (rows : List KeyedRow) (k : ℕ) (e : Entry) (later : List Entry)
-    → k ≡ e.number
-    → rows ++ keyed_left query (e ∷ later)
-    ≡ (rows ++ keyed_rows query k e.tree) ++ keyed_left query later
-more_rows query rows k e later is =
-    ap (λ n. rows ++ (keyed_rows query n e.tree ++ keyed_left query later)) (sym is)
-    ∙ sym (append_assoc rows (keyed_rows query k e.tree) (keyed_left query later))
+-- the entries that are still to come, each its number and its tree
+abbrev pub pairs : List Entry → List (ℕ × Tree)
+pairs = map (λ (entry : Entry). (entry.number, entry.tree))
 
 -- ---- numbers of ids
 
@@ -287,16 +276,16 @@ module _ (contents : Contents) (container : Container)
       let same : text ≡ canonical_text next.entry.tree = cc in
       ap reading same ∙ text-stands next.entry.tree stored.well_formed stored.shallow
 
-  -- the rows of one document more
-  pub keyed_on : (query : Query) (n k : ℕ) (rows more all : List KeyedRow)
-      (next : Next n k pages container.entries)
-      → more ≡ rows ++ keyed_rows query k next.entry.tree
-      → all ≡ rows ++ keyed_left query (above n container.entries)
-      → all ≡ more ++ keyed_left query (above k container.entries)
-  keyed_on query n k rows more all next is known =
-      known ∙ ap (λ es. rows ++ keyed_left query es) next.here
-      ∙ more_rows query rows k next.entry next.later next.number_is
-      ∙ (λ i. sym is i ++ keyed_left query (sym next.left i))
+  -- one document more was taken in
+  pub taken_on : (n k : ℕ) (done : List (ℕ × Tree)) (next : Next n k pages container.entries)
+      → done ++ pairs (above n container.entries) ≡ pairs container.entries
+      → (done ++ (k, next.entry.tree) ∷ []) ++ pairs (above k container.entries)
+      ≡ pairs container.entries
+  taken_on n k done next known =
+      append_assoc done ((k, next.entry.tree) ∷ []) (pairs (above k container.entries))
+      ∙ (λ i. done ++ (next.number_is i, next.entry.tree) ∷ pairs (next.left i))
+      ∙ ap (λ es. done ++ pairs es) (sym next.here)
+      ∙ known
 
   -- one document less is to come
   pub one_less : (n k : ℕ) (next : Next n k pages container.entries)

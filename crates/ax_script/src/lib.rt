@@ -2,7 +2,7 @@
 //! reply per line to a sink.
 //!
 //! Stands on `ax_machine`, whose definitions say what a script means, on `ax_image`, which says what a
-//! disk image stands for, on `ax_store` for the pages on a disk, on `ax_parse` and `ax_rows` for
+//! disk image stands for, on `ax_store` for the pages on a disk, on `ax_parse` and `ax_answer` for
 //! queries, on `ax_base` and `ax_disk` for the outside, and on `ax_lines`, `ax_container`, `ax_text`
 //! and `ax_tree`. Its one contract stands on `run`: what was written is the text of a run of the lines
 //! that were read, no more steps of work were counted than these lines may count, at each moment a

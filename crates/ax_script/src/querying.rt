@@ -1,25 +1,26 @@
 //! The rows of a query over all documents of an open store, and the reply that has them.
 
-ghost use Rattle.std.specs.Prelude.{◌≡◌, ◌≤◌, ◌+◌, ◌++◌, length, Some, IfOk, OnOk};
+ghost use Rattle.std.specs.Prelude.{◌≡◌, ◌≤◌, ◌+◌, ℕ, List, [], ◌∷◌, ◌++◌, length, Some, IfOk, OnOk};
+ghost use Rattle.ax_answer.specs.Answers.{answer_of};
+ghost use Rattle.ax_answer.specs.Gathering.{Gathers};
 ghost use Rattle.ax_container.specs.Container.{Container};
 ghost use Rattle.ax_grammar.specs.Query.{query_in};
 ghost use Rattle.ax_machine.specs.Needs.{query_need};
 ghost use Rattle.ax_machine.specs.Querying.{asked, numbered, query_reply, rows_reply};
 ghost use Rattle.ax_machine.specs.ReplyTexts.{reply_text};
-ghost use Rattle.ax_mean.specs.Answer.{all_rows as all_rows_lem};
-ghost use Rattle.ax_mean.specs.Rows.{keyed_rows};
+ghost use Rattle.ax_mean.specs.declared.query.Query as queries;
 ghost use Rattle.ax_script.specs.Documents.{Holds};
 ghost use Rattle.ax_text.specs.Reading.{reading, Stands};
 ghost use Rattle.ax_tree.specs.declared.tree.Tree.{Tree as TreeOf};
 
 use crate::documents::{Documents, next_text};
 use crate::reply_lines::{refusal_line, rows_lines};
+use ax_answer::Answer;
 use ax_base::Steps;
 use ax_lines::{Body, Refusal};
 use ax_machine::refusal_of;
 use ax_mean::{KeyedRow, Query};
 use ax_parse::{ParseFault, parse};
-use ax_rows::{append_rows, finish};
 use ax_text::read_tree;
 use ax_tree::Memory;
 use std::alloc::Global;
@@ -74,54 +75,74 @@ fn reply_to_read<L: Ledger>(
     if let Some(refusal) = refusal_of(query) {
         return refusal_line(alloc, refusal);
     }
-    let rows = all_rows(alloc, documents, query, steps)?;
-    let Ok(rows) = finish(alloc, query, rows) else {
-        return Err(Memory);
-    };
+    let rows = answer_rows(alloc, documents, query, steps)?;
     rows_lines(alloc, rows.as_slice())
 }
 
-/// The rows of all documents, in the order of their numbers, as no ORDER BY and no LIMIT has them.
-fn all_rows<L: Ledger>(
+/// The rows of the answer over all documents.
+fn answer_rows<L: Ledger>(
     alloc: Global,
     documents: &Documents,
     query: &Query,
     steps: &mut Steps<L>,
 ) -> Result<Vec<KeyedRow>, Memory>
     ensures rows { (container : Container) → Holds documents.now container → IfOk result (λ rows. rows.items
-        ≡ all_rows_lem query.now (numbered container)) }
+        ≡ answer_of query.now (numbered container)) }
     ensures bound { (container : Container) → Holds documents.now container
         → steps.new ≤ steps.old + length container.entries }
     ensures never_falls { steps.old ≤ steps.new }
 {
-    let mut rows = Vec::new(alloc);
-    let mut number = 0;
-    'texts: while let Some((next, text)) = next_text(&documents.store, number) {
-        number = next;
-        append_document(alloc, query, number, text, steps, &mut rows)?;
-    }
+    let Ok(mut answer) = Answer::begin(alloc, query) else {
+        return Err(Memory);
+    };
+    add_documents(alloc, documents, &mut answer, steps)?;
+    let Ok(rows) = answer.finish(alloc) else {
+        return Err(Memory);
+    };
     Ok(rows)
 }
 
-/// Appends the rows of the document whose text it is. Where a text is no JSON, which no document's
-/// is, the answer is that of want of memory.
-fn append_document<L: Ledger>(
+/// Takes all documents into the answer, in the order of their numbers.
+fn add_documents<L: Ledger>(
     alloc: Global,
-    query: &Query,
+    documents: &Documents,
+    answer: &mut Answer<'_>,
+    steps: &mut Steps<L>,
+) -> Result<(), Memory>
+    ensures added { (container : Container) → (query : queries.Query)
+        → Holds documents.now container → Gathers answer.old query []
+        → OnOk result (Gathers answer.new query (numbered container)) }
+    ensures bound { (container : Container) → Holds documents.now container
+        → steps.new ≤ steps.old + length container.entries }
+    ensures never_falls { steps.old ≤ steps.new }
+{
+    let mut number = 0;
+    'texts: while let Some((next, text)) = next_text(&documents.store, number) {
+        number = next;
+        add_document(alloc, answer, number, text, steps)?;
+    }
+    Ok(())
+}
+
+/// Takes the document whose text it is into the answer. Where a text is no JSON, which no document's
+/// is, that is answered as want of memory.
+fn add_document<L: Ledger>(
+    alloc: Global,
+    answer: &mut Answer<'_>,
     number: u32,
     text: &[u8],
     steps: &mut Steps<L>,
-    rows: &mut Vec<KeyedRow>,
 ) -> Result<(), Memory>
-    ensures rows { (tree : TreeOf) → reading text.now ≡ Stands tree
-        → OnOk result (rows.new.items ≡ rows.old.items ++ keyed_rows query.now number tree) }
+    ensures added { (tree : TreeOf) → reading text.now ≡ Stands tree → OnOk result
+        ((query : queries.Query) → (entries : List (ℕ × TreeOf)) → Gathers answer.old query entries
+        → Gathers answer.new query (entries ++ (number, tree) ∷ [])) }
     ensures one { steps.new ≤ steps.old + 1 }
     ensures never_falls { steps.old ≤ steps.new }
 {
     let Ok(tree) = read_tree(alloc, text) else {
         return Err(Memory);
     };
-    let Ok(()) = append_rows(alloc, query, number, &tree, steps, rows) else {
+    let Ok(()) = answer.add(alloc, number, &tree, steps) else {
         return Err(Memory);
     };
     Ok(())
