@@ -2,6 +2,7 @@ use crate::tests::script::{ROOM, output_by_bytes, output_of};
 use ax_plain::PlainMachine;
 use ax_script::Status;
 use std::alloc::{AllocError, Global};
+use std::process::Abort;
 use std::test::Fail;
 
 // The replies by hand, from the forms of a line.
@@ -49,6 +50,9 @@ fn the_plain_machine_answers(rt: HostRuntime) -> Result<(), Fail> {
     }
     Ok(())
 }
+
+/// How many lines are drawn for a script.
+const LINES: usize = 150;
 
 /// A generator of numbers, by multiplying and adding.
 #[derive(Drop)]
@@ -149,27 +153,71 @@ fn mixed_line(alloc: Global, draws: &mut Draws) -> Result<String, AllocError> {
     }
 }
 
-// The program and the plain machine answer some lines alike, whatever the reads.
+fn add_line(script: &mut Vec<u8>, line: &[u8]) -> Result<(), Fail> {
+    script.extend_from_slice(line)?;
+    Ok(script.push(b'\n')?)
+}
+
+/// The script of a seed.
+fn script_of(alloc: Global, seed: u32) -> Result<Vec<u8>, Fail> {
+    let mut draws = Draws { state: seed };
+    let mut script = Vec::new(alloc);
+    for _ in 0..LINES {
+        let line = mixed_line(alloc, &mut draws)?;
+        add_line(&mut script, line.as_bytes())?;
+    }
+    Ok(script)
+}
+
+/// Serves one line, and adds its reply.
+fn add_reply(
+    alloc: Global,
+    machine: &mut PlainMachine,
+    line: &[u8],
+    replies: &mut Vec<u8>,
+) -> Result<(), Fail> {
+    let reply = machine.answer(alloc, line)?;
+    Ok(replies.extend_from_slice(reply.as_slice())?)
+}
+
+/// What a plain machine without documents answers to the script of a seed.
+fn replies_of(alloc: Global, seed: u32) -> Result<Vec<u8>, Fail> {
+    let mut draws = Draws { state: seed };
+    let mut machine = PlainMachine::new(alloc);
+    let mut replies = Vec::new(alloc);
+    for _ in 0..LINES {
+        let line = mixed_line(alloc, &mut draws)?;
+        add_reply(alloc, &mut machine, line.as_bytes(), &mut replies)?;
+    }
+    Ok(replies)
+}
+
+/// Sees that the program answers so to the script of a seed, whatever the reads.
+fn check(
+    rt: &impl Abort,
+    alloc: Global,
+    seed: u32,
+    script: &[u8],
+    expected: &[u8],
+) -> Result<(), Fail> {
+    let (status, output) = output_of(alloc, script, &[], &[], ROOM)?;
+    assert_eq!(rt; status, Status::Done, "seed {seed}");
+    assert_eq!(rt; output.as_slice(), expected, "seed {seed}");
+    drop(output);
+    let (status, output) = output_by_bytes(alloc, script)?;
+    assert_eq!(rt; status, Status::Done, "seed {seed} by bytes");
+    assert_eq!(rt; output.as_slice(), expected, "seed {seed} by bytes");
+    Ok(())
+}
+
+// The program and the plain machine answer some lines alike.
 #[test]
 fn the_program_and_the_plain_machine_agree(rt: HostRuntime) -> Result<(), Fail> {
     let alloc = rt.alloc();
-    for seed in [7u32, 2026] {
-        let mut machine = PlainMachine::new(alloc);
-        let mut script = Vec::new(alloc);
-        let mut expected = Vec::new(alloc);
-        let mut draws = Draws { state: seed };
-        for _ in 0..150 {
-            let line = mixed_line(alloc, &mut draws)?;
-            script.extend_from_slice(line.as_bytes())?;
-            script.extend_from_slice(b"\n")?;
-            expected.extend_from_slice(machine.answer(alloc, line.as_bytes())?.as_slice())?;
-        }
-        let (status, output) = output_of(alloc, script.as_slice(), &[], &[], ROOM)?;
-        assert_eq!(rt; status, Status::Done, "seed {seed}");
-        assert_eq!(rt; output.as_slice(), expected.as_slice(), "seed {seed}");
-        let (status, output) = output_by_bytes(alloc, script.as_slice())?;
-        assert_eq!(rt; status, Status::Done, "seed {seed}");
-        assert_eq!(rt; output.as_slice(), expected.as_slice(), "seed {seed}");
+    for seed in [7, 2026] {
+        let script = script_of(alloc, seed)?;
+        let replies = replies_of(alloc, seed)?;
+        check(&rt, alloc, seed, script.as_slice(), replies.as_slice())?;
     }
     Ok(())
 }

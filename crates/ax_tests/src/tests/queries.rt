@@ -4,24 +4,38 @@
 use crate::tests::script::{ROOM, output_of};
 use ax_script::Status;
 use std::alloc::Global;
+use std::process::Abort;
 use std::test::Fail;
 
-/// The reply to the query of a body, behind those to the writes of the documents. The replies that are
-/// only `ok` are left out.
-fn reply_to(alloc: Global, documents: &[&str], body: &str) -> Result<Vec<u8>, Fail> {
-    let mut script = Vec::new(alloc);
+fn add_line(script: &mut Vec<u8>, command: &[u8], argument: &str) -> Result<(), Fail> {
+    script.extend_from_slice(command)?;
+    script.extend_from_slice(argument.as_bytes())?;
+    Ok(script.push(b'\n')?)
+}
+
+fn add_writes(script: &mut Vec<u8>, documents: &[&str]) -> Result<(), Fail> {
     for document in documents {
-        script.extend_from_slice(b"UPSERT ")?;
-        script.extend_from_slice(document.as_bytes())?;
-        script.extend_from_slice(b"\n")?;
+        add_line(script, b"UPSERT ", document)?;
     }
-    script.extend_from_slice(b"QUERY ")?;
-    script.extend_from_slice(body.as_bytes())?;
-    let (status, output) = output_of(alloc, script.as_slice(), &[], &[], ROOM)?;
+    Ok(())
+}
+
+/// The writes of the documents, and then the query of a body.
+fn script_of(alloc: Global, documents: &[&str], body: &str) -> Result<Vec<u8>, Fail> {
+    let mut script = Vec::new(alloc);
+    add_writes(&mut script, documents)?;
+    add_line(&mut script, b"QUERY ", body)?;
+    Ok(script)
+}
+
+/// The reply to a script's last line, behind those to so many writes. The replies that are only `ok`
+/// are left out.
+fn last_reply(alloc: Global, script: &[u8], writes: usize) -> Result<Vec<u8>, Fail> {
+    let (status, output) = output_of(alloc, script, &[], &[], ROOM)?;
     if status != Status::Done {
         return Ok(Vec::new(alloc));
     }
-    in_one_row(alloc, without_writes(output.as_slice(), documents.len()))
+    in_one_row(alloc, without_writes(output.as_slice(), writes))
 }
 
 /// The output behind so many lines `ok`.
@@ -49,25 +63,53 @@ fn in_one_row(alloc: Global, output: &[u8]) -> Result<Vec<u8>, Fail> {
     Ok(row)
 }
 
+/// The reply to the query of a body over these documents.
+fn reply_to(alloc: Global, documents: &[&str], body: &str) -> Result<Vec<u8>, Fail> {
+    let script = script_of(alloc, documents, body)?;
+    last_reply(alloc, script.as_slice(), documents.len())
+}
+
 /// The reply to the text of a query without parameters, which has no double quote.
 fn answer(alloc: Global, documents: &[&str], text: &str) -> Result<Vec<u8>, Fail> {
     let body = format!(in alloc; "{{\"query\":\"{text}\"}}")?;
     reply_to(alloc, documents, body.as_str())
 }
 
-/// The text with 128 letters `a` in place of each `X`.
-fn with_long(alloc: Global, text: &str) -> Result<String, Fail> {
-    let mut long = String::new(alloc);
-    for character in text.chars() {
-        if character == 'X' {
-            for _ in 0..8 {
-                long.push_str("aaaaaaaaaaaaaaaa")?;
-            }
+/// Sees that each text of a query has this reply.
+fn check(
+    rt: &impl Abort,
+    alloc: Global,
+    documents: &[&str],
+    table: &[(&str, &str)],
+) -> Result<(), Fail> {
+    for (text, expected) in table {
+        let reply = answer(alloc, documents, text)?;
+        assert_eq!(rt; reply.as_slice(), expected.as_bytes(), "{text}");
+    }
+    Ok(())
+}
+
+/// The bytes with 128 letters `a` in place of each `X`.
+fn lengthened(alloc: Global, bytes: &[u8]) -> Result<Vec<u8>, Fail> {
+    let mut long = Vec::new(alloc);
+    for byte in bytes {
+        if *byte == b'X' {
+            long.extend_from_slice(&[b'a'; 128])?;
         } else {
-            long.push(character)?;
+            long.push(*byte)?;
         }
     }
     Ok(long)
+}
+
+/// The reply to the text of a query, where each `X` of it and of the documents stands for 128 letters.
+fn long_answer(alloc: Global, documents: &[&str], text: &str) -> Result<Vec<u8>, Fail> {
+    let body = format!(in alloc; "{{\"query\":\"{text}\"}}")?;
+    let script = script_of(alloc, documents, body.as_str())?;
+    drop(body);
+    let long = lengthened(alloc, script.as_slice())?;
+    drop(script);
+    last_reply(alloc, long.as_slice(), documents.len())
 }
 
 // Comparisons are of one kind, and undefined where kinds differ, as is NOT of that.
@@ -87,11 +129,7 @@ fn only_values_of_one_kind_compare(rt: HostRuntime) -> Result<(), Fail> {
         ),
         ("SELECT VALUE c.id FROM c WHERE NOT (c.a = 1)", "end 0"),
     ];
-    for (text, expected) in table {
-        let reply = answer(alloc, documents.as_slice(), text)?;
-        assert_eq!(rt; reply.as_slice(), expected.as_bytes(), "{text}");
-    }
-    Ok(())
+    check(&rt, alloc, documents.as_slice(), table.as_slice())
 }
 
 // A document has no row where its value is undefined.
@@ -123,11 +161,7 @@ fn joins_go_over_lists(rt: HostRuntime) -> Result<(), Fail> {
             "row 1 / row 2 / end 2",
         ),
     ];
-    for (text, expected) in table {
-        let reply = answer(alloc, documents.as_slice(), text)?;
-        assert_eq!(rt; reply.as_slice(), expected.as_bytes(), "{text}");
-    }
-    Ok(())
+    check(&rt, alloc, documents.as_slice(), table.as_slice())
 }
 
 // Kinds have an order, ties keep the order of the documents, and DESC turns the values alone.
@@ -155,21 +189,18 @@ fn rows_are_ordered_by_kind_and_value(rt: HostRuntime) -> Result<(), Fail> {
             r#"row "1" / row "2" / row "3" / row "4" / row "9" / row "5" / row "6" / row "7" / row "8" / end 9"#,
         ),
     ];
-    for (text, expected) in table {
-        let reply = answer(alloc, documents.as_slice(), text)?;
-        assert_eq!(rt; reply.as_slice(), expected.as_bytes(), "{text}");
-    }
-    Ok(())
+    check(&rt, alloc, documents.as_slice(), table.as_slice())
 }
 
 // Texts that agree in 128 bytes compare by what follows.
 #[test]
 fn long_texts_compare_whole(rt: HostRuntime) -> Result<(), Fail> {
     let alloc = rt.alloc();
-    let first = with_long(alloc, r#"{"id":"1","v":"Xb"}"#)?;
-    let second = with_long(alloc, r#"{"id":"2","v":"Xc"}"#)?;
-    let third = with_long(alloc, r#"{"id":"3","v":"X"}"#)?;
-    let documents = [first.as_str(), second.as_str(), third.as_str()];
+    let documents = [
+        r#"{"id":"1","v":"Xb"}"#,
+        r#"{"id":"2","v":"Xc"}"#,
+        r#"{"id":"3","v":"X"}"#,
+    ];
     let table = [
         (
             "SELECT VALUE c.id FROM c WHERE c.v = 'Xb'",
@@ -185,8 +216,7 @@ fn long_texts_compare_whole(rt: HostRuntime) -> Result<(), Fail> {
         ),
     ];
     for (text, expected) in table {
-        let text = with_long(alloc, text)?;
-        let reply = answer(alloc, documents.as_slice(), text.as_str())?;
+        let reply = long_answer(alloc, documents.as_slice(), text)?;
         assert_eq!(rt; reply.as_slice(), expected.as_bytes(), "{text}");
     }
     Ok(())
@@ -248,11 +278,7 @@ fn rows_are_told_apart_and_counted(rt: HostRuntime) -> Result<(), Fail> {
         ("SELECT TOP 1 VALUE x FROM x IN c.t", "row 2 / end 1"),
         ("SELECT TOP 0 * FROM c", "end 0"),
     ];
-    for (text, expected) in table {
-        let reply = answer(alloc, documents.as_slice(), text)?;
-        assert_eq!(rt; reply.as_slice(), expected.as_bytes(), "{text}");
-    }
-    Ok(())
+    check(&rt, alloc, documents.as_slice(), table.as_slice())
 }
 
 // An order by one path is kept, for every path but one; groups are not served yet.
@@ -271,9 +297,5 @@ fn some_queries_are_refused(rt: HostRuntime) -> Result<(), Fail> {
         ("SELECT VALUE 1 FROM c GROUP BY c.id", "err 10 query"),
         ("SELECT VALUE d.id FROM c", "err 10 query"),
     ];
-    for (text, expected) in table {
-        let reply = answer(alloc, documents.as_slice(), text)?;
-        assert_eq!(rt; reply.as_slice(), expected.as_bytes(), "{text}");
-    }
-    Ok(())
+    check(&rt, alloc, documents.as_slice(), table.as_slice())
 }
