@@ -1,6 +1,5 @@
 -- What is kept of the documents that were added so far.
 use Rattle.std.specs.Prelude.{◌≡◌, ℕ, List, true, false, Option, Some, None}
-use Rattle.std.specs.Vec.{Vec}
 use Rattle.ax_tree.specs.declared.tree.Tree.{Tree}
 use Rattle.ax_mean.specs.declared.query.KeyedRow.{KeyedRow}
 use Rattle.ax_mean.specs.declared.query.Query.{Query}

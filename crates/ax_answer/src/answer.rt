@@ -1,5 +1,6 @@
-ghost use Rattle.std.specs.Prelude.{◌≡◌, ◌+◌, ℕ, List, [], ◌∷◌, ◌++◌, IfOk, IfSome, OnOk};
+ghost use Rattle.std.specs.Prelude.{◌≡◌, ◌+◌, ℕ, List, [], ◌∷◌, ◌++◌, true, IfOk, OnOk};
 ghost use Rattle.ax_tree.specs.declared.tree.Tree as trees;
+ghost use Rattle.ax_mean.specs.Aggregates.{has_groups as there_are_groups};
 ghost use Rattle.ax_mean.specs.Meaning as means;
 ghost use Rattle.ax_mean.specs.Rows.{envs_of_tree};
 ghost use Rattle.ax_mean.specs.declared.query.Query as queries;
@@ -43,8 +44,8 @@ impl<'a> Answer<'a> {
     }
 
     fn of_groups(alloc: Global, query: &'a Query, rows: Vec<KeyedRow>) -> Result<Answer<'a>, Memory>
-        ensures { IfOk result (λ answer. (answer.query.now ≡ query.now)
-            × IfSome answer.groups (λ groups. Holds groups query.now [])) }
+        ensures { there_are_groups query.now ≡ true
+            → IfOk result (λ answer. Gathers answer query.now []) }
     {
         match Groups::begin(alloc, query) {
             Ok(groups) => Ok(Answer {
@@ -82,7 +83,7 @@ impl<'a> Answer<'a> {
     /// The rows of the answer, in their order.
     pub fn finish(self, alloc: Global) -> Result<Vec<KeyedRow>, Memory>
         ensures { IfOk result (λ rows. (query : queries.Query)
-            → (entries : List (ℕ × trees.Tree)) → Gathers self query entries
+            → (entries : List (ℕ × trees.Tree)) → Gathers self.entry query entries
             → rows.items ≡ answer_of query entries) }
     {
         let Answer {

@@ -103,7 +103,7 @@ first_more [] env = refl
 first_more (e ∷ envs) env = refl
 
 -- what a state is after a row
-record pub IsAfter (old : State) (env : Env) (arguments : List Value) (new : State) : Type 0 where
+pub record IsAfter (old : State) (env : Env) (arguments : List Value) (new : State) : Type 0 where
   pub values : new.values ≡ old.values
   pub first : new.first ≡ first_with old.first env
   pub tallies : new.tallies.items ≡ tallies_with old.tallies.items arguments
@@ -193,7 +193,7 @@ module _ (asks : List Ask) (values : List Value) (env : Env) (key : GroupKey)
       (entry ∷ set_value here entries new)))
       (order_of_values key entry.0 values group.values is are.0.0)
       (by (key_order key entry.0) refl found
-      (same_group groups entries arguments old new e after (sorted_tail entry.0 (keys_of entries) up)
+      (same_group groups entries arguments old new e after (sorted_tail key_order entry.0 (keys_of entries) up)
       are.1))
     where
       by : (o : Ordering) → key_order key entry.0 ≡ o
@@ -205,10 +205,15 @@ module _ (asks : List Ask) (values : List Value) (env : Env) (key : GroupKey)
       by Less o f rest =
           none_is_not old
           (sym (lookup-none here entries (none_below_head key_order_total key entry entries up o).1) ∙ f)
-      by Equal o f rest =
-          ((are.0.0, state_more asks group env arguments entry.1 new e
-          (subst (λ (s : State). IsAfter s env arguments new) (sym (some_same entry.1 old f)) after)
-          are.0.1), are.1)
+      by Equal o f rest = (
+        (
+          are.0.0,
+          state_more asks group env arguments entry.1 new e
+              (subst (λ (s : State). IsAfter s env arguments new) (sym (some_same entry.1 old f)) after)
+              are.0.1,
+        ),
+        are.1,
+      )
       by Greater o f rest = (are.0, rest f)
 
 -- ---- the rows

@@ -39,6 +39,9 @@ both {A} {B} {C} h f g vs ta tb rest a b e p q =
     ∙ ap (λ (m : Made A). then_by h m g) p
     ∙ ap (λ (m : Made B). done {A = C} (h a m.0) m.1) q
 
+abbrev paired : Expr → Expr → Expr × Expr
+paired x y = (x, y)
+
 module _ (envs : List Env) where
   abbrev becomes : Expr → Expr × Expr
   becomes = pair_by (as_it_becomes envs)
@@ -84,16 +87,16 @@ module _ (envs : List Env) where
   three_filled : (h : Expr → Expr → Expr → Expr) (e f g : Kept) (rest : List Value)
       → then_by (λ x (p : Expr × Expr). h x p.0 p.1)
       (fill e.0 (totals_of envs (asked_in e.0 ++ (asked_in f.0 ++ asked_in g.0)) ++ rest))
-      (λ vs. then_by (λ (x y : Expr). (x, y)) (fill f.0 vs) (fill g.0))
+      (λ vs. then_by paired (fill f.0 vs) (fill g.0))
       ≡ done (h (with_totals envs e.0) (with_totals envs f.0) (with_totals envs g.0)) rest
   three_filled h e f g rest =
       both (λ x (p : Expr × Expr). h x p.0 p.1) (fill e.0)
-      (λ vs. then_by (λ (x y : Expr). (x, y)) (fill f.0 vs) (fill g.0)) _
+      (λ vs. then_by paired (fill f.0 vs) (fill g.0)) _
       (totals_of envs (asked_in e.0)) (totals_of envs (asked_in f.0 ++ asked_in g.0)) rest
-      (with_totals envs e.0) (with_totals envs f.0, with_totals envs g.0)
+      (with_totals envs e.0) (paired (with_totals envs f.0) (with_totals envs g.0))
       (parted (asked_in e.0) (asked_in f.0 ++ asked_in g.0) rest)
       (e.1 (totals_of envs (asked_in f.0 ++ asked_in g.0) ++ rest))
-      (two_filled (λ (x y : Expr). (x, y)) f g rest)
+      (two_filled paired f g rest)
 
   lists : (es : List Kept) (rest : List Value)
       → all_filled (map fill (map expr_of es))

@@ -7,6 +7,7 @@ use Rattle.ax_mean.specs.declared.query.KeyedRow.{KeyedRow}
 use Rattle.ax_mean.specs.declared.query.Query.{Query}
 use Rattle.ax_mean.specs.declared.value.Value.{Value}
 use Rattle.ax_mean.specs.Meaning.{Env}
+use Rattle.ax_group.specs.declared.asked.Asked.{Asked}
 use Rattle.ax_group.specs.declared.groups.Groups.{Groups}
 use Rattle.ax_group.specs.declared.key.GroupKey.{GroupKey}
 use Rattle.ax_group.specs.declared.state.State.{State}
@@ -32,7 +33,7 @@ begins held query asks entries q a p s are = (
   q,
   a ∙ p,
   subst (λ (es : Entries). AreEntries (asked_by query.pick) (groups_before query.groups) es) (sym s)
-      (subst (λ (as : List Ask). AreEntries as (groups_before query.groups) entries) p are),
+      (subst (λ (others : List Ask). AreEntries others (groups_before query.groups) entries) p are),
 )
 
 pub adds : (old new : Groups) (env : Env) (values : List Value)
@@ -51,6 +52,25 @@ adds old new env values q a v puts query envs h = (
       (subst (λ (asks : List Ask). Puts asks values env old.states.entries new.states.entries) h.1 puts
       (groups_of query.groups envs) h.2)),
 )
+
+-- the same, where the aggregates are looked at twice
+pub added : (old new : Groups) (env : Env) (key : GroupKey) (values arguments : List Value)
+    (first second : List Asked) → first ≡ old.asked.items → second ≡ old.asked.items
+    → new.query.now ≡ old.query.now → new.asked.items ≡ old.asked.items
+    → seen_keys key ≡ map value_key (group_values old.query.now.groups env)
+    → values ≡ group_values old.query.now.groups env → arguments ≡ arguments_in (asks_of first) env
+    → ((groups : List Group) → AreEntries (asks_of second) groups old.states.entries
+    → seen_keys key ≡ map value_key values → arguments ≡ arguments_in (asks_of second) env
+    → AreEntries (asks_of second) (with_row values env groups) new.states.entries)
+    → (query : Query) (envs : List Env) → Holds old query envs → Holds new query (envs ++ env ∷ [])
+added old new env key values arguments first second e f q a k v u puts =
+    let same : first ≡ second = e ∙ sym f in
+    let given : Puts (asks_of second) values env old.states.entries new.states.entries = λ groups are.
+    puts groups are (k ∙ ap (map value_key) (sym v))
+    (u ∙ ap (λ (xs : List Asked). arguments_in (asks_of xs) env) same) in
+    adds old new env values q a v
+    (subst (λ (xs : List Asked). Puts (asks_of xs) values env old.states.entries new.states.entries)
+    f given)
 
 pub finishes : (held : Groups) (rows : List KeyedRow)
     → rows ≡ filter_map (λ (entry : GroupKey × State). state_row held.query.now.pick entry.1)
@@ -97,3 +117,23 @@ puts_new asks values arguments env key state old new v f t written groups are no
     subst (λ (es : Entries). AreEntries asks (with_row values env groups) es) (sym written)
     (new_group asks values env key k groups old state
     (alone_state asks values env arguments state a v f t) are none)
+
+-- the one group of all rows, before there is a row
+pub whole_put : (asks : List Ask) (key : GroupKey) (state : State) (old new : Entries)
+    → seen_keys key ≡ map value_key [] → state.values ≡ [] → state.first ≡ None
+    → state.tallies.items ≡ started asks → old ≡ [] → new ≡ insert_entry key_order old key state
+    → AreEntries asks (groups_before []) new
+whole_put asks key state old new k v f t none written =
+    subst (λ (es : Entries). AreEntries asks (groups_before []) es)
+    (sym (written ∙ ap (λ es. insert_entry key_order es key state) none))
+    ((k, (v, f, t)), tt)
+
+-- where the entries stay, what is held stays
+pub stays : (old new : Groups) → new.query.now ≡ old.query.now → new.asked.items ≡ old.asked.items
+    → new.states.entries ≡ old.states.entries → (query : Query) (envs : List Env)
+    → Holds old query envs → Holds new query envs
+stays old new q a s query envs h = (
+  q ∙ h.0,
+  ap asks_of a ∙ h.1,
+  subst (λ (es : Entries). AreEntries (asked_by query.pick) (groups_of query.groups envs) es) (sym s) h.2,
+)

@@ -1,3 +1,4 @@
+pub mod Asking
 pub mod Comparing
 pub mod Entries
 pub mod Filling

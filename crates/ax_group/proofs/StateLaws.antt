@@ -48,3 +48,8 @@ pub left_over : (n : ℕ) (v : Value) (vs : List Value) (ts : List Tally) → le
 left_over n v vs ts h =
     ap (λ us. take n ts ++ tallies_with us vs) (drop_of_length-le ts h)
     ∙ sym (ap (λ us. take n ts ++ tallies_with us (v ∷ vs)) (drop_of_length-le ts h))
+
+pub at_exit : (n : ℕ) (ts : List Tally) (vs : List Value) (whole : List Tally) → vs ≡ []
+    → take n ts ++ tallies_with (drop n ts) vs ≡ whole → ts ≡ whole
+at_exit n ts vs whole e h =
+    sym (at_end n ts) ∙ ap (λ us. take n ts ++ tallies_with (drop n ts) us) (sym e) ∙ h

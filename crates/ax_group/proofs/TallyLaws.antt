@@ -114,6 +114,7 @@ sum_on n z t vs rest = by (number_of (Defined t)) refl
         ∙ sum_step n z x t (filter is_defined vs) k
     fits false x h k =
         ap value_of (undefined_stays vs) ∙ too_many n z t (filter is_defined vs) h
+
     by : (o : Option ℤ) → number_of (Defined t) ≡ o
         → value_of (tally_from (sum_more (n, z) o) vs)
         ≡ summed_from n z (Defined t ∷ filter is_defined vs)

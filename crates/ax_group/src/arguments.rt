@@ -22,12 +22,7 @@ pub struct Row {
 }
 
 impl Row {
-    pub fn new(
-        alloc: Global,
-        groups: &ExprList,
-        asked: &[Asked],
-        env: &Env,
-    ) -> Result<Row, Memory>
+    pub fn new(alloc: Global, groups: &ExprList, asked: &[Asked], env: &Env) -> Result<Row, Memory>
         ensures key { IfOk result (λ row.
             seen_keys row.key ≡ map value_key (values_of_group groups.now env.now)) }
         ensures values { IfOk result (λ row. row.values ≡ values_of_group groups.now env.now) }

@@ -6,7 +6,7 @@ ghost use Rattle.ax_group.specs.Walks.{fill, operand_fill, member_fill, all_fill
 use crate::out_of_memory::Memory;
 use crate::results::Results;
 use ax_mean::{
-    Boxed, Chained, Expr, ExprList, Items, Member, MemberList, OpChain, QueryStep, StepList,
+    Boxed, Chained, Expr, ExprList, Items, Member, MemberList, OpChain, QueryStep, StepList, Text,
 };
 use std::alloc::Global;
 
@@ -20,32 +20,64 @@ pub fn filled(alloc: Global, expr: &Expr, results: &mut Results) -> Result<Expr,
         Expr::Literal(value) => Ok(Expr::Literal(value.copy(alloc)?)),
         Expr::Alias(name) => Ok(Expr::Alias(name.copy(alloc)?)),
         Expr::Steps(base, steps) => {
-            let (base, steps) = stepped(alloc, base, steps, results)?;
-            Ok(Expr::Steps(base, steps))
+            let base = boxed(alloc, base, results)?;
+            match copy_of_steps(alloc, steps) {
+                Ok(steps) => Ok(Expr::Steps(base, steps)),
+                Err(fault) => {
+                    drop(base);
+                    Err(fault)
+                }
+            }
         }
         Expr::Choice(test, a, b) => {
-            let (test, a, b) = three_of(alloc, test, a, b, results)?;
-            Ok(Expr::Choice(test, a, b))
+            let test = boxed(alloc, test, results)?;
+            let a = match boxed(alloc, a, results) {
+                Ok(a) => a,
+                Err(fault) => {
+                    drop(test);
+                    return Err(fault);
+                }
+            };
+            match boxed(alloc, b, results) {
+                Ok(b) => Ok(Expr::Choice(test, a, b)),
+                Err(fault) => {
+                    drop(test);
+                    drop(a);
+                    Err(fault)
+                }
+            }
         }
         Expr::Coalesce(items) => Ok(Expr::Coalesce(list_of(alloc, items, results)?)),
         Expr::Or(items) => Ok(Expr::Or(list_of(alloc, items, results)?)),
         Expr::And(items) => Ok(Expr::And(list_of(alloc, items, results)?)),
         Expr::Not(a) => Ok(Expr::Not(boxed(alloc, a, results)?)),
         Expr::Compare(op, a, b) => {
-            let (a, b) = pair_of(alloc, a, b, results)?;
-            Ok(Expr::Compare(*op, a, b))
+            let a = boxed(alloc, a, results)?;
+            match boxed(alloc, b, results) {
+                Ok(b) => Ok(Expr::Compare(*op, a, b)),
+                Err(fault) => {
+                    drop(a);
+                    Err(fault)
+                }
+            }
         }
         Expr::Among {
             negated,
             left,
             items,
         } => {
-            let (left, items) = with_list(alloc, left, items, results)?;
-            Ok(Expr::Among {
-                negated: *negated,
-                left,
-                items,
-            })
+            let left = boxed(alloc, left, results)?;
+            match list_of(alloc, items, results) {
+                Ok(items) => Ok(Expr::Among {
+                    negated: *negated,
+                    left,
+                    items,
+                }),
+                Err(fault) => {
+                    drop(left);
+                    Err(fault)
+                }
+            }
         }
         Expr::Between {
             negated,
@@ -53,34 +85,66 @@ pub fn filled(alloc: Global, expr: &Expr, results: &mut Results) -> Result<Expr,
             low,
             high,
         } => {
-            let (left, low, high) = three_of(alloc, left, low, high, results)?;
-            Ok(Expr::Between {
-                negated: *negated,
-                left,
-                low,
-                high,
-            })
+            let left = boxed(alloc, left, results)?;
+            let low = match boxed(alloc, low, results) {
+                Ok(low) => low,
+                Err(fault) => {
+                    drop(left);
+                    return Err(fault);
+                }
+            };
+            match boxed(alloc, high, results) {
+                Ok(high) => Ok(Expr::Between {
+                    negated: *negated,
+                    left,
+                    low,
+                    high,
+                }),
+                Err(fault) => {
+                    drop(left);
+                    drop(low);
+                    Err(fault)
+                }
+            }
         }
         Expr::Like {
             negated,
             left,
             pattern,
         } => {
-            let (left, pattern) = pair_of(alloc, left, pattern, results)?;
-            Ok(Expr::Like {
-                negated: *negated,
-                left,
-                pattern,
-            })
+            let left = boxed(alloc, left, results)?;
+            match boxed(alloc, pattern, results) {
+                Ok(pattern) => Ok(Expr::Like {
+                    negated: *negated,
+                    left,
+                    pattern,
+                }),
+                Err(fault) => {
+                    drop(left);
+                    Err(fault)
+                }
+            }
         }
         Expr::Join(items) => Ok(Expr::Join(list_of(alloc, items, results)?)),
         Expr::Sum(first, rest) => {
-            let (first, rest) = with_chain(alloc, first, rest, results)?;
-            Ok(Expr::Sum(first, rest))
+            let first = boxed(alloc, first, results)?;
+            match chain_of(alloc, rest, results) {
+                Ok(rest) => Ok(Expr::Sum(first, rest)),
+                Err(fault) => {
+                    drop(first);
+                    Err(fault)
+                }
+            }
         }
         Expr::Product(first, rest) => {
-            let (first, rest) = with_chain(alloc, first, rest, results)?;
-            Ok(Expr::Product(first, rest))
+            let first = boxed(alloc, first, results)?;
+            match chain_of(alloc, rest, results) {
+                Ok(rest) => Ok(Expr::Product(first, rest)),
+                Err(fault) => {
+                    drop(first);
+                    Err(fault)
+                }
+            }
         }
         Expr::Sign(op, a) => Ok(Expr::Sign(*op, boxed(alloc, a, results)?)),
         Expr::Call(func, args) => Ok(Expr::Call(*func, list_of(alloc, args, results)?)),
@@ -97,119 +161,6 @@ fn boxed(alloc: Global, expr: &Boxed<Expr>, results: &mut Results) -> Result<Box
 {
     let made = filled(alloc, expr.get(), results)?;
     Ok(Boxed::new(alloc, made)?)
-}
-
-#[cycle(filled)]
-fn pair_of(
-    alloc: Global,
-    a: &Boxed<Expr>,
-    b: &Boxed<Expr>,
-    results: &mut Results,
-) -> Result<(Boxed<Expr>, Boxed<Expr>), Memory>
-    ensures first { IfOk result (λ made. made.0 ≡ (fill a.now results.old).0) }
-    ensures second { IfOk result (λ made. made.1 ≡ (fill b.now (fill a.now results.old).1).0) }
-    ensures left { OnOk result (results.new ≡ (fill b.now (fill a.now results.old).1).1) }
-{
-    let a = boxed(alloc, a, results)?;
-    match boxed(alloc, b, results) {
-        Ok(b) => Ok((a, b)),
-        Err(fault) => {
-            drop(a);
-            Err(fault)
-        }
-    }
-}
-
-#[cycle(filled)]
-fn three_of(
-    alloc: Global,
-    a: &Boxed<Expr>,
-    b: &Boxed<Expr>,
-    c: &Boxed<Expr>,
-    results: &mut Results,
-) -> Result<(Boxed<Expr>, Boxed<Expr>, Boxed<Expr>), Memory>
-    ensures first { IfOk result (λ made. made.0 ≡ (fill a.now results.old).0) }
-    ensures second { IfOk result (λ made. made.1 ≡ (fill b.now (fill a.now results.old).1).0) }
-    ensures third { IfOk result (λ made.
-        made.2 ≡ (fill c.now (fill b.now (fill a.now results.old).1).1).0) }
-    ensures left { OnOk result
-        (results.new ≡ (fill c.now (fill b.now (fill a.now results.old).1).1).1) }
-{
-    let a = boxed(alloc, a, results)?;
-    match pair_of(alloc, b, c, results) {
-        Ok((b, c)) => Ok((a, b, c)),
-        Err(fault) => {
-            drop(a);
-            Err(fault)
-        }
-    }
-}
-
-#[cycle(filled)]
-fn stepped(
-    alloc: Global,
-    base: &Boxed<Expr>,
-    steps: &StepList,
-    results: &mut Results,
-) -> Result<(Boxed<Expr>, StepList), Memory>
-    ensures base { IfOk result (λ made. made.0 ≡ (fill base.now results.old).0) }
-    ensures steps { IfOk result (λ made. made.1 ≡ steps.now) }
-    ensures left { OnOk result (results.new ≡ (fill base.now results.old).1) }
-{
-    let base = boxed(alloc, base, results)?;
-    match copy_of_steps(alloc, steps) {
-        Ok(steps) => Ok((base, steps)),
-        Err(fault) => {
-            drop(base);
-            Err(fault)
-        }
-    }
-}
-
-#[cycle(filled)]
-fn with_list(
-    alloc: Global,
-    left: &Boxed<Expr>,
-    items: &ExprList,
-    results: &mut Results,
-) -> Result<(Boxed<Expr>, ExprList), Memory>
-    ensures first { IfOk result (λ made. made.0 ≡ (fill left.now results.old).0) }
-    ensures items { IfOk result (λ made.
-        made.1 ≡ (all_filled (map fill items.now) (fill left.now results.old).1).0) }
-    ensures left { OnOk result
-        (results.new ≡ (all_filled (map fill items.now) (fill left.now results.old).1).1) }
-{
-    let left = boxed(alloc, left, results)?;
-    match list_of(alloc, items, results) {
-        Ok(items) => Ok((left, items)),
-        Err(fault) => {
-            drop(left);
-            Err(fault)
-        }
-    }
-}
-
-#[cycle(filled)]
-fn with_chain(
-    alloc: Global,
-    first: &Boxed<Expr>,
-    rest: &OpChain,
-    results: &mut Results,
-) -> Result<(Boxed<Expr>, OpChain), Memory>
-    ensures first { IfOk result (λ made. made.0 ≡ (fill first.now results.old).0) }
-    ensures rest { IfOk result (λ made.
-        made.1 ≡ (operands_filled (map operand_fill rest.now) (fill first.now results.old).1).0) }
-    ensures left { OnOk result
-        (results.new ≡ (operands_filled (map operand_fill rest.now) (fill first.now results.old).1).1) }
-{
-    let first = boxed(alloc, first, results)?;
-    match chain_of(alloc, rest, results) {
-        Ok(rest) => Ok((first, rest)),
-        Err(fault) => {
-            drop(first);
-            Err(fault)
-        }
-    }
 }
 
 #[cycle(filled)]
@@ -258,27 +209,22 @@ fn members_of(
     let members = members.as_slice();
     let mut made = Vec::with_capacity(alloc, members.len())?;
     for member in members {
-        made.push(member_of(alloc, member, results)?)?;
+        let value = filled(alloc, &member.value, results)?;
+        made.push(named(alloc, &member.name, value)?)?;
     }
     Ok(Items::from_vec(made))
 }
 
-#[cycle(filled)]
-fn member_of(
-    alloc: Global,
-    member: &Member<Expr>,
-    results: &mut Results,
-) -> Result<Member<Expr>, Memory>
-    ensures name { IfOk result (λ made. made.name ≡ member.now.name) }
-    ensures value { IfOk result (λ made. made.value ≡ (fill member.now.value results.old).0) }
-    ensures left { OnOk result (results.new ≡ (fill member.now.value results.old).1) }
+/// The expression under an equal name.
+fn named(alloc: Global, name: &Text, value: Expr) -> Result<Member<Expr>, Memory>
+    ensures name { IfOk result (λ made. made.name ≡ name.now) }
+    ensures value { IfOk result (λ made. made.value ≡ value) }
 {
-    let name = member.name.copy(alloc)?;
-    match filled(alloc, &member.value, results) {
-        Ok(value) => Ok(Member { name, value }),
-        Err(fault) => {
-            drop(name);
-            Err(fault)
+    match name.copy(alloc) {
+        Ok(name) => Ok(Member { name, value }),
+        Err(_) => {
+            drop(value);
+            Err(Memory)
         }
     }
 }

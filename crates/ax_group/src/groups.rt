@@ -48,11 +48,12 @@ impl<'a> Groups<'a> {
     }
 
     /// A row in its group, by what its aliases stand for. Unchanged where memory runs out.
-    #[tactic(auto, using(crate::proofs::GroupLaws::adds))]
+    #[tactic(auto, using(crate::proofs::GroupLaws::stays))]
     pub fn add(&mut self, alloc: Global, env: Env) -> Result<(), Memory>
         ensures ok { OnOk result ((query : queries.Query) → (envs : List means.Env)
             → Holds self.old query envs → Holds self.new query (envs ++ env ∷ [])) }
-        ensures err { OnErr result (self.new ≡ self.old) }
+        ensures err { OnErr result ((query : queries.Query) → (envs : List means.Env)
+            → Holds self.old query envs → Holds self.new query envs) }
     {
         match Row::new(alloc, &self.query.groups, self.asked.as_slice(), &env) {
             Ok(row) => put(alloc, &mut self.states, self.asked.as_slice(), row, env),
@@ -64,10 +65,9 @@ impl<'a> Groups<'a> {
     }
 
     /// The rows of the groups, in their order; DISTINCT, OFFSET and LIMIT come after that.
-    #[tactic(auto, using(crate::proofs::GroupLaws::finishes))]
     pub fn finish(self, alloc: Global) -> Result<Vec<KeyedRow>, Memory>
         ensures { IfOk result (λ rows. (query : queries.Query) → (envs : List means.Env)
-            → Holds self query envs → rows.items ≡ group_rows query envs) }
+            → Holds self.entry query envs → rows.items ≡ group_rows query envs) }
     {
         let Groups {
             query,
@@ -96,6 +96,7 @@ fn first_states(
 }
 
 /// Puts the one group of all rows into a map that has none.
+#[tactic(auto, using(crate::proofs::GroupLaws::whole_put))]
 fn put_whole(
     alloc: Global,
     states: &mut BTreeMap<GroupKey, State>,
@@ -115,14 +116,10 @@ fn put_whole(
 }
 
 /// Puts a group at a key that is not there.
-fn insert(
-    states: &mut BTreeMap<GroupKey, State>,
-    key: GroupKey,
-    state: State,
-) -> Result<(), Memory>
+fn insert(states: &mut BTreeMap<GroupKey, State>, key: GroupKey, state: State) -> Result<(), Memory>
     ensures ok { OnOk result (states.new.entries
         ≡ insert_entry ⟦<GroupKey as Ord>⟧.cmp states.old.entries key state) }
-    ensures err { OnErr result (states.new ≡ states.old) }
+    ensures err { OnErr result (states.new.entries ≡ states.old.entries) }
 {
     let replaced = states.insert(key, state)?;
     drop(replaced);
@@ -142,7 +139,7 @@ fn put(
         → seen_keys row.key ≡ map value_key row.values
         → row.arguments.items ≡ arguments_in (asks_of asked.now) env
         → AreEntries (asks_of asked.now) (with_row row.values env groups) states.new.entries) }
-    ensures err { OnErr result (states.new ≡ states.old) }
+    ensures err { OnErr result (states.new.entries ≡ states.old.entries) }
 {
     match states.get_mut(&row.key) {
         Some(state) => {
@@ -184,7 +181,7 @@ fn put_new(
         → seen_keys row.key ≡ map value_key row.values
         → row.arguments.items ≡ arguments_in (asks_of asked.now) env
         → AreEntries (asks_of asked.now) (with_row row.values env groups) states.new.entries) }
-    ensures err { OnErr result (states.new ≡ states.old) }
+    ensures err { OnErr result (states.new.entries ≡ states.old.entries) }
 {
     let Row {
         key,

@@ -28,7 +28,6 @@ pub fn compare_scalar(a: &Tree, b: &Tree) -> Ordering
 }
 
 /// Whether a tree that is neither a list nor a map is above another.
-#[tactic(auto, using(crate::proofs::Comparing::above_is_below))]
 pub fn is_above(a: &Tree, b: &Tree) -> bool
     requires { composed_value (Defined a.now) ≡ false }
     ensures { result ≡ is_lt (value_cmp (Defined b.now) (Defined a.now)) }

@@ -109,12 +109,7 @@ fn first_in(alloc: Global, env: &Env) -> Result<Value, Memory>
 }
 
 /// The value of an expression with the next results in place of its aggregates.
-fn value_in(
-    alloc: Global,
-    expr: &Expr,
-    env: &Env,
-    results: &mut Results,
-) -> Result<Value, Memory>
+fn value_in(alloc: Global, expr: &Expr, env: &Env, results: &mut Results) -> Result<Value, Memory>
     ensures value { IfOk result (λ value. value ≡ meaning env.now (fill expr.now results.old).0) }
     ensures left { OnOk result (results.new ≡ (fill expr.now results.old).1) }
 {

@@ -152,9 +152,5 @@ fn greater(best: Tree, tree: Tree) -> Tree
     requires { composed_value (Defined tree) ≡ false }
     ensures { Defined result ≡ greater_value (Defined best) (Defined tree) }
 {
-    if is_above(&tree, &best) {
-        tree
-    } else {
-        best
-    }
+    if is_above(&tree, &best) { tree } else { best }
 }
