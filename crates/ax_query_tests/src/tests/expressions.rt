@@ -251,7 +251,7 @@ fn holds<'a>(
     condition: &'a Expr,
     alias: &'a Text,
     document: &'a Tree,
-) -> Result<(bool, bool), OutOfMemory> {
+) -> Result<(bool, bool), Fail> {
     let mut scope = Scope::new(alloc);
     scope.push(alias, document)?;
     let bound = is_true_in(alloc, condition, &scope)?;
@@ -268,7 +268,7 @@ fn holds_of<'a>(
 ) -> Result<(bool, bool), Fail> {
     let query = query_of(alloc, condition)?;
     match picked(&query) {
-        Some(condition) => Ok(holds(alloc, condition, alias, document)?),
+        Some(condition) => holds(alloc, condition, alias, document),
         None => Ok((false, false)),
     }
 }
