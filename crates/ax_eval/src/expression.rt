@@ -3,10 +3,13 @@
 ghost use Rattle.std.specs.Prelude.{◌≡◌, IfOk, map};
 ghost use Rattle.ax_tree.specs.declared.members.Member.{Member};
 ghost use Rattle.ax_mean.specs.Building.{defined_of, members_of};
-ghost use Rattle.ax_mean.specs.Meaning.{meaning, bound, chain, operated, among, between, is_yes};
-ghost use Rattle.ax_mean.specs.Operators.{first_defined, conjunction, disjunction, joined};
+ghost use Rattle.ax_mean.specs.Functions.{call as call_value};
+ghost use Rattle.ax_mean.specs.Meaning.{meaning, bound, chain, operated, among, between, is_yes, negated_where as with_not};
+ghost use Rattle.ax_mean.specs.Operators.{binary as binary_value, unary as unary_value, negation as negation_of, first_defined, conjunction, disjunction, joined};
+ghost use Rattle.ax_mean.specs.Steps.{steps_from as steps_led};
 ghost use Rattle.ax_mean.specs.Values.{truth_of as truth_held, of_truth as truth_value};
 ghost use Rattle.ax_mean.specs.declared.expr.Chained.{Chained};
+ghost use Rattle.ax_mean.specs.declared.operator.BinaryOp.TheVariants.{Like};
 ghost use Rattle.ax_eval.specs.Truths.{all_of, some_of, some_equal};
 
 use crate::members::with_value;
@@ -20,8 +23,8 @@ use crate::steps::steps_from;
 use ax_func::Seen;
 use ax_func::logic::{and, or};
 use ax_mean::{
-    BinaryOp, Chained, Expr, ExprList, Func, Items, Member, MemberList, Members, OpChain, Text,
-    Tree, Value,
+    BinaryOp, Chained, Expr, ExprList, Func, Items, Member, MemberList, Members, OpChain, StepList,
+    Text, Tree, UnaryOp, Value,
 };
 use std::alloc::Global;
 
@@ -42,7 +45,7 @@ pub fn eval_in<'a>(alloc: Global, expr: &'a Expr, scope: &Scope<'a>) -> Result<S
     match expr {
         Expr::Literal(value) => Ok(Seen::of(value)),
         Expr::Alias(name) => Ok(alias_in(name, scope)),
-        Expr::Steps(base, steps) => Ok(steps_from(eval_in(alloc, base.get(), scope)?, steps)),
+        Expr::Steps(base, steps) => stepped_in(alloc, base.get(), steps, scope),
         Expr::Choice(test, a, b) => {
             if is_true(eval_in(alloc, test.get(), scope)?) {
                 eval_in(alloc, a.get(), scope)
@@ -53,11 +56,10 @@ pub fn eval_in<'a>(alloc: Global, expr: &'a Expr, scope: &Scope<'a>) -> Result<S
         Expr::Coalesce(items) => coalesce_in(alloc, items, scope),
         Expr::Or(items) => or_in(alloc, items, scope),
         Expr::And(items) => and_in(alloc, items, scope),
-        Expr::Not(a) => Ok(negation(eval_in(alloc, a.get(), scope)?)),
+        Expr::Not(a) => not_in(alloc, a.get(), scope),
         Expr::Compare(op, a, b) => {
             let left = eval_in(alloc, a.get(), scope)?;
-            let right = eval_in(alloc, b.get(), scope)?;
-            binary(alloc, *op, left, right)
+            binary_in(alloc, *op, left, b.get(), scope)
         }
         Expr::Among {
             negated,
@@ -65,7 +67,7 @@ pub fn eval_in<'a>(alloc: Global, expr: &'a Expr, scope: &Scope<'a>) -> Result<S
             items,
         } => {
             let left = eval_in(alloc, left.get(), scope)?;
-            Ok(negated_where(*negated, among_in(alloc, items, left, scope)?))
+            membership_in(alloc, *negated, left, items, scope)
         }
         Expr::Between {
             negated,
@@ -74,12 +76,8 @@ pub fn eval_in<'a>(alloc: Global, expr: &'a Expr, scope: &Scope<'a>) -> Result<S
             high,
         } => {
             let left = eval_in(alloc, left.get(), scope)?;
-            let above = is_at_least(&left, eval_in(alloc, low.get(), scope)?);
-            if matches!(above, Some(false)) {
-                return Ok(negated_where(*negated, seen_truth(above)));
-            }
-            let below = is_at_most(&left, eval_in(alloc, high.get(), scope)?);
-            Ok(negated_where(*negated, seen_truth(and(above, below))))
+            let low = eval_in(alloc, low.get(), scope)?;
+            between_in(alloc, *negated, left, low, high.get(), scope)
         }
         Expr::Like {
             negated,
@@ -87,8 +85,7 @@ pub fn eval_in<'a>(alloc: Global, expr: &'a Expr, scope: &Scope<'a>) -> Result<S
             pattern,
         } => {
             let left = eval_in(alloc, left.get(), scope)?;
-            let pattern = eval_in(alloc, pattern.get(), scope)?;
-            Ok(negated_where(*negated, binary(alloc, BinaryOp::Like, left, pattern)?))
+            like_in(alloc, *negated, left, pattern.get(), scope)
         }
         Expr::Join(items) => join_in(alloc, items, scope),
         Expr::Sum(first, rest) => {
@@ -99,11 +96,11 @@ pub fn eval_in<'a>(alloc: Global, expr: &'a Expr, scope: &Scope<'a>) -> Result<S
             let first = eval_in(alloc, first.get(), scope)?;
             operated_in(alloc, rest, first, scope)
         }
-        Expr::Sign(op, a) => unary(*op, eval_in(alloc, a.get(), scope)?),
-        Expr::Call(func, args) => call(alloc, *func, values_in(alloc, args, scope)?),
+        Expr::Sign(op, a) => sign_in(alloc, *op, a.get(), scope),
+        Expr::Call(func, args) => call_in(alloc, *func, args, scope),
         Expr::Total(_, _) => Ok(Seen::undefined()),
-        Expr::List(items) => Ok(Seen::made(list_in(alloc, items, scope)?)),
-        Expr::Object(members) => Ok(Seen::made(object_in(alloc, members, scope)?)),
+        Expr::List(items) => list_in(alloc, items, scope),
+        Expr::Object(members) => object_in(alloc, members, scope),
     }
 }
 
@@ -114,6 +111,121 @@ fn alias_in<'a>(name: &Text, scope: &Scope<'a>) -> Seen<'a>
         Some(tree) => Seen::here(tree),
         None => Seen::undefined(),
     }
+}
+
+/// What a path of steps leads to from the value of its base.
+#[cycle(eval)]
+fn stepped_in<'a>(
+    alloc: Global,
+    base: &'a Expr,
+    steps: &'a StepList,
+    scope: &Scope<'a>,
+) -> Result<Seen<'a>, Memory>
+    ensures { IfOk result (λ seen. seen ≡ steps_led (meaning scope.now base.now) steps.now) }
+{
+    Ok(steps_from(eval_in(alloc, base, scope)?, steps))
+}
+
+/// `NOT a`
+#[cycle(eval)]
+fn not_in<'a>(alloc: Global, a: &'a Expr, scope: &Scope<'a>) -> Result<Seen<'a>, Memory>
+    ensures { IfOk result (λ seen. seen ≡ negation_of (meaning scope.now a.now)) }
+{
+    Ok(negation(eval_in(alloc, a, scope)?))
+}
+
+/// `left op right`, of a left value.
+#[cycle(eval)]
+fn binary_in<'a>(
+    alloc: Global,
+    op: BinaryOp,
+    left: Seen<'a>,
+    right: &'a Expr,
+    scope: &Scope<'a>,
+) -> Result<Seen<'a>, Memory>
+    ensures { IfOk result (λ seen. seen ≡ binary_value op left.entry (meaning scope.now right.now)) }
+{
+    let right = eval_in(alloc, right, scope)?;
+    binary(alloc, op, left, right)
+}
+
+/// `left IN (items)` or its negation, of a left value.
+#[cycle(eval)]
+fn membership_in<'a>(
+    alloc: Global,
+    negated: bool,
+    left: Seen<'a>,
+    items: &'a ExprList,
+    scope: &Scope<'a>,
+) -> Result<Seen<'a>, Memory>
+    ensures { IfOk result (λ seen. seen
+        ≡ with_not negated (among left.entry (map (meaning scope.now) items.now))) }
+{
+    Ok(negated_where(negated, among_in(alloc, items, left, scope)?))
+}
+
+/// `left BETWEEN low AND high` or its negation, of the first two values. A left value below `low`
+/// decides it.
+#[cycle(eval)]
+fn between_in<'a>(
+    alloc: Global,
+    negated: bool,
+    left: Seen<'a>,
+    low: Seen<'a>,
+    high: &'a Expr,
+    scope: &Scope<'a>,
+) -> Result<Seen<'a>, Memory>
+    ensures { IfOk result (λ seen. seen
+        ≡ with_not negated (between left.entry low.entry (meaning scope.now high.now))) }
+{
+    let above = is_at_least(&left, low);
+    if matches!(above, Some(false)) {
+        return Ok(negated_where(negated, seen_truth(above)));
+    }
+    let below = is_at_most(&left, eval_in(alloc, high, scope)?);
+    Ok(negated_where(negated, seen_truth(and(above, below))))
+}
+
+/// `left LIKE pattern` or its negation, of a left value.
+#[cycle(eval)]
+fn like_in<'a>(
+    alloc: Global,
+    negated: bool,
+    left: Seen<'a>,
+    pattern: &'a Expr,
+    scope: &Scope<'a>,
+) -> Result<Seen<'a>, Memory>
+    ensures { IfOk result (λ seen. seen
+        ≡ with_not negated (binary_value Like left.entry (meaning scope.now pattern.now))) }
+{
+    let pattern = eval_in(alloc, pattern, scope)?;
+    Ok(negated_where(negated, binary(alloc, BinaryOp::Like, left, pattern)?))
+}
+
+/// `op a`
+#[cycle(eval)]
+fn sign_in<'a>(
+    alloc: Global,
+    op: UnaryOp,
+    a: &'a Expr,
+    scope: &Scope<'a>,
+) -> Result<Seen<'a>, Memory>
+    ensures { IfOk result (λ seen. seen ≡ unary_value op (meaning scope.now a.now)) }
+{
+    unary(op, eval_in(alloc, a, scope)?)
+}
+
+/// `func(args)`
+#[cycle(eval)]
+fn call_in<'a>(
+    alloc: Global,
+    func: Func,
+    args: &'a ExprList,
+    scope: &Scope<'a>,
+) -> Result<Seen<'a>, Memory>
+    ensures { IfOk result (λ seen. seen ≡ call_value func (map (meaning scope.now) args.now)) }
+{
+    call(alloc, func, values_in(alloc, args, scope)?)
 }
 
 /// The first value that is defined.
@@ -280,8 +392,8 @@ fn values_in<'a>(
 
 /// The list of the values that are defined.
 #[cycle(eval)]
-fn list_in<'a>(alloc: Global, items: &'a ExprList, scope: &Scope<'a>) -> Result<Value, Memory>
-    ensures { IfOk result (λ value. value ≡ Value.Defined (Tree.List (defined_of (map (meaning scope.now) items.now)))) }
+fn list_in<'a>(alloc: Global, items: &'a ExprList, scope: &Scope<'a>) -> Result<Seen<'a>, Memory>
+    ensures { IfOk result (λ seen. seen ≡ Value.Defined (Tree.List (defined_of (map (meaning scope.now) items.now)))) }
 {
     let items = items.as_slice();
     let mut trees = Vec::with_capacity(alloc, items.len())?;
@@ -289,13 +401,17 @@ fn list_in<'a>(alloc: Global, items: &'a ExprList, scope: &Scope<'a>) -> Result<
         let value = eval_in(alloc, item, scope)?.into_value(alloc)?;
         push_defined(&mut trees, value)?;
     }
-    Ok(Value::Defined(Tree::List(Items::from_vec(trees))))
+    Ok(Seen::made(Value::Defined(Tree::List(Items::from_vec(trees)))))
 }
 
 /// The map of the members that are defined. Of a name that is repeated the last counts.
 #[cycle(eval)]
-fn object_in<'a>(alloc: Global, members: &'a MemberList, scope: &Scope<'a>) -> Result<Value, Memory>
-    ensures { IfOk result (λ value. value ≡ Value.Defined (Tree.Object (members_of
+fn object_in<'a>(
+    alloc: Global,
+    members: &'a MemberList,
+    scope: &Scope<'a>,
+) -> Result<Seen<'a>, Memory>
+    ensures { IfOk result (λ seen. seen ≡ Value.Defined (Tree.Object (members_of
         (map (λ m. record { name = m.name; value = meaning scope.now m.value }) members.now)))) }
 {
     let mut made = Members::new(alloc);
@@ -303,5 +419,5 @@ fn object_in<'a>(alloc: Global, members: &'a MemberList, scope: &Scope<'a>) -> R
         let value = eval_in(alloc, &member.value, scope)?.into_value(alloc)?;
         made = with_value(alloc, made, &member.name, value)?;
     }
-    Ok(Value::Defined(Tree::Object(made)))
+    Ok(Seen::made(Value::Defined(Tree::Object(made))))
 }
