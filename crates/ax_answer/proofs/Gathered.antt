@@ -1,12 +1,12 @@
 -- One document more, and the answer at the end.
-use Rattle.std.proofs.Common.{◌≡◌, ℕ, true, false, if◌then◌else◌, List, [], ◌∷◌, ◌++◌, Option, Some, None, Result, Ok, Err, length, refl, ap, sym, subst, ◌∙◌}
+use Rattle.std.proofs.Common.{◌≡◌, ℕ, if◌then◌else◌, List, [], ◌∷◌, ◌++◌, Option, Some, None, Result, Ok, Err, length, refl, ap, sym, subst, ◌∙◌}
 use Rattle.std.proofs.lemmas.List.{append_assoc, append-nil}
 use Rattle.std.specs.Prelude.{OnOk}
 use Rattle.std.specs.List.{flat_map}
 use Rattle.ax_tree.specs.declared.tree.Tree.{Tree}
 use Rattle.ax_mean.specs.declared.query.KeyedRow.{KeyedRow}
 use Rattle.ax_mean.specs.declared.query.Query.{Query}
-use Rattle.ax_mean.specs.Answer.{all_rows, answer, finish}
+use Rattle.ax_mean.specs.Answer.{answer, finish}
 use Rattle.ax_mean.specs.Meaning.{Env}
 use Rattle.ax_mean.specs.Rows.{envs_of_tree}
 use Rattle.ax_group.specs.declared.groups.Groups as groups

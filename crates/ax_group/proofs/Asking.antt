@@ -8,7 +8,7 @@ use Rattle.ax_mean.specs.declared.expr.Expr.TheVariants as expr
 use Rattle.ax_mean.specs.declared.expr.Expr.TheVariants.{rolls-Sum, rolls-Product, rolls-Total}
 use Rattle.ax_mean.specs.declared.operator.Aggregate.{Aggregate}
 use Rattle.ax_group.specs.declared.asked.Asked.{Asked}
-use Rattle.ax_group.specs.Walks.{Ask, ask_of, asks_of, operands_asked, asked_level, asked_pair, asked_in, operand_pair}
+use Rattle.ax_group.specs.Walks.{Ask, ask_of, asks_of, operands_asked, asked_level, asked_in, operand_pair}
 use Rattle.ax_group.proofs.Wholes.{whole, comes_to}
 
 pub on_ok : {T E A B : Type 0} (r : Result T E) → (A → B) → OnOk r A → OnOk r B

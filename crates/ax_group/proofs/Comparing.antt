@@ -1,5 +1,5 @@
 -- The order of values is total, so that one value is above another where the other is below it.
-use Rattle.std.proofs.Common.{◌≡◌, Bool, refl, ap, ◌∙◌}
+use Rattle.std.proofs.Common.{◌≡◌, refl, ap, ◌∙◌}
 use Rattle.std.specs.declared.cmp.Ordering.{Ordering}
 use Rattle.std.specs.declared.cmp.Ordering.TheVariants.{Less, Equal, Greater}
 use Rattle.std.specs.Cmp.{IsTotalOrder}

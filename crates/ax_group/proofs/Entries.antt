@@ -1,5 +1,5 @@
 -- The entries of the map are the groups, in their order: a row more, and a group more.
-use Rattle.std.proofs.Common.{◌≡◌, ℕ, List, [], ◌∷◌, ◌++◌, map, filter_map, Bool, true, false, cond, Option, Some, None, refl, sym, ap, ◌∙◌, subst}
+use Rattle.std.proofs.Common.{◌≡◌, List, [], ◌∷◌, ◌++◌, map, filter_map, Bool, cond, Some, None, refl, sym, ap, ◌∙◌, subst}
 use Rattle.std.proofs.lemmas.List.{map-append}
 use Rattle.std.proofs.lemmas.Map.{lookup-none}
 use Rattle.std.proofs.lemmas.Map.Entries.{none_below_head}
@@ -16,9 +16,7 @@ use Rattle.std.specs.Map.{keys_of, lookup, set_value}
 use Rattle.std.specs.Ordering.{is_eq, match_ordering, nat_cmp, int_cmp, on, then_cmp, ordering_then}
 use denote.Param as param
 use Rattle.ax_mean.specs.declared.expr.Expr.{Expr}
-use Rattle.ax_mean.specs.declared.query.KeyedRow.{KeyedRow}
 use Rattle.ax_mean.specs.declared.query.Pick.{Pick}
-use Rattle.ax_mean.specs.declared.query.Query.{Query}
 use Rattle.ax_mean.specs.declared.value.Value.{Value}
 use Rattle.ax_mean.specs.Meaning.{Env, meaning}
 use Rattle.ax_mean.specs.Rows.{keyed, shown}
@@ -30,9 +28,9 @@ use Rattle.ax_group.specs.declared.key.GroupKey.{GroupKey}
 use Rattle.ax_group.specs.declared.key.SortKey.{SortKey}
 use Rattle.ax_group.specs.declared.state.State.{State}
 use Rattle.ax_group.specs.declared.tally.Tally.{Tally}
-use Rattle.ax_group.specs.Groups.{Group, group_values, values_cmp, alone, and_row, placed, with_row, groups_before, with_rows, groups_of, first_env, group_row, group_rows, pick_over}
+use Rattle.ax_group.specs.Groups.{Group, group_values, values_cmp, alone, and_row, placed, with_row, groups_before, with_rows, groups_of, first_env, group_row, pick_over}
 use Rattle.ax_group.specs.Keys.{Key, value_key, seen_key, seen_keys}
-use Rattle.ax_group.specs.States.{first_of, first_with, env_or_empty, arguments_in, started, tallies_of, tallies_with, IsState, IsEntry, AreEntries, state_row}
+use Rattle.ax_group.specs.States.{first_of, first_with, env_or_empty, arguments_in, started, tallies_of, tallies_with, IsState, AreEntries, state_row}
 use Rattle.ax_group.specs.Tallies.{start, tally_with, tally_from, tally_of, value_of}
 use Rattle.ax_group.specs.Totals.{total_over}
 use Rattle.ax_group.specs.Walks.{Ask, asked_by, totals_of, pick_filled}

@@ -15,7 +15,7 @@ use Rattle.ax_group.specs.Groups.{Group, group_values, with_row, groups_before, 
 use Rattle.ax_group.specs.Keys.{seen_keys, value_key}
 use Rattle.ax_group.specs.States.{AreEntries, Holds, arguments_in, first_with, started, tallies_with, state_row}
 use Rattle.ax_group.specs.Walks.{Ask, asks_of, asked_by}
-use Rattle.ax_group.proofs.Entries.{key_order, IsAfter, alone_state, new_group, same_group, groups_more, rows_of_entries}
+use Rattle.ax_group.proofs.Entries.{key_order, alone_state, new_group, same_group, groups_more, rows_of_entries}
 
 abbrev Entries : Type 0
 Entries = List (GroupKey × State)

@@ -1,5 +1,5 @@
 -- The value that a tally comes to is the aggregate of the values that it was given.
-use Rattle.std.proofs.Common.{◌≡◌, ℕ, suc, ℤ, pos, ◌+ℤ◌, ◌+◌, ◌≤◌, List, [], ◌∷◌, length, filter, Bool, true, false, cond, not, ◌||◌, Option, Some, None, option_and_then, nat_le, nat_lt, refl, sym, ap, ◌∙◌, arith}
+use Rattle.std.proofs.Common.{◌≡◌, ℕ, suc, ℤ, pos, ◌+ℤ◌, ◌+◌, List, [], ◌∷◌, length, filter, Bool, true, false, cond, ◌||◌, Option, Some, None, option_and_then, nat_le, nat_lt, refl, sym, ap, ◌∙◌, arith}
 use Rattle.std.proofs.lemmas.Int.{ints}
 use Rattle.std.specs.List.{list_any}
 use Rattle.ax_tree.specs.declared.tree.Tree as tree
@@ -13,11 +13,9 @@ use Rattle.ax_mean.specs.Meaning.{along, chain}
 use Rattle.std.specs.Ordering.{is_lt}
 use Rattle.ax_mean.specs.ValueOrder.{value_cmp}
 use Rattle.ax_mean.specs.Values.{is_defined, number_of, of_number}
-use Rattle.ax_group.specs.declared.tally.Tally.{Tally}
 use Rattle.ax_group.specs.declared.tally.Tally.TheVariants as tally
-use Rattle.ax_group.specs.Sums.{sum_with}
-use Rattle.ax_group.specs.Tallies.{start, one_more, of_sum, sum_more, least_with, greatest_with, least_more, greatest_more, tally_with, tally_from, tally_of, value_of}
-use Rattle.ax_group.specs.Totals.{greatest_count, counted, and_number, numbers_of, exact_sum, summed, lesser, greater, is_composed, outermost, aggregate_of}
+use Rattle.ax_group.specs.Tallies.{one_more, of_sum, sum_more, least_with, greatest_with, tally_from, tally_of, value_of}
+use Rattle.ax_group.specs.Totals.{greatest_count, counted, and_number, numbers_of, exact_sum, summed, lesser, greater, is_composed, aggregate_of}
 
 undefined_stays : (vs : List Value) → tally_from tally.Undefined vs ≡ tally.Undefined
 undefined_stays [] = refl

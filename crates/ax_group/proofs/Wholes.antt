@@ -1,19 +1,14 @@
 -- An expression that is seen beside what it comes to is the expression itself; and what the values of
 -- its aggregates make of it is the expression with its totals.
-use Rattle.std.proofs.Common.{◌≡◌, ℕ, List, [], ◌∷◌, ◌++◌, map, refl, sym, ap, ap₂, ◌∙◌, subst, append_assoc}
+use Rattle.std.proofs.Common.{◌≡◌, ℕ, List, [], ◌∷◌, map, refl, ap, ap₂, ◌∙◌, subst}
 use Rattle.ax_tree.specs.declared.members.Member.{Member}
 use Rattle.ax_mean.specs.declared.expr.Chained.{Chained}
 use Rattle.ax_mean.specs.declared.expr.Expr.{Expr}
 use Rattle.ax_mean.specs.declared.expr.Expr.TheOpen.{Expr-F}
-use Rattle.ax_mean.specs.declared.expr.Expr.TheVariants as expr
 use Rattle.ax_mean.specs.declared.expr.Expr.TheViews.{roll-Expr}
 use Rattle.ax_mean.specs.declared.expr.Expr.TheFolds.{map-Expr, fold-roll-Expr, ind-Expr}
-use Rattle.ax_mean.specs.declared.operator.Aggregate.{Aggregate}
 use Rattle.ax_mean.specs.declared.operator.BinaryOp.{BinaryOp}
-use Rattle.ax_mean.specs.declared.value.Value.{Value}
-use Rattle.ax_mean.specs.Meaning.{Env}
-use Rattle.ax_group.specs.Totals.{as_it_is, beside, pair_by, as_it_becomes, with_totals, total_over, become, operands_become, members_become}
-use Rattle.ax_group.specs.Walks.{Ask, Fill, all_asked, operands_asked, members_asked, asked_level, asked_pair, asked_in, operand_pair, member_pair, totals_of, one, two, three, all_filled, operands_filled, members_filled, listed, with_list, with_chain, fill_level, fill, operand_fill, member_fill}
+use Rattle.ax_group.specs.Totals.{beside, pair_by}
 
 abbrev pub chained : {X : Type 0} → BinaryOp → X → Chained X
 chained op operand = record { op = op; operand = operand }

@@ -1,5 +1,5 @@
 -- From what is read of a text's lexemes to what query the text is.
-use Rattle.std.proofs.Common.{◌≡◌, ℕ, ◌≤◌, ◌<◌, List, length, Option, Some, None, Result, Ok, Err, refl, ap, sym, ◌∙◌, le-leb, arith}
+use Rattle.std.proofs.Common.{◌≡◌, ℕ, ◌≤◌, ◌<◌, List, length, Option, Some, None, Result, Ok, Err, refl, sym, ◌∙◌, le-leb, arith}
 use Rattle.std.specs.Prelude.{IfOk}
 use Rattle.ax_lex.specs.declared.token.Token.{Token}
 use Rattle.ax_lex.specs.Lexeme.{Lexeme}
