@@ -21,6 +21,28 @@ pub(crate) fn search(rows: &[Row], number: u32) -> Result<usize, usize>
     ensures found { IfOk result (IsAt rows.now number) }
     ensures absent { IfErr result (IsGapFor rows.now number) }
 {
+    match at_its_number(rows, number) {
+        Some(at) => Ok(at),
+        None => search_by_halves(rows, number),
+    }
+}
+
+/// The position of the row of a number where that is as far behind the first row as the number is
+/// behind the first number: so it is where no number between them was left out or dropped.
+fn at_its_number(rows: &[Row], number: u32) -> Option<usize>
+    ensures { IfSome result (IsAt rows.now number) }
+{
+    let first = rows.first()?;
+    let at = number.checked_sub(first.number)? as usize;
+    let row = rows.get(at)?;
+    if row.number == number { Some(at) } else { None }
+}
+
+fn search_by_halves(rows: &[Row], number: u32) -> Result<usize, usize>
+    requires { AreRising rows.now }
+    ensures found { IfOk result (IsAt rows.now number) }
+    ensures absent { IfErr result (IsGapFor rows.now number) }
+{
     rows.binary_search_by_key(&number, |row| row.number)
 }
 

@@ -1,7 +1,7 @@
 use Rattle.std.proofs.Common.{rules}
 use Rattle.std.proofs.lemmas.List.Sorted.{answers_always}
 use Rattle.ax_store.proofs.Searching.{searched}
-use Rattle.ax_store.proofs.row.search.Goals as goal
+use Rattle.ax_store.proofs.row.search_by_halves.Goals as goal
 
 -- the closure gives the number of a row
 pub returns : goal.returns
