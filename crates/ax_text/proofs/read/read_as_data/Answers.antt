@@ -8,8 +8,8 @@ use Rattle.ax_text.specs.Reading.{Stands, reading, of_tree}
 use Rattle.ax_text.specs.TreeOf.{tree_of}
 use Rattle.ax_text.proofs.ReadTrees.{stands}
 use Rattle.ax_text.proofs.Readings.{reading-data, reading-refused}
-use Rattle.ax_text.proofs.read.read_tree.Goals as goal
-use Rattle.ax_text.proofs.read.read_tree.Goals.{then-is_memory, else-is_memory}
+use Rattle.ax_text.proofs.read.read_as_data.Goals as goal
+use Rattle.ax_text.proofs.read.read_as_data.Goals.{then-is_memory, else-is_memory}
 
 pub returns-in-Ok-clause-tree : goal.returns-in-Ok-clause-tree
 returns-in-Ok-clause-tree c =
