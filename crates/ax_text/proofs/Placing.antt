@@ -1,5 +1,5 @@
 -- A member that is put in its place among members whose names rise.
-use Rattle.std.proofs.Common.{◌≡◌, ℕ, zero, suc, ◌-◌, ◌<◌, ◌≤◌, List, [], ◌∷◌, drop, insert, length, get_or, true, Option, Some, None, option_map, refl, sym, ap, ◌∙◌, subst, arith}
+use Rattle.std.proofs.Common.{◌≡◌, ℕ, zero, suc, ◌-◌, ◌<◌, ◌≤◌, List, [], ◌∷◌, drop, insert, length, get_or, true, Option, Some, None, refl, sym, ap, ◌∙◌, subst, arith}
 use Rattle.std.proofs.lemmas.Cmp.{nat_list_cmp_total}
 use Rattle.std.specs.Cmp.Lexicographic.{slice_cmp}
 use Rattle.std.specs.Option.{IfSome}
@@ -43,7 +43,7 @@ place_behind name (m ∷ next ∷ ms) (suc p) d rising within before ahead =
     place_behind name (next ∷ ms) p d (and_second (is_before m.name next.name) _ rising)
     (omega arith) before ahead in (
       is_before_trans m.name next.name name
-      (and_first (is_before m.name next.name) _ rising) later.0,
+          (and_first (is_before m.name next.name) _ rising) later.0,
       later,
     )
 

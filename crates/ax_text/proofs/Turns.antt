@@ -141,7 +141,7 @@ module _ (p : Parse json.Json) where
         d.0,
         d.2,
         ap (converted (members_from old)) (members_more p n k ts s r j.0 some key j.1)
-        ∙ with_member k j.0 d.0 old d.1 (members p (n - 1) r),
+            ∙ with_member k j.0 d.0 old d.1 (members p (n - 1) r),
       )
 
   pub members_over : (old : serde.Members) (l : List (Member tree.Tree)) (n : ℕ)

@@ -1,6 +1,6 @@
 -- Where a name that is not there yet stands among names that rise: those before the place are
 -- before it by bytes, and it is before the one at the place.
-use Rattle.std.specs.Prelude.{◌≡◌, ℕ, zero, suc, List, [], ◌∷◌, true, ⊤}
+use Rattle.std.specs.Prelude.{◌≡◌, ℕ, zero, suc, List, [], ◌∷◌, true}
 use Rattle.ax_tree.specs.Rising.{is_before}
 
 abbrev pub IsPlace : List ℕ → List (List ℕ) → ℕ → Type 0

@@ -27,7 +27,9 @@ const MOST_MEMBERS: usize = 64;
 pub(crate) fn read_directly(alloc: Global, bytes: &[u8]) -> Option<Tree>
     ensures { IfSome result (λ tree. reading bytes.now ≡ Stands tree) }
 {
-    let text = simdutf8::compat::from_utf8(bytes).ok()?;
+    let Ok(text) = simdutf8::compat::from_utf8(bytes) else {
+        return None;
+    };
     let mut scratch = Scratch::new(alloc);
     read_text(alloc, text, &mut scratch)
 }
@@ -183,9 +185,5 @@ fn below_zero(numeral: &Numeral<'_>) -> Option<i64>
     ensures { IfSome result (λ n. option_and_then as_i64 (number_from true numeral.now) ≡ Some n) }
 {
     let number = numeral.to_i64(true)?;
-    if number < 0 {
-        Some(number)
-    } else {
-        None
-    }
+    if number < 0 { Some(number) } else { None }
 }

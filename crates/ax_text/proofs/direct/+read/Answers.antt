@@ -1,20 +1,19 @@
 -- By the token that comes first; in the loops a turn at a time.
-use Rattle.std.proofs.Common.{◌≡◌, ℕ, ◌-◌, ◌<◌, ◌≤◌, [], ◌∷◌, ◌++◌, insert, length, option_map, Some, None, string_bytes, refl, sym, ap, ap₂, ◌∙◌, arith, rules}
+use Rattle.std.proofs.Common.{◌≡◌, ◌-◌, ◌<◌, ◌∷◌, ◌++◌, insert, length, option_map, Some, None, refl, sym, ap, ◌∙◌, arith, rules}
 use Rattle.json.specs.Token.{Token}
 use Rattle.json.specs.Json as json
 use Rattle.json.specs.Json.{parse_map, after_end_array, read_key, items, members, value}
 use Rattle.json.specs.Reads.{token_of}
 use Rattle.json.proofs.Grammar.{value_is, value-begin_array, value-begin_object, read_key-shorter}
 use Rattle.serde_json.specs.Data as serde
-use Rattle.serde_json.specs.Read.{converted, number_of}
+use Rattle.serde_json.specs.Read.{converted}
 use Rattle.ax_tree.specs.Names.{names}
 use Rattle.ax_tree.specs.Rising.{is_rising}
 use Rattle.ax_tree.specs.declared.tree.Tree as tree
-use Rattle.ax_text.specs.OfJson.{tree_of_json, items_of_json, members_of_json}
+use Rattle.ax_text.specs.OfJson.{tree_of_json, items_of_json}
 use Rattle.ax_text.specs.Places.{IsPlace}
-use Rattle.ax_text.specs.TreeOf.{members_of}
 use Rattle.ax_text.proofs.Placing.{place-within, put_in_place, rising_in_place}
-use Rattle.ax_text.proofs.Turns.{members_from, converted-list, converted-map, IfSome-weaker, item_read, items_over, member_read, members_over, one_more_item, none_before, none_behind}
+use Rattle.ax_text.proofs.Turns.{converted-list, converted-map, IfSome-weaker, item_read, items_over, member_read, members_over, one_more_item, none_behind}
 use Rattle.ax_text.proofs.direct.+read.Goals as goal
 
 pub read-returns-in-String-clause-tree : goal.read-returns-in-String-clause-tree

@@ -1,5 +1,5 @@
 -- The name is behind the member that was compared, so behind all before it.
-use Rattle.std.proofs.Common.{rules, sym, ◌∙◌, arith}
+use Rattle.std.proofs.Common.{sym, arith}
 use Rattle.ax_text.proofs.Placing.{place_found}
 use Rattle.ax_text.proofs.direct.place_for.Goals as goal
 

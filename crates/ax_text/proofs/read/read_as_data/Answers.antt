@@ -1,12 +1,9 @@
 -- What `serde_json` read decides what the bytes are.
-use Rattle.std.proofs.Common.{◌≡◌, ◌≤◌, Some, ap, sym, ◌∙◌, true≢false}
+use Rattle.std.proofs.Common.{◌≡◌, Some, ap, sym, ◌∙◌, true≢false}
 use Rattle.std.proofs.lemmas.Result.{IfOk-weaker}
 use Rattle.serde_json.specs.View.{view}
-use Rattle.ax_tree.specs.Nesting.{nesting}
-use Rattle.ax_tree.specs.WellFormed.{IsWellFormed}
 use Rattle.ax_text.specs.Reading.{Stands, reading, of_tree}
 use Rattle.ax_text.specs.TreeOf.{tree_of}
-use Rattle.ax_text.proofs.ReadTrees.{stands}
 use Rattle.ax_text.proofs.Readings.{reading-data, reading-refused}
 use Rattle.ax_text.proofs.read.read_as_data.Goals as goal
 use Rattle.ax_text.proofs.read.read_as_data.Goals.{then-is_memory, else-is_memory}
@@ -24,18 +21,6 @@ returns-in-Ok-clause-number c =
     let read : reading c.args.bytes.now ≡ of_tree (tree_of (view c.in-Ok.value)) =
     reading-data _ _ c.in-Ok.ensures.ok.0 c.in-Ok.ensures.ok.1 in
     λ e. read ∙ ap of_tree (c.tree_from.ensures.number e)
-
-pub returns-in-Ok-clause-nests : goal.returns-in-Ok-clause-nests
-returns-in-Ok-clause-nests c =
-    IfOk-weaker c.tree_from.result (λ tree. reading c.args.bytes.now ≡ Stands tree)
-    (λ tree. nesting tree ≤ 127)
-    (λ tree read. (stands c.args.bytes.now tree read).shallow) (returns-in-Ok-clause-tree c)
-
-pub returns-in-Ok-clause-well_formed : goal.returns-in-Ok-clause-well_formed
-returns-in-Ok-clause-well_formed c =
-    IfOk-weaker c.tree_from.result (λ tree. reading c.args.bytes.now ≡ Stands tree)
-    (λ tree. IsWellFormed tree)
-    (λ tree read. (stands c.args.bytes.now tree read).formed) (returns-in-Ok-clause-tree c)
 
 pub returns-after-is_memory-clause-json : goal.returns-after-is_memory-clause-json
 returns-after-is_memory-clause-json c = elim c.if-is_memory.branch [
