@@ -4,9 +4,11 @@ pub mod Formed
 pub mod GoodData
 pub mod Joined
 pub mod Levels
+pub mod Placing
 pub mod ReadTexts
 pub mod ReadTrees
 pub mod Readings
 pub mod RisingNames
 pub mod RoundTrip
 pub mod StringTexts
+pub mod Turns

@@ -104,7 +104,7 @@ rising_after l k d (serde.member m e ms) before rising =
         ap is_lt (nat_list_cmp_total.antisymm m k ∙ ap ordering_reverse is) in
         λ i. parts.0 i && more later parts.1 i
 
-rising_put : (k : List ℕ) (d : serde.Data) (ms : serde.Members) → is_rising (data_names ms) ≡ true
+pub rising_put : (k : List ℕ) (d : serde.Data) (ms : serde.Members) → is_rising (data_names ms) ≡ true
     → is_rising (data_names (serde.put k d ms)) ≡ true
 rising_put k d serde.no_members rising = refl
 rising_put k d (serde.member m e ms) rising = by_order (slice_cmp nat_cmp k m) refl

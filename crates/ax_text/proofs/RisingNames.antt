@@ -7,7 +7,7 @@ use Rattle.std.specs.Cmp.Lexicographic.{slice_cmp}
 use Rattle.std.proofs.lemmas.Cmp.{nat_list_cmp_total}
 use Rattle.ax_tree.specs.Rising.{is_before, is_rising}
 
-is_lt_Less : (o : Ordering) → is_lt o ≡ true → o ≡ Less
+pub is_lt_Less : (o : Ordering) → is_lt o ≡ true → o ≡ Less
 is_lt_Less Less e = refl
 is_lt_Less Equal e = cc
 is_lt_Less Greater e = cc

@@ -1,2 +1,4 @@
+pub mod OfJson
+pub mod Places
 pub mod Reading
 pub mod TreeOf

@@ -4,6 +4,7 @@
 //! contract: `read_tree` answers exactly what the bytes are as a JSON text.
 #![tactic(auto)]
 
+mod direct;
 pub mod laws;
 mod read;
 mod text_fault;

@@ -5,6 +5,7 @@ ghost use Rattle.ax_text.specs.TreeOf.{tree_of, items_of, members_of};
 ghost use Rattle.ax_tree.specs.WellFormed.{IsWellFormed};
 ghost use Rattle.ax_text.specs.Reading.{reading, Stands, NotJson, NotWhole};
 
+use crate::direct::read_directly;
 use crate::text_fault::TextFault;
 use ax_tree::{Items, Member, Members, Text, Tree};
 use serde_json::{Map, Value};
@@ -18,6 +19,18 @@ pub fn read_tree(alloc: Global, bytes: &[u8]) -> Result<Tree, TextFault>
     ensures number { result ≡ Err TextFault.Number → reading bytes.now ≡ NotWhole }
     ensures nests { IfOk result (λ tree. nesting_of tree ≤ 127) }
     ensures well_formed { IfOk result (λ tree. IsWellFormed tree) }
+{
+    match read_directly(alloc, bytes) {
+        Some(tree) => Ok(tree),
+        None => read_as_data(alloc, bytes),
+    }
+}
+
+/// The same by way of `serde_json`'s data, which judges each text.
+fn read_as_data(alloc: Global, bytes: &[u8]) -> Result<Tree, TextFault>
+    ensures tree { IfOk result (λ tree. reading bytes.now ≡ Stands tree) }
+    ensures json { result ≡ Err TextFault.Json → reading bytes.now ≡ NotJson }
+    ensures number { result ≡ Err TextFault.Number → reading bytes.now ≡ NotWhole }
 {
     match Value::from_slice(alloc, bytes) {
         Ok(value) => tree_from(alloc, value),
