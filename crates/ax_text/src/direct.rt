@@ -24,14 +24,13 @@ const MOST_MEMBERS: usize = 64;
 /// The tree that the bytes stand for as a JSON text. `None` says nothing of the bytes: they may be
 /// no JSON, have a number that is not whole, a name that stands twice in one map or a map of more
 /// than `MOST_MEMBERS`, or memory ran out.
-pub(crate) fn read_directly(alloc: Global, bytes: &[u8]) -> Option<Tree>
+pub(crate) fn read_directly(alloc: Global, bytes: &[u8], scratch: &mut Scratch) -> Option<Tree>
     ensures { IfSome result (λ tree. reading bytes.now ≡ Stands tree) }
 {
     let Ok(text) = simdutf8::compat::from_utf8(bytes) else {
         return None;
     };
-    let mut scratch = Scratch::new(alloc);
-    read_text(alloc, text, &mut scratch)
+    read_text(alloc, text, scratch)
 }
 
 fn read_text(alloc: Global, text: &str, scratch: &mut Scratch) -> Option<Tree>

@@ -10,7 +10,7 @@ mod read;
 mod text_fault;
 mod tree_nesting;
 
-pub use read::read_tree;
+pub use read::{TreeReader, read_tree};
 pub use text_fault::TextFault;
 pub use tree_nesting::nesting;
 

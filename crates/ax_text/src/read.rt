@@ -8,11 +8,42 @@ ghost use Rattle.ax_text.specs.Reading.{reading, Stands, NotJson, NotWhole};
 use crate::direct::read_directly;
 use crate::text_fault::TextFault;
 use ax_tree::{Items, Member, Members, Text, Tree};
+use json::Scratch;
 use serde_json::{Map, Value};
 use std::alloc::Global;
 
-/// The tree that the bytes stand for as a JSON text. A text is judged as a whole before its numbers
-/// are, so that `[1.5,` is no JSON. Of a repeated member the last counts.
+/// Reads JSON texts one after another: what memory a text takes while it is read is kept for the
+/// next.
+#[derive(Drop)]
+pub struct TreeReader {
+    scratch: Scratch,
+}
+
+impl TreeReader {
+    /// It takes no memory yet.
+    pub fn new(alloc: Global) -> TreeReader {
+        TreeReader {
+            scratch: Scratch::new(alloc),
+        }
+    }
+
+    /// The tree that the bytes stand for as a JSON text. A text is judged as a whole before its
+    /// numbers are, so that `[1.5,` is no JSON. Of a repeated member the last counts.
+    pub fn read(&mut self, alloc: Global, bytes: &[u8]) -> Result<Tree, TextFault>
+        ensures tree { IfOk result (λ tree. reading bytes.now ≡ Stands tree) }
+        ensures json { result ≡ Err TextFault.Json → reading bytes.now ≡ NotJson }
+        ensures number { result ≡ Err TextFault.Number → reading bytes.now ≡ NotWhole }
+        ensures nests { IfOk result (λ tree. nesting_of tree ≤ 127) }
+        ensures well_formed { IfOk result (λ tree. IsWellFormed tree) }
+    {
+        match read_directly(alloc, bytes, &mut self.scratch) {
+            Some(tree) => Ok(tree),
+            None => read_as_data(alloc, bytes),
+        }
+    }
+}
+
+/// What a new `TreeReader` reads.
 pub fn read_tree(alloc: Global, bytes: &[u8]) -> Result<Tree, TextFault>
     ensures tree { IfOk result (λ tree. reading bytes.now ≡ Stands tree) }
     ensures json { result ≡ Err TextFault.Json → reading bytes.now ≡ NotJson }
@@ -20,10 +51,8 @@ pub fn read_tree(alloc: Global, bytes: &[u8]) -> Result<Tree, TextFault>
     ensures nests { IfOk result (λ tree. nesting_of tree ≤ 127) }
     ensures well_formed { IfOk result (λ tree. IsWellFormed tree) }
 {
-    match read_directly(alloc, bytes) {
-        Some(tree) => Ok(tree),
-        None => read_as_data(alloc, bytes),
-    }
+    let mut reader = TreeReader::new(alloc);
+    reader.read(alloc, bytes)
 }
 
 /// The same by way of `serde_json`'s data, which judges each text.

@@ -5,7 +5,7 @@ use Rattle.ax_tree.specs.Nesting.{nesting}
 use Rattle.ax_tree.specs.WellFormed.{IsWellFormed}
 use Rattle.ax_text.specs.Reading.{Stands, reading}
 use Rattle.ax_text.proofs.ReadTrees.{stands}
-use Rattle.ax_text.proofs.read.read_tree.Goals as goal
+use Rattle.ax_text.proofs.read.TreeReader.read.Goals as goal
 
 pub returns-in-Some-clause-nests : goal.returns-in-Some-clause-nests
 returns-in-Some-clause-nests c = (stands c.args.bytes.now c.in-Some.tree c.in-Some.ensures).shallow
