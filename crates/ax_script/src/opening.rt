@@ -23,7 +23,7 @@ use crate::status::Status;
 use ax_cache::NoPages;
 use ax_disk::Disk;
 use ax_store::{Store, StoreFault};
-use ax_text::{TextFault, read_tree};
+use ax_text::{TextFault, TreeReader};
 use ax_tree::{Memory, id_of};
 use std::alloc::Global;
 use std::collections::BTreeMap;
@@ -70,10 +70,11 @@ fn number_all(alloc: Global, store: Store<NoPages>) -> Result<Documents, Status>
     ensures only { IfErr result (λ status. status ≡ Status.Memory) }
 {
     let mut numbers = BTreeMap::new(alloc);
+    let mut reader = TreeReader::new(alloc);
     let mut number = 0;
     'texts: while let Some((next, text)) = next_text(&store, number) {
         number = next;
-        let Ok(()) = put_id(alloc, &mut numbers, number, text) else {
+        let Ok(()) = put_id(alloc, &mut reader, &mut numbers, number, text) else {
             return Err(Status::Memory);
         };
     }
@@ -87,6 +88,7 @@ fn number_all(alloc: Global, store: Store<NoPages>) -> Result<Documents, Status>
 /// Puts the number under the id of the document that the text stands for.
 fn put_id(
     alloc: Global,
+    reader: &mut TreeReader,
     numbers: &mut BTreeMap<String, u32>,
     number: u32,
     text: &[u8],
@@ -95,7 +97,7 @@ fn put_id(
         → OnOk result ((other : List ℕ) → get_by_text numbers.new other
         ≡ cond (bytes_eq id other) (Some number) (get_by_text numbers.old other)) }
 {
-    let tree = match read_tree(alloc, text) {
+    let tree = match reader.read(alloc, text) {
         Ok(tree) => tree,
         Err(TextFault::Memory) => return Err(Memory),
         Err(_) => return Ok(()),

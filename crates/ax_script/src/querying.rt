@@ -21,7 +21,7 @@ use ax_lines::{Body, Refusal};
 use ax_machine::refusal_of;
 use ax_mean::{KeyedRow, Query};
 use ax_parse::{ParseFault, parse};
-use ax_text::read_tree;
+use ax_text::TreeReader;
 use ax_tree::Memory;
 use std::alloc::Global;
 use std::sync::ledger::Ledger;
@@ -116,10 +116,11 @@ fn add_documents<L: Ledger>(
         → steps.new ≤ steps.old + length container.entries }
     ensures never_falls { steps.old ≤ steps.new }
 {
+    let mut reader = TreeReader::new(alloc);
     let mut number = 0;
     'texts: while let Some((next, text)) = next_text(&documents.store, number) {
         number = next;
-        add_document(alloc, answer, number, text, steps)?;
+        add_document(alloc, &mut reader, answer, number, text, steps)?;
     }
     Ok(())
 }
@@ -128,6 +129,7 @@ fn add_documents<L: Ledger>(
 /// is, that is answered as want of memory.
 fn add_document<L: Ledger>(
     alloc: Global,
+    reader: &mut TreeReader,
     answer: &mut Answer<'_>,
     number: u32,
     text: &[u8],
@@ -139,7 +141,7 @@ fn add_document<L: Ledger>(
     ensures one { steps.new ≤ steps.old + 1 }
     ensures never_falls { steps.old ≤ steps.new }
 {
-    let Ok(tree) = read_tree(alloc, text) else {
+    let Ok(tree) = reader.read(alloc, text) else {
         return Err(Memory);
     };
     let Ok(()) = answer.add(alloc, number, &tree, steps) else {
