@@ -5,6 +5,7 @@ pub mod MapLens
 pub mod TakingLemmas
 pub mod CanFrames
 pub mod PuttingLemmas
+pub mod WindowLemmas
 pub mod LoadLemmas
 pub mod StoreLemmas
 pub mod NextHeld

@@ -17,7 +17,9 @@ use Rattle.ax_store.specs.declared.fault.StoreFault.{StoreFault}
 use Rattle.ax_store.specs.declared.fault.StoreFault.TheVariants.{Disk, Damaged, Newer, Memory}
 use Rattle.ax_pages.specs.AfterPart.{after_parts}
 use Rattle.ax_store.specs.Kept.{Kept, Takes, no_offsets, offsets_after_parts}
-use Rattle.ax_store.specs.Loading.{nothing_kept, TakesOn, IsLoadedTo, TellsLen, TellsSpan, TellsFrame, TellsLoad}
+use Rattle.ax_store.specs.Loading.{nothing_kept, TakesOn, IsLoadedTo, TellsLen, TellsFrame, TellsLoad}
+use Rattle.ax_store.specs.Window.{TellsReach, Shows}
+use Rattle.ax_store.specs.declared.window.Window.{Window}
 
 -- ---- bytes
 
@@ -144,17 +146,17 @@ all_loaded frames at now loaded le = none_left frames loaded.first loaded.rest a
 
 -- ---- answers
 
-pub refused_span : (fault : StoreFault) (len : ℕ) (span : List ℕ) → TellsLen (Err fault) len → TellsSpan (Err fault) span
-refused_span Disk len span tells = tt
-refused_span (Damaged extent at) len span tells = absurd tells
-refused_span (Newer version) len span tells = absurd tells
-refused_span Memory len span tells = tt
+pub refused_len : (fault : StoreFault) (len : ℕ) → TellsReach (Err fault) → TellsLen (Err fault) len
+refused_len Disk len tells = tt
+refused_len (Damaged extent at) len tells = absurd tells
+refused_len (Newer version) len tells = absurd tells
+refused_len Memory len tells = tt
 
-pub refused_frame : (fault : StoreFault) (span : List ℕ) (area : Extent) (frames : List (List ℕ)) (now : Kept) → TellsSpan (Err fault) span → TellsFrame (Err fault) area frames now
-refused_frame Disk span area frames now tells = tt
-refused_frame (Damaged extent at) span area frames now tells = absurd tells
-refused_frame (Newer version) span area frames now tells = absurd tells
-refused_frame Memory span area frames now tells = tt
+pub refused_frame : (fault : StoreFault) (len : ℕ) (area : Extent) (frames : List (List ℕ)) (now : Kept) → TellsLen (Err fault) len → TellsFrame (Err fault) area frames now
+refused_frame Disk len area frames now tells = tt
+refused_frame (Damaged extent at) len area frames now tells = absurd tells
+refused_frame (Newer version) len area frames now tells = absurd tells
+refused_frame Memory len area frames now tells = tt
 
 pub refused_load : (fault : StoreFault) (area : Extent) (frames : List (List ℕ)) (now : Kept) → TellsFrame (Err fault) area frames now → TellsLoad (Err fault) area frames
 refused_load Disk area frames now tells = tt
@@ -164,3 +166,6 @@ refused_load Memory area frames now tells = tt
 
 pub agrees_next : (log : Log) (frames : List (List ℕ)) (at : ℕ) (now : Kept) (next : HasNext frames at now) (history : History) → Agrees log frames history → Agrees log (next.first ++ next.span ∷ next.rest) history
 agrees_next log frames at now next history agrees = subst (λ fs. Agrees log fs history) next.are agrees
+
+pub shows_next : (frames : List (List ℕ)) (at : ℕ) (now : Kept) (next : HasNext frames at now) (window : Window) → Shows window frames → Shows window (next.first ++ next.span ∷ next.rest)
+shows_next frames at now next window shows = subst (λ fs. Shows window fs) next.are shows

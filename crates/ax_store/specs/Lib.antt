@@ -6,6 +6,7 @@ pub mod Change
 pub mod Batch
 pub mod Putting
 pub mod Faults
+pub mod Window
 pub mod Loading
 pub mod Store
 pub mod Slots

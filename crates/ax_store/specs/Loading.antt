@@ -1,7 +1,6 @@
 -- The log frames of an area are taken into pages, one after another.
 -- It is this project's own; it comes from no public document.
 use Rattle.std.specs.Prelude.{◌≡◌, ℕ, ◌+◌, List, [], ◌∷◌, ◌++◌, length, Result, Ok, Err}
-use Rattle.std.specs.Global.{Vec}
 use Rattle.ax_disk.specs.declared.extent.Extent.{Extent}
 use Rattle.ax_pages.specs.Area.{frames_bytes}
 use Rattle.ax_pages.specs.Image.{extent_number}
@@ -28,20 +27,13 @@ pub record IsLoadedTo (frames : List (List ℕ)) (at : ℕ) (now : Kept) : Type 
   pub place : at ≡ length (frames_bytes first)
   pub takes : TakesOn first 0 nothing_kept now
 
--- what reading the length of a frame, or what it spans, answers
+-- what reading the length of a frame answers
 abbrev pub TellsLen : Result ℕ StoreFault → ℕ → Type 0
 TellsLen (Ok len) is = len ≡ is
 TellsLen (Err Disk) is = Unit {0}
 TellsLen (Err (Damaged extent at)) is = ⊥
 TellsLen (Err (Newer version)) is = ⊥
 TellsLen (Err Memory) is = Unit {0}
-
-abbrev pub TellsSpan : Result (Vec ℕ) StoreFault → List ℕ → Type 0
-TellsSpan (Ok bytes) span = bytes.items ≡ span
-TellsSpan (Err Disk) span = Unit {0}
-TellsSpan (Err (Damaged extent at)) span = ⊥
-TellsSpan (Err (Newer version)) span = ⊥
-TellsSpan (Err Memory) span = Unit {0}
 
 -- what taking one frame more answers
 abbrev pub TellsFrame : Result ℕ StoreFault → Extent → List (List ℕ) → Kept → Type 0

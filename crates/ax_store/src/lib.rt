@@ -29,6 +29,7 @@ mod slot_reads;
 mod slots;
 mod store;
 mod take_parts;
+mod window;
 
 pub use batch::Batch;
 pub use fault::StoreFault;

@@ -10,6 +10,9 @@ use std::path::Path;
 /// The most bytes that a file may have.
 const MOST_BYTES: u64 = 1 << 62;
 
+/// The system takes no offset above this one, and no file is longer.
+const LAST_OFFSET: u64 = i64::MAX as u64;
+
 /// How often a call is made that the system interrupts.
 const TURNS: u32 = 1000;
 
@@ -72,11 +75,9 @@ impl StoreFiles {
 
     /// Fills `buf` with the bytes at `at`, and with 0 past the end of the file.
     pub fn read(&self, ext: Extent, at: u64, buf: &mut [u8]) -> io::Result<()> {
-        let file = &self.file(ext).file;
-        let behind = file.metadata()?.len().saturating_sub(at);
-        let count = behind.min(buf.len() as u64) as usize;
-        file.read_exact_at(&mut buf[..count], at)?;
-        buf[count..].fill(0);
+        let reachable = LAST_OFFSET.saturating_sub(at).min(buf.len() as u64) as usize;
+        let filled = read_up_to_end(&self.file(ext).file, at, &mut buf[..reachable])?;
+        buf[filled..].fill(0);
         Ok(())
     }
 
@@ -149,6 +150,26 @@ impl StoreFile {
         }
         Err(ErrorKind::Interrupted.into())
     }
+}
+
+/// Reads at `at` until `buf` is full or the file ends, and answers how many bytes were read.
+fn read_up_to_end(file: &File, at: u64, buf: &mut [u8]) -> io::Result<usize>
+    requires { at + length buf.old < 2 ^ 64 }
+    ensures { IfOk result (λ filled. filled ≤ length buf.old) }
+{
+    let mut filled = 0;
+    for _ in 0..TURNS {
+        if filled >= buf.len() {
+            return Ok(filled);
+        }
+        match file.read_at(&mut buf[filled..], at + filled as u64) {
+            Ok(0) => return Ok(filled),
+            Ok(count) => filled += count,
+            Err(error) if error.kind() == ErrorKind::Interrupted => {}
+            Err(error) => return Err(error),
+        }
+    }
+    Err(ErrorKind::Interrupted.into())
 }
 
 /// Whether so many bytes at `at` end at most at 2^62.
