@@ -1,6 +1,7 @@
 ghost use Rattle.std.specs.Prelude.{◌≡◌, ◌+◌, ℕ, List, [], ◌∷◌, ◌++◌, true, IfOk, OnOk};
 ghost use Rattle.ax_tree.specs.declared.tree.Tree as trees;
 ghost use Rattle.ax_mean.specs.Aggregates.{has_groups as there_are_groups};
+ghost use Rattle.ax_mean.specs.Answer.{finish as finish_rows};
 ghost use Rattle.ax_mean.specs.Meaning as means;
 ghost use Rattle.ax_mean.specs.Rows.{envs_of_tree};
 ghost use Rattle.ax_mean.specs.declared.query.Query as queries;
@@ -95,11 +96,18 @@ impl<'a> Answer<'a> {
             Some(groups) => {
                 drop(rows);
                 let rows = groups.finish(alloc)?;
-                Ok(finish(alloc, query, rows)?)
+                finished(alloc, query, rows)
             }
-            None => Ok(finish(alloc, query, rows)?),
+            None => finished(alloc, query, rows),
         }
     }
+}
+
+/// The rows in their order, without those that DISTINCT, OFFSET and LIMIT leave out.
+fn finished(alloc: Global, query: &Query, rows: Vec<KeyedRow>) -> Result<Vec<KeyedRow>, Memory>
+    ensures { IfOk result (λ found. found.items ≡ finish_rows query.now rows.items) }
+{
+    Ok(finish(alloc, query, rows)?)
 }
 
 /// Adds the rows of a document that pass WHERE to the groups. It takes one step.
