@@ -8,7 +8,7 @@ use Rattle.ax_mean.specs.declared.query.Step.{Step}
 use Rattle.ax_term.specs.CutTexts.{CutText}
 use Rattle.ax_term.specs.CutValues.{CutValue}
 use Rattle.ax_term.specs.Fitting.{AreBytes, IsStep, IsPath, IsText, IsValue, IsTerm}
-use Rattle.ax_term.specs.TermBytes.{escaped, text_bytes, raised, value_bytes, step_bytes, path_bytes, column_bytes, columns_bytes, complemented, directed_bytes, row_bytes, term_bytes}
+use Rattle.ax_term.specs.TermBytes.{escaped, text_bytes, raised, value_bytes, step_bytes, path_bytes, column_bytes, columns_bytes, complemented, directed_bytes, values_bytes, term_bytes}
 use Rattle.ax_term.specs.Terms.{Term}
 
 abbrev IsByte : ℕ → Type 0
@@ -103,15 +103,15 @@ bytes_of_directed : (down : Bool) (value : CutValue) → IsValue value
 bytes_of_directed true value h = complemented_bytes (value_bytes value)
 bytes_of_directed false value h = bytes_of_value value h
 
-bytes_of_row : (columns : List Order) (values : List CutValue) → All IsValue values
-    → AreBytes (row_bytes columns values)
-bytes_of_row [] [] h = none
-bytes_of_row [] (value ∷ values) h = none
-bytes_of_row (column ∷ columns) [] h = none
-bytes_of_row (column ∷ columns) (value ∷ values) h =
-    both (directed_bytes column.down value) (row_bytes columns values)
+bytes_of_values : (columns : List Order) (values : List CutValue) → All IsValue values
+    → AreBytes (values_bytes columns values)
+bytes_of_values [] [] h = none
+bytes_of_values [] (value ∷ values) h = none
+bytes_of_values (column ∷ columns) [] h = none
+bytes_of_values (column ∷ columns) (value ∷ values) h =
+    both (directed_bytes column.down value) (values_bytes columns values)
     (bytes_of_directed column.down value (All-head IsValue value values h))
-    (bytes_of_row columns values (All-tail IsValue value values h))
+    (bytes_of_values columns values (All-tail IsValue value values h))
 
 pub bytes_of_term : (term : Term) → IsTerm term → AreBytes (term_bytes term)
 bytes_of_term (Term.Id id) h = one 1 id (lit< tt) h
@@ -119,8 +119,8 @@ bytes_of_term (Term.Plain path value) h =
     one 2 (path_bytes path ++ value_bytes value) (lit< tt)
     (both (path_bytes path) (value_bytes value) (bytes_of_path path h.0) (bytes_of_value value h.1))
 bytes_of_term (Term.Composite columns values) h =
-    one 3 (length columns ∷ (columns_bytes columns ++ row_bytes columns values)) (lit< tt)
-    (one (length columns) (columns_bytes columns ++ row_bytes columns values)
+    one 3 (length columns ∷ (columns_bytes columns ++ values_bytes columns values)) (lit< tt)
+    (one (length columns) (columns_bytes columns ++ values_bytes columns values)
     (let e : length columns ≤ 255 = h.at_most in omega arith)
-    (both (columns_bytes columns) (row_bytes columns values) (bytes_of_columns columns h.paths_fit)
-    (bytes_of_row columns values h.values_fit)))
+    (both (columns_bytes columns) (values_bytes columns values) (bytes_of_columns columns h.paths_fit)
+    (bytes_of_values columns values h.values_fit)))

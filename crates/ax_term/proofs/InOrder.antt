@@ -11,8 +11,8 @@ use Rattle.ax_mean.specs.declared.query.Step.{Step}
 use Rattle.ax_term.specs.CutTexts.{CutText}
 use Rattle.ax_term.specs.CutValues.{CutValue}
 use Rattle.ax_term.specs.Fitting.{IsValue}
-use Rattle.ax_term.specs.TermBytes.{escaped, text_bytes, raised, value_bytes, step_bytes, path_bytes, column_bytes, columns_bytes, complemented, directed_bytes, row_bytes}
-use Rattle.ax_term.specs.TermOrder.{order_of_bytes, order_of_texts, kind, order_of_values, order_of_steps, order_of_paths, order_of_columns, order_of_composites, directed, order_of_rows}
+use Rattle.ax_term.specs.TermBytes.{escaped, text_bytes, raised, value_bytes, step_bytes, path_bytes, column_bytes, columns_bytes, complemented, directed_bytes, values_bytes}
+use Rattle.ax_term.specs.TermOrder.{order_of_bytes, order_of_texts, kind, order_of_values, order_of_steps, order_of_paths, order_of_columns, order_of_composites, directed, order_of_value_lists}
 use Rattle.ax_term.proofs.AllBytes.{bytes_of_value}
 use Rattle.ax_term.proofs.Complemented.{decides_complemented}
 use Rattle.ax_term.proofs.Decided.{Decides, decides_as, decides_both, decides_none, then_then, then_equal}
@@ -106,17 +106,17 @@ decides_directed true a b h k =
     decides_complemented (value_bytes a) (value_bytes b) (order_of_values b a)
     (bytes_of_value a h) (bytes_of_value b k) (decides_values b a k h)
 
-pub decides_rows : (columns : List Order) (a b : List CutValue) → length a ≡ length columns
+pub decides_value_lists : (columns : List Order) (a b : List CutValue) → length a ≡ length columns
     → length b ≡ length columns → All IsValue a → All IsValue b
-    → Decides (row_bytes columns a) (row_bytes columns b) (order_of_rows columns a b)
-decides_rows [] [] b h k p q = decides_none
-decides_rows [] (x ∷ a) b h k p q = zero_is_not (sym h)
-decides_rows (column ∷ columns) [] b h k p q = zero_is_not h
-decides_rows (column ∷ columns) (x ∷ a) [] h k p q = zero_is_not k
-decides_rows (column ∷ columns) (x ∷ a) (y ∷ b) h k p q =
+    → Decides (values_bytes columns a) (values_bytes columns b) (order_of_value_lists columns a b)
+decides_value_lists [] [] b h k p q = decides_none
+decides_value_lists [] (x ∷ a) b h k p q = zero_is_not (sym h)
+decides_value_lists (column ∷ columns) [] b h k p q = zero_is_not h
+decides_value_lists (column ∷ columns) (x ∷ a) [] h k p q = zero_is_not k
+decides_value_lists (column ∷ columns) (x ∷ a) (y ∷ b) h k p q =
     decides_both (directed_bytes column.down x) (directed_bytes column.down y)
-    (directed column.down x y) (row_bytes columns a) (row_bytes columns b)
-    (order_of_rows columns a b)
+    (directed column.down x y) (values_bytes columns a) (values_bytes columns b)
+    (order_of_value_lists columns a b)
     (decides_directed column.down x y (All-head IsValue x a p) (All-head IsValue y b q))
-    (λ e. decides_rows columns a b (one_less h) (one_less k) (All-tail IsValue x a p)
+    (λ e. decides_value_lists columns a b (one_less h) (one_less k) (All-tail IsValue x a p)
     (All-tail IsValue y b q))

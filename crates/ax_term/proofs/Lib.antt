@@ -1,6 +1,7 @@
 pub mod AllBytes
 pub mod ByteOrder
 pub mod Complemented
+pub mod Cutting
 pub mod Decided
 pub mod Escaped
 pub mod Numbers

@@ -10,7 +10,7 @@ use Rattle.ax_term.specs.CutTexts.{CutText}
 use Rattle.ax_term.specs.CutValues.{CutValue}
 use Rattle.ax_term.specs.Fitting.{IsTerm}
 use Rattle.ax_term.specs.Terms.{Term}
-use Rattle.ax_term.specs.TermOrder.{order_of_bytes, order_of_texts, kind, order_of_values, order_of_steps, order_of_paths, order_of_columns, order_of_composites, directed, order_of_rows, family, order_of_terms}
+use Rattle.ax_term.specs.TermOrder.{order_of_bytes, order_of_texts, kind, order_of_values, order_of_steps, order_of_paths, order_of_columns, order_of_composites, directed, order_of_value_lists, family, order_of_terms}
 
 not_equal : {A : Type 0} (o : Ordering) → is_eq o ≡ false → o ≡ Equal → A
 not_equal o apart e = absurd (let f : true ≡ false = ap is_eq (sym e) ∙ apart in let g : ⊥ = cc in g)
@@ -83,16 +83,16 @@ zero_is_not e = absurd (let f : ⊥ = cc in f)
 one_less : {m n : ℕ} → suc m ≡ suc n → m ≡ n
 one_less e = cc
 
-one_row : (columns : List Order) (a b : List CutValue) → length a ≡ length columns
-    → length b ≡ length columns → order_of_rows columns a b ≡ Equal → a ≡ b
-one_row [] [] [] h k e = refl
-one_row [] [] (y ∷ b) h k e = zero_is_not (sym k)
-one_row [] (x ∷ a) b h k e = zero_is_not (sym h)
-one_row (column ∷ columns) [] b h k e = zero_is_not h
-one_row (column ∷ columns) (x ∷ a) [] h k e = zero_is_not k
-one_row (column ∷ columns) (x ∷ a) (y ∷ b) h k e =
-    let parts = both_equal (directed column.down x y) (order_of_rows columns a b) e in
-    let rest = one_row columns a b (one_less h) (one_less k) parts.1 in
+one_value_list : (columns : List Order) (a b : List CutValue) → length a ≡ length columns
+    → length b ≡ length columns → order_of_value_lists columns a b ≡ Equal → a ≡ b
+one_value_list [] [] [] h k e = refl
+one_value_list [] [] (y ∷ b) h k e = zero_is_not (sym k)
+one_value_list [] (x ∷ a) b h k e = zero_is_not (sym h)
+one_value_list (column ∷ columns) [] b h k e = zero_is_not h
+one_value_list (column ∷ columns) (x ∷ a) [] h k e = zero_is_not k
+one_value_list (column ∷ columns) (x ∷ a) (y ∷ b) h k e =
+    let parts = both_equal (directed column.down x y) (order_of_value_lists columns a b) e in
+    let rest = one_value_list columns a b (one_less h) (one_less k) parts.1 in
     λ i. one_directed column.down x y parts.0 i ∷ rest i
 
 pub one_term : (s t : Term) → IsTerm s → IsTerm t → order_of_terms s t ≡ Equal → s ≡ t
@@ -101,8 +101,8 @@ one_term (Term.Plain p a) (Term.Plain q b) h k e =
     let parts = both_equal (order_of_paths p q) (order_of_values a b) e in
     λ i. Term.Plain (one_path p q parts.0 i) (one_value a b parts.1 i)
 one_term (Term.Composite p a) (Term.Composite q b) h k e =
-    let parts = both_equal (order_of_composites p q) (order_of_rows p a b) e in
+    let parts = both_equal (order_of_composites p q) (order_of_value_lists p a b) e in
     let same : p ≡ q = one_composite p q parts.0 in
-    let rows : a ≡ b = one_row p a b h.as_many (k.as_many ∙ sym (ap length same)) parts.1 in
-    λ i. Term.Composite (same i) (rows i)
+    let values : a ≡ b = one_value_list p a b h.as_many (k.as_many ∙ sym (ap length same)) parts.1 in
+    λ i. Term.Composite (same i) (values i)
 one_term s t h k e = not_equal (nat_cmp (family s) (family t)) refl e

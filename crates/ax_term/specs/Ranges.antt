@@ -1,4 +1,4 @@
--- Ranges of terms, by the bytes of terms.
+-- Ranges of terms, by the bytes of terms. The store's own term format, docs/FORMAT.md.
 use Rattle.std.specs.Prelude.{ℕ, List, Bool, ◌&&◌}
 use Rattle.std.specs.Ordering.{is_le, is_lt}
 use Rattle.ax_term.specs.TermOrder.{order_of_bytes}

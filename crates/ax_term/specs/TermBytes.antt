@@ -49,6 +49,7 @@ path_bytes (step ∷ path) = step_bytes step ++ path_bytes path
 abbrev pub column_bytes : Order → List ℕ
 column_bytes column = (if column.down then 1 else 0) ∷ path_bytes column.path
 
+-- one after another
 abbrev pub columns_bytes : List Order → List ℕ
 columns_bytes [] = []
 columns_bytes (column ∷ columns) = column_bytes column ++ columns_bytes columns
@@ -62,10 +63,10 @@ abbrev pub directed_bytes : Bool → CutValue → List ℕ
 directed_bytes down value = if down then complemented (value_bytes value) else value_bytes value
 
 -- the values one after another, each in the direction of its path
-abbrev pub row_bytes : List Order → List CutValue → List ℕ
-row_bytes (column ∷ columns) (value ∷ values) =
-    directed_bytes column.down value ++ row_bytes columns values
-row_bytes _ _ = []
+abbrev pub values_bytes : List Order → List CutValue → List ℕ
+values_bytes (column ∷ columns) (value ∷ values) =
+    directed_bytes column.down value ++ values_bytes columns values
+values_bytes _ _ = []
 
 -- 01 and the id; 02, the path and the value; 03, the number of paths, the paths with their
 -- directions, and the values
@@ -73,4 +74,4 @@ abbrev pub term_bytes : Term → List ℕ
 term_bytes (Term.Id id) = 0x01 ∷ id
 term_bytes (Term.Plain path value) = 0x02 ∷ (path_bytes path ++ value_bytes value)
 term_bytes (Term.Composite columns values) =
-    0x03 ∷ length columns ∷ (columns_bytes columns ++ row_bytes columns values)
+    0x03 ∷ length columns ∷ (columns_bytes columns ++ values_bytes columns values)

@@ -12,6 +12,7 @@ use Rattle.ax_term.specs.CutTexts.{CutText}
 use Rattle.ax_term.specs.CutValues.{CutValue}
 use Rattle.ax_term.specs.Terms.{Term}
 
+-- byte by byte; a list that ends comes before those that go on
 abbrev pub order_of_bytes : List ℕ → List ℕ → Ordering
 order_of_bytes = slice_cmp nat_cmp
 
@@ -63,21 +64,22 @@ directed false = order_of_values
 directed true = flip_args order_of_values
 
 -- value by value, each in the direction of its path
-abbrev pub order_of_rows : List Order → List CutValue → List CutValue → Ordering
-order_of_rows (column ∷ columns) (a ∷ later_a) (b ∷ later_b) =
-    ordering_then (directed column.down a b) (order_of_rows columns later_a later_b)
-order_of_rows _ _ _ = Equal
+abbrev pub order_of_value_lists : List Order → List CutValue → List CutValue → Ordering
+order_of_value_lists (column ∷ columns) (a ∷ later_a) (b ∷ later_b) =
+    ordering_then (directed column.down a b) (order_of_value_lists columns later_a later_b)
+order_of_value_lists _ _ _ = Equal
 
--- ids, then plain terms, then composite ones
+-- the place of a term's family: ids, then plain terms, then composite ones
 abbrev pub family : Term → ℕ
 family (Term.Id id) = 1
 family (Term.Plain path value) = 2
 family (Term.Composite columns values) = 3
 
+-- by family; then by what the family has, first to last
 abbrev pub order_of_terms : Term → Term → Ordering
 order_of_terms (Term.Id a) (Term.Id b) = order_of_bytes a b
 order_of_terms (Term.Plain p a) (Term.Plain q b) =
     ordering_then (order_of_paths p q) (order_of_values a b)
 order_of_terms (Term.Composite p a) (Term.Composite q b) =
-    ordering_then (order_of_composites p q) (order_of_rows p a b)
+    ordering_then (order_of_composites p q) (order_of_value_lists p a b)
 order_of_terms s t = nat_cmp (family s) (family t)

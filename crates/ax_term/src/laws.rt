@@ -1,8 +1,12 @@
 //! Laws of the definitions, each the contract of a function that does nothing.
-ghost use Rattle.std.specs.Prelude.{◌≡◌};
+ghost use Rattle.std.specs.Prelude.{◌≡◌, true};
+ghost use Rattle.std.specs.Ordering.{is_le};
+ghost use Rattle.ax_mean.specs.ValueOrder.{value_cmp};
+ghost use Rattle.ax_mean.specs.declared.value.Value.{Value};
+ghost use Rattle.ax_term.specs.CutValues.{cut_of};
 ghost use Rattle.ax_term.specs.Fitting.{AreBytes, IsTerm};
 ghost use Rattle.ax_term.specs.TermBytes.{term_bytes};
-ghost use Rattle.ax_term.specs.TermOrder.{order_of_bytes, order_of_terms};
+ghost use Rattle.ax_term.specs.TermOrder.{order_of_bytes, order_of_terms, order_of_values};
 ghost use Rattle.ax_term.specs.Terms.{Term};
 
 /// The order of the bytes of terms is the order of terms.
@@ -19,4 +23,11 @@ pub fn equal_bytes_are_equal_terms()
 /// The bytes of a term are bytes.
 pub fn terms_are_bytes()
     ensures { (t : Term) → IsTerm t → AreBytes (term_bytes t) }
+{}
+
+/// Cutting keeps the order of values: of two values the one that is not behind the other is not
+/// behind it in terms. Two that are apart may be one there, where their texts begin alike.
+pub fn cutting_keeps_the_order_of_values()
+    ensures { (a b : Value) → is_le (value_cmp a b) ≡ true
+        → is_le (order_of_values (cut_of a) (cut_of b)) ≡ true }
 {}

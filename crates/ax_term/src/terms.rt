@@ -1,6 +1,6 @@
 ghost use Rattle.std.specs.Prelude.{◌≡◌, ◌≤◌, ◌++◌, length, map, IfOk, OnOk};
 ghost use Rattle.ax_term.specs.CutValues.{cut_value};
-ghost use Rattle.ax_term.specs.TermBytes.{path_bytes, columns_bytes, directed_bytes, row_bytes, term_bytes};
+ghost use Rattle.ax_term.specs.TermBytes.{path_bytes, columns_bytes, directed_bytes, values_bytes, term_bytes};
 ghost use Rattle.ax_term.specs.Terms.{Term};
 
 use crate::pieces::{append_step, append_value};
@@ -9,6 +9,19 @@ use crate::term_value::TermValue;
 use ax_mean::{Items, Memory, Order, Path};
 use std::alloc::Global;
 
+// The first byte of a term, by its family.
+const ID: u8 = 0x01;
+
+const PLAIN: u8 = 0x02;
+
+const COMPOSITE: u8 = 0x03;
+
+/// What stands behind the last step of a path.
+const END_OF_PATH: u8 = 0x01;
+
+/// Room for a term of a short path and value.
+const ROOM: usize = 64;
+
 /// The paths of a composite term, each with its direction.
 pub type Composite = Items<Order>;
 
@@ -16,8 +29,8 @@ pub type Composite = Items<Order>;
 pub fn id_term(alloc: Global, id: &[u8]) -> Result<Vec<u8>, Memory>
     ensures { IfOk result (λ bytes. bytes.items ≡ term_bytes (Term.Id id.now)) }
 {
-    let mut out = Vec::new(alloc);
-    out.push(0x01)?;
+    let mut out = Vec::with_capacity(alloc, id.len() + 1)?;
+    out.push(ID)?;
     out.extend_from_slice(id)?;
     Ok(out)
 }
@@ -27,8 +40,8 @@ pub fn term(alloc: Global, path: &Path, value: &TermValue) -> Result<Vec<u8>, Me
     ensures { IfOk result (λ bytes.
         bytes.items ≡ term_bytes (Term.Plain path.now (cut_value value.now))) }
 {
-    let mut out = Vec::new(alloc);
-    out.push(0x02)?;
+    let mut out = Vec::with_capacity(alloc, ROOM)?;
+    out.push(PLAIN)?;
     append_path(&mut out, path)?;
     append_value(&mut out, value)?;
     Ok(out)
@@ -46,11 +59,11 @@ pub fn composite_term(
         bytes.items ≡ term_bytes (Term.Composite composite.now (map cut_value values.now))) }
 {
     let columns = composite.as_slice();
-    let mut out = Vec::new(alloc);
-    out.push(0x03)?;
+    let mut out = Vec::with_capacity(alloc, ROOM)?;
+    out.push(COMPOSITE)?;
     out.push(columns.len() as u8)?;
     append_columns(&mut out, columns)?;
-    append_row(&mut out, columns, values)?;
+    append_values(&mut out, columns, values)?;
     Ok(out)
 }
 
@@ -60,7 +73,7 @@ fn append_path(out: &mut Vec<u8>, path: &Path) -> Result<(), Memory>
     for step in path.as_slice() {
         append_step(out, step)?;
     }
-    out.push(0x01)?;
+    out.push(END_OF_PATH)?;
     Ok(())
 }
 
@@ -74,13 +87,13 @@ fn append_columns(out: &mut Vec<u8>, columns: &[Order]) -> Result<(), Memory>
     Ok(())
 }
 
-fn append_row(out: &mut Vec<u8>, columns: &[Order], values: &[TermValue]) -> Result<(), Memory>
+fn append_values(out: &mut Vec<u8>, columns: &[Order], values: &[TermValue]) -> Result<(), Memory>
     requires { length values.now ≡ length columns.now }
     ensures { OnOk result
-        (out.new.items ≡ out.old.items ++ row_bytes columns.now (map cut_value values.now)) }
+        (out.new.items ≡ out.old.items ++ values_bytes columns.now (map cut_value values.now)) }
 {
-    for (place, column) in columns.iter().enumerate() {
-        append_directed(out, column.down, &values[place])?;
+    for (column, value) in columns.iter().zip(values) {
+        append_directed(out, column.down, value)?;
     }
     Ok(())
 }
