@@ -1,8 +1,6 @@
 -- The bytes of terms are in the order of terms.
-use Rattle.std.proofs.Common.{◌≡◌, ℕ, List, [], ◌∷◌, ◌++◌, length, refl, sym, ap, ◌∙◌, subst}
+use Rattle.std.proofs.Common.{◌≡◌, List, [], ◌∷◌, ◌++◌, length, refl, sym, ap, ◌∙◌, subst}
 use Rattle.std.proofs.lemmas.Cmp.{tied_itself, nat_list_cmp_total}
-use Rattle.std.specs.declared.cmp.Ordering.{Ordering}
-use Rattle.std.specs.declared.cmp.Ordering.TheVariants.{Less, Equal, Greater}
 use Rattle.std.specs.Cmp.Lexicographic.{slice_cmp}
 use Rattle.std.specs.FinMap.{nat_cmp-IsAntisymmetric}
 use Rattle.std.specs.Ordering.{ordering_then, nat_cmp}
@@ -12,7 +10,7 @@ use Rattle.ax_term.specs.Fitting.{IsTerm, IsComposite}
 use Rattle.ax_term.specs.TermBytes.{path_bytes, value_bytes, columns_bytes, values_bytes, term_bytes}
 use Rattle.ax_term.specs.TermOrder.{order_of_bytes, order_of_values, order_of_paths, order_of_columns, order_of_composites, order_of_value_lists, order_of_terms}
 use Rattle.ax_term.specs.Terms.{Term}
-use Rattle.ax_term.proofs.Decided.{Decides, decides_as, decides_both, decides_byte, then_then, alone}
+use Rattle.ax_term.proofs.Decided.{Decides, decides_both, decides_byte, alone}
 use Rattle.ax_term.proofs.InOrder.{decides_values, decides_paths, decides_columns, decides_value_lists}
 use Rattle.ax_term.proofs.OneTerm.{one_composite, one_term}
 

@@ -1,21 +1,20 @@
 -- Values and paths decide in their order.
-use Rattle.std.proofs.Common.{◌≡◌, ℕ, zero, suc, List, [], ◌∷◌, ◌++◌, Bool, true, false, length, All, refl, sym, ap, ◌∙◌, subst, if◌then◌else◌}
+use Rattle.std.proofs.Common.{◌≡◌, ℕ, zero, suc, List, [], ◌∷◌, ◌++◌, Bool, true, false, length, All, refl, sym, if◌then◌else◌}
 use Rattle.std.proofs.lemmas.List.Elements.{All-head, All-tail}
 use Rattle.std.specs.declared.cmp.Ordering.{Ordering}
-use Rattle.std.specs.declared.cmp.Ordering.TheVariants.{Less, Equal, Greater}
+use Rattle.std.specs.declared.cmp.Ordering.TheVariants.{Equal}
 use Rattle.std.specs.Int.{w64, to_be_bytes}
-use Rattle.std.specs.Ordering.{ordering_then, nat_cmp, int_cmp, bool_cmp}
+use Rattle.std.specs.Ordering.{ordering_then, int_cmp, bool_cmp}
 use Rattle.std.specs.Cmp.Lexicographic.{slice_cmp}
 use Rattle.ax_mean.specs.declared.query.Order.{Order}
 use Rattle.ax_mean.specs.declared.query.Step.{Step}
-use Rattle.ax_term.specs.CutTexts.{CutText}
 use Rattle.ax_term.specs.CutValues.{CutValue}
 use Rattle.ax_term.specs.Fitting.{IsValue}
-use Rattle.ax_term.specs.TermBytes.{escaped, text_bytes, raised, value_bytes, step_bytes, path_bytes, column_bytes, columns_bytes, complemented, directed_bytes, values_bytes}
-use Rattle.ax_term.specs.TermOrder.{order_of_bytes, order_of_texts, kind, order_of_values, order_of_steps, order_of_paths, order_of_columns, order_of_composites, directed, order_of_value_lists}
+use Rattle.ax_term.specs.TermBytes.{escaped, text_bytes, raised, value_bytes, step_bytes, path_bytes, column_bytes, columns_bytes, directed_bytes, values_bytes}
+use Rattle.ax_term.specs.TermOrder.{order_of_bytes, order_of_texts, order_of_values, order_of_paths, order_of_columns, directed, order_of_value_lists}
 use Rattle.ax_term.proofs.AllBytes.{bytes_of_value}
 use Rattle.ax_term.proofs.Complemented.{decides_complemented}
-use Rattle.ax_term.proofs.Decided.{Decides, decides_as, decides_both, decides_none, then_then, then_equal}
+use Rattle.ax_term.proofs.Decided.{Decides, decides_as, decides_both, decides_none, then_equal}
 use Rattle.ax_term.proofs.Escaped.{decides_ended, decides_texts}
 use Rattle.ax_term.proofs.Numbers.{decides_numbers}
 

@@ -1,6 +1,6 @@
 -- The bytes of a term, so made that their order is that of terms. The store's own term format,
 -- docs/FORMAT.md.
-use Rattle.std.specs.Prelude.{ℕ, ◌+◌, ◌-◌, ◌^◌, ℤ, pos, negsuc, List, [], ◌∷◌, ◌++◌, Bool, true, false, length, map, zero, suc, if◌then◌else◌}
+use Rattle.std.specs.Prelude.{ℕ, ◌+◌, ◌-◌, ◌^◌, ℤ, pos, negsuc, List, [], ◌∷◌, ◌++◌, Bool, length, map, zero, suc, if◌then◌else◌}
 use Rattle.std.specs.Int.{w64, to_be_bytes}
 use Rattle.ax_mean.specs.declared.query.Order.{Order}
 use Rattle.ax_mean.specs.declared.query.Step.{Step}

@@ -1,7 +1,7 @@
 -- The order of terms: ids by bytes; then plain terms by path and value; then composite terms by the
 -- number of their paths, by direction and path one after another, and by the values in turn. The
 -- store's own term format, docs/FORMAT.md.
-use Rattle.std.specs.Prelude.{ℕ, List, [], ◌∷◌, Bool, true, false, length}
+use Rattle.std.specs.Prelude.{ℕ, List, ◌∷◌, Bool, true, false, length}
 use Rattle.std.specs.declared.cmp.Ordering.{Ordering}
 use Rattle.std.specs.declared.cmp.Ordering.TheVariants.{Less, Equal, Greater}
 use Rattle.std.specs.Ordering.{nat_cmp, int_cmp, bool_cmp, on, then_cmp, flip_args, ordering_then}

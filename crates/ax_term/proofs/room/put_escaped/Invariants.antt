@@ -1,5 +1,5 @@
 -- What is written, with what the rest gives, is the whole; a byte has taken at most two.
-use Rattle.std.proofs.Common.{◌≡◌, ℕ, ◌+◌, ◌*◌, ◌≤◌, ◌++◌, drop, vec_len, vec_capacity}
+use Rattle.std.proofs.Common.{◌≡◌, ◌+◌, ◌*◌, ◌≤◌, ◌++◌, drop, vec_len, vec_capacity}
 use Rattle.ax_term.specs.TermBytes.{escaped}
 use Rattle.ax_term.proofs.room.put_escaped.Given as goal
 
