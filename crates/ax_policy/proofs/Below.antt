@@ -1,6 +1,6 @@
 -- Every leaf at or below a path: the longest rule with `/*` that matches the path is included, and
 -- so is each rule whose steps begin with it.
-use Rattle.std.proofs.Common.{◌≡◌, ℕ, ◌+◌, ◌-◌, ◌<◌, ◌≤◌, ◌==◌, ◌&&◌, ◌||◌, zero, suc, List, [], ◌∷◌, ◌++◌, length, take, drop, get_or, sum_by, Bool, true, false, cond, not, Option, Some, None, refl, sym, ap, subst, ◌∙◌, arith, ◌⊎◌, inl, inr, append_assoc, true≢false}
+use Rattle.std.proofs.Common.{◌≡◌, ℕ, ◌+◌, ◌-◌, ◌<◌, ◌≤◌, ◌==◌, ◌&&◌, ◌||◌, zero, suc, List, [], ◌∷◌, ◌++◌, length, take, drop, get_or, Bool, true, false, cond, not, Option, Some, None, refl, sym, ap, subst, ◌∙◌, arith, ◌⊎◌, inl, inr, append_assoc, true≢false}
 use Rattle.std.specs.List.{list_all}
 use Rattle.std.specs.Option.{unwrap_or}
 use Rattle.std.specs.Str.{bytes_eq}
@@ -204,7 +204,8 @@ as_many zero = []
 as_many (suc n) = 97 ∷ as_many n
 
 abbrev total : List (Member Bool) → ℕ
-total rules = sum_by (λ m. length m.name) rules
+total [] = 0
+total (first ∷ rest) = length first.name + total rest
 
 abbrev fresh : List (Member Bool) → Step
 fresh rules = Name (as_many (total rules))
@@ -238,8 +239,12 @@ under_short text (first ∷ rest) b u =
     by_test : (c : Bool) → bytes_eq text first.name ≡ c
         → (under text rest ≡ flag b → length text ≤ total rest)
         → cond c (flag first.value) (under text rest) ≡ flag b → length text ≤ total (first ∷ rest)
-    by_test true e less u = omega (arith, ap length (same_bytes text first.name e))
-    by_test false e less u = omega (arith, less u)
+    by_test true e less u =
+        let t : total (first ∷ rest) ≡ length first.name + total rest = refl in
+        omega (arith, t, ap length (same_bytes text first.name e))
+    by_test false e less u =
+        let t : total (first ∷ rest) ≡ length first.name + total rest = refl in
+        omega (arith, t, less u)
 
 fresh_absent : (policy : Policy) (path : List Step) (all b : Bool)
     → under (rule_text (path ++ fresh policy.rules ∷ []) all) policy.rules ≡ flag b → ⊥

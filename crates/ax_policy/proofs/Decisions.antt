@@ -35,7 +35,7 @@ take_whole : (path : List Step) → take (length path) path ≡ path
 take_whole [] = refl
 take_whole (step ∷ path) = ap (λ l. step ∷ l) (take_whole path)
 
-reached : (all : Bool) (steps path : List Step) → Reaches all steps path → IsFront steps path
+pub reached : (all : Bool) (steps path : List Step) → Reaches all steps path → IsFront steps path
 reached true steps path m = front_of steps m.0 path m.1
 reached false steps path m = record {
   within = omega (arith, ap length m);
@@ -274,7 +274,7 @@ same_decided policy path rule other a b =
 
 -- ---- covered leaves
 
-included_is : (o : Option Bool) → unwrap_or o false ≡ true → o ≡ flag true
+pub included_is : (o : Option Bool) → unwrap_or o false ≡ true → o ≡ flag true
 included_is None e = absurd (cc)
 included_is (Some b) e = ap Some e
 

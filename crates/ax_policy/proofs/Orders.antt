@@ -146,19 +146,21 @@ pub one_fits : (composites : List (List Order)) (orders : List Order)
     → list_any (λ composite. fits composite orders) composites ≡ true → OneFits composites orders
 one_fits [] orders e = absurd (cc)
 one_fits (first ∷ rest) orders e =
-    by_place (either_way (fits first orders) (list_any (λ composite. fits composite orders) rest) e)
+    by_place (λ k. one_fits rest orders k)
+    (either_way (fits first orders) (list_any (λ composite. fits composite orders) rest) e)
   where
-    by_place : (fits first orders ≡ true) ⊎ (list_any (λ composite. fits composite orders) rest ≡ true)
+    by_place : (list_any (λ composite. fits composite orders) rest ≡ true → OneFits rest orders)
+        → (fits first orders ≡ true) ⊎ (list_any (λ composite. fits composite orders) rest ≡ true)
         → OneFits (first ∷ rest) orders
-    by_place (inl e) = record {
+    by_place later (inl e) = record {
       composite = first;
       place = 0;
       within = omega arith;
       there = refl;
       fit = fits_is first orders e;
     }
-    by_place (inr e) =
-        let f : OneFits rest orders = one_fits rest orders e in
+    by_place later (inr e) =
+        let f : OneFits rest orders = later e in
         record {
           composite = f.composite;
           place = suc f.place;

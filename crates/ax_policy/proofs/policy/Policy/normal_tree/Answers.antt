@@ -1,7 +1,7 @@
 -- The five members, whose names rise.
 use Rattle.std.proofs.Common.{refl, ◌∙◌}
 use Rattle.ax_policy.proofs.NormalTrees.{five, rising, made}
-use Rattle.ax_policy.proofs.normal.Policy.normal_tree.Goals as goal
+use Rattle.ax_policy.proofs.policy.Policy.normal_tree.Goals as goal
 
 pub from_vec-requires : goal.from_vec-requires
 from_vec-requires c =

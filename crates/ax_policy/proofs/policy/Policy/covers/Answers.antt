@@ -1,7 +1,7 @@
 -- What the rules decide is what the definition says.
 use Rattle.std.proofs.Common.{sym, ◌∙◌}
 use Rattle.ax_policy.proofs.Decisions.{covered, covers_is}
-use Rattle.ax_policy.proofs.covering.Policy.covers.Goals as goal
+use Rattle.ax_policy.proofs.policy.Policy.covers.Goals as goal
 
 pub returns : goal.returns
 returns c = (

@@ -1,7 +1,7 @@
 -- What the rules decide of all leaves below is what the definition says.
 use Rattle.std.proofs.Common.{sym, ◌∙◌}
 use Rattle.ax_policy.proofs.Below.{all_covered, all_covered_is}
-use Rattle.ax_policy.proofs.covering.Policy.covers_all.Goals as goal
+use Rattle.ax_policy.proofs.policy.Policy.covers_all.Goals as goal
 
 pub returns : goal.returns
 returns c =
