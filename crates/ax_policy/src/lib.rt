@@ -23,6 +23,8 @@ mod read_path;
 mod read_rules;
 mod rule_path;
 mod rules;
+#[cfg(test)]
+mod tests;
 
 pub use mode::Mode;
 pub use policy::{Composite, Policy};
