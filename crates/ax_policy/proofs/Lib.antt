@@ -1,0 +1,13 @@
+mod Below
+mod Comparisons
+mod Decisions
+mod Lists
+mod NormalTrees
+mod Orders
+mod PathReading
+mod PathTexts
+mod Rooms
+mod RuleLaws
+mod RuleMaps
+mod Searching
+mod Utf8

@@ -1,0 +1,13 @@
+pub mod Comparing
+pub mod Composites
+pub mod Covering
+pub mod Deciding
+pub mod Limits
+pub mod Normal
+pub mod Ordering
+pub mod Paths
+pub mod Policies
+pub mod Reading
+pub mod Rules
+pub mod Sameness
+pub mod Written

@@ -1,0 +1,32 @@
+//! Indexing policies: read from a tree, decided, and written in their normal form.
+//!
+//! Stands on `ax_mean` for paths and orders, and on `ax_tree` for what it reads and writes. Its one
+//! contract: `read_policy` answers exactly the policy that a tree is, or its refusal, and the calls
+//! of `Policy` tell exactly what the policy covers and which orders it keeps.
+#![tactic(auto)]
+
+mod compare;
+mod composites;
+mod covering;
+mod limits;
+mod members;
+mod mode;
+mod normal;
+mod ordering;
+mod overlap;
+mod path_text;
+mod policy;
+mod policy_fault;
+mod quoted;
+mod read;
+mod read_path;
+mod read_rules;
+mod rule_path;
+mod rules;
+#[cfg(test)]
+mod tests;
+
+pub use mode::Mode;
+pub use policy::{Composite, Policy};
+pub use policy_fault::PolicyFault;
+pub use read::read_policy;

@@ -1,0 +1,9 @@
+/// Whether documents are indexed, the member `indexingMode` of an indexing policy of Azure Cosmos DB
+/// for NoSQL.
+#[derive(Clone, Copy, Debug, PartialEq, Eq)]
+pub enum Mode {
+    /// Each write indexes its document.
+    Consistent,
+    /// Nothing is indexed.
+    None,
+}
