@@ -1,12 +1,10 @@
 -- Steps read one after another, and names byte by byte: what the code does with what is left.
-use Rattle.std.proofs.Common.{◌≡◌, ℕ, ◌+◌, ◌-◌, ◌==◌, Bool, true, false, zero, suc, List, [], ◌∷◌, ◌++◌, length, Option, Some, None, refl, sym, ap, ◌∙◌, arith, append_assoc, append-nil}
+use Rattle.std.proofs.Common.{◌≡◌, ℕ, ◌+◌, ◌-◌, ◌==◌, true, false, zero, suc, List, [], ◌∷◌, ◌++◌, length, Option, Some, None, refl, sym, ap, ◌∙◌, arith, append_assoc, append-nil}
 use Rattle.std.specs.Prelude.{option_and_then}
 use Rattle.std.specs.Option.{option_map}
 use Rattle.std.proofs.lemmas.Bool.{eq-eqb, ne_eqb}
 use Rattle.ax_mean.specs.declared.query.Step.{Step}
-use Rattle.ax_policy.specs.declared.quoted.QuotedByte.{QuotedByte}
-use Rattle.ax_policy.specs.declared.quoted.QuotedByte.TheVariants.{Stands, Escapes, Closes, Wrong}
-use Rattle.ax_policy.specs.Paths.{slash, role_of, by_role, standing, escapes, put, quoted, step_front, put_step, steps_in}
+use Rattle.ax_policy.specs.Paths.{slash, step_front, put_step, steps_in}
 
 -- ---- names between quotes
 
@@ -16,65 +14,6 @@ found name rest = Some (name, rest)
 -- bytes before the name that was read
 abbrev pub before : List ℕ → Option (List ℕ × List ℕ) → Option (List ℕ × List ℕ)
 before front name = option_map (λ (f : List ℕ × List ℕ). (front ++ f.0, f.1)) name
-
-before_nothing : (o : Option (List ℕ × List ℕ)) → before [] o ≡ o
-before_nothing None = refl
-before_nothing (Some f) = refl
-
-before_before : (a b : List ℕ) (o : Option (List ℕ × List ℕ))
-    → before (a ++ b) o ≡ before a (before b o)
-before_before a b None = refl
-before_before a b (Some f) = ap (λ l. found l f.1) (append_assoc a b f.0)
-
-before_byte : (byte : ℕ) (o : Option (List ℕ × List ℕ)) → put byte o ≡ before (byte ∷ []) o
-before_byte byte None = refl
-before_byte byte (Some f) = refl
-
--- what a byte that goes on makes of the rest
-goes_on : (byte : ℕ) (rest : List ℕ) (role : QuotedByte) → (role ≡ Closes → ⊥) → (role ≡ Wrong → ⊥)
-    → by_role role (put byte (quoted false rest)) (quoted true rest) (found [] rest) None
-    ≡ before (standing role byte) (quoted (escapes role) rest)
-goes_on byte rest Stands c w = before_byte byte (quoted false rest)
-goes_on byte rest Escapes c w = sym (before_nothing (quoted true rest))
-goes_on byte rest Closes c w = absurd (c refl)
-goes_on byte rest Wrong c w = absurd (w refl)
-
-pub quoted_more : (name more bytes rest : List ℕ) (escaping : Bool) (byte : ℕ) (role : QuotedByte)
-    (all : Option (List ℕ × List ℕ)) → bytes ≡ byte ∷ rest → role ≡ role_of escaping byte
-    → (role ≡ Closes → ⊥) → (role ≡ Wrong → ⊥) → more ≡ name ++ standing role byte
-    → before name (quoted escaping bytes) ≡ all → before more (quoted (escapes role) rest) ≡ all
-quoted_more name more bytes rest escaping byte role all e r c w m was =
-    ap (λ l. before l (quoted (escapes role) rest)) m
-    ∙ before_before name (standing role byte) (quoted (escapes role) rest)
-    ∙ ap (before name) (sym (goes_on byte rest role c w))
-    ∙ ap (λ (x : QuotedByte). before name (by_role x (put byte (quoted false rest)) (quoted true rest) (found [] rest) None)) r
-    ∙ ap (λ l. before name (quoted escaping l)) (sym e)
-    ∙ was
-
-pub quoted_closed : (name bytes rest : List ℕ) (escaping : Bool) (byte : ℕ)
-    (all : Option (List ℕ × List ℕ)) → bytes ≡ byte ∷ rest → role_of escaping byte ≡ Closes
-    → before name (quoted escaping bytes) ≡ all → found name rest ≡ all
-quoted_closed name bytes rest escaping byte all e r was =
-    ap (λ l. found l rest) (sym (append-nil name))
-    ∙ ap (λ (x : QuotedByte). before name (by_role x (put byte (quoted false rest)) (quoted true rest) (found [] rest) None)) (sym r)
-    ∙ ap (λ l. before name (quoted escaping l)) (sym e)
-    ∙ was
-
-abbrev pub nothing : Option (List ℕ × List ℕ)
-nothing = None
-
-pub quoted_wrong : (name bytes rest : List ℕ) (escaping : Bool) (byte : ℕ)
-    (all : Option (List ℕ × List ℕ)) → bytes ≡ byte ∷ rest → role_of escaping byte ≡ Wrong
-    → before name (quoted escaping bytes) ≡ all → nothing ≡ all
-quoted_wrong name bytes rest escaping byte all e r was =
-    ap (λ (x : QuotedByte). before name (by_role x (put byte (quoted false rest)) (quoted true rest) (found [] rest) None)) (sym r)
-    ∙ ap (λ l. before name (quoted escaping l)) (sym e)
-    ∙ was
-
-pub quoted_over : (name bytes : List ℕ) (escaping : Bool) (all : Option (List ℕ × List ℕ))
-    → length bytes ≡ 0 → before name (quoted escaping bytes) ≡ all → nothing ≡ all
-quoted_over name [] escaping all e was = was
-quoted_over name (byte ∷ bytes) escaping all e was = absurd (omega arith)
 
 -- ---- steps
 

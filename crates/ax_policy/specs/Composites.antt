@@ -1,7 +1,7 @@
 -- The composites of an indexing policy: two to eight paths of names with a direction each, of which
 -- none equals or begins another. Those of a policy stand in byte order of their canonical texts,
 -- without repeats.
-use Rattle.std.specs.Prelude.{ℕ, ◌+◌, List, [], ◌∷◌, length, map, sum_by, Bool, true, false, not, ◌&&◌, ◌||◌, nat_le}
+use Rattle.std.specs.Prelude.{ℕ, List, [], ◌∷◌, length, map, sum_by, Bool, true, false, not, ◌&&◌, nat_le}
 use Rattle.std.specs.Prelude.{if◌then◌else◌, Option, Some, None, option_map, option_and_then, codes}
 use Rattle.std.specs.Cmp.Lexicographic.{slice_cmp}
 use Rattle.std.specs.List.{list_any, fold, insert}

@@ -2,7 +2,7 @@
 -- NoSQL: of the rules that match the path of a leaf, the one with most steps decides, and of equal
 -- steps the one with `/?`. A leaf that no rule matches is not covered, and none is under mode `none`
 -- or where `automatic` is false.
-use Rattle.std.specs.Prelude.{◌≡◌, ◌<◌, List, ◌++◌, length, Bool, true, false, ◌&&◌, Option, Some, ◌⊎◌}
+use Rattle.std.specs.Prelude.{◌≡◌, ◌<◌, List, ◌++◌, length, Bool, true, false, ◌&&◌, Some, ◌⊎◌}
 use Rattle.ax_mean.specs.declared.query.Step.{Step}
 use Rattle.ax_policy.specs.declared.mode.Mode.{Mode}
 use Rattle.ax_policy.specs.declared.mode.Mode.TheVariants.{Consistent, None as Off}

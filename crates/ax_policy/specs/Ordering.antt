@@ -1,7 +1,7 @@
 -- For which ORDER BY a policy keeps an order, from the indexing-policy manual of Azure Cosmos DB for
 -- NoSQL: none; one path, which is covered; or two and more, where the policy offers a composite with
 -- the same paths in sequence and all directions equal, or all opposite.
-use Rattle.std.specs.Prelude.{◌≡◌, ℕ, List, [], ◌∷◌, map, Bool, true, not, if◌then◌else◌, ◌⊎◌, Option, slice_get}
+use Rattle.std.specs.Prelude.{◌≡◌, List, [], ◌∷◌, map, not, if◌then◌else◌, ◌⊎◌}
 use Rattle.std.specs.List.{Contains}
 use Rattle.ax_mean.specs.declared.query.Order.{Order}
 use Rattle.ax_policy.specs.declared.policy.Policy.{Policy}

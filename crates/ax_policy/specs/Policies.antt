@@ -1,13 +1,11 @@
 -- The indexing policy that a tree is, from the indexing-policy manual of Azure Cosmos DB for NoSQL,
 -- and none of a tree that is refused. A policy is a map; a member that is absent has its default,
 -- and one that is not named here is ignored.
-use Rattle.std.specs.Prelude.{ℕ, List, [], length, map, Bool, true, false, ◌&&◌, nat_le}
-use Rattle.std.specs.Prelude.{if◌then◌else◌, Option, Some, None, option_map, option_and_then, codes}
+use Rattle.std.specs.Prelude.{ℕ, List, length, map, Bool, true, false, ◌&&◌, nat_le}
+use Rattle.std.specs.Prelude.{if◌then◌else◌, Option, Some, None, option_and_then, codes}
 use Rattle.std.specs.Char.{to_ascii_lowercase}
 use Rattle.std.specs.Str.{bytes_eq}
-use Rattle.ax_mean.specs.declared.query.Order.{Order}
 use Rattle.ax_tree.specs.Document.{member, text_value}
-use Rattle.ax_tree.specs.declared.members.Member.{Member}
 use Rattle.ax_tree.specs.declared.tree.Tree.{Tree, out-Tree}
 use Rattle.ax_tree.specs.declared.tree.Tree.TheOpen.{Tree-F}
 use Rattle.ax_policy.specs.declared.mode.Mode.{Mode}
