@@ -1,3 +1,5 @@
 pub mod Shared
 pub mod Grouping
 pub mod Steps
+pub mod OneSpelling
+pub mod SamePairs

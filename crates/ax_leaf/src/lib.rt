@@ -2,6 +2,7 @@
 //! what each has in common with the term before.
 #![tactic(auto)]
 
+pub mod laws;
 mod out_of_memory;
 mod pair;
 mod writing;
@@ -9,3 +10,6 @@ mod writing;
 pub use out_of_memory::Memory;
 pub use pair::{Bytes, Pair};
 pub use writing::encode;
+
+#[cfg(test)]
+mod tests;
