@@ -39,9 +39,10 @@ whole_term : (last s : List ℕ) → s ≡ take (common last s) last ++ drop (co
 whole_term [] s = refl
 whole_term (x ∷ last) [] = refl
 whole_term (x ∷ last) (y ∷ s) =
-    elim (nat_eq x y) as (λ b. nat_eq x y ≡ b → y ∷ s ≡ take (cond b (1 + common last s) 0) (x ∷ last) ++ drop (cond b (1 + common last s) 0) (y ∷ s))
-    [ true ↦ λ h. one_more x y (1 + common last s) (common last s) last s (omega arith) (eqb-true x y h) (whole_term last s)
-    | false ↦ λ h. refl ] refl
+    elim (nat_eq x y) as (λ b. nat_eq x y ≡ b → y ∷ s ≡ take (cond b (1 + common last s) 0) (x ∷ last) ++ drop (cond b (1 + common last s) 0) (y ∷ s)) [
+      | true ↦ λ h. one_more x y (1 + common last s) (common last s) last s (omega arith) (eqb-true x y h) (whole_term last s)
+      | false ↦ λ h. refl
+    ] refl
 
 term_parts : (last s t x y : List ℕ) → term_after last s ++ x ≡ term_after last t ++ y → (s ≡ t) × (x ≡ y)
 unfolding term_after
@@ -102,7 +103,7 @@ pub one_leaf : (bytes : List ℕ) (low other : Pair) (a b : List Entry) → IsLe
 unfolding leaf
 one_leaf bytes low other a b h k =
     let split : varint (length low.term) ++ (low.term ++ (varint low.number ++ (varint (length a) ++ list_after [] a)))
-        ≡ varint (length other.term) ++ (other.term ++ (varint other.number ++ (varint (length b) ++ list_after [] b))) =
+    ≡ varint (length other.term) ++ (other.term ++ (varint other.number ++ (varint (length b) ++ list_after [] b))) =
     sym (five (varint (length low.term)) low.term (varint low.number) (varint (length a)) (list_after [] a)) ∙ sym h.spelled ∙ k.spelled
     ∙ five (varint (length other.term)) other.term (varint other.number) (varint (length b)) (list_after [] b)
     in

@@ -15,12 +15,12 @@ unfolding entries_from
 made_from term ns [] = refl
 made_from term ns (p ∷ pairs) =
     elim (bytes_eq p.term term) as
-    (λ b. bytes_eq p.term term ≡ b → pairs_of (cond b (entries_from term (ns ++ p.number ∷ []) pairs) (record { term = term; numbers = ns } ∷ entries_from p.term (p.number ∷ []) pairs)) ≡ pairs_with term ns ++ p ∷ pairs)
-    [ true ↦ λ h.
-        made_from term (ns ++ p.number ∷ []) pairs
-        ∙ ap (λ (ps : List Pair). ps ++ pairs) (with_more term ns p ((bytes_eq-Decides p.term term).0 h))
-        ∙ append_assoc (pairs_with term ns) (p ∷ []) pairs
-    | false ↦ λ h. ap (λ (ps : List Pair). pairs_with term ns ++ ps) (made_from p.term (p.number ∷ []) pairs)
+    (λ b. bytes_eq p.term term ≡ b → pairs_of (cond b (entries_from term (ns ++ p.number ∷ []) pairs) (record { term = term; numbers = ns } ∷ entries_from p.term (p.number ∷ []) pairs)) ≡ pairs_with term ns ++ p ∷ pairs) [
+      | true ↦ λ h.
+          made_from term (ns ++ p.number ∷ []) pairs
+          ∙ ap (λ (ps : List Pair). ps ++ pairs) (with_more term ns p ((bytes_eq-Decides p.term term).0 h))
+          ∙ append_assoc (pairs_with term ns) (p ∷ []) pairs
+      | false ↦ λ h. ap (λ (ps : List Pair). pairs_with term ns ++ ps) (made_from p.term (p.number ∷ []) pairs)
     ] refl
 
 pub same_pairs : (pairs : List Pair) → pairs_of (entries_of pairs) ≡ pairs

@@ -9,7 +9,7 @@ mod writing;
 
 pub use out_of_memory::Memory;
 pub use pair::{Bytes, Pair};
-pub use writing::encode;
+pub use writing::{encode, is_in_order};
 
 #[cfg(test)]
 mod tests;

@@ -1,10 +1,11 @@
 //! Writing the payload of a base.
 
-ghost use Rattle.std.specs.Prelude.{◌≡◌, ℕ, ◌+◌, ◌++◌, ◌≤◌, ◌<◌, List, [], length, min, take, OnOk, IfOk};
+ghost use Rattle.std.specs.Prelude.{◌≡◌, ◌↔◌, IsTrue, ℕ, ◌+◌, ◌++◌, ◌≤◌, ◌<◌, List, [], length, min, take, OnOk, IfOk};
 ghost use Rattle.std.specs.List.Sorted.{IsStrictlyIncreasing};
 ghost use Rattle.ax_gap.specs.Gaps.{gaps};
 ghost use Rattle.ax_gap.specs.Varint.{varint};
-ghost use Rattle.ax_leaf.specs.Pairs.{Rise, BeginsFrom, entries_of};
+ghost use Rattle.std.specs.Ordering.{is_lt};
+ghost use Rattle.ax_leaf.specs.Pairs.{Rise, BeginsFrom, pair_cmp, entries_of};
 ghost use Rattle.ax_leaf.specs.Payload.{common, term_after, list_after, leaf};
 
 use crate::out_of_memory::Memory;
@@ -15,7 +16,8 @@ use std::alloc::Global;
 
 /// The payload of a base with these pairs, whose page has this low pair.
 ///
-/// `Memory` also where a term has 2^32 bytes or more, or there are so many terms.
+/// `Memory` also where a term has 2^32 bytes or more, or where there are so many terms: no payload
+/// has them.
 #[tactic(auto, using(std::proofs::lemmas::List::append_assoc), unfolding(crate::specs::Payload::leaf))]
 pub fn encode(alloc: Global, low: &Pair, pairs: &[Pair]) -> Result<Vec<u8>, Memory>
     requires rise { Rise pairs.now }
@@ -29,6 +31,32 @@ pub fn encode(alloc: Global, low: &Pair, pairs: &[Pair]) -> Result<Vec<u8>, Memo
     put_length(&mut payload, count)?;
     payload.extend_from_slice(list.as_slice())?;
     Ok(payload)
+}
+
+/// Do the pairs rise, and is none before the low pair? `encode` requires it.
+pub fn is_in_order(low: &Pair, pairs: &[Pair]) -> bool
+    ensures { IsTrue result ↔ (Rise pairs.now × BeginsFrom low.now pairs.now) }
+{
+    if pairs.len() == 0 {
+        return true;
+    }
+    if is_before(&pairs[0], low) {
+        return false;
+    }
+    for i in 1..pairs.len() {
+        if !is_before(&pairs[i - 1], &pairs[i]) {
+            return false;
+        }
+    }
+    true
+}
+
+/// Is one pair before another, by term and then by number?
+fn is_before(first: &Pair, second: &Pair) -> bool
+    ensures { result ≡ is_lt (pair_cmp first.now second.now) }
+{
+    let terms = first.term.as_slice().cmp(second.term.as_slice());
+    terms.then(first.number.cmp(&second.number)).is_lt()
 }
 
 /// Writes a low pair at the end.
@@ -75,12 +103,16 @@ fn put_list(alloc: Global, out: &mut Vec<u8>, pairs: &[Pair]) -> Result<usize, M
     Ok(count + 1)
 }
 
-/// Writes a term after another, and the gap list of its numbers, at the end.
+/// Writes a term after another, and the gap list of its numbers, at the end. `Memory` also where
+/// the term has 2^32 bytes or more.
 #[tactic(auto, using(std::proofs::lemmas::List::append_assoc), unfolding(crate::specs::Payload::term_after))]
 fn put_entry(out: &mut Vec<u8>, last: &[u8], term: &[u8], numbers: &[u32]) -> Result<(), Memory>
     requires { IsStrictlyIncreasing numbers.now }
     ensures { OnOk result (out.new.items ≡ out.old.items ++ term_after last.now term.now ++ gaps numbers.now) }
 {
+    if term.len() > u32::MAX as usize {
+        return Err(Memory);
+    }
     let shared = in_common(last, term);
     let rest = &term[shared..];
     put_length(out, shared)?;
