@@ -15,10 +15,10 @@ use Rattle.std.specs.Cmp.Lexicographic.{slice_cmp}
 use Rattle.ax_leaf.specs.declared.pair.Pair.{Pair}
 use Rattle.ax_leaf.specs.Pairs.{Entry, pair_cmp, Rise, RiseAfter, entries_from, entries_of}
 
--- the numbers of each entry rise
+-- each entry has a number, and its numbers rise
 abbrev pub AreFit : List Entry → Type 0
 AreFit [] = Unit {0}
-AreFit (entry ∷ entries) = IsStrictlyIncreasing entry.numbers × AreFit entries
+AreFit (entry ∷ entries) = IsStrictlyIncreasing entry.numbers × (0 < length entry.numbers) × AreFit entries
 
 increasing_with : (ns : List ℕ) (n : ℕ) → IsStrictlyIncreasing ns → ((k : ℕ) → k < length ns → get_or ns k 0 < n) → IsStrictlyIncreasing (ns ++ n ∷ [])
 increasing_with ns n up below k h =
@@ -70,20 +70,20 @@ one_below : (n : ℕ) (k : ℕ) → k < length (n ∷ []) → get_or (n ∷ []) 
 one_below n zero h = omega arith
 one_below n (suc k) h = absurd (omega arith)
 
-fit_from : (term ns : List ℕ) (p : Pair) (pairs : List Pair) → IsStrictlyIncreasing ns → ((k : ℕ) → k < length ns → get_or ns k 0 ≤ p.number) → p.term ≡ term → RiseAfter p pairs → AreFit (entries_from term ns pairs)
+fit_from : (term ns : List ℕ) (p : Pair) (pairs : List Pair) → IsStrictlyIncreasing ns → 0 < length ns → ((k : ℕ) → k < length ns → get_or ns k 0 ≤ p.number) → p.term ≡ term → RiseAfter p pairs → AreFit (entries_from term ns pairs)
 unfolding entries_from
-fit_from term ns p [] up below e rise = (up, tt)
-fit_from term ns p (q ∷ pairs) up below e rise =
+fit_from term ns p [] up some below e rise = (up, some, tt)
+fit_from term ns p (q ∷ pairs) up some below e rise =
     elim (bytes_eq q.term term) as
     (λ b. bytes_eq q.term term ≡ b → AreFit (cond b (entries_from term (ns ++ q.number ∷ []) pairs) (record { term = term; numbers = ns } ∷ entries_from q.term (q.number ∷ []) pairs))) [
       | true ↦ λ h.
           let same : q.term ≡ term = (bytes_eq-Decides q.term term).0 h in
           let rises : p.number < q.number = numbers_rise p q (same ∙ sym e) rise.0 in
-          fit_from term (ns ++ q.number ∷ []) q pairs (increasing_with ns q.number up (λ k l. omega (arith, below k l))) (below_with ns p.number q.number below rises) same rise.1
-      | false ↦ λ h. (up, fit_from q.term (q.number ∷ []) q pairs (one_increases q.number) (one_below q.number) refl rise.1)
+          fit_from term (ns ++ q.number ∷ []) q pairs (increasing_with ns q.number up (λ k l. omega (arith, below k l))) (omega (arith, length-append ns (q.number ∷ []))) (below_with ns p.number q.number below rises) same rise.1
+      | false ↦ λ h. (up, some, fit_from q.term (q.number ∷ []) q pairs (one_increases q.number) (omega arith) (one_below q.number) refl rise.1)
     ] refl
 
 pub fit : (pairs : List Pair) → Rise pairs → AreFit (entries_of pairs)
 unfolding entries_of
 fit [] rise = tt
-fit (p ∷ pairs) rise = fit_from p.term (p.number ∷ []) p pairs (one_increases p.number) (one_below p.number) refl rise
+fit (p ∷ pairs) rise = fit_from p.term (p.number ∷ []) p pairs (one_increases p.number) (omega arith) (one_below p.number) refl rise

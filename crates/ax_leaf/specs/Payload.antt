@@ -36,6 +36,11 @@ pub record IsEntry (entry : Entry) : Type 0 where
   pub some : 0 < length entry.numbers
   pub rising : IsRisingList entry.numbers
 
+-- each is what an entry can be
+abbrev pub AreGood : List Entry → Type 0
+AreGood [] = Unit {0}
+AreGood (entry ∷ entries) = IsEntry entry × AreGood entries
+
 -- each term is after the one before, by bytes, and the first after `last`
 abbrev pub AreAfter : List ℕ → List Entry → Type 0
 AreAfter last [] = Unit {0}

@@ -1,12 +1,12 @@
 //! Writing the payload of a base.
 
-ghost use Rattle.std.specs.Prelude.{◌≡◌, ◌↔◌, IsTrue, ℕ, ◌+◌, ◌++◌, ◌≤◌, ◌<◌, List, [], length, min, take, OnOk, IfOk};
+ghost use Rattle.std.specs.Prelude.{◌≡◌, ◌↔◌, IsTrue, ℕ, ◌+◌, ◌++◌, ◌≤◌, ◌<◌, ◌^◌, List, [], length, min, take, OnOk, IfOk};
 ghost use Rattle.std.specs.List.Sorted.{IsStrictlyIncreasing};
-ghost use Rattle.ax_gap.specs.Gaps.{gaps};
+ghost use Rattle.ax_gap.specs.Gaps.{IsRisingList, gaps};
 ghost use Rattle.ax_gap.specs.Varint.{varint};
 ghost use Rattle.std.specs.Ordering.{is_lt};
 ghost use Rattle.ax_leaf.specs.Pairs.{Rise, BeginsFrom, pair_cmp, entries_of};
-ghost use Rattle.ax_leaf.specs.Payload.{common, term_after, list_after, leaf};
+ghost use Rattle.ax_leaf.specs.Payload.{common, term_after, list_after, leaf, IsLeaf, AreGood};
 
 use crate::out_of_memory::Memory;
 use crate::pair::Pair;
@@ -18,11 +18,24 @@ use std::alloc::Global;
 ///
 /// `Memory` also where a term has 2^32 bytes or more, or where there are so many terms: no payload
 /// has them.
-#[tactic(auto, using(std::proofs::lemmas::List::append_assoc), unfolding(crate::specs::Payload::leaf))]
 pub fn encode(alloc: Global, low: &Pair, pairs: &[Pair]) -> Result<Vec<u8>, Memory>
     requires rise { Rise pairs.now }
     requires begins { BeginsFrom low.now pairs.now }
-    ensures { IfOk result (λ payload. payload.items ≡ leaf low.now (entries_of pairs.now)) }
+    ensures { IfOk result (λ payload. IsLeaf payload.items low.now (entries_of pairs.now)) }
+{
+    let payload = spelled(alloc, low, pairs)?;
+    Ok(payload)
+}
+
+/// The payload, by its parts.
+#[tactic(auto, using(std::proofs::lemmas::List::append_assoc), unfolding(crate::specs::Payload::leaf))]
+fn spelled(alloc: Global, low: &Pair, pairs: &[Pair]) -> Result<Vec<u8>, Memory>
+    requires { Rise pairs.now }
+    ensures bytes { IfOk result (λ payload. payload.items ≡ leaf low.now (entries_of pairs.now)) }
+    ensures short { OnOk result (length low.now.term < 2 ^ 32) }
+    ensures number { OnOk result (low.now.number < 2 ^ 32) }
+    ensures count { OnOk result (length (entries_of pairs.now) < 2 ^ 32) }
+    ensures good { OnOk result (AreGood (entries_of pairs.now)) }
 {
     let mut list = Vec::new(alloc);
     let count = put_list(alloc, &mut list, pairs)?;
@@ -62,7 +75,9 @@ fn is_before(first: &Pair, second: &Pair) -> bool
 /// Writes a low pair at the end.
 #[tactic(auto, using(std::proofs::lemmas::List::append_assoc))]
 fn put_low(out: &mut Vec<u8>, low: &Pair) -> Result<(), Memory>
-    ensures { OnOk result (out.new.items ≡ out.old.items ++ varint (length low.now.term) ++ low.now.term ++ varint low.now.number) }
+    ensures short { OnOk result (length low.now.term < 2 ^ 32) }
+    ensures number { OnOk result (low.now.number < 2 ^ 32) }
+    ensures written { OnOk result (out.new.items ≡ out.old.items ++ varint (length low.now.term) ++ low.now.term ++ varint low.now.number) }
 {
     let term = low.term.as_slice();
     put_length(out, term.len())?;
@@ -76,6 +91,7 @@ fn put_list(alloc: Global, out: &mut Vec<u8>, pairs: &[Pair]) -> Result<usize, M
     requires { Rise pairs.now }
     ensures count { IfOk result (λ count. count ≡ length (entries_of pairs.now)) }
     ensures written { OnOk result (out.new.items ≡ out.old.items ++ list_after [] (entries_of pairs.now)) }
+    ensures good { OnOk result (AreGood (entries_of pairs.now)) }
 {
     if pairs.len() == 0 {
         return Ok(0);
@@ -107,8 +123,12 @@ fn put_list(alloc: Global, out: &mut Vec<u8>, pairs: &[Pair]) -> Result<usize, M
 /// the term has 2^32 bytes or more.
 #[tactic(auto, using(std::proofs::lemmas::List::append_assoc), unfolding(crate::specs::Payload::term_after))]
 fn put_entry(out: &mut Vec<u8>, last: &[u8], term: &[u8], numbers: &[u32]) -> Result<(), Memory>
-    requires { IsStrictlyIncreasing numbers.now }
-    ensures { OnOk result (out.new.items ≡ out.old.items ++ term_after last.now term.now ++ gaps numbers.now) }
+    requires rising { IsStrictlyIncreasing numbers.now }
+    requires some { 0 < length numbers.now }
+    ensures short { OnOk result (length term.now < 2 ^ 32) }
+    ensures some { OnOk result (0 < length numbers.now) }
+    ensures list { OnOk result (IsRisingList numbers.now) }
+    ensures written { OnOk result (out.new.items ≡ out.old.items ++ term_after last.now term.now ++ gaps numbers.now) }
 {
     if term.len() > u32::MAX as usize {
         return Err(Memory);
@@ -124,7 +144,8 @@ fn put_entry(out: &mut Vec<u8>, last: &[u8], term: &[u8], numbers: &[u32]) -> Re
 
 /// Writes the varint of a length at the end. `Memory` also where the length has more than 32 bits.
 fn put_length(out: &mut Vec<u8>, length: usize) -> Result<(), Memory>
-    ensures { OnOk result (out.new.items ≡ out.old.items ++ varint length) }
+    ensures fits { OnOk result (length < 2 ^ 32) }
+    ensures written { OnOk result (out.new.items ≡ out.old.items ++ varint length) }
 {
     if length > u32::MAX as usize {
         return Err(Memory);

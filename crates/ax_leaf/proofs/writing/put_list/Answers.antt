@@ -4,11 +4,12 @@ use Rattle.std.specs.List.Sorted.{IsStrictlyIncreasing}
 use Rattle.std.specs.Str.{bytes_eq}
 use Rattle.ax_leaf.specs.declared.pair.Pair.{Pair}
 use Rattle.ax_leaf.specs.Pairs.{Entry, entries_from, entries_of}
-use Rattle.ax_leaf.specs.Payload.{list_after, term_after}
+use Rattle.ax_leaf.specs.Payload.{AreGood, list_after, term_after}
 use Rattle.ax_gap.specs.Gaps.{gaps}
 use Rattle.ax_leaf.proofs.Grouping.{AreFit, fit}
-use Rattle.ax_leaf.proofs.Steps.{IsUnderWay, start, from_parts, fit_first, same_step, other_step, last_step, with_entry, at_end, nothing, nothing_written}
+use Rattle.ax_leaf.proofs.Steps.{IsUnderWay, start, from_parts, fit_first, same_step, other_step, last_step, with_entry, entry_from, at_end, nothing, nothing_written}
 use Rattle.ax_leaf.proofs.writing.put_list.Goals as goal
+use Rattle.ax_leaf.proofs.writing.put_list.Goals.{After-as_slice-in-loop-i, After-as_slice-2}
 
 nil_from : (pairs : List Pair) → length pairs ≡ 0 → pairs ≡ []
 nil_from [] h = refl
@@ -19,6 +20,9 @@ past_end pairs i h = nil_from (drop i pairs) (omega (arith, length-drop i pairs)
 
 pub returns-then-pairs-eq0-clause-count : goal.returns-then-pairs-eq0-clause-count
 returns-then-pairs-eq0-clause-count c = ap length (sym (nothing c.args.pairs.now (nil_from c.args.pairs.now (omega arith))))
+
+pub returns-then-pairs-eq0-clause-good : goal.returns-then-pairs-eq0-clause-good
+returns-then-pairs-eq0-clause-good c = subst AreGood (sym (nothing c.args.pairs.now (nil_from c.args.pairs.now (omega arith)))) tt
 
 pub returns-then-pairs-eq0-clause-written : goal.returns-then-pairs-eq0-clause-written
 returns-then-pairs-eq0-clause-written c = nothing_written c.args.out.now.items c.args.pairs.now (nil_from c.args.pairs.now (omega arith))
@@ -40,6 +44,7 @@ loop-i-init c =
         written = ap (λ es. c.args.out.now.items ++ list_after [] es) (sym e);
         counted = omega (arith, ap length e);
         fit = subst AreFit e (fit c.args.pairs.now c.requires);
+        good = λ g. subst AreGood (sym e) g;
       },
       omega arith,
     )
@@ -62,8 +67,8 @@ loop-i-preserved-then-eq c =
       omega (arith, c.loop-i.invariant.1),
     )
 
-pub put_entry-requires : goal.put_entry-requires
-put_entry-requires c =
+fit_here : (c : After-as_slice-in-loop-i) → IsStrictlyIncreasing c.loop-i.numbers.items × (0 < length c.loop-i.numbers.items)
+fit_here c =
     let p : Pair = c.index-pairs-i.result in
     let rest : List Pair = drop (c.loop-i.i + 1) c.args.pairs.now in
     let next : drop c.loop-i.i c.args.pairs.now ≡ p ∷ rest =
@@ -72,8 +77,13 @@ put_entry-requires c =
     let test : bytes_eq p.term c.loop-i.term.now ≡ false =
     ap (λ bs. bytes_eq bs c.loop-i.term.now) (sym c.as_slice.ensures) ∙ sym c.eq.ensures ∙ c.if-eq.false
     in
-    subst IsStrictlyIncreasing (sym c.as_slice-in-loop-i.ensures.value)
-    (fit_first c.loop-i.term.now c.loop-i.numbers.items _ _ (other_step c.loop-i.term.now c.loop-i.numbers.items p _ rest next test) c.loop-i.invariant.0.fit)
+    fit_first c.loop-i.term.now c.loop-i.numbers.items _ _ (other_step c.loop-i.term.now c.loop-i.numbers.items p _ rest next test) c.loop-i.invariant.0.fit
+
+pub put_entry-requires-clause-rising : goal.put_entry-requires-clause-rising
+put_entry-requires-clause-rising c = subst IsStrictlyIncreasing (sym c.as_slice-in-loop-i.ensures.value) (fit_here c).0
+
+pub put_entry-requires-clause-some : goal.put_entry-requires-clause-some
+put_entry-requires-clause-some c = let f = fit_here c in omega (arith, f.1, ap length c.as_slice-in-loop-i.ensures.value)
 
 pub loop-i-preserved : goal.loop-i-preserved
 loop-i-preserved c =
@@ -95,22 +105,29 @@ loop-i-preserved c =
     (from_parts _ _ _ _ rest (sym c.as_slice-term-in-loop-i.ensures) (sym numbers))
     in (
       with_entry c.args.out.now.items c.loop-i.out.items _ c.loop-i.last.now c.loop-i.term.now c.loop-i.numbers.items _ _ _
-          (c.in_ok-put_entry.ensures ∙ ap (λ ns. c.loop-i.out.items ++ term_after c.loop-i.last.now c.loop-i.term.now ++ gaps ns) c.as_slice-in-loop-i.ensures.value)
+          (c.in_ok-put_entry.ensures.written ∙ ap (λ ns. c.loop-i.out.items ++ term_after c.loop-i.last.now c.loop-i.term.now ++ gaps ns) c.as_slice-in-loop-i.ensures.value)
+          (entry_from c.loop-i.term.now c.loop-i.numbers.items _ c.as_slice-in-loop-i.ensures.value c.in_ok-put_entry.ensures.short c.in_ok-put_entry.ensures.some c.in_ok-put_entry.ensures.list)
           (subst (λ es. IsUnderWay c.args.out.now.items c.loop-i.out.items c.loop-i.last.now es (entries_of c.args.pairs.now) c.loop-i.count) e c.loop-i.invariant.0),
       omega (arith, c.loop-i.invariant.1),
     )
 
-pub put_entry-requires-2 : goal.put_entry-requires-2
-put_entry-requires-2 c =
+fit_last : (c : After-as_slice-2) → IsStrictlyIncreasing c.loop-i.numbers.items × (0 < length c.loop-i.numbers.items)
+fit_last c =
     let none : drop c.loop-i.i c.args.pairs.now ≡ [] = past_end c.args.pairs.now c.loop-i.i (omega arith) in
-    subst IsStrictlyIncreasing (sym c.as_slice-2.ensures.value)
-    (fit_first c.loop-i.term.now c.loop-i.numbers.items _ _ (last_step c.loop-i.term.now c.loop-i.numbers.items _ none) c.loop-i.invariant.0.fit)
+    fit_first c.loop-i.term.now c.loop-i.numbers.items _ _ (last_step c.loop-i.term.now c.loop-i.numbers.items _ none) c.loop-i.invariant.0.fit
+
+pub put_entry-requires-2-clause-rising : goal.put_entry-requires-2-clause-rising
+put_entry-requires-2-clause-rising c = subst IsStrictlyIncreasing (sym c.as_slice-2.ensures.value) (fit_last c).0
+
+pub put_entry-requires-2-clause-some : goal.put_entry-requires-2-clause-some
+put_entry-requires-2-clause-some c = let f = fit_last c in omega (arith, f.1, ap length c.as_slice-2.ensures.value)
 
 at_exit : (c : goal.After-drop-numbers-2) → IsUnderWay c.args.out.now.items c.put_entry-2.new.out.items c.loop-i.term.now [] (entries_of c.args.pairs.now) (c.loop-i.count + 1)
 at_exit c =
     let none : drop c.loop-i.i c.args.pairs.now ≡ [] = past_end c.args.pairs.now c.loop-i.i (omega arith) in
     with_entry c.args.out.now.items c.loop-i.out.items _ c.loop-i.last.now c.loop-i.term.now c.loop-i.numbers.items _ _ _
-    (c.in_ok-put_entry-2.ensures ∙ ap (λ ns. c.loop-i.out.items ++ term_after c.loop-i.last.now c.loop-i.term.now ++ gaps ns) c.as_slice-2.ensures.value)
+    (c.in_ok-put_entry-2.ensures.written ∙ ap (λ ns. c.loop-i.out.items ++ term_after c.loop-i.last.now c.loop-i.term.now ++ gaps ns) c.as_slice-2.ensures.value)
+    (entry_from c.loop-i.term.now c.loop-i.numbers.items _ c.as_slice-2.ensures.value c.in_ok-put_entry-2.ensures.short c.in_ok-put_entry-2.ensures.some c.in_ok-put_entry-2.ensures.list)
     (subst (λ es. IsUnderWay c.args.out.now.items c.loop-i.out.items c.loop-i.last.now es (entries_of c.args.pairs.now) c.loop-i.count)
     (last_step c.loop-i.term.now c.loop-i.numbers.items _ none) c.loop-i.invariant.0)
 
@@ -119,3 +136,6 @@ returns-clause-count c = omega (arith, (at_exit c).counted)
 
 pub returns-clause-written : goal.returns-clause-written
 returns-clause-written c = at_end _ _ _ _ _ (at_exit c)
+
+pub returns-clause-good : goal.returns-clause-good
+returns-clause-good c = (at_exit c).good tt
