@@ -1,9 +1,8 @@
 -- Equal payloads are of the same low pair and the same entries.
-use Rattle.std.proofs.Common.{◌≡◌, ℕ, ◌+◌, ◌-◌, ◌≤◌, List, [], ◌∷◌, ◌++◌, length, take, drop, arith, refl, ap, ◌∙◌, sym, subst, Bool, true, false, cond, nat_eq, zero, suc}
+use Rattle.std.proofs.Common.{◌≡◌, ℕ, ◌+◌, ◌-◌, List, [], ◌∷◌, ◌++◌, length, take, drop, arith, refl, ap, ◌∙◌, sym, true, false, cond, nat_eq, suc}
 use Rattle.std.proofs.lemmas.List.{append_assoc, length-drop}
 use Rattle.std.proofs.lemmas.List.Sums.{common_prefix_len-le}
 use Rattle.std.proofs.lemmas.Bool.{eqb-true}
-use Rattle.std.specs.List.{common_prefix_len}
 use Rattle.ax_gap.specs.Gaps.{IsRisingList, gaps}
 use Rattle.ax_gap.specs.Varint.{varint}
 use Rattle.ax_gap.specs.Reading.{first_varint}
@@ -12,7 +11,7 @@ use Rattle.ax_gap.proofs.GapLaws.{spells_list_grammar}
 use Rattle.ax_gap.proofs.CursorLaws.{one_list_form}
 use Rattle.ax_leaf.specs.declared.pair.Pair.{Pair}
 use Rattle.ax_leaf.specs.Pairs.{Entry}
-use Rattle.ax_leaf.specs.Payload.{common, term_after, list_after, leaf, IsEntry, IsLeaf, AreAfter, AreEntries}
+use Rattle.ax_leaf.specs.Payload.{common, term_after, list_after, leaf, IsLeaf, AreAfter, AreEntries}
 
 varint_parts : (m n : ℕ) (x y : List ℕ) → varint m ++ x ≡ varint n ++ y → (m ≡ n) × (x ≡ y)
 varint_parts m n x y e =

@@ -1,5 +1,5 @@
 -- The entries of rising pairs have terms that rise.
-use Rattle.std.proofs.Common.{◌≡◌, ℕ, List, [], ◌∷◌, ◌++◌, refl, ap, ◌∙◌, sym, Bool, true, false, cond}
+use Rattle.std.proofs.Common.{◌≡◌, ℕ, List, [], ◌∷◌, ◌++◌, refl, ap, ◌∙◌, sym, true, false, cond}
 use Rattle.std.proofs.lemmas.Slice.Eq.{bytes_eq-Decides}
 use Rattle.std.specs.FinMap.{slice_cmp-IsAntisymmetric, nat_cmp-IsAntisymmetric}
 use Rattle.std.specs.Str.{bytes_eq}
@@ -9,7 +9,7 @@ use Rattle.std.specs.Ordering.{nat_cmp, ordering_then}
 use Rattle.std.specs.Cmp.Lexicographic.{slice_cmp}
 use Rattle.ax_leaf.specs.declared.pair.Pair.{Pair}
 use Rattle.ax_leaf.specs.Pairs.{Entry, pair_cmp, Rise, RiseAfter, entries_from, entries_of}
-use Rattle.ax_leaf.specs.Payload.{IsEntry, AreGood, AreAfter, AreEntries}
+use Rattle.ax_leaf.specs.Payload.{AreGood, AreAfter, AreEntries}
 
 first_decides : (o r : Ordering) → (o ≡ Equal → ⊥) → ordering_then o r ≡ Less → o ≡ Less
 first_decides Less r apart h = refl
@@ -49,13 +49,15 @@ ordered_from term ns p [] e rise good = (good.0, tt)
 ordered_from term ns p (q ∷ pairs) e rise good =
     elim (bytes_eq q.term term) as
     (λ b. bytes_eq q.term term ≡ b
-        → AreGood (cond b (entries_from term (ns ++ q.number ∷ []) pairs) (record { term = term; numbers = ns } ∷ entries_from q.term (q.number ∷ []) pairs))
-        → AreEntries (cond b (entries_from term (ns ++ q.number ∷ []) pairs) (record { term = term; numbers = ns } ∷ entries_from q.term (q.number ∷ []) pairs)))
-    [ true ↦ λ h g. ordered_from term (ns ++ q.number ∷ []) q pairs ((bytes_eq-Decides q.term term).0 h) rise.1 g
-    | false ↦ λ h g. (g.0,
+    → AreGood (cond b (entries_from term (ns ++ q.number ∷ []) pairs) (record { term = term; numbers = ns } ∷ entries_from q.term (q.number ∷ []) pairs))
+    → AreEntries (cond b (entries_from term (ns ++ q.number ∷ []) pairs) (record { term = term; numbers = ns } ∷ entries_from q.term (q.number ∷ []) pairs))) [
+      | true ↦ λ h g. ordered_from term (ns ++ q.number ∷ []) q pairs ((bytes_eq-Decides q.term term).0 h) rise.1 g
+      | false ↦ λ h g. (
+        g.0,
         after_of term (entries_from q.term (q.number ∷ []) pairs)
-        (heads_from term q.term (q.number ∷ []) pairs (terms_rise term p q e h rise.0))
-        (ordered_from q.term (q.number ∷ []) q pairs refl rise.1 g.1))
+            (heads_from term q.term (q.number ∷ []) pairs (terms_rise term p q e h rise.0))
+            (ordered_from q.term (q.number ∷ []) q pairs refl rise.1 g.1),
+      )
     ] refl good
 
 pub ordered : (pairs : List Pair) → Rise pairs → AreGood (entries_of pairs) → AreEntries (entries_of pairs)

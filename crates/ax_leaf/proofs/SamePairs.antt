@@ -1,10 +1,10 @@
 -- The entries of pairs hold these pairs, in order.
-use Rattle.std.proofs.Common.{◌≡◌, ℕ, List, [], ◌∷◌, ◌++◌, refl, ap, ◌∙◌, sym, Bool, true, false, cond}
+use Rattle.std.proofs.Common.{◌≡◌, ℕ, List, [], ◌∷◌, ◌++◌, refl, ap, ◌∙◌, sym, true, false, cond}
 use Rattle.std.proofs.lemmas.List.{append_assoc}
 use Rattle.std.proofs.lemmas.Slice.Eq.{bytes_eq-Decides}
 use Rattle.std.specs.Str.{bytes_eq}
 use Rattle.ax_leaf.specs.declared.pair.Pair.{Pair}
-use Rattle.ax_leaf.specs.Pairs.{Entry, pairs_with, pairs_of, entries_from, entries_of}
+use Rattle.ax_leaf.specs.Pairs.{pairs_with, pairs_of, entries_from, entries_of}
 
 with_more : (term ns : List ℕ) (p : Pair) → p.term ≡ term → pairs_with term (ns ++ p.number ∷ []) ≡ pairs_with term ns ++ p ∷ []
 with_more term [] p e = ap (λ (bs : List ℕ). pairs_with bs (p.number ∷ [])) (sym e)

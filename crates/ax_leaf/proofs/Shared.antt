@@ -1,5 +1,5 @@
 -- What two terms have in common at their beginnings, place by place.
-use Rattle.std.proofs.Common.{◌≡◌, ℕ, ◌+◌, ◌≤◌, List, [], ◌∷◌, length, drop, min, arith, refl, ap, ◌∙◌, sym, nat_eq, ◌⊎◌, ⊎_elim, inl, inr, ◌<◌}
+use Rattle.std.proofs.Common.{◌≡◌, ℕ, ◌≤◌, List, [], ◌∷◌, length, drop, min, arith, refl, nat_eq, ◌⊎◌, ⊎_elim, inl, inr, ◌<◌}
 use Rattle.std.proofs.lemmas.Bool.{cases_lt}
 use Rattle.std.proofs.lemmas.List.{length-drop}
 use Rattle.std.specs.List.{common_prefix_len}

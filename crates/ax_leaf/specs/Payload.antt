@@ -1,7 +1,7 @@
 -- The payload of a base: the low pair of a term page, and the pairs that it holds, with their terms
 -- shortened by what they have in common with the term before (prefix or front coding, as in Witten,
 -- Moffat and Bell, "Managing Gigabytes", 1999).
-use Rattle.std.specs.Prelude.{◌≡◌, ℕ, ◌+◌, ◌-◌, ◌<◌, ◌^◌, List, [], ◌∷◌, ◌++◌, length, drop, nat_eq}
+use Rattle.std.specs.Prelude.{◌≡◌, ℕ, ◌-◌, ◌<◌, ◌^◌, List, [], ◌∷◌, ◌++◌, length, drop, nat_eq}
 use Rattle.std.specs.declared.cmp.Ordering.TheVariants.{Less}
 use Rattle.std.specs.Ordering.{nat_cmp}
 use Rattle.std.specs.List.{common_prefix_len}

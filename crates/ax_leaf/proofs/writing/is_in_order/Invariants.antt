@@ -1,4 +1,4 @@
-use Rattle.std.proofs.Common.{◌↔◌, ◌+◌, ◌-◌, ◌≤◌, drop, get_or}
+use Rattle.std.proofs.Common.{◌↔◌, ◌-◌, ◌≤◌, drop, get_or}
 use Rattle.ax_leaf.specs.Pairs.{Rise, RiseAfter, BeginsFrom}
 use Rattle.ax_leaf.proofs.writing.is_in_order.Given as goal
 

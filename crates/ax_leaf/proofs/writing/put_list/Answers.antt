@@ -3,7 +3,7 @@ use Rattle.std.proofs.lemmas.List.{drop_more, length-drop}
 use Rattle.std.specs.List.Sorted.{IsStrictlyIncreasing}
 use Rattle.std.specs.Str.{bytes_eq}
 use Rattle.ax_leaf.specs.declared.pair.Pair.{Pair}
-use Rattle.ax_leaf.specs.Pairs.{Entry, entries_from, entries_of}
+use Rattle.ax_leaf.specs.Pairs.{entries_from, entries_of}
 use Rattle.ax_leaf.specs.Payload.{AreGood, list_after, term_after}
 use Rattle.ax_gap.specs.Gaps.{gaps}
 use Rattle.ax_leaf.proofs.Grouping.{AreFit, fit}
