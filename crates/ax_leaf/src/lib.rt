@@ -1,0 +1,15 @@
+//! The payload of a base of a term page: its low pair, and its pairs, with the terms shortened by
+//! what each has in common with the term before.
+#![tactic(auto)]
+
+pub mod laws;
+mod out_of_memory;
+mod pair;
+mod writing;
+
+pub use out_of_memory::Memory;
+pub use pair::{Bytes, Pair};
+pub use writing::{encode, is_in_order};
+
+#[cfg(test)]
+mod tests;
