@@ -5,7 +5,7 @@ use Rattle.std.proofs.lemmas.List.{take-append-drop, drop-drop, take_all}
 use Rattle.std.proofs.KnownBytes.{Appends-trans}
 use Rattle.std.specs.declared.option.Option.{Option}
 use Rattle.std.specs.Io.KnownBytes.{Appends}
-use Rattle.ax_base.specs.Bytes.{AppendsPrefix}
+use Rattle.ax_base.specs.Appends.{AppendsPrefix}
 
 -- the slice from `at` on is all that follows `at`
 pub whole_slice : (at : ℕ) (bytes : List ℕ)

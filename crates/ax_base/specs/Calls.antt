@@ -1,5 +1,5 @@
 -- The calls of a source or a sink in memory, of which chosen ones fail, and what contracts see of
--- such a part.
+-- either.
 -- It is this project's own; it comes from no public document.
 use Rattle.std.specs.Prelude.{ℕ, ◌<◌, ◌≤◌, ◌⊎◌, List, length, Contains}
 use Rattle.ax_faults.specs.Faults.{raised}

@@ -1,3 +1,3 @@
-pub mod Bytes
+pub mod Appends
 pub mod Calls
 pub mod Adapter

@@ -6,7 +6,7 @@ use crate::Failed;
 use ax_faults::FaultCount;
 use std::marker::Model;
 
-/// The calls of a part in memory, numbered from 1, of which chosen ones fail. A call's number is
+/// The calls of a source or a sink in memory, numbered from 1, of which chosen ones fail. A call's number is
 /// that of a `u64` that stays at its last value.
 #[derive(Drop)]
 pub(crate) struct CallCount {

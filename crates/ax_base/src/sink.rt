@@ -1,7 +1,7 @@
 ghost use Rattle.std.specs.Prelude.{◌≡◌, ◌<◌, ◌≤◌, ℕ, List, Option, length, take, IfOk, OnOk, OnErr};
 ghost use Rattle.std.specs.Io.{WritesAtMost};
 ghost use Rattle.std.specs.Io.KnownBytes.{Appends};
-ghost use Rattle.ax_base.specs.Bytes.{AppendsPrefix};
+ghost use Rattle.ax_base.specs.Appends.{AppendsPrefix};
 ghost use Rattle.ax_faults.specs.Faults.{Rose, HasCause};
 
 use crate::Failed;

@@ -15,7 +15,7 @@ pub trait Source {
     ghost faults: { Self → ℕ };
 
     /// Reads the next bytes into the prefix of `buf`, and answers how many: at most as many as
-    /// `buf` has. None for a `buf` that has room means that the source has ended.
+    /// `buf` has. 0 for a `buf` that is not empty means that the source has ended.
     ///
     /// `Failed` where the source could not read. It has then counted a fault, and no byte is lost.
     fn read_some(&mut self, buf: &mut [u8]) -> Result<usize, Failed>

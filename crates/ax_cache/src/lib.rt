@@ -1,7 +1,8 @@
 //! Page caches: what keeps payloads of parts in memory, under the place at which each stands.
 //!
 //! It stands on no other crate. Its one contract: what a cache answers under a key is what was put
-//! there last; it forgets a key only to make room for another, and only where it is full.
+//! there last; it forgets a key only by `drop_key`, by a `put` under that key that answers `false`,
+//! or, where it is full, to make room for another.
 #![tactic(auto)]
 
 mod no_pages;

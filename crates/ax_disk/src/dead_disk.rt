@@ -15,6 +15,7 @@ pub struct DeadDisk {
 impl DeadDisk {
     ghost use Rattle.ax_disk.specs.DeadDisk.{dead_faults};
 
+    /// A disk with no fault yet.
     pub fn new() -> DeadDisk
         ensures { dead_faults result ≡ 0 }
     {

@@ -80,7 +80,7 @@ pub trait Disk {
         ensures spent { remaining self.new ≡ one_call_less (remaining self.old) }
         ensures stopped { remaining self.old ≡ Some 0 → IsErr result };
 
-    /// Writes over what is there, and past the end. A write whose end would pass 2^62 fails.
+    /// Writes over what is there, and past the end. `at` is at most the list's length. A write whose end would pass 2^62 fails.
     fn write_at(&mut self, ext: Extent, at: u64, bytes: &[u8]) -> Result<(), DiskFailed>
         requires { IsTrue (is_honest self.old)
             → at ≤ length (list_of ext (history self.old (attached self.old)).reads) }

@@ -2,8 +2,8 @@
 //! to what reads give, and what a crash at each moment may leave of them. Each crash theorem of the
 //! store stands on it. It stands on `ax_faults` alone.
 //!
-//! The one contract: after a crash each list has a length that it had since the last sync that
-//! succeeded, and each byte that wasn't written since is the one that a read gave then; after a
+//! The one contract: after a crash each list has any length from the least to the greatest since the
+//! last sync that succeeded, and each byte of then that wasn't written since is as it was; after a
 //! sync that succeeded a crash leaves what a read gives.
 #![tactic(auto)]
 

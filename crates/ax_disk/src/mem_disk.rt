@@ -92,7 +92,7 @@ impl MemDisk {
 
     /// Crashes, and comes back. With `keep` the lists are then what reads gave, else what the last
     /// sync that succeeded left, or what the disk was made with where none has succeeded. Nothing
-    /// is then unsynced, and a new clock begins. It is no call, and takes no room.
+    /// is then unsynced, and moments are counted anew. It is no call, and takes no room.
     pub fn crash(&mut self, keep: bool)
         ensures lists { operation_log self.new ≡ new_log (if keep then (disk_history self.old).reads
             else last_synced (disk_history self.old).unsynced) }

@@ -2,7 +2,6 @@
 -- once.
 use Rattle.std.proofs.Common.{◌≡◌, ℕ, ◌≤◌, List, [], ◌∷◌, ◌++◌, length, map, Bool, true, false, Option, Some, None, option_map, option_and_then, refl, sym, ap, ◌∙◌, append_assoc, append-nil, arith}
 use Rattle.ax_tree.specs.declared.tree.Tree as tree
-use Rattle.ax_tree.specs.declared.tree.Tree.{Tree}
 use Rattle.ax_mean.specs.declared.expr.Expr.{Expr}
 use Rattle.ax_mean.specs.declared.operator.BinaryOp.TheVariants as op
 use Rattle.ax_mean.specs.declared.operator.Func.TheVariants as func

@@ -1,4 +1,4 @@
--- Counts of faults, as the parts that reach outside the program keep them.
+-- Counts of faults, as a source, a sink and a disk keep them.
 -- A count is that of a `u64` that is raised by one at each failure and stays at its last value,
 -- 2^64 - 1. It is this project's own; it comes from no public document.
 use Rattle.std.specs.Prelude.{◌≡◌, ℕ, ◌+◌, ◌-◌, ◌^◌, ◌≤◌, min, Result, IsErr, OnOk, OnErr}

@@ -1,4 +1,4 @@
-//! The count of faults: how often a part that reaches outside the program has failed.
+//! The count of faults: how often what reaches outside the program has failed.
 //!
 //! A source, a sink and a disk each keep a [`FaultCount`]. It never falls, and its contract is that
 //! a call fails only where the count rose in that call (`HasCause`). It stands on the standard

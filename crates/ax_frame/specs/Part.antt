@@ -13,7 +13,7 @@ pub record PartValue : Type 0 where
   pub key : ℕ
   pub payload : List ℕ
 
--- what a part of the program stands for
+-- a `Part`, without where its payload lies in memory
 abbrev pub part_value : Part → PartValue
 part_value p = record { kind = p.kind; key = p.key; payload = p.payload.now }
 

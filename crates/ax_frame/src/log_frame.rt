@@ -119,7 +119,8 @@ pub fn read_frame(bytes: &[u8]) -> Result<FrameParts<'_>, NotFrame>
     Ok(FrameParts { bytes: body })
 }
 
-/// The frame of these parts without its own gate: length, parts, and the closed gate that follows.
+/// The frame of these parts, of which there is at least one, without its own gate: length, parts,
+/// and the closed gate that follows.
 ///
 /// The gate is written apart, as the last step of a commit. `Memory` where there is no room for the
 /// bytes.

@@ -44,7 +44,7 @@ impl PartsText {
         self.bytes.is_empty()
     }
 
-    /// Puts a part at the end. `Memory` where there is no room for it; the list is then as it was.
+    /// Puts a part, whose payload has at most 65,536 bytes, at the end. `Memory` where there is no room for it; the list is then as it was.
     pub fn add(&mut self, part: Part<'_>) -> Result<(), Memory>
         requires { length part.payload.now ≤ 65536 }
         ensures ok { OnOk result (self.new ≡ self.old ++ part_value part.entry ∷ []) }

@@ -16,6 +16,6 @@ unfoldable pub groups : ℕ → ℕ → List ℕ
 groups zero n = n ∷ []
 groups (suc more) n = if nat_lt n 128 then n ∷ [] else (128 + n % 128) ∷ groups more (n / 128)
 
--- The one varint of a number. A number has never more groups than units.
+-- The one varint of a number n. It has never more than n groups before the last.
 unfoldable pub varint : ℕ → List ℕ
 varint n = groups n n

@@ -8,7 +8,7 @@ ghost use Rattle.ax_gap.specs.Varint.{varint};
 use crate::out_of_memory::Memory;
 use crate::varint::push_varint;
 
-/// Writes the gap list of the numbers at the end.
+/// Writes the gap list of the numbers at the end. After `Memory` `out` is as before.
 pub fn put_gaps(out: &mut Vec<u8>, list: &[u32]) -> Result<(), Memory>
     requires { IsStrictlyIncreasing list.now }
     ensures ok { OnOk result (out.new.items ≡ out.old.items ++ gaps list.now) }

@@ -36,7 +36,7 @@ pub fn lengths_are_bounded()
     ensures list { (list : List ℕ) → IsRisingList list → length (gaps list) ≤ 5 + 5 * length list }
 {}
 
-/// Two rising lists with the same members are the same list: so `meet`, `join` and `without` have
+/// Two rising lists with the same numbers are the same list: so `meet`, `join` and `without` have
 /// one answer each.
 pub fn members_make_the_list()
     ensures { (a b : List ℕ) → IsRisingList a → IsRisingList b → ((n : ℕ) → Contains a n ↔ Contains b n) → a ≡ b }

@@ -10,7 +10,7 @@ use crate::out_of_memory::Memory;
 /// The greatest number that is read: the count of a gap list that has every 32-bit number.
 const MOST: u64 = 1 << 32;
 
-/// Writes the varint of a number at the end: one byte to five.
+/// Writes the varint of a number at the end: one byte to five. After `Memory` `out` is as before.
 pub fn put_varint(out: &mut Vec<u8>, number: u32) -> Result<(), Memory>
     ensures ok { OnOk result (out.new.items ≡ out.old.items ++ varint number) }
     ensures err { OnErr result (out.new.items ≡ out.old.items) }

@@ -1,7 +1,7 @@
 -- The answer of a query with groups: rows with equal values of the expressions behind GROUP BY are one
 -- group, and each group shows one row. As GROUP BY, COUNT, SUM, MIN and MAX of Azure Cosmos DB for
 -- NoSQL.
-use Rattle.std.specs.Prelude.{ℕ, List, [], ◌∷◌, ◌++◌, map, Bool, true, false, Option, Some, None, if◌then◌else◌}
+use Rattle.std.specs.Prelude.{ℕ, List, [], ◌∷◌, ◌++◌, map, Option}
 use Rattle.std.specs.declared.cmp.Ordering.{Ordering}
 use Rattle.std.specs.declared.cmp.Ordering.TheVariants.{Less, Equal, Greater}
 use Rattle.std.specs.List.{flat_map, filter_map}

@@ -1,6 +1,5 @@
 -- What is kept of a group, and what is kept of all groups.
 use Rattle.std.specs.Prelude.{◌≡◌, ⊤, ℕ, zero, suc, List, [], ◌∷◌, map, Option, Some, None}
-use Rattle.ax_mean.specs.declared.expr.Expr.{Expr}
 use Rattle.ax_mean.specs.declared.query.KeyedRow.{KeyedRow}
 use Rattle.ax_mean.specs.declared.query.Pick.{Pick}
 use Rattle.ax_mean.specs.declared.query.Query.{Query}

@@ -1,5 +1,5 @@
 -- A sum of numbers of 64 bits, with how many there are: so it fits 128 bits.
-use Rattle.std.specs.Prelude.{ℕ, ℤ, pos, ◌+ℤ◌, neg_ℤ, ◌≤ℤ◌, ◌*◌, ◌≤◌, ◌+◌, ◌^◌, nat_lt, Option, Some, None, if◌then◌else◌}
+use Rattle.std.specs.Prelude.{ℕ, ℤ, pos, ◌+ℤ◌, neg_ℤ, ◌≤ℤ◌, ◌*◌, ◌≤◌, ◌+◌, nat_lt, Option, Some, None, if◌then◌else◌}
 use Rattle.ax_group.specs.Totals.{greatest_count}
 
 abbrev pub IsWithin : ℕ → ℤ → Type 0

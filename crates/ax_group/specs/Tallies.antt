@@ -1,5 +1,5 @@
 -- What is kept of an aggregate's values, one after another, so that the values themselves need not be.
-use Rattle.std.specs.Prelude.{ℕ, ℤ, pos, ◌+ℤ◌, neg_ℤ, ◌≤ℤ◌, ◌*◌, ◌≤◌, ◌+◌, nat_le, nat_lt, List, [], ◌∷◌, Option, Some, None, if◌then◌else◌}
+use Rattle.std.specs.Prelude.{ℕ, ℤ, pos, ◌+◌, nat_le, List, [], ◌∷◌, Option, Some, None, if◌then◌else◌}
 use Rattle.ax_tree.specs.declared.tree.Tree.{Tree}
 use Rattle.ax_mean.specs.declared.operator.Aggregate.{Aggregate}
 use Rattle.ax_mean.specs.declared.operator.Aggregate.TheVariants as aggregate

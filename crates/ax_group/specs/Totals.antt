@@ -1,7 +1,6 @@
 -- Aggregates over the rows of a group, and an expression in which each aggregate is the literal of its
 -- value.
 use Rattle.std.specs.Prelude.{ℕ, ℤ, pos, ◌+ℤ◌, nat_le, List, [], ◌∷◌, map, length, Bool, Option, Some, None, option_and_then, if◌then◌else◌}
-use Rattle.std.specs.declared.cmp.Ordering.{Ordering}
 use Rattle.std.specs.List.{filter, list_any}
 use Rattle.std.specs.Ordering.{is_lt}
 use Rattle.ax_tree.specs.declared.tree.Tree as tree

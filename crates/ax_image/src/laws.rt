@@ -19,8 +19,8 @@ pub fn one_container()
     ensures { (image : Image) (x y : Container) → StandsFor image x → StandsFor image y → x ≡ y }
 {}
 
-/// The files of a fresh store stand for the container of no documents.
-pub fn fresh_files_stand_for_none()
+/// The image of a fresh store stands for the container of no documents.
+pub fn fresh_image_stands_for_fresh()
     ensures { (image : Image) → IsFresh image → StandsFor image fresh }
 {}
 

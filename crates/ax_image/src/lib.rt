@@ -2,7 +2,7 @@
 //! laws; no program.
 //!
 //! Stands on `ax_pages` for what pages have, and on `ax_container`. Its one contract: an image stands
-//! for one container at most, the files of a fresh store for the fresh one, and the parts of an upsert
+//! for one container at most, that of a fresh store for the fresh one, and the parts of an upsert
 //! lead from what stands for a container to what stands for the upserted one.
 #![tactic(auto)]
 

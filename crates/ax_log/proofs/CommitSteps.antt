@@ -23,13 +23,13 @@ use Rattle.ax_pages.specs.laws.AreaLaws.{area_by_prefix, gate_within, frames_pus
 use Rattle.ax_log.specs.declared.log.Log.{Log}
 use Rattle.ax_log.specs.Log.{log_area, log_generation, log_end}
 use Rattle.ax_log.specs.Agreement.{HasLog, Agrees}
-use Rattle.ax_log.specs.Commit.{IsFrameText, IsStaged, IsReady}
+use Rattle.ax_log.specs.Commit.{IsCommitSpelling, IsStaged, IsReady}
 
 -- ---- lists
 
 -- behind a closed gate stands what was written there
 pub staged_ready : (bytes : List ℕ) (frames : List (List ℕ)) (end : ℕ) (text span : List ℕ)
-    → end ≡ length (frames_bytes frames) → IsArea bytes frames → IsFrameText text span
+    → end ≡ length (frames_bytes frames) → IsArea bytes frames → IsCommitSpelling text span
     → IsReady (overwritten bytes (end + 1) text) frames span
 staged_ready bytes frames end text span end-is area frame =
     let within : end < length bytes = omega (arith, gate_within bytes frames area) in
@@ -246,7 +246,7 @@ module _ (area : Extent) (generation end : ℕ) (frames : List (List ℕ)) (text
     (old : History) (counts : IsRoot old.reads.root (Counts 1 area generation))
     (end-is : end ≡ length (frames_bytes frames))
     (rests : Rests old (HasLog old.reads.root area frames))
-    (frame : IsFrameText text span) where
+    (frame : IsCommitSpelling text span) where
   pub apart_root : area ≢ Root
   apart_root = (counts_named old.reads.root 1 area generation counts).1
 

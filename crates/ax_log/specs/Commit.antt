@@ -10,9 +10,9 @@ use Rattle.ax_disk.specs.model.Calls.{overwritten}
 use Rattle.ax_frame.specs.LogFrame.{open_frame}
 use Rattle.ax_pages.specs.Area.{IsSpan, AreSpans, frames_bytes}
 
--- The text of a frame that is to be committed: the frame without its own gate, and a closed gate
+-- The spelling of a frame that is to be committed: the frame without its own gate, and a closed gate
 -- behind it.
-pub record IsFrameText (text span : List ℕ) : Type 0 where
+pub record IsCommitSpelling (text span : List ℕ) : Type 0 where
   pub fits : IsSpan span
   pub spelled : 1 ∷ text ≡ open_frame span ++ 0 ∷ []
 

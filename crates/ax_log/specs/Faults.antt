@@ -16,10 +16,10 @@ abbrev pub FailsByDisk : {T : Type 0} → Result T LogFault → Type 0
 FailsByDisk (Ok value) = ⊥
 FailsByDisk (Err fault) = IsDiskFault fault
 
--- any other refusal
-abbrev pub IsRefused : {T : Type 0} → Result T LogFault → Type 0
-IsRefused (Ok value) = ⊥
-IsRefused (Err fault) = IsDiskFault fault → ⊥
+-- any other error: damage, a later version, or want of memory
+abbrev pub FailsOtherwise : {T : Type 0} → Result T LogFault → Type 0
+FailsOtherwise (Ok value) = ⊥
+FailsOtherwise (Err fault) = IsDiskFault fault → ⊥
 
 -- the count doesn't fall, and a failure of the disk is answered only where it rose
 pub record HasDiskCause {T : Type 0} (result : Result T LogFault) (before now : ℕ) : Type 0 where

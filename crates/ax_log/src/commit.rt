@@ -10,29 +10,29 @@ ghost use Rattle.ax_pages.specs.Area.{frames_bytes};
 ghost use Rattle.ax_pages.specs.Image.{HasFrames};
 ghost use Rattle.ax_log.specs.Log.{log_area, log_generation, log_end};
 ghost use Rattle.ax_log.specs.Agreement.{HasLog, Agrees};
-ghost use Rattle.ax_log.specs.Commit.{IsFrameText, IsStaged, IsReady};
+ghost use Rattle.ax_log.specs.Commit.{IsCommitSpelling, IsStaged, IsReady};
 
 use crate::fault::LogFault;
 use crate::log::Log;
 use ax_disk::{Disk, DiskFailed, Extent};
 
 impl Log {
-    /// Puts one frame behind the others. `frame` is the text that `ax_frame::write_frame` gives.
+    /// Puts one frame behind the others. `frame` is what `ax_frame::write_frame` gives.
     ///
     /// At Ok the frame is durable. At an error, which is only of the disk, the store has the frame or
     /// has it not, and the log is to be opened again. It takes no memory.
     pub fn commit<D: Disk>(&mut self, disk: &mut D, frame: &[u8]) -> Result<(), LogFault>
         requires agrees { IsTrue (D.is_honest disk.old)
             → (frames : List (List ℕ)) × Agrees self.old frames (D.history disk.old (D.attached disk.old)) }
-        requires frame { (span : List ℕ) × IsFrameText frame.now span }
+        requires frame { (span : List ℕ) × IsCommitSpelling frame.now span }
 
         ensures acknowledged { IsTrue (D.is_honest disk.old) → (frames : List (List ℕ)) → (span : List ℕ)
-            → Agrees self.old frames (D.history disk.old (D.attached disk.old)) → IsFrameText frame.now span
+            → Agrees self.old frames (D.history disk.old (D.attached disk.old)) → IsCommitSpelling frame.now span
             → OnOk result (Agrees self.new (frames ++ span ∷ []) (D.history disk.new (D.attached disk.new))) }
 
         // A crash at any moment of the call, and after it, leaves the frames before it, or with the one more.
         ensures any_moment { IsTrue (D.is_honest disk.old) → (frames : List (List ℕ)) → (span : List ℕ)
-            → Agrees self.old frames (D.history disk.old (D.attached disk.old)) → IsFrameText frame.now span
+            → Agrees self.old frames (D.history disk.old (D.attached disk.old)) → IsCommitSpelling frame.now span
             → Turns (D.history disk.old (D.attached disk.old)) (D.history disk.new (D.attached disk.new))
             (HasFrames frames) (HasFrames (frames ++ span ∷ [])) }
 

@@ -7,7 +7,7 @@ ghost use Rattle.ax_disk.specs.model.Stays.{Stays, SinceBarrier};
 ghost use Rattle.ax_pages.specs.Root.{IsRoot};
 ghost use Rattle.ax_pages.specs.declared.root.RootChoice.TheVariants.{Counts};
 ghost use Rattle.ax_pages.specs.Image.{IsFresh, IsDamaged, IsNewer, HasFrames, extent_number};
-ghost use Rattle.ax_log.specs.Faults.{IsRefused, HasDiskCause};
+ghost use Rattle.ax_log.specs.Faults.{FailsOtherwise, HasDiskCause};
 ghost use Rattle.ax_log.specs.Opening.{Tells, IsAnswer, Keeps};
 
 use crate::fault::LogFault;
@@ -40,11 +40,11 @@ impl Log {
             → IsNewer (D.history disk.old (D.attached disk.old)).reads version
             → IsAnswer (LogFault.Newer version) result }
 
-        // Only a fresh store is changed, and no store where the answer is a refusal.
+        // Only a fresh store is changed, and no store where the answer is an error other than of the disk.
         ensures unchanged { IsTrue (D.is_honest disk.old)
             → (IsFresh (D.history disk.old (D.attached disk.old)).reads → ⊥)
             → Keeps (D.history disk.old (D.attached disk.old)) (D.history disk.new (D.attached disk.new)) }
-        ensures refused { IsTrue (D.is_honest disk.old) → IsRefused result
+        ensures refused { IsTrue (D.is_honest disk.old) → FailsOtherwise result
             → Keeps (D.history disk.old (D.attached disk.old)) (D.history disk.new (D.attached disk.new)) }
 
         // A crash at any moment since the barrier, and after the call, leaves the frames that were there.
@@ -72,7 +72,7 @@ fn recover<D: Disk>(alloc: Global, disk: &mut D) -> Result<Log, LogFault>
     ensures unchanged { IsTrue (D.is_honest disk.old)
         → (IsFresh (D.history disk.old (D.attached disk.old)).reads → ⊥)
         → Idles (D.history disk.old (D.attached disk.old)) (D.history disk.new (D.attached disk.new)) }
-    ensures refused { IsTrue (D.is_honest disk.old) → IsRefused result
+    ensures refused { IsTrue (D.is_honest disk.old) → FailsOtherwise result
         → Idles (D.history disk.old (D.attached disk.old)) (D.history disk.new (D.attached disk.new)) }
     ensures any_moment { IsTrue (D.is_honest disk.old) → (frames : List (List ℕ))
         → HasFrames frames (D.history disk.old (D.attached disk.old)).reads
@@ -107,7 +107,7 @@ fn form_log<D: Disk>(disk: &mut D) -> Result<Log, LogFault>
     requires fresh { IsTrue (D.is_honest disk.old) → IsFresh (D.history disk.old (D.attached disk.old)).reads }
     ensures tells { IsTrue (D.is_honest disk.old)
         → Tells result (D.history disk.old (D.attached disk.old)).reads (D.history disk.new (D.attached disk.new)) }
-    ensures never_refused { IsRefused result → ⊥ }
+    ensures never_refused { FailsOtherwise result → ⊥ }
     ensures any_moment { IsTrue (D.is_honest disk.old)
         → Stays (D.history disk.old (D.attached disk.old)) (D.history disk.new (D.attached disk.new)) (HasFrames []) }
     ensures cause { HasDiskCause result (D.faults disk.old) (D.faults disk.new) }

@@ -11,7 +11,8 @@ use crate::log::Log;
 use ax_disk::{Disk, DiskFailed};
 
 impl Log {
-    /// Fills `buf` with the bytes at an offset in the frames. It takes no memory.
+    /// Fills `buf` with the bytes at an offset in the area, all of which the frames have. It takes no
+    /// memory. After a failure `buf` may hold anything.
     pub fn read<D: Disk>(&self, disk: &mut D, at: u64, buf: &mut [u8]) -> Result<(), DiskFailed>
         requires within { at + length buf.old ≤ log_end self.now }
         ensures bytes { IsTrue (D.is_honest disk.old) → (frames : List (List ℕ))

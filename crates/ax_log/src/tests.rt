@@ -1,7 +1,7 @@
 //! What a log leaves on a disk that stops or crashes, by bytes that were worked out by hand.
 
 ghost use Rattle.std.specs.Prelude.{ℕ, List, IfOk};
-ghost use Rattle.ax_log.specs.Commit.{IsFrameText};
+ghost use Rattle.ax_log.specs.Commit.{IsCommitSpelling};
 
 use crate::{Log, LogFault};
 use ax_disk::{Extent, FuseDisk, MemDisk};
@@ -37,7 +37,7 @@ fn disk_with(alloc: Global, root: &[u8], a: &[u8]) -> Result<MemDisk, Fail> {
 
 /// The text of a frame of one part. With its gate it takes 19 bytes.
 fn frame(alloc: Global) -> Result<Vec<u8>, Fail>
-    ensures { IfOk result (λ text. (span : List ℕ) × IsFrameText text.items span) }
+    ensures { IfOk result (λ text. (span : List ℕ) × IsCommitSpelling text.items span) }
 {
     let mut parts = PartsText::begin(alloc);
     parts.add(Part {

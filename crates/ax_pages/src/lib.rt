@@ -3,9 +3,9 @@
 //! step by which a part changes them. The log, the store and the checker cite these words.
 //!
 //! It stands on `ax_frame`, whose slots and frames it puts together, and on `ax_disk` for images. Its
-//! one contract: an image is fresh, live with one list of log frames, of a later version, or damaged
-//! at one place, and never two of these; and its frames lead to one contents, or are spoiled at one
-//! offset.
+//! one contract: an image is at most one of fresh, live with one list of log frames, of a later
+//! version, or damaged at one place; and its frames lead to at most one contents, or are spoiled at
+//! one offset, not both.
 #![tactic(auto)]
 
 pub mod contents_laws;

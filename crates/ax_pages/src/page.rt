@@ -3,8 +3,8 @@
 ghost use Rattle.std.specs.Prelude.{◌≡◌};
 ghost use Rattle.ax_pages.specs.AfterPart.{kind_of};
 
-/// A page of a store: all parts of one kind and key. Until there is an index no page of terms has a
-/// part.
+/// A page of a store: all parts of the meta, of one policy, of one document or of one term page. No
+/// part of a term page is within the format, so no term page has one.
 #[derive(Clone, Copy, Debug, PartialEq, Eq)]
 pub enum Page {
     /// The next number and the number of the policy now.
@@ -13,7 +13,7 @@ pub enum Page {
     Policy(u8),
     /// The document of a number.
     Document(u32),
-    /// A page of terms.
+    /// A term page.
     Term(u32),
 }
 
@@ -22,11 +22,11 @@ pub enum Page {
 pub enum Kind {
     /// The meta has this payload from now on.
     Meta,
-    /// The policy has.
+    /// The policy of the part's key has this payload from now on.
     Policy,
-    /// The document has.
+    /// The document of the part's key has this payload from now on.
     Document,
-    /// The document is gone.
+    /// The document of the part's key is gone.
     Gone,
 }
 

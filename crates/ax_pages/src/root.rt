@@ -9,7 +9,7 @@ use ax_frame::RootSlot;
 /// What the two slots of a root say.
 #[derive(Clone, Copy, Debug, PartialEq, Eq)]
 pub enum RootChoice {
-    /// No slot is open: a fresh store.
+    /// No slot counts: both are closed, or the root is shorter than 33 bytes. The store is fresh.
     Fresh,
     /// The slot that counts.
     Counts {

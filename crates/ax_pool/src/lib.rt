@@ -6,11 +6,11 @@
 //! again, and the free frames and those that are taken are all frames of the pool.
 #![tactic(auto)]
 
-mod memory;
+mod out_of_memory;
 mod pool;
 mod slot;
 
-pub use memory::Memory;
+pub use out_of_memory::Memory;
 pub use pool::{FRAME_BYTES, Pool};
 pub use slot::Slot;
 

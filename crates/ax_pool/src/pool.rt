@@ -5,7 +5,7 @@ ghost use Rattle.std.specs.Borrow.{Lends, Array, sem, u8 as byte};
 ghost use Rattle.ax_pool.specs.Frames.{IsTaken, IsFree, bytes_at, frame_size, free_count, AddUp, with_front};
 ghost use Rattle.ax_pool.specs.contracts.pool.Pool.{the_row};
 
-use crate::memory::Memory;
+use crate::out_of_memory::Memory;
 use crate::slot::Slot;
 use std::alloc::Global;
 use std::marker::Model;

@@ -36,7 +36,7 @@ use Rattle.ax_script.specs.Documents.{contents_in, Holds, Works, TellsBy}
 use Rattle.std.proofs.Common.{take, ◌==◌}
 use Rattle.std.specs.Io.KnownBytes.{Appends}
 use Rattle.std.proofs.KnownBytes.{Appends-nil}
-use Rattle.ax_base.specs.Bytes.{AppendsPrefix}
+use Rattle.ax_base.specs.Appends.{AppendsPrefix}
 use Rattle.ax_machine.specs.Needs.{most_steps}
 use Rattle.ax_machine.specs.Run.{Outcome, after_line, reply_to}
 use Rattle.ax_script.specs.Streams.{Outlets}
@@ -71,7 +71,7 @@ module _ (honest : Type 0) where
       → SameButRoom documents.store store
       → Works honest documents history → Works honest (record documents { store = store }) history
   works_room documents store history same works = record {
-    unfailed = same.works ∙ works.unfailed;
+    unfailed = same.failed ∙ works.unfailed;
     agrees = λ h. agrees_same documents.store store history same (works.agrees h);
   }
 

@@ -3,7 +3,7 @@ use Rattle.std.specs.Prelude.{◌≡◌, ℕ, List, Bool, ◌||◌, nat_le, fals
 use Rattle.std.specs.BTreeMap.{get_by_text}
 use Rattle.std.specs.FinMap as map
 use Rattle.std.specs.Io.KnownBytes.{Appends}
-use Rattle.ax_base.specs.Bytes.{AppendsPrefix}
+use Rattle.ax_base.specs.Appends.{AppendsPrefix}
 use Rattle.std.specs.Global.{Vec}
 use Rattle.ax_disk.specs.model.Moments.{History}
 use Rattle.ax_disk.specs.model.Stays.{Turns}

@@ -3,7 +3,7 @@
 use Rattle.std.specs.Prelude.{◌≡◌, ℕ, ◌+◌, ◌≤◌, List, [], ◌∷◌, length, take, Option}
 use Rattle.std.specs.List.{concat}
 use Rattle.std.specs.Io.KnownBytes.{Appends}
-use Rattle.ax_base.specs.Bytes.{AppendsPrefix}
+use Rattle.ax_base.specs.Appends.{AppendsPrefix}
 use Rattle.ax_disk.specs.model.Image.{Image}
 use Rattle.ax_disk.specs.model.Moments.{History, Progresses}
 use Rattle.ax_disk.specs.model.Stays.{Rests, Turns}

@@ -1,6 +1,6 @@
 ghost use Rattle.std.specs.Prelude.{◌≡◌, ◌≤◌, ◌⊎◌, ◌+◌, Ok, Err, IsTrue, IfOk, IfErr, OnOk, OnErr};
 ghost use Rattle.std.specs.Io.KnownBytes.{Appends};
-ghost use Rattle.ax_base.specs.Bytes.{AppendsPrefix};
+ghost use Rattle.ax_base.specs.Appends.{AppendsPrefix};
 ghost use Rattle.ax_faults.specs.Faults.{Rose};
 ghost use Rattle.ax_container.specs.Container.{Container};
 ghost use Rattle.ax_tree.specs.Document.{document_id};

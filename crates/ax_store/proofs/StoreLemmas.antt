@@ -22,7 +22,7 @@ use Rattle.ax_pages.specs.HasContents.{HasContents}
 use Rattle.ax_log.specs.declared.log.Log.{Log}
 use Rattle.ax_log.specs.Log.{log_area, log_generation, log_end}
 use Rattle.ax_log.specs.Agreement as log
-use Rattle.ax_log.specs.Commit.{IsFrameText}
+use Rattle.ax_log.specs.Commit.{IsCommitSpelling}
 use Rattle.ax_log.specs.Faults as log_faults
 use Rattle.ax_log.specs.Opening as opening
 use Rattle.ax_log.specs.Opening.{Keeps}
@@ -128,7 +128,7 @@ refused_store (by_log.Damaged extent at) before history tells = inl tells
 refused_store (by_log.Newer version) before history tells = tells
 refused_store by_log.Memory before history tells = tt
 
-pub refused_log : (fault : LogFault) → IsRefusal (of_log fault) → log_faults.IsRefused {T = Log} (Err fault)
+pub refused_log : (fault : LogFault) → IsRefusal (of_log fault) → log_faults.FailsOtherwise {T = Log} (Err fault)
 refused_log by_log.Disk refused = absurd refused
 refused_log (by_log.Damaged extent at) refused = λ x. x
 refused_log (by_log.Newer version) refused = λ x. x
@@ -186,7 +186,7 @@ load_opened store before mid new opened takes idles works = record {
 pub span_fits : (parts : List PartValue) → CanFrame parts → IsSpan (parts_bytes parts)
 span_fits parts can = record { some = parts_take_bytes parts can.some; fits = can.length_fits }
 
-pub text_of : (bytes : List ℕ) (parts : List PartValue) → CanFrame parts → IsFrameOf bytes parts → IsFrameText bytes (parts_bytes parts)
+pub text_of : (bytes : List ℕ) (parts : List PartValue) → CanFrame parts → IsFrameOf bytes parts → IsCommitSpelling bytes (parts_bytes parts)
 text_of bytes parts can spelled = record { fits = span_fits parts can; spelled = spelled }
 
 pub text_len : (bytes : List ℕ) (parts : List PartValue) → IsFrameOf bytes parts → length bytes ≡ 9 + length (parts_bytes parts)

@@ -5,7 +5,7 @@ use Rattle.ax_frame.specs.Part.{PartValue, part_bytes}
 use Rattle.ax_pages.specs.declared.page.Page.{Page}
 use Rattle.ax_pages.specs.declared.page.Page.TheVariants.{Meta, Policy, Document, Term}
 
--- the part by which a page has its payload
+-- the part by which a page has its payload; of a term page, which has none, one of a kind outside the format
 abbrev pub part_of_page : Page → List ℕ → PartValue
 part_of_page Meta payload = record { kind = 1; key = 0; payload = payload }
 part_of_page (Policy number) payload = record { kind = 2; key = number; payload = payload }

@@ -54,14 +54,14 @@ pub record SameButRoom {C : Type 0} (old new : Store C) : Type 0 where
   pub logged : new.log ≡ old.log
   pub contents : store_contents new ≡ store_contents old
   pub offsets : store_offsets new ≡ store_offsets old
-  pub works : store_failed new ≡ store_failed old
+  pub failed : store_failed new ≡ store_failed old
   pub slots : store_slots new ≡ store_slots old
 
 -- nothing changed but which slots are free, and their bytes
 pub record SameButSlots {C : Type 0} (old new : Store C) : Type 0 where
   pub logged : new.log ≡ old.log
   pub pages : new.pages ≡ old.pages
-  pub works : store_failed new ≡ store_failed old
+  pub failed : store_failed new ≡ store_failed old
 
 -- The store agrees with the disk by the contents that the image before has.
 pub record IsOpened {C : Type 0} (store : Store C) (before : Image) (history : History) : Type 0 where

@@ -5,7 +5,7 @@ ghost use Rattle.ax_frame.specs.Part.{part_value};
 ghost use Rattle.ax_store.specs.Change.{changes_value, can_frame, IsFrameOf};
 
 use crate::change::Change;
-use crate::memory::Memory;
+use crate::out_of_memory::Memory;
 use ax_frame::{Part, PartsText, write_frame};
 use std::alloc::Global;
 
@@ -39,7 +39,7 @@ impl Batch {
         }
     }
 
-    /// Puts a part behind the others. `Memory` where there is no room for it; the parts are then as
+    /// Puts a part, whose payload has at most 65,536 bytes, behind the others. `Memory` where there is no room for it; the parts are then as
     /// they were.
     pub fn add(&mut self, alloc: Global, part: Part<'_>) -> Result<(), Memory>
         requires { length part.payload.now ≤ 65536 }
@@ -63,7 +63,7 @@ impl Batch {
         self.changes.len()
     }
 
-    /// Writes the log frame, so that the commit needs no memory. `Memory` where there is none for it;
+    /// Writes the log frame of at least one part, so that the commit needs no memory. `Memory` where there is none for it;
     /// the batch is then gone.
     pub fn seal(mut self, alloc: Global) -> Result<Batch, Memory>
         requires { batch_parts self ≢ [] }

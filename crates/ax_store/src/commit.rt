@@ -13,7 +13,7 @@ ghost use Rattle.ax_store.specs.Store.{Agrees, SameButRoom, store_contents, stor
 
 use crate::batch::Batch;
 use crate::fault::StoreFault;
-use crate::memory::Memory;
+use crate::out_of_memory::Memory;
 use crate::put_changes::put_changes;
 use crate::store::Store;
 use ax_disk::Disk;
@@ -34,7 +34,8 @@ impl<C> Store<C> {
 
     /// Makes the parts of a sealed batch durable together, and changes the pages by them. It takes no
     /// memory, and its only error is `Disk`: the pages are then as before, in memory, and the store
-    /// has failed.
+    /// has failed. Room for the parts was made by `reserve`, and they are within the format after the
+    /// store's contents.
     pub fn commit<D: Disk>(&mut self, disk: &mut D, batch: Batch) -> Result<(), StoreFault>
         requires agrees { IsTrue (D.is_honest disk.old) → store_failed self.old ≡ false
             → Agrees self.old (D.history disk.old (D.attached disk.old)) }

@@ -6,7 +6,7 @@ ghost use Rattle.ax_store.specs.Rows.{payload_kept, offset_kept};
 ghost use Rattle.ax_store.specs.Listed.{IsNextAfter};
 
 use crate::kept_part::KeptPart;
-use crate::memory::Memory;
+use crate::out_of_memory::Memory;
 use crate::row::{Row, clear_row, drop_cleared_rows, first_held, put_row, search};
 use std::alloc::Global;
 use std::marker::Model;

@@ -28,7 +28,8 @@ impl<C: PageCache + Drop> Store<C> {
     /// It begins with a sync, the barrier: until that succeeds a crash leaves what it might have left
     /// before, and from then on the contents that reads gave. `Damaged` is answered where root, frames
     /// or parts are outside the format, and `Newer` where the root slot that counts names a later
-    /// version; both leave the store's lists as they were. All slots are free.
+    /// version; both leave the store's lists as they were. At `Disk` or
+    /// `Memory` a fresh store may have been formed. At Ok all slots are free.
     pub fn open_store<D: Disk>(
         alloc: Global,
         disk: &mut D,

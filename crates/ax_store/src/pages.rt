@@ -10,7 +10,7 @@ ghost use Rattle.ax_store.specs.Kept.{IsNothing, offset_of, offsets_after};
 
 use crate::directory::Directory;
 use crate::kept_part::KeptPart;
-use crate::memory::Memory;
+use crate::out_of_memory::Memory;
 use ax_pages::{Kind, Page};
 use std::alloc::Global;
 use std::marker::Model;

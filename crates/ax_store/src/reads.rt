@@ -49,7 +49,7 @@ impl<C> Store<C> {
         }
     }
 
-    /// Where a part of a page stands: the extent as a number, and the offset in it.
+    /// Where a part of a page stands: the extent as a number, and the offset of its head in it.
     pub fn place(&self, page: Page, i: usize) -> (u8, u64)
         requires { i < length (parts_of page (store_contents self.now)) }
         ensures extent { result.0 ≡ extent_number (store_area self.now) }
@@ -85,6 +85,7 @@ impl<C> Store<C> {
     }
 
     /// The text of a document. `None` exactly where the number is not held. It counts one step.
+    /// `Disk` where the store has failed before; `Memory` where there is no room for the text.
     pub fn fetch_text<D: Disk, L: Ledger>(
         &mut self,
         alloc: Global,
@@ -100,7 +101,7 @@ impl<C> Store<C> {
             → Idles (D.history disk.old (D.attached disk.old)) (D.history disk.new (D.attached disk.new)) }
         ensures failed_before { store_failed self.old ≡ true → result ≡ Err StoreFault.Disk }
         ensures cause { store_failed self.old ≡ false → HasDiskCause result (D.faults disk.old) (D.faults disk.new) }
-        ensures never_falls { D.faults disk.new ≡ D.faults disk.old }
+        ensures same_faults { D.faults disk.new ≡ D.faults disk.old }
         ensures attached { D.attached disk.new ≡ D.attached disk.old }
         ensures honest { D.is_honest disk.new ≡ D.is_honest disk.old }
     {

@@ -20,7 +20,7 @@ use std::sync::ledger::Ledger;
 
 impl<C> Store<C> {
     /// Reads a part of a page into the front of a slot, and answers how many bytes it has. For a
-    /// document it counts one step. Its only error is `Disk`.
+    /// document it counts one step. Its only error is `Disk`, where the store has failed before.
     pub fn read_part<D: Disk, L: Ledger>(
         &mut self,
         disk: &mut D,
@@ -41,7 +41,7 @@ impl<C> Store<C> {
         ensures disk_alone { IfErr result (λ fault. fault ≡ StoreFault.Disk) }
         ensures failed_before { store_failed self.old ≡ true → result ≡ Err StoreFault.Disk }
         ensures cause { store_failed self.old ≡ false → HasDiskCause result (D.faults disk.old) (D.faults disk.new) }
-        ensures never_falls { D.faults disk.new ≡ D.faults disk.old }
+        ensures same_faults { D.faults disk.new ≡ D.faults disk.old }
         ensures attached { D.attached disk.new ≡ D.attached disk.old }
         ensures honest { D.is_honest disk.new ≡ D.is_honest disk.old }
     {
@@ -60,7 +60,7 @@ impl<C> Store<C> {
 
     /// Reads the text of a document into the front of a slot, and answers how many bytes it has.
     /// `None` exactly where the number is not held. It counts one step, and its only error is
-    /// `Disk`.
+    /// `Disk`, where the store has failed before.
     pub fn fetch<D: Disk, L: Ledger>(
         &mut self,
         disk: &mut D,
@@ -79,7 +79,7 @@ impl<C> Store<C> {
         ensures disk_alone { IfErr result (λ fault. fault ≡ StoreFault.Disk) }
         ensures failed_before { store_failed self.old ≡ true → result ≡ Err StoreFault.Disk }
         ensures cause { store_failed self.old ≡ false → HasDiskCause result (D.faults disk.old) (D.faults disk.new) }
-        ensures never_falls { D.faults disk.new ≡ D.faults disk.old }
+        ensures same_faults { D.faults disk.new ≡ D.faults disk.old }
         ensures attached { D.attached disk.new ≡ D.attached disk.old }
         ensures honest { D.is_honest disk.new ≡ D.is_honest disk.old }
     {

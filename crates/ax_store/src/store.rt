@@ -7,7 +7,7 @@ use ax_pool::Pool;
 /// The pages of a store that was opened on a disk.
 ///
 /// Until a call answers that the disk failed, the store agrees with the disk: each image that a crash
-/// may leave has the store's contents. From then on each call that may fail answers `Disk`.
+/// may leave has the store's contents. From then on each call that takes the disk answers `Disk`.
 #[derive(Drop)]
 pub struct Store<C> {
     pub(crate) log: Log,

@@ -1,5 +1,5 @@
 -- What a crash may leave of a list after a write or a cut, in terms of what it might have left
--- before: up to the place of the write it is an image from before, and with the old bytes put back
+-- before: up to the place of the write it is a list from before, and with the old bytes put back
 -- it is one.
 use Rattle.std.proofs.Common.{◌≡◌, ◌⊎◌, inl, inr, ⊎_elim, ℕ, ◌+◌, ◌-◌, ◌<◌, ◌≤◌, List, ◌∷◌, ◌++◌, length, get_or, take, drop, refl, sym, ◌∙◌, ap, subst, arith, append_assoc, length-append}
 use Rattle.std.proofs.lemmas.List.{ext_get_or, length-take, length-take-le, length-drop, get_or-take, get_or-drop, get_or_append_left, get_or-append_right, take_at, take_all, take-take, drop_at, drop_more, take-append-drop}
@@ -7,7 +7,7 @@ use Rattle.ax_disk.specs.model.Pending.{IsOutside, IsUntouched, Pending, MayHold
 use Rattle.ax_disk.specs.model.Calls.{overwritten}
 use Rattle.ax_disk.specs.laws.PendingLaws.{length-overwritten, overwritten_inside, overwritten_outside, kept_back}
 
--- an image cut to the least length is an image
+-- a list that may be left, cut to the least length, may be left
 pub shortest_holds : (pending : Pending) (bytes : List ℕ) → MayHold pending bytes
     → MayHold pending (take pending.least bytes)
 shortest_holds pending bytes held =
@@ -29,7 +29,7 @@ IsFromEither at size list bytes mixed i =
     ⊎ ((i < length bytes) × IsOutside i (record { at = at; size = size }) ×
     (get_or mixed i 0 ≡ get_or bytes i 0))
 
--- A list of such bytes, of an allowed length, is an image from before the write.
+-- A list of such bytes, of an allowed length, is a list from before the write.
 pub mixed_holds : (pending : Pending) (at size : ℕ) (list bytes mixed : List ℕ)
     → MayHold pending list → MayHold (written at size pending) bytes
     → pending.least ≤ length mixed → length mixed ≤ pending.greatest
@@ -59,7 +59,7 @@ mixed_holds pending at size list bytes mixed before after least greatest from = 
 below_or_not : (a b : ℕ) → (a < b) ⊎ (b ≤ a)
 below_or_not a b = grind arith
 
--- with what a read gave put back from the place of the write on it is an image from before
+-- with what a read gave put back from the place of the write on it is a list from before
 pub back_put_back : (pending : Pending) (at size : ℕ) (list bytes : List ℕ) → MayHold pending list
     → MayHold (written at size pending) bytes
     → at ≤ length list → at ≤ length bytes → MayHold pending (take at bytes ++ drop at list)
@@ -88,7 +88,7 @@ back_put_back pending at size list bytes before after within reached =
     ))
     (below_or_not i at))
 
--- with the old bytes of a range put back that has the written one in it, it is an image from before
+-- with the old bytes of a range put back that has the written one in it, it is a list from before
 pub range_put_back : (pending : Pending) (at size from n : ℕ) (list bytes : List ℕ)
     → MayHold pending list → MayHold (written at size pending) bytes
     → from ≤ at → at + size ≤ from + n → from + n ≤ length list → from + n ≤ length bytes
@@ -128,7 +128,7 @@ range_put_back pending at size from n list bytes before after starts ends within
     (below_or_not i (from + n)))
     (below_or_not i from))
 
--- with the old prefix put back that has the written range in it, it is an image from before
+-- with the old prefix put back that has the written range in it, it is a list from before
 pub prefix_put_back : (pending : Pending) (at size n : ℕ) (list bytes : List ℕ)
     → MayHold pending list → MayHold (written at size pending) bytes
     → at + size ≤ n → n ≤ length list → n ≤ length bytes

@@ -1,4 +1,4 @@
--- The same of the three lists: what a crash may leave after a write or a cut, in terms of what it
+-- What `TornLaws` says of one list, of the three lists: what a crash may leave after a write or a cut, in terms of what it
 -- might have left before. What all images have of a prefix, or of a list that is not written, they
 -- have after the call.
 use Rattle.std.proofs.Common.{◌≡◌, ◌≢◌, ℕ, ◌+◌, ◌≤◌, List, length, take, sym, ◌∙◌, ap, subst}

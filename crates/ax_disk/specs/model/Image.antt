@@ -1,5 +1,5 @@
 -- A disk image: the bytes of the three lists that a store has on a disk.
--- Source: Axis keeps a store as a root of commit gates and two areas, of which one counts at a time.
+-- Source: Axis keeps a store as a root of two root slots and two areas, of which one counts at a time.
 use Rattle.std.specs.Prelude.{ℕ, List}
 use Rattle.ax_disk.specs.declared.extent.Extent.{Extent}
 use Rattle.ax_disk.specs.declared.extent.Extent.TheVariants.{Root, A, B}

@@ -11,7 +11,7 @@ pub record History : Type 1 where
   pub reads : Image
   -- what is pending: a crash now may leave the images that this allows
   pub unsynced : Unsynced
-  -- the clock
+  -- the moment now
   pub moment : ℕ
   -- what a crash at a moment up to now might have left
   pub left_at : ℕ → Image → Type 0

@@ -1,5 +1,5 @@
 -- What a crash may leave of a list of bytes. A sync that succeeds settles it: a crash then leaves what a read gives.
--- What was done since is pending: a crash leaves any length that the list had on the way, and any bytes where it was written.
+-- What was done since is pending: a crash leaves any length from the least to the greatest since, and any bytes where it was written or was not long enough.
 -- Source: the guarantees that SQLite's "Atomic Commit In SQLite" (sections 2 and 3) asks of a file: writes may be lost,
 -- torn or reordered until a sync, and bytes outside a written range stay.
 use Rattle.std.specs.Prelude.{◌≡◌, ◌⊎◌, ℕ, ◌+◌, ◌<◌, ◌≤◌, min, max, List, [], ◌∷◌, length, slice_index}

@@ -2,7 +2,7 @@ use Rattle.std.proofs.Common.{List, ℕ, refl, sym, subst}
 use Rattle.ax_disk.specs.declared.mem_disk.MemDisk.{MemDisk}
 use Rattle.ax_disk.specs.mem_disk.MemDisk.{disk_history}
 use Rattle.ax_log.specs.Agreement.{Agrees}
-use Rattle.ax_log.specs.Commit.{IsFrameText}
+use Rattle.ax_log.specs.Commit.{IsCommitSpelling}
 use Rattle.ax_log.proofs.tests.stopped_commit.Goals as goal
 
 pub commit-requires-clause-agrees : goal.commit-requires-clause-agrees
@@ -18,6 +18,6 @@ pub commit-requires-clause-frame : goal.commit-requires-clause-frame
 commit-requires-clause-frame c =
     let span = c.in_ok-text.ensures.0 in (
       span,
-      subst (λ (text : List ℕ). IsFrameText text span)
+      subst (λ (text : List ℕ). IsCommitSpelling text span)
           (sym c.deref.ensures.value) c.in_ok-text.ensures.1,
     )

@@ -1,5 +1,5 @@
 -- The documents so far were taken in. The ledger of each turn is that of its blank.
-use Rattle.std.proofs.Common.{◌≡◌, [], map, take}
+use Rattle.std.proofs.Common.{[], map, take}
 use Rattle.ax_mean.specs.declared.query.Query.{Query}
 use Rattle.ax_answer.specs.Gathering.{Gathers}
 use Rattle.ax_plain.proofs.query_rows.add_documents.Given as goal

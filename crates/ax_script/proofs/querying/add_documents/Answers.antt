@@ -3,7 +3,7 @@ use Rattle.std.proofs.Common.{◌++◌, ◌∙◌, [], ap, sym, subst, arith, le
 use Rattle.std.proofs.lemmas.List.{append-nil}
 use Rattle.ax_answer.specs.Gathering.{Gathers}
 use Rattle.ax_script.specs.Documents.{contents_in}
-use Rattle.ax_script.proofs.InOrder.{above, pairs, next_entry, read_here, taken_on}
+use Rattle.ax_script.proofs.InOrder.{pairs, next_entry, read_here, taken_on}
 use Rattle.ax_script.proofs.InOrder.{one_less, at_the_end, at_the_start}
 use Rattle.ax_script.proofs.querying.add_documents.Goals as goal
 

@@ -116,7 +116,7 @@ returns-in-Ok-commit-clause-tells g c = λ before holds doc at.
       λ honest. turned_by (contents_in c.args.self.now) (store_contents c.reserve.new.self) (batch_parts c.in-Ok.batch) _
           before (created id c.args.tree.now before) _ _ holds.stand leads c.in-Ok.ensures.parts
           c.reserve.ensures.same.contents
-          (c.commit.ensures.any_moment honest (c.reserve.ensures.same.works ∙ c.requires.works.unfailed)),
+          (c.commit.ensures.any_moment honest (c.reserve.ensures.same.failed ∙ c.requires.works.unfailed)),
     )
 
 pub returns-in-Err-clause-tells : goal.returns-in-Err-clause-tells
@@ -136,5 +136,5 @@ returns-in-Err-clause-tells g c = λ before holds doc at.
       λ honest. turned_by (contents_in c.args.self.now) (store_contents c.reserve.new.self) (batch_parts c.in-Ok.batch) _
           before (created id c.args.tree.now before) _ _ holds.stand leads c.in-Ok.ensures.parts
           c.reserve.ensures.same.contents
-          (c.commit.ensures.any_moment honest (c.reserve.ensures.same.works ∙ c.requires.works.unfailed)),
+          (c.commit.ensures.any_moment honest (c.reserve.ensures.same.failed ∙ c.requires.works.unfailed)),
     )

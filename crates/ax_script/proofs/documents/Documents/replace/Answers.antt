@@ -69,7 +69,7 @@ returns-in-Ok-commit-clause-tells g c = λ before id holds doc at.
       λ honest. turned_by (contents_in c.args.self.now) (store_contents c.reserve.new.self) (batch_parts c.in-Ok.batch) _
           before (replaced id c.args.tree.now before) _ _ holds.stand leads c.in-Ok.ensures.parts
           c.reserve.ensures.same.contents
-          (c.commit.ensures.any_moment honest (c.reserve.ensures.same.works ∙ c.requires.works.unfailed)),
+          (c.commit.ensures.any_moment honest (c.reserve.ensures.same.failed ∙ c.requires.works.unfailed)),
     )
 
 pub returns-in-Err-clause-tells : goal.returns-in-Err-clause-tells
@@ -84,5 +84,5 @@ returns-in-Err-clause-tells g c = λ before id holds doc at.
       λ honest. turned_by (contents_in c.args.self.now) (store_contents c.reserve.new.self) (batch_parts c.in-Ok.batch) _
           before (replaced id c.args.tree.now before) _ _ holds.stand leads c.in-Ok.ensures.parts
           c.reserve.ensures.same.contents
-          (c.commit.ensures.any_moment honest (c.reserve.ensures.same.works ∙ c.requires.works.unfailed)),
+          (c.commit.ensures.any_moment honest (c.reserve.ensures.same.failed ∙ c.requires.works.unfailed)),
     )

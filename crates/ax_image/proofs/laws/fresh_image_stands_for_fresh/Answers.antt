@@ -1,5 +1,5 @@
 use Rattle.ax_image.proofs.OneContainer.{fresh_files}
-use Rattle.ax_image.proofs.laws.fresh_files_stand_for_none.Goals as goal
+use Rattle.ax_image.proofs.laws.fresh_image_stands_for_fresh.Goals as goal
 
 pub returns : goal.returns
 returns c = fresh_files
