@@ -127,6 +127,7 @@ fn stepped_in<'a>(
 }
 
 /// `NOT a`
+#[inline(never)]
 #[cycle(eval)]
 fn not_in<'a>(alloc: Global, a: &'a Expr, scope: &Scope<'a>) -> Result<Seen<'a>, Memory>
     ensures { IfOk result (λ seen. seen ≡ negation_of (meaning scope.now a.now)) }
@@ -150,6 +151,7 @@ fn binary_in<'a>(
 }
 
 /// `left IN (items)` or its negation, of a left value.
+#[inline(never)]
 #[cycle(eval)]
 fn membership_in<'a>(
     alloc: Global,
@@ -166,6 +168,7 @@ fn membership_in<'a>(
 
 /// `left BETWEEN low AND high` or its negation, of the first two values. A left value below `low`
 /// decides it.
+#[inline(never)]
 #[cycle(eval)]
 fn between_in<'a>(
     alloc: Global,
@@ -187,6 +190,7 @@ fn between_in<'a>(
 }
 
 /// `left LIKE pattern` or its negation, of a left value.
+#[inline(never)]
 #[cycle(eval)]
 fn like_in<'a>(
     alloc: Global,
@@ -203,6 +207,7 @@ fn like_in<'a>(
 }
 
 /// `op a`
+#[inline(never)]
 #[cycle(eval)]
 fn sign_in<'a>(
     alloc: Global,
@@ -216,6 +221,7 @@ fn sign_in<'a>(
 }
 
 /// `func(args)`
+#[inline(never)]
 #[cycle(eval)]
 fn call_in<'a>(
     alloc: Global,
@@ -229,6 +235,7 @@ fn call_in<'a>(
 }
 
 /// The first value that is defined.
+#[inline(never)]
 #[cycle(eval)]
 #[tactic(auto, using(crate::proofs::Chains::undefined_skipped))]
 fn coalesce_in<'a>(
@@ -246,6 +253,7 @@ fn coalesce_in<'a>(
     Ok(Seen::undefined())
 }
 
+#[inline(never)]
 #[cycle(eval)]
 #[tactic(auto, using(crate::proofs::Chains::and_chain))]
 fn and_in<'a>(alloc: Global, items: &'a ExprList, scope: &Scope<'a>) -> Result<Seen<'a>, Memory>
@@ -274,6 +282,7 @@ fn all_in<'a>(alloc: Global, items: &'a ExprList, scope: &Scope<'a>) -> Result<O
     Ok(all)
 }
 
+#[inline(never)]
 #[cycle(eval)]
 #[tactic(auto, using(crate::proofs::Chains::or_chain))]
 fn or_in<'a>(alloc: Global, items: &'a ExprList, scope: &Scope<'a>) -> Result<Seen<'a>, Memory>
@@ -343,6 +352,7 @@ fn equal_in<'a>(
     Ok(equal)
 }
 
+#[inline(never)]
 #[cycle(eval)]
 #[tactic(auto, using(crate::proofs::Chains::join_chain))]
 fn join_in<'a>(alloc: Global, items: &'a ExprList, scope: &Scope<'a>) -> Result<Seen<'a>, Memory>
@@ -356,6 +366,7 @@ fn join_in<'a>(alloc: Global, items: &'a ExprList, scope: &Scope<'a>) -> Result<
 }
 
 /// What the operators of a chain make of its first operand.
+#[inline(never)]
 #[cycle(eval)]
 fn operated_in<'a>(
     alloc: Global,
@@ -391,6 +402,7 @@ fn values_in<'a>(
 }
 
 /// The list of the values that are defined.
+#[inline(never)]
 #[cycle(eval)]
 fn list_in<'a>(alloc: Global, items: &'a ExprList, scope: &Scope<'a>) -> Result<Seen<'a>, Memory>
     ensures { IfOk result (λ seen. seen ≡ Value.Defined (Tree.List (defined_of (map (meaning scope.now) items.now)))) }
@@ -405,6 +417,7 @@ fn list_in<'a>(alloc: Global, items: &'a ExprList, scope: &Scope<'a>) -> Result<
 }
 
 /// The map of the members that are defined. Of a name that is repeated the last counts.
+#[inline(never)]
 #[cycle(eval)]
 fn object_in<'a>(
     alloc: Global,
