@@ -12,8 +12,9 @@ use crate::seen::Seen;
 use ax_mean::{Func, Value};
 use std::alloc::Global;
 
-/// The value of a function at its arguments; undefined where it takes another number of them.
-/// Lengths and places count Unicode scalar values.
+/// The value of a function at its arguments; undefined where it takes another number of them, save
+/// that CONCAT and ARRAY_CONCAT join any number. Lengths and positions in texts count Unicode
+/// scalar values, those in lists elements.
 pub fn call_seen(alloc: Global, func: Func, args: &[Seen]) -> Result<Value, Memory>
     ensures { IfOk result (λ value. value ≡ call_value func args.now) }
 {

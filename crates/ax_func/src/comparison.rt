@@ -10,7 +10,7 @@ use crate::seen::Seen;
 use ax_mean::Tree;
 use std::cmp::Ordering;
 
-/// Whether two values of one kind are the same; none across kinds.
+/// Whether two values of one kind are the same; none across kinds, and none where one is undefined.
 pub fn equality(a: &Seen, b: &Seen) -> Option<bool>
     ensures { result ≡ equality_of a.now b.now }
 {

@@ -56,7 +56,7 @@ fn append_copies(alloc: Global, to: &mut Vec<Tree>, items: &[Tree]) -> Result<()
     Ok(())
 }
 
-/// The elements from a place on, which counts from the end where it is negative.
+/// The elements from a position on, which counts from the end where it is negative.
 pub fn slice(items: &[Tree], start: i64) -> &[Tree]
     ensures { result.now ≡ slice_from items.now start }
 {
@@ -77,7 +77,7 @@ fn place(items: &[Tree], start: i64) -> usize
     }
 }
 
-/// At most `length` elements from a place on.
+/// At most `length` elements from a position on.
 pub fn slice_to(items: &[Tree], start: i64, length: i64) -> &[Tree]
     ensures { result.now ≡ slice_of items.now start length }
 {

@@ -1,4 +1,4 @@
-//! AND, OR and NOT over true, false and undefined.
+//! AND, OR and NOT over true, false and undefined, which is None.
 ghost use Rattle.std.specs.Prelude.{◌≡◌};
 ghost use Rattle.ax_mean.specs.Logic.{and_of, or_of, not_of};
 

@@ -11,11 +11,11 @@ use std::alloc::Global;
 use std::cmp::Ordering;
 
 /// How two values stand in the order of values: undefined, null, false, true, numbers, texts by
-/// their bytes, lists and then maps by the bytes of their canonical texts. Only two lists, or two
-/// maps, take memory.
+/// their bytes, lists and then maps by the bytes of their canonical texts.
 pub fn compare(alloc: Global, a: &Value, b: &Value) -> Result<Ordering, Memory>
     ensures { IfOk result (λ order. order ≡ value_cmp a.now b.now) }
 {
+    // Only lists and maps take memory.
     match a {
         Value::Undefined => match b {
             Value::Undefined => Ok(Ordering::Equal),

@@ -24,8 +24,9 @@ pub fn unary(op: UnaryOp, a: &Value) -> Result<Value, Memory>
     unary_seen(op, &Seen::of(a))
 }
 
-/// The value of a function at its arguments; undefined where it takes another number of them.
-/// Lengths and places count Unicode scalar values.
+/// The value of a function at its arguments; undefined where it takes another number of them, save
+/// that CONCAT and ARRAY_CONCAT join any number. Lengths and positions in texts count Unicode
+/// scalar values, those in lists elements.
 pub fn call(alloc: Global, func: Func, args: &[Value]) -> Result<Value, Memory>
     ensures { IfOk result (λ value. value ≡ call_value func args.now) }
 {

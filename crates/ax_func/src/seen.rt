@@ -19,8 +19,9 @@ pub struct Seen<'a> {
 #[derive(Debug, Drop)]
 pub enum Held<'a> {
     Undefined,
-    /// A tree that stands elsewhere.
+    /// A tree where it stands, as in a document: it is not copied.
     Here(&'a Tree),
+    /// A tree of its own, that was made.
     Made(Tree),
 }
 
@@ -65,6 +66,7 @@ impl<'a> Seen<'a> {
         }
     }
 
+    /// The value, of its own.
     pub fn made(value: Value) -> Seen<'a>
         ensures { result ≡ value }
     {

@@ -1,6 +1,6 @@
 //! The functions of texts.
 ghost use Rattle.std.specs.Prelude.{◌≡◌, IfOk, pos, string_bytes, option_map};
-ghost use Rattle.ax_mean.specs.TextFunctions.{count_of, left as left_text, right as right_text, substring as substring_text, reversed as reversed_text, begins_with, finishes_with, contains_text, place_of, index_of as index_of_text, text_length, joined_texts, shown as shown_text, shown_tree as shown_bytes};
+ghost use Rattle.ax_mean.specs.TextFunctions.{count_of, left as left_text, right as right_text, substring as substring_text, reversed as reversed_text, begins_with, finishes_with, contains_text, place_of, index_of as index_of_text, text_length, joined_texts, as_string as shown_text, shown_tree as shown_bytes};
 
 use crate::chars::{after, before, char_count, ending, last};
 use crate::out_of_memory::Memory;
@@ -9,7 +9,7 @@ use crate::values::text_of;
 use ax_mean::{Tree, write_tree};
 use std::alloc::Global;
 
-/// A number of characters or elements: none where it is negative.
+/// A number of characters or elements: 0 where it is negative.
 pub fn count(number: i64) -> usize
     ensures { result ≡ count_of number }
 {
@@ -82,7 +82,7 @@ pub fn whole(length: usize) -> Result<i64, Memory>
     i64::try_from(length).map_err(|_| Memory)
 }
 
-/// The place of the first `part` in `text`, in characters; -1 where there is none.
+/// The position of the first `part` in `text`, in characters; -1 where there is none.
 pub fn index_of(text: &str, part: &str) -> Result<i64, Memory>
     ensures { IfOk result (λ n. n ≡ index_of_text text.now part.now) }
 {

@@ -1,6 +1,8 @@
 -- The grammar of expressions: at each level, which expression stands between what is before and
 -- what is after it. `n` is how many choices, NOTs and signs may still stand inside one another. A
 -- parameter is the literal of its value.
+-- A list of lexemes is named by what stands first in it: mark, word and name are the lists from
+-- there on.
 use Rattle.std.specs.Prelude.{◌≡◌, ℕ, suc, ◌≤◌, pos, List, [], ◌∷◌, length, Bool, true, false, Some}
 use Rattle.ax_lex.specs.declared.keyword.Keyword.TheVariants as keyword
 use Rattle.ax_lex.specs.declared.symbol.Symbol.{Symbol}

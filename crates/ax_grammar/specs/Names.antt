@@ -67,16 +67,16 @@ name_or_number n (Some name) = name
 name_or_number n None = numbered_name n
 
 -- the number of the next item that has no name
-abbrev pub next_number : ℕ → Option (List ℕ) → ℕ
-next_number n (Some name) = n
-next_number n None = n + 1
+abbrev pub number_behind : ℕ → Option (List ℕ) → ℕ
+number_behind n (Some name) = n
+number_behind n None = n + 1
 
 -- items with their names, where the next one without a name has this number
 abbrev pub named_from : ℕ → List Item → List Named
 named_from n [] = []
 named_from n (item ∷ items) =
     record { name = name_or_number n (name_of item); expr = item.expr } ∷
-    named_from (next_number n (name_of item)) items
+    named_from (number_behind n (name_of item)) items
 
 abbrev pub named_items : List Item → List Named
 named_items = named_from 1

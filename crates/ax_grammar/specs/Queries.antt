@@ -1,5 +1,7 @@
 -- The grammar of queries: what a list of lexemes writes. A phrase that may be absent is read where
 -- its first lexeme stands.
+-- A list of lexemes is named by what stands first in it: mark, word and name are the lists from
+-- there on.
 use Rattle.std.specs.Prelude.{◌≡◌, ℕ, ◌≤◌, List, [], ◌∷◌, Bool, true, false, Option, Some, None}
 use Rattle.ax_lex.specs.declared.keyword.Keyword.TheVariants as keyword
 use Rattle.ax_lex.specs.declared.symbol.Symbol.TheVariants as symbol
@@ -212,6 +214,7 @@ pub record IsWritten (params : List (Member Tree)) (lexemes : List Lexeme) (writ
   pub behind_distinct : List Lexeme
   pub behind_top : List Lexeme
   pub behind_pick : List Lexeme
+  -- what is behind FROM
   pub behind_word : List Lexeme
   pub behind_source : List Lexeme
   pub behind_joins : List Lexeme
@@ -222,6 +225,7 @@ pub record IsWritten (params : List (Member Tree)) (lexemes : List Lexeme) (writ
   pub distinct : IsDistinct written.distinct behind_select behind_distinct
   pub top : IsTop params written.top behind_distinct behind_top
   pub pick : IsPick params behind_top written.picked behind_pick
+  -- FROM
   pub word : TakesKeyword keyword.From behind_pick behind_word
   pub source : IsSource behind_word written.source behind_source
   pub joins : AreJoins behind_source written.joins behind_joins

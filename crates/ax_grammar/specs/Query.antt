@@ -14,6 +14,7 @@ use Rattle.ax_grammar.specs.Reading.{provided}
 use Rattle.ax_grammar.specs.Scope.{obeys_rules}
 use Rattle.ax_grammar.specs.Written.{Written}
 
+-- the most bytes that the text of a query has
 abbrev pub most_bytes : ℕ
 most_bytes = 16384
 

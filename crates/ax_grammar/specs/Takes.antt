@@ -1,5 +1,5 @@
 -- Single lexemes at the front of a list: what is before (from this lexeme on) and what is after it.
--- A mark is a lexeme that the grammar names: a symbol, or a keyword in any spelling.
+-- A mark is a lexeme that the grammar names: a symbol, or a keyword in letters of any case.
 use Rattle.std.specs.Prelude.{ℕ, List, ◌∷◌}
 use Rattle.ax_lex.specs.declared.keyword.Keyword.{Keyword}
 use Rattle.ax_lex.specs.declared.symbol.Symbol.{Symbol}

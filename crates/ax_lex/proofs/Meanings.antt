@@ -16,7 +16,7 @@ use Rattle.ax_lex.specs.declared.keyword.Keyword.{Keyword}
 use Rattle.ax_lex.specs.declared.symbol.Symbol.{Symbol}
 use Rattle.ax_lex.specs.Lexeme.{Lexeme, kind_of}
 use Rattle.ax_lex.specs.Lexeme.Lexeme.{text, number}
-use Rattle.ax_lex.specs.Lexemes.{bytes_of, text_of, keyword_lexeme, text_lexeme, symbol_lexeme, meaning, lexeme_of, lexemes_of}
+use Rattle.ax_lex.specs.Lexemes.{bytes_of, text_of, keyword_lexeme, text_lexeme, symbol_lexeme, lexeme_as, lexeme_of, lexemes_of}
 use Rattle.ax_lex.specs.Tokens.{IsToken, Stands, HasTokens, AreTokens}
 use Rattle.ax_lex.specs.Tokens.IsToken.{word_as_name, word_as_keyword, at_and_word, quoted, digits, two_signs, one_sign}
 use Rattle.ax_lex.specs.Tokens.HasTokens.{ended, space, token}
@@ -29,7 +29,7 @@ use Rattle.ax_lex.proofs.Words.{stretch_front, word_front}
 record FrontIs (lexeme : Lexeme) (before after : List ℕ) : Type 0 where
   front : List ℕ
   whole : before ≡ front ++ after
-  says : meaning (kind_of lexeme) front ≡ lexeme
+  says : lexeme_as (kind_of lexeme) front ≡ lexeme
 
 quoted_front : (quote : ℕ) {value before after : List ℕ} → class_of quote ≡ Quote
     → IsInside quote value before after → (early : List ℕ) → IsUtf8 (early ++ quote ∷ before)
@@ -108,7 +108,7 @@ says_so {total} {first} {lexeme} {before} {after} s f early whole e t =
     let bytes : bytes_of whole first ≡ f.front =
     ap (λ bs. bytes_of bs first) parts
     ∙ bytes_between early f.front after first.start first.end start end in
-    ap (meaning first.kind) bytes ∙ ap (λ k. meaning k f.front) s.kind ∙ f.says
+    ap (lexeme_as first.kind) bytes ∙ ap (λ k. lexeme_as k f.front) s.kind ∙ f.says
 
 says_all : {total : ℕ} {before : List ℕ} {tokens : List Token} {lexemes : List Lexeme}
     → HasTokens total before tokens lexemes → (early whole : List ℕ) → whole ≡ early ++ before
@@ -156,7 +156,7 @@ symbol_kind : (o : Option Symbol) → kind_of (symbol_lexeme o) ≡ kind.Symbol
 symbol_kind None = refl
 symbol_kind (Some which) = refl
 
-pub meaning_kind : (k : TokenKind) (bytes : List ℕ) → kind_of (meaning k bytes) ≡ k
+pub meaning_kind : (k : TokenKind) (bytes : List ℕ) → kind_of (lexeme_as k bytes) ≡ k
 meaning_kind kind.Name bytes = refl
 meaning_kind kind.Keyword bytes = keyword_kind bytes (keyword_of bytes)
 meaning_kind kind.Parameter bytes = refl

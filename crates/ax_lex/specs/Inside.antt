@@ -59,7 +59,7 @@ pub data IsPiece : (value before after : List ℕ) → Type 0 where
   -- any byte but a backslash: itself
   itself : {byte : ℕ} {after : List ℕ} → (byte == backslash) ≡ false
       → IsPiece (byte ∷ []) (byte ∷ after) after
-  -- a backslash and one of a few characters
+  -- a backslash, here `mark`, and one of a few characters
   short : {mark letter byte : ℕ} {after : List ℕ} → mark ≡ backslash
       → short_escape letter ≡ Some byte
       → IsPiece (byte ∷ []) (mark ∷ letter ∷ after) after

@@ -52,17 +52,17 @@ symbol_lexeme None = nothing kind.Symbol
 symbol_lexeme (Some which) = symbol which
 
 -- what bytes say as a token of this kind
-abbrev pub meaning : TokenKind → List ℕ → Lexeme
-meaning kind.Name bytes = name bytes
-meaning kind.Keyword bytes = keyword_lexeme bytes (keyword_of bytes)
-meaning kind.Parameter bytes = parameter (drop 1 bytes)
-meaning kind.Text bytes = text_lexeme (text_of bytes)
-meaning kind.Number bytes = number (number_of bytes)
-meaning kind.Symbol bytes = symbol_lexeme (symbol_of bytes)
+abbrev pub lexeme_as : TokenKind → List ℕ → Lexeme
+lexeme_as kind.Name bytes = name bytes
+lexeme_as kind.Keyword bytes = keyword_lexeme bytes (keyword_of bytes)
+lexeme_as kind.Parameter bytes = parameter (drop 1 bytes)
+lexeme_as kind.Text bytes = text_lexeme (text_of bytes)
+lexeme_as kind.Number bytes = number (number_of bytes)
+lexeme_as kind.Symbol bytes = symbol_lexeme (symbol_of bytes)
 
 -- what a token of this text says
 abbrev pub lexeme_of : List ℕ → Token → Lexeme
-lexeme_of whole token = meaning token.kind (bytes_of whole token)
+lexeme_of whole token = lexeme_as token.kind (bytes_of whole token)
 
 abbrev pub lexemes_of : List ℕ → List Token → List Lexeme
 lexemes_of whole tokens = map (lexeme_of whole) tokens

@@ -6,7 +6,7 @@ ghost use Rattle.ax_lex.specs.declared.token.Token.{Token};
 ghost use Rattle.ax_lex.specs.declared.token.TokenKind.{TokenKind};
 ghost use Rattle.ax_lex.specs.Lexeme.{Lexeme, kind_of};
 ghost use Rattle.ax_lex.specs.Lexeme.Lexeme.{text as text_lexeme};
-ghost use Rattle.ax_lex.specs.Lexemes.{lexemes_of, meaning, text_of};
+ghost use Rattle.ax_lex.specs.Lexemes.{lexemes_of, lexeme_as, text_of};
 ghost use Rattle.ax_lex.specs.LexemesIn.{lexemes_in};
 ghost use Rattle.ax_lex.specs.Spans.{SpansRise};
 ghost use Rattle.ax_lex.specs.Tokens.{AreTokens, IsToken};
@@ -32,7 +32,7 @@ pub fn tokens_say_what_their_bytes_say()
 
 /// Bytes that are taken as a token of a kind say something of that kind.
 pub fn bytes_say_their_kind()
-    ensures { (kind : TokenKind) (bytes : List ℕ) → kind_of (meaning kind bytes) ≡ kind }
+    ensures { (kind : TokenKind) (bytes : List ℕ) → kind_of (lexeme_as kind bytes) ≡ kind }
 {}
 
 /// The tokens of a text stand one behind the other, and in it.

@@ -1,5 +1,5 @@
 //! The tokens of a query text: names, keywords, parameters, texts, numbers and symbols, with the
-//! place of each.
+//! span of each.
 //!
 //! The crate stands on `std` alone. Its one contract: `tokens` answers the list of tokens that the
 //! grammar of `specs/Tokens.antt` relates to the text, each with its span, and `LexFault::Text`
@@ -17,7 +17,7 @@ mod lex;
 mod piece;
 mod symbol;
 mod token;
-mod top;
+mod tokenizing;
 mod unescape;
 mod word;
 
@@ -26,7 +26,7 @@ pub use fault::LexFault;
 pub use keyword::Keyword;
 pub use symbol::Symbol;
 pub use token::{Token, TokenKind};
-pub use top::tokens;
+pub use tokenizing::tokens;
 pub use unescape::text_value;
 
 #[cfg(test)]

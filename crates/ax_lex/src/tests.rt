@@ -3,7 +3,7 @@ use crate::fault::LexFault;
 use crate::keyword::Keyword;
 use crate::symbol::Symbol;
 use crate::token::TokenKind;
-use crate::top::tokens;
+use crate::tokenizing::tokens;
 use crate::unescape::text_value;
 use std::test::Fail;
 

@@ -15,7 +15,7 @@ pub enum TokenKind {
     Symbol,
 }
 
-/// A token and its place in the text: the bytes from `start` up to `end`.
+/// A token: its kind and its span in the text, the bytes from `start` up to `end`.
 #[derive(Clone, Copy, Debug, PartialEq, Eq)]
 pub struct Token {
     pub kind: TokenKind,

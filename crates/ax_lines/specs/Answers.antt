@@ -1,4 +1,5 @@
--- When an answer about a line is what is meant: the value, or the refusal. Out of memory is free.
+-- When a call answers what the definitions give for a line, `meant`: the value, or the refusal.
+-- That memory ran out may be answered at any time.
 use Rattle.std.specs.Prelude.{◌≡◌, Result, Ok, Err}
 use Rattle.ax_lines.specs.declared.line.LineFault.{LineFault}
 use Rattle.ax_lines.specs.declared.line.LineFault.TheVariants.{Refused, Memory}

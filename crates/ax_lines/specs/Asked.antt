@@ -22,6 +22,7 @@ pub record IsStorable (tree : Tree) : Type 0 where
   pub document : IsDocument tree
   pub well_formed : IsWellFormed tree
   pub shallow : nesting tree ≤ deepest
+  -- its member names are short
   pub named : has_short_names tree ≡ true
   pub small : length (canonical_text tree) ≤ most_bytes
 
@@ -29,6 +30,7 @@ pub record IsStorable (tree : Tree) : Type 0 where
 -- small
 pub record IsAnswerable (body : Body) : Type 0 where
   pub text : is_utf8 body.text ≡ true
+  -- its names are those of parameters
   pub named : list_all is_parameter_name (names body.params) ≡ true
   pub well_formed : IsWellFormed (tree.Object body.params)
   pub shallow : nesting (tree.Object body.params) ≤ deepest

@@ -80,9 +80,9 @@ abbrev pub query_causes : Tree → List Cause
 query_causes tree = record { applies = nat_lt deepest (nesting tree); refusal = refusal.Large } ∷ []
 
 -- a query, or the refusal of a tree that is no body
-abbrev pub query_of : Option Body → Result Line Refusal
-query_of (Some body) = Ok (line.Query body)
-query_of None = Err refusal.Query
+abbrev pub query_from : Option Body → Result Line Refusal
+query_from (Some body) = Ok (line.Query body)
+query_from None = Err refusal.Query
 
 -- ---- what a line asks for
 
@@ -96,7 +96,7 @@ abbrev pub line_in : Form → Result Line Refusal
 line_in (Upsert text) = with_tree_of (reading text)
     (λ tree. unless (upsert_causes tree) (Ok (line.Upsert tree)))
 line_in (Query text) = with_tree_of (reading text)
-    (λ tree. unless (query_causes tree) (query_of (body_of tree)))
+    (λ tree. unless (query_causes tree) (query_from (body_of tree)))
 
 abbrev pub of_form : Option Form → Result Line Refusal
 of_form (Some form) = line_in form

@@ -1,9 +1,9 @@
 //! The lines of a script: where its bytes are split, what each line asks for, and why a line is
 //! refused that asks for nothing.
 //!
-//! Stands on `ax_text`, which reads the JSON in a line, on `ax_tree`, and on the words of `ax_lex`
-//! for what a word is. Its one contract: `read_line` answers exactly what the line is, or its
-//! refusal, out of memory aside.
+//! Stands on `ax_text`, which reads the JSON in a line, on `ax_tree`, and on the definitions of
+//! `ax_lex` for what a word is. Its one contract: `read_line` answers exactly what the line is, or
+//! its refusal, out of memory aside.
 #![tactic(auto)]
 
 mod body;

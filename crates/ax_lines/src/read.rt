@@ -30,6 +30,7 @@ const MOST_BYTES: usize = 60_000;
 /// carriage return at its end is dropped.
 pub fn read_line(alloc: Global, line: &[u8]) -> Result<Line, LineFault>
     ensures answers { Answers result (spec.line_of line.now) }
+    // A document that is asked for can be stored, and a body answered.
     ensures asked { IfOk result IsAsked }
 {
     if is_too_long(line) {
@@ -131,7 +132,7 @@ fn upsert(alloc: Global, tree: Tree) -> Result<Line, LineFault>
 fn query(alloc: Global, tree: Tree) -> Result<Line, LineFault>
     requires { IsWellFormed tree }
     ensures answers { Answers result
-        (unless (spec.query_causes tree) (spec.query_of (body_of tree))) }
+        (unless (spec.query_causes tree) (spec.query_from (body_of tree))) }
     ensures asked { IfOk result IsAsked }
 {
     if is_too_deep(&tree) {

@@ -10,7 +10,8 @@ pub enum Refusal {
     Command,
     /// `err 3 json`: the argument is no JSON.
     Json,
-    /// `err 4 number`: the argument holds a number that is not whole, or not of 64 bits.
+    /// `err 4 number`: the argument holds a number that is not written as a whole one (`1.5`, but
+    /// also `1.0`, `1e2` and `-0`), or is not of 64 bits.
     Number,
     /// `err 5 id`: the argument of an UPSERT is no map, or has no text member `id` that may be an
     /// id.
@@ -20,14 +21,16 @@ pub enum Refusal {
     Large,
     /// `err 9 memory`: out of memory.
     Memory,
-    /// `err 10 query`: the argument of a QUERY is no query body, or its parameters are too large,
-    /// or its text is no query that is served. The text is judged after the line is read.
+    /// `err 10 query`: the argument of a QUERY is no query body, or the canonical text of its
+    /// parameters has more than 32,768 bytes, or its text is with them no query of the grammar. The
+    /// text is judged after the line is read.
     Query,
-    /// `err 11 order`: the query has an ORDER BY for which the index keeps no order. No line is refused
-    /// so before its query is read.
+    /// `err 11 order`: the query has an ORDER BY of two paths or more, or of `_etag` alone, for
+    /// which the default indexing policy keeps no order. No line is refused so before its query is
+    /// read.
     Order,
-    /// `err 15 full`: no document can be created, since there are as many as there may be or no
-    /// number is left. No line is refused so before it meets the store.
+    /// `err 15 full`: a creation is asked for where 1,048,576 documents are there or the next
+    /// number is 2^32 - 1. No line is refused so before it meets the store.
     Full,
 }
 

@@ -16,7 +16,7 @@ use Rattle.ax_lines.specs.declared.refusal.Refusal.{Refusal}
 use Rattle.ax_lines.specs.Bodies.{body_of}
 use Rattle.ax_lines.specs.Causes.{Cause, unless}
 use Rattle.ax_lines.specs.Lines.{Form, Upsert, Query, form_of, without_return, with_tree_of}
-use Rattle.ax_lines.specs.Lines.{line_causes, upsert_causes, query_causes, query_of, of_form}
+use Rattle.ax_lines.specs.Lines.{line_causes, upsert_causes, query_causes, query_from, of_form}
 use Rattle.ax_lines.specs.Lines.{line_of}
 use Rattle.ax_machine.specs.Step.{written, upsert_by, served, step}
 use Rattle.ax_machine.specs.Run.{Exchange, Outcome, Served, OutOfMemory, after_line, after}
@@ -41,7 +41,7 @@ unless_holds P (cause ∷ causes) answer holds =
     unless_case P cause.applies cause.refusal (unless causes answer)
     (unless_holds P causes answer holds)
 
-query_asks : (body : Option Body) → IfOk (query_of body) AsksForRead
+query_asks : (body : Option Body) → IfOk (query_from body) AsksForRead
 query_asks (Some body) = tt
 query_asks None = tt
 
@@ -61,8 +61,8 @@ form_asks (Some (Upsert text)) =
     (λ tree good. unless_holds AsksForRead (upsert_causes tree) (Ok (line.Upsert tree)) good)
 form_asks (Some (Query text)) =
     with_tree_holds text (reading text)
-    (λ tree. unless (query_causes tree) (query_of (body_of tree))) refl
-    (λ tree good. unless_holds AsksForRead (query_causes tree) (query_of (body_of tree))
+    (λ tree. unless (query_causes tree) (query_from (body_of tree))) refl
+    (λ tree good. unless_holds AsksForRead (query_causes tree) (query_from (body_of tree))
     (query_asks (body_of tree)))
 
 line_asks : (bytes : List ℕ) → IfOk (line_of bytes) AsksForRead

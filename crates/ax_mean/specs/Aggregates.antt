@@ -56,9 +56,9 @@ picks_aggregate pick.Star = false
 picks_aggregate (pick.Value expr) = has_aggregate expr
 picks_aggregate (pick.Named items) = list_any (λ item. has_aggregate item.expr) items
 
-abbrev pub is_written : {X : Type 0} → List X → Bool
-is_written [] = false
-is_written (x ∷ xs) = true
+abbrev pub has_some : {X : Type 0} → List X → Bool
+has_some [] = false
+has_some (x ∷ xs) = true
 
 abbrev pub has_groups : Query → Bool
-has_groups query = is_written query.groups || picks_aggregate query.pick
+has_groups query = has_some query.groups || picks_aggregate query.pick

@@ -9,7 +9,7 @@ use Rattle.ax_mean.specs.declared.value.Value.TheVariants.{Undefined}
 use Rattle.ax_mean.specs.Arithmetic.{in_64_bits, on_number}
 use Rattle.ax_mean.specs.Comparison.{is_scalar}
 use Rattle.ax_mean.specs.ListFunctions.{list_length, contains_item, joined_lists, slice_from, slice_of, on_list_and_number, on_list_and_numbers}
-use Rattle.ax_mean.specs.TextFunctions.{text_length, left, right, substring, reversed, begins_with, finishes_with, contains_text, index_of, joined_texts, shown, on_text, on_texts, on_text_and_number, on_text_and_numbers}
+use Rattle.ax_mean.specs.TextFunctions.{text_length, left, right, substring, reversed, begins_with, finishes_with, contains_text, index_of, joined_texts, as_string, on_text, on_texts, on_text_and_number, on_text_and_numbers}
 use Rattle.ax_mean.specs.Values.{kind, is_defined, of_truth, of_number, of_text, of_list, list_of}
 
 -- IS_NULL and the like: whether the value is of that kind, which undefined is not
@@ -43,7 +43,7 @@ three (a ∷ b ∷ []) = None
 three (a ∷ b ∷ c ∷ []) = Some (a, b, c)
 three (a ∷ b ∷ c ∷ d ∷ rest) = None
 
--- A function of so many arguments; of another number it has no meaning.
+-- A function of so many arguments; of another number it is undefined.
 abbrev pub given : {X : Type 0} → (X → Value) → Option X → Value
 given f None = Undefined
 given f (Some x) = f x
@@ -84,7 +84,7 @@ call func.Left = of_two (λ a b. of_text (on_text_and_number left a b))
 call func.Right = of_two (λ a b. of_text (on_text_and_number right a b))
 call func.Substring = of_three (λ a b c. of_text (on_text_and_numbers substring a b c))
 call func.Reverse = of_one (λ a. of_text (on_text reversed a))
-call func.ToString = of_one (λ a. of_text (shown a))
+call func.ToString = of_one (λ a. of_text (as_string a))
 call func.ArrayLength = of_one (λ a. of_number (option_map list_length (list_of a)))
 call func.ArrayContains = of_two (λ a b. of_truth (contains_item a b))
 call func.ArrayConcat = λ args. of_list (joined_lists args)

@@ -1,5 +1,6 @@
 -- LIKE: `%` in the pattern stands for any characters, also none, and `_` for one; every other
--- character for itself. Characters are Unicode scalar values. A pattern with `[` has no meaning here.
+-- character for itself. Characters are Unicode scalar values. With a pattern that has `[` it is
+-- undefined.
 use Rattle.std.specs.Prelude.{ℕ, List, [], ◌∷◌, Bool, true, false, ◌&&◌, ◌||◌, ◌==◌, Option, Some, None, option_and_then, if◌then◌else◌}
 use Rattle.std.specs.List.{list_any}
 use Rattle.std.specs.Str.{chars}

@@ -1,5 +1,6 @@
 -- The order of an answer's rows: by their order values one after another, then by the number of the
--- document, then by the place from its first position. DESC turns its own value and nothing else.
+-- document, then by the place from its first position. DESC reverses the order by its own value and
+-- nothing else.
 use Rattle.std.specs.Prelude.{List, [], ◌∷◌, Bool, true, false}
 use Rattle.std.specs.declared.cmp.Ordering.{Ordering}
 use Rattle.std.specs.declared.cmp.Ordering.TheVariants.{Equal}

@@ -11,7 +11,7 @@ use Rattle.ax_mean.specs.declared.value.Value.{Value}
 use Rattle.ax_mean.specs.declared.value.Value.TheVariants.{Undefined, Defined}
 use Rattle.ax_mean.specs.Values.{text_of, number_of}
 
--- a number of characters or elements: none where it is negative
+-- a number of characters or elements: 0 where it is negative
 abbrev pub count_of : ℤ → ℕ
 count_of (pos n) = n
 count_of (negsuc n) = 0
@@ -32,7 +32,8 @@ left text n = encode_utf8_all (take (count_of n) (chars text))
 abbrev pub right : List ℕ → ℤ → List ℕ
 right text n = encode_utf8_all (drop (length (chars text) - count_of n) (chars text))
 
--- SUBSTRING: the characters from a place on, at most so many; none where a number is negative
+-- SUBSTRING: the characters from a place on, at most so many; the empty text where a number is
+-- negative
 abbrev pub substring : List ℕ → ℤ → ℤ → List ℕ
 substring text start count =
     if is_negative start || is_negative count then []
@@ -89,9 +90,9 @@ shown_level tree (Tree-F.Object members) = canonical_text tree
 abbrev pub shown_tree : Tree → List ℕ
 shown_tree tree = shown_level tree (out-Tree tree)
 
-abbrev pub shown : Value → Option (List ℕ)
-shown Undefined = None
-shown (Defined tree) = Some (shown_tree tree)
+abbrev pub as_string : Value → Option (List ℕ)
+as_string Undefined = None
+as_string (Defined tree) = Some (shown_tree tree)
 
 -- A function of a text; of two texts; of a text and a number: undefined where an argument is of
 -- another kind.

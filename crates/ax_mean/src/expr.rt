@@ -51,6 +51,7 @@ pub enum Expr {
     /// `-a`, `+a`
     Sign(UnaryOp, Boxed<Expr>),
     Call(Func, ExprList),
+    /// COUNT(e), SUM(e), MIN(e), MAX(e): an aggregate over the rows of a group.
     Total(Aggregate, Boxed<Expr>),
     /// `[a, b]`
     List(ExprList),

@@ -20,7 +20,8 @@ pub fn equal_values_are_the_same()
         → (value_cmp a b ≡ Equal) ↔ (a ≡ b) }
 {}
 
-/// The test of sameness, which `=` of two lists or maps is, tells exactly the trees that are the same.
+/// The test of sameness, which `=` of two lists or maps is, passes exactly for the trees that are
+/// the same.
 pub fn the_same_trees_are_told()
     ensures { (a : Tree) → (b : Tree) → (is_same a b ≡ true) ↔ (a ≡ b) }
 {}

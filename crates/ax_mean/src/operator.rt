@@ -38,8 +38,8 @@ pub enum Aggregate {
     Max,
 }
 
-/// A function of its arguments. In the text of a query its name is in capitals, as `IS_DEFINED`,
-/// `STARTSWITH` or `INDEX_OF`.
+/// A function of its arguments. In the text of a query its name is `IS_DEFINED`, `STARTSWITH`,
+/// `INDEX_OF` and so on, in letters of any case.
 #[derive(Clone, Copy, Debug, PartialEq, Eq)]
 pub enum Func {
     IsDefined,

@@ -42,7 +42,8 @@ pub struct Named {
 #[derive(Debug, Drop)]
 pub struct FromItem {
     pub alias: Text,
-    /// The container for the first source, else an alias that was bound before.
+    /// The container's name for the first source, which binds nothing; else an alias that was bound
+    /// before.
     pub base: Text,
     pub steps: StepList,
     /// Whether the alias is bound to each element of a list, by IN.

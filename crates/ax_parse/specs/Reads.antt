@@ -63,9 +63,9 @@ Turns (Ok None) turn = turn ≡ ended
 Turns (Err fault) turn = fault ≡ parse.Text → turn ≡ failed
 
 -- one less, where there is one
-abbrev pub IsInside : Option ℕ → ℕ → Type 0
-IsInside (Some inner) depth = depth ≡ suc inner
-IsInside None depth = depth ≡ 0
+abbrev pub IsOneLess : Option ℕ → ℕ → Type 0
+IsOneLess (Some inner) depth = depth ≡ suc inner
+IsOneLess None depth = depth ≡ 0
 
 -- a list of at most so many elements as may be written
 abbrev pub limited : {X : Type 0} → List X → Option (List X)

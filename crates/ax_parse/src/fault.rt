@@ -5,8 +5,9 @@ use std::alloc::{AllocError, AllocFailed};
 /// Why a text is no query here.
 #[derive(Clone, Copy, Debug, PartialEq, Eq)]
 pub enum ParseFault {
-    /// No query is written by the text: it has too many bytes, bytes that are no token, or is
-    /// outside the grammar or the rules of names.
+    /// No query is written by the text: it has more than 16,384 bytes, is no UTF-8, has bytes that
+    /// are no token, names a parameter that is not given, has TOP, OFFSET or LIMIT with a parameter
+    /// that is no number from 0 to 2^32 - 1, or is outside the grammar or the rules of scope.
     Text,
     /// Out of memory.
     Memory,

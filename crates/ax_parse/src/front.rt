@@ -6,7 +6,7 @@ ghost use Rattle.ax_grammar.specs.Fronts.{begins_step};
 ghost use Rattle.ax_grammar.specs.Reading.{take_label, take_operator};
 ghost use Rattle.ax_grammar.specs.Tables.{comparison_of, most_items, operator_before, sign_of};
 ghost use Rattle.ax_parse.specs.Levels.{level_of, operated_operand};
-ghost use Rattle.ax_parse.specs.Reads.{IsInside, IsValue, Reads, Sees, limited};
+ghost use Rattle.ax_parse.specs.Reads.{IsOneLess, IsValue, Reads, Sees, limited};
 ghost use Rattle.ax_parse.specs.Said.{rest_said};
 
 use crate::fault::ParseFault;
@@ -23,7 +23,7 @@ const MOST_ITEMS: usize = 256;
 
 /// How much may stand inside: one less. `None` where nothing may.
 pub(crate) fn inside(depth: u32) -> Option<u32>
-    ensures { IsInside result depth }
+    ensures { IsOneLess result depth }
 {
     depth.checked_sub(1)
 }

@@ -19,14 +19,14 @@ mod level;
 mod lexeme;
 mod lists;
 mod mark;
+mod parsing;
 mod pick;
 mod plain;
 mod prefixes;
 mod query;
 mod step;
 mod tail;
-mod top;
 mod value;
 
 pub use fault::ParseFault;
-pub use top::parse;
+pub use parsing::parse;

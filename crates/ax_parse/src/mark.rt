@@ -1,4 +1,4 @@
-//! What stands first.
+//! Marks, and what is behind one.
 
 ghost use Rattle.std.specs.Prelude.{◌≡◌};
 ghost use Rattle.ax_grammar.specs.Fronts.{is_mark};

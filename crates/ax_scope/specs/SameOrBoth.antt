@@ -1,4 +1,4 @@
--- Whether two values are the same, by whether they are equal where that is defined.
+-- Whether two values are the same: they are equal where that is defined, or both are undefined.
 use Rattle.std.specs.Prelude.{Bool, true, false, ◌&&◌, Option, Some, None}
 use Rattle.ax_mean.specs.declared.value.Value.{Value}
 use Rattle.ax_mean.specs.declared.value.Value.TheVariants.{Undefined, Defined}

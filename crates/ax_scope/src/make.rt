@@ -91,7 +91,7 @@ fn pick_made(alloc: Global, picked: Picked) -> Result<Pick, Memory>
     }
 }
 
-/// The items with their names, where one without a name has the next number.
+/// The items with their names, where those without a name are `$1`, `$2` and so on.
 fn named_items(alloc: Global, items: ItemList) -> Result<NamedList, Memory>
     ensures { IfOk result (λ named. named ≡ items_named (map item_of items)) }
 {

@@ -139,7 +139,7 @@ pub(crate) fn numbered_name(alloc: Global, number: usize) -> Result<Text, Memory
     Ok(Text::from_string(format!(in alloc; "${number}")?))
 }
 
-/// The names of the items, where one without a name has the next number.
+/// The names of the items, where those without a name are `$1`, `$2` and so on.
 pub(crate) fn item_names(alloc: Global, items: &ItemList) -> Result<NameList, Memory>
     ensures { IfOk result (λ names. names ≡ names_of_items (map item_of items.now)) }
 {

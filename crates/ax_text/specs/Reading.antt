@@ -1,6 +1,6 @@
 -- What bytes are as a JSON text (RFC 8259): they stand for a tree, or they are no JSON, or a number
--- in them is not whole. Each comes before the next: a text that breaks off behind a fraction is no
--- JSON.
+-- in them is not whole. That bytes are no JSON goes before a number that is not whole: a text that
+-- breaks off behind a fraction is no JSON.
 use Rattle.std.specs.Prelude.{ℕ, List, Option, Some, None, if◌then◌else◌}
 use Rattle.std.specs.Str.{is_utf8}
 use Rattle.serde_json.specs.Data as serde

@@ -43,7 +43,8 @@ impl TreeReader {
     }
 }
 
-/// What a new `TreeReader` reads.
+/// The tree that the bytes stand for as a JSON text, as a new `TreeReader` reads it; `TextFault`
+/// says why there is none.
 pub fn read_tree(alloc: Global, bytes: &[u8]) -> Result<Tree, TextFault>
     ensures tree { IfOk result (λ tree. reading bytes.now ≡ Stands tree) }
     ensures json { result ≡ Err TextFault.Json → reading bytes.now ≡ NotJson }

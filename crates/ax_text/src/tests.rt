@@ -113,7 +113,7 @@ fn levels_127_are_read_and_128_are_not(rt: HostRuntime) -> Result<(), Fail> {
     Ok(())
 }
 
-// A text of 262,144 bytes in 127 levels, the most that a document may have of both.
+// A text of 262,144 bytes in 127 levels: as many bytes as a line has, as many levels as are read.
 #[test]
 fn the_largest_text_is_read_copied_and_written(rt: HostRuntime) -> Result<(), Fail> {
     let mut text = vec![in rt.alloc(); b'['; 127]?;

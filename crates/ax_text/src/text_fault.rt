@@ -7,7 +7,8 @@ pub enum TextFault {
     /// The bytes are no JSON text: no UTF-8, outside the grammar, nested deeper than 127, or with a
     /// number that is too large for a float.
     Json,
-    /// The text is JSON, and a number in its value is not whole or outside 64 bits.
+    /// The text is JSON, and a number in its value is not written as a whole one (`1.0`, `1e2` and
+    /// `-0` are not), or is outside 64 bits.
     Number,
     /// Out of memory.
     Memory,

@@ -19,7 +19,7 @@ member_level name (Tree-F.Number value) = None
 member_level name (Tree-F.Text value) = None
 member_level name (Tree-F.List items) = None
 
--- the member of that name, of a map that has one
+-- the value of the member of that name, of a map that has one
 abbrev pub member : List ℕ → Tree → Option Tree
 member name tree = member_level name (out-Tree tree)
 
@@ -35,7 +35,7 @@ text_value_level (Tree-F.Object members) = None
 abbrev pub text_value : Tree → Option (List ℕ)
 text_value tree = text_value_level (out-Tree tree)
 
--- the text of the member of that name, of a map in which this member is a text
+-- the text that the member of that name has as its value, where that is a text
 abbrev pub text_member : List ℕ → Tree → Option (List ℕ)
 text_member name tree = option_and_then text_value (member name tree)
 

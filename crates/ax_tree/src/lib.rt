@@ -1,9 +1,9 @@
-//! JSON trees and what they mean: the values that documents are made of, their one canonical text,
-//! and what makes a tree a document. Every crate that speaks of documents cites these definitions.
+//! JSON trees: what documents are made of, their one canonical text, and what makes a tree a
+//! document. Every crate that speaks of documents cites these definitions.
 //!
-//! Stands on `json`, whose writer puts the texts down, and on the words of `serde_json` for what is
-//! read back. Its one contract: `append_tree` puts exactly the canonical text of a tree behind what
-//! a buffer has, and `Tree::copy` gives an equal tree.
+//! Stands on `json`, whose writer puts the texts down, and on the definitions of `serde_json` for
+//! what is read back. Its one contract: `append_tree` puts exactly the canonical text of a tree
+//! behind what a buffer has, and `Tree::copy` gives an equal tree.
 #![tactic(auto)]
 
 mod copy;

@@ -1,5 +1,5 @@
 //! Texts that are queries, and texts beside them that are none, worked out by hand from the grammar
-//! and the rules of names. The parameters are `@k`, 3, `@n`, -1, and `@t`, a text.
+//! and the rules of scope. The parameters are `@k`, 3, `@n`, -1, and `@t`, a text.
 use ax_mean::{Query, Tree};
 use ax_parse::{ParseFault, parse};
 use ax_text::read_tree;

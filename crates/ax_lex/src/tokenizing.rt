@@ -22,6 +22,7 @@ pub fn tokens(alloc: Global, text: &[u8]) -> Result<Vec<Token>, LexFault>
     ensures refused { result ≡ Err LexFault.Text
         → (tokens : List Token) (lexemes : List Lexeme) → ¬ (AreTokens text.now tokens lexemes) }
 
+    // Their spans take a byte or more each, do not overlap, and stand in the text.
     ensures spans { IfOk result (λ found. SpansRise 0 found.items (length text.now)) }
 {
     let Ok(_) = std::str::from_utf8(text) else {

@@ -2,7 +2,7 @@ use Rattle.std.proofs.Common.{sym, subst, arith}
 use Rattle.ax_lex.specs.Lexemes.{lexemes_of}
 use Rattle.ax_lex.specs.Tokens.{AreTokens}
 use Rattle.ax_parse.proofs.Whole.{is_found, is_refused}
-use Rattle.ax_parse.proofs.top.parse.Goals as goal
+use Rattle.ax_parse.proofs.parsing.parse.Goals as goal
 
 pub returns-clause-found : goal.returns-clause-found
 returns-clause-found c =

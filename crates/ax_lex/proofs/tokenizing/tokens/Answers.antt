@@ -4,7 +4,7 @@ use Rattle.ax_lex.specs.Tokens.{HasTokens}
 use Rattle.ax_lex.proofs.LexemeLaws.{in_complete}
 use Rattle.ax_lex.proofs.Meanings.{with_lexemes, then_ok}
 use Rattle.ax_lex.proofs.SpanLaws.{all_rise}
-use Rattle.ax_lex.proofs.top.tokens.Goals as goal
+use Rattle.ax_lex.proofs.tokenizing.tokens.Goals as goal
 
 pub returns-clause-ok : goal.returns-clause-ok
 returns-clause-ok c =
