@@ -65,7 +65,7 @@ aliases_fit w =
     && list_all (are_declared (aliases_of w)) (exprs_optional w.condition)
     && list_all (are_declared (aliases_of w)) w.groups
 
--- At most so many joins, groups and orders.
+-- At most so many joins, expressions behind GROUP BY, and items of ORDER BY.
 abbrev pub limits_fit : Written → Bool
 limits_fit w =
     nat_le (length w.joins) most_joins && nat_le (length w.groups) most_groups
