@@ -96,6 +96,7 @@ short_put_at : (old : Ids) (short : BTreeMap IdKey ℕ) (id : List ℕ) (number 
     → are_bytes id ≡ true → is_short id ≡ true → Updates key_cmp old.short short (key_of id) (Some number)
     → (other : List ℕ) → number_under (record old { short = short }) other
     ≡ cond (bytes_eq id other) (Some number) (number_under old other)
+unfolding number_under
 short_put_at old short id number bytes few updates other =
     ⊎_elim
     (λ (are : are_bytes other ≡ true). ⊎_elim
@@ -112,6 +113,7 @@ long_put_at : (old : Ids) (long : BTreeMap (String Global) ℕ) (id : List ℕ) 
     → ((other : List ℕ) → get_by_text long other ≡ cond (bytes_eq id other) (Some number) (get_by_text old.long other))
     → (other : List ℕ) → number_under (record old { long = long }) other
     ≡ cond (bytes_eq id other) (Some number) (number_under old other)
+unfolding number_under
 long_put_at old long id number bytes many updates other =
     ⊎_elim
     (λ (are : are_bytes other ≡ true). ⊎_elim

@@ -13,6 +13,6 @@ abbrev pub key_cmp : IdKey → IdKey → Ordering
 key_cmp = (id_key_ord.ghosts).cmp
 
 -- the number under which an id stands; what is no list of bytes is under none
-abbrev pub number_under : Ids → List ℕ → Option ℕ
+unfoldable pub number_under : Ids → List ℕ → Option ℕ
 number_under ids id =
     cond (are_bytes id) (cond (is_short id) (get key_cmp ids.short (key_of id)) (get_by_text ids.long id)) None

@@ -18,6 +18,7 @@ pub struct Ids {
 
 impl Ids {
     /// No id stands under a number yet.
+    #[tactic(auto, unfolding(crate::specs::Ids::number_under))]
     pub fn new(alloc: Global) -> Ids
         ensures { (id : List ℕ) → number_under result id ≡ None }
     {
@@ -28,6 +29,7 @@ impl Ids {
     }
 
     /// The number under which an id stands. It takes no memory.
+    #[tactic(auto, unfolding(crate::specs::Ids::number_under))]
     pub fn get(&self, id: &str) -> Option<u32>
         ensures { result ≡ number_under self.now id.now }
     {
@@ -38,7 +40,7 @@ impl Ids {
     }
 
     /// Puts a number under an id, in the place of an earlier one. Out of memory, nothing has changed.
-    #[tactic(auto, using(crate::proofs::Putting::short_put, crate::proofs::Putting::long_put))]
+    #[tactic(auto, using(crate::proofs::Putting::short_put, crate::proofs::Putting::long_put), unfolding(crate::specs::Ids::number_under))]
     pub fn insert(&mut self, alloc: Global, id: &str, number: u32) -> Result<(), Memory>
         ensures ok { OnOk result ((other : List ℕ) → number_under self.new other
             ≡ cond (bytes_eq id.now other) (Some number) (number_under self.old other)) }
