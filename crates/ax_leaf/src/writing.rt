@@ -14,7 +14,8 @@ use ax_gap::put_gaps;
 use ax_gap::varint::put_varint;
 use std::alloc::Global;
 
-/// The payload of a base with these pairs, whose page has this low pair.
+/// The payload of a base with these pairs, whose page has this low pair. The pairs have to rise,
+/// and none to be before the low pair: `is_in_order` tells it.
 ///
 /// `Memory` also where a term has 2^32 bytes or more, or where there are so many terms: no payload
 /// has them.

@@ -15,8 +15,8 @@ use ax_mean::{Member, Path, Step};
 
 impl Policy {
     /// Whether the leaf at that path is indexed: of the included and excluded paths that match, the
-    /// one with most steps decides, and of equal steps the one with `/?`. Looks at as many paths as
-    /// the leaf's has steps, each found by halves.
+    /// one with most steps decides, and of equal steps the one with `/?`. Makes at most two
+    /// searches by halves more than the path has steps.
     pub fn covers(&self, path: &Path) -> bool
         ensures { IsTrue result ↔ Covers self.now path.now }
     {

@@ -82,7 +82,7 @@ WorksAfterAnswer honest (Ok text) documents history = Works honest documents his
 WorksAfterAnswer honest (Err answer.Memory) documents history = Works honest documents history
 WorksAfterAnswer honest (Err answer.Disk) documents history = Unit {0}
 
--- the reply to an answer was written whole; none is written where the disk failed
+-- the reply that an answer is was written whole; none is written where the disk failed
 abbrev pub WritesWhole : Result (Vec ℕ) AnswerFault → Option (List ℕ) → Option (List ℕ) → Type 0
 WritesWhole (Ok text) old new = Appends old new text.items
 WritesWhole (Err answer.Memory) old new = Appends old new (reply_text out_of_memory)

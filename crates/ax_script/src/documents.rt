@@ -50,7 +50,7 @@ pub enum UpsertFault {
     /// The document is none that the store has, and no document can be created: there are 1,048,576,
     /// or no number is left. Nothing has changed.
     Full,
-    /// Out of memory. Nothing has changed.
+    /// Out of memory, or the pages are those of no container. Nothing has changed.
     Memory,
     /// The disk failed. The store is to be opened again.
     Disk,

@@ -6,7 +6,7 @@ ghost use Rattle.ax_answer.specs.Gathering.{Gathers};
 ghost use Rattle.ax_container.specs.Container.{Container};
 ghost use Rattle.ax_grammar.specs.Query.{query_in};
 ghost use Rattle.ax_machine.specs.Needs.{query_need};
-ghost use Rattle.ax_machine.specs.Querying.{asked, numbered, query_reply, rows_reply};
+ghost use Rattle.ax_machine.specs.Querying.{numbered, query_reply, rows_or_refusal, rows_reply};
 ghost use Rattle.ax_machine.specs.ReplyTexts.{reply_text};
 ghost use Rattle.ax_mean.specs.declared.query.Query as queries;
 ghost use Rattle.ax_script.specs.Documents.{Holds};
@@ -27,7 +27,7 @@ use std::alloc::Global;
 use std::sync::ledger::Ledger;
 
 /// The text of the reply to a query, which changes nothing: a refusal where the body's text is no
-/// query, or one that is not served; else the rows of its answer over all documents, and how many
+/// query, or one that is refused; else the rows of its answer over all documents, and how many
 /// there are. Each document that is evaluated takes one step.
 pub(crate) fn reply_to_query<L: Ledger>(
     alloc: Global,
@@ -38,7 +38,7 @@ pub(crate) fn reply_to_query<L: Ledger>(
     ensures text { (container : Container) → Holds documents.now container → IfOk result (λ text. text.items
         ≡ reply_text (query_reply body.now container)) }
     ensures bound { (container : Container) → Holds documents.now container → steps.new ≤ steps.old
-        + query_need (asked (query_in body.now.params body.now.text) container) container }
+        + query_need (rows_or_refusal (query_in body.now.params body.now.text) container) container }
     ensures never_falls { steps.old ≤ steps.new }
 {
     match query_of(alloc, body)? {
@@ -67,9 +67,9 @@ fn reply_to_read<L: Ledger>(
     steps: &mut Steps<L>,
 ) -> Result<Vec<u8>, Memory>
     ensures text { (container : Container) → Holds documents.now container → IfOk result (λ text. text.items
-        ≡ reply_text (rows_reply (asked (Some query.now) container))) }
+        ≡ reply_text (rows_reply (rows_or_refusal (Some query.now) container))) }
     ensures bound { (container : Container) → Holds documents.now container → steps.new ≤ steps.old
-        + query_need (asked (Some query.now) container) container }
+        + query_need (rows_or_refusal (Some query.now) container) container }
     ensures never_falls { steps.old ≤ steps.new }
 {
     if let Some(refusal) = refusal_of(query) {

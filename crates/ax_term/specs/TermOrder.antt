@@ -20,7 +20,7 @@ order_of_bytes = slice_cmp nat_cmp
 abbrev pub order_of_texts : CutText → CutText → Ordering
 order_of_texts = then_cmp (on (λ t. t.front) order_of_bytes) (on (λ t. t.is_cut) bool_cmp)
 
--- where a value's kind stands among the kinds, as in the order of whole values
+-- the place of a value's kind, false and true apart, as in the order of whole values
 abbrev pub kind : CutValue → ℕ
 kind CutValue.Undefined = 0
 kind CutValue.Null = 1
@@ -31,7 +31,7 @@ kind (CutValue.Text text) = 5
 kind (CutValue.List text) = 6
 kind (CutValue.Object text) = 7
 
--- by kind; numbers then by value, texts, lists and maps by what is kept of their texts
+-- by rank; numbers then by value, texts, lists and maps by what is kept of their texts
 abbrev pub order_of_values : CutValue → CutValue → Ordering
 order_of_values (CutValue.Number a) (CutValue.Number b) = int_cmp a b
 order_of_values (CutValue.Text a) (CutValue.Text b) = order_of_texts a b

@@ -12,11 +12,11 @@ use std::marker::Model;
 
 /// Bytes that contracts see as a list. They compare byte by byte.
 #[derive(Debug, Drop)]
-pub struct Written {
+pub struct KeyBytes {
     bytes: Vec<u8>,
 }
 
-impl Model for Written {
+impl Model for KeyBytes {
     ghost use Rattle.std.specs.Prelude.{List, ℕ};
     ghost use Rattle.std.specs.Coded.{coded_list, coded_ℕ};
 
@@ -27,67 +27,67 @@ impl Model for Written {
     ghost view = { λ w. w.bytes.items };
 }
 
-impl Written {
-    pub fn nothing(alloc: Global) -> Written
+impl KeyBytes {
+    pub fn nothing(alloc: Global) -> KeyBytes
         ensures { result ≡ [] }
     {
-        Written {
+        KeyBytes {
             bytes: Vec::new(alloc),
         }
     }
 
     /// The bytes of a text.
-    pub fn text(alloc: Global, text: &Text) -> Result<Written, Memory>
+    pub fn text(alloc: Global, text: &Text) -> Result<KeyBytes, Memory>
         ensures { IfOk result (λ written. written ≡ text.now) }
     {
-        Ok(Written {
+        Ok(KeyBytes {
             bytes: text.as_str().as_bytes().to_vec(alloc)?,
         })
     }
 
     /// The canonical text of a tree.
-    pub fn tree(alloc: Global, tree: &Tree) -> Result<Written, Memory>
+    pub fn tree(alloc: Global, tree: &Tree) -> Result<KeyBytes, Memory>
         ensures { IfOk result (λ written. written ≡ canonical_text tree.now) }
     {
-        Ok(Written {
+        Ok(KeyBytes {
             bytes: write_tree(alloc, tree)?,
         })
     }
 }
 
-impl PartialEq for Written {
+impl PartialEq for KeyBytes {
     ghost use Rattle.std.proofs.lemmas.Cmp.{nat_list_eq_equiv};
 
     ghost eq = { pointwise nat_eq };
 
     ghost laws = { partial_equiv_from_equiv nat_list_eq_equiv };
 
-    fn eq(&self, other: &Written) -> bool {
+    fn eq(&self, other: &KeyBytes) -> bool {
         self.bytes.as_slice() == other.bytes.as_slice()
     }
 }
 
-impl Eq for Written {
+impl Eq for KeyBytes {
     ghost use Rattle.std.proofs.lemmas.Cmp.{nat_list_eq_equiv};
 
     ghost laws = { nat_list_eq_equiv };
 }
 
-impl PartialOrd for Written {
-    ghost use Rattle.ax_rows.specs.Bytes.{bytes_po};
+impl PartialOrd for KeyBytes {
+    ghost use Rattle.ax_rows.specs.ByteOrder.{bytes_po};
 
     ghost partial_cmp = { λ x y. Some (slice_cmp nat_cmp x y) };
 
     ghost laws = { bytes_po };
 
-    fn partial_cmp(&self, other: &Written) -> Option<Ordering> {
+    fn partial_cmp(&self, other: &KeyBytes) -> Option<Ordering> {
         Some(self.cmp(other))
     }
 }
 
-impl Ord for Written {
+impl Ord for KeyBytes {
     ghost use Rattle.std.proofs.lemmas.Cmp.{nat_list_cmp_total};
-    ghost use Rattle.ax_rows.specs.Bytes.{bytes_tie};
+    ghost use Rattle.ax_rows.specs.ByteOrder.{bytes_tie};
 
     ghost cmp = { slice_cmp nat_cmp };
 
@@ -97,7 +97,7 @@ impl Ord for Written {
 
     ghost matches_eq = { bytes_tie };
 
-    fn cmp(&self, other: &Written) -> Ordering {
+    fn cmp(&self, other: &KeyBytes) -> Ordering {
         self.bytes.as_slice().cmp(other.bytes.as_slice())
     }
 }
