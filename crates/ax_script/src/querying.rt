@@ -28,7 +28,7 @@ use std::sync::ledger::Ledger;
 
 /// The text of the reply to a query, which changes nothing: a refusal where the body's text is no
 /// query, or one that is refused; else the rows of its answer over all documents, and how many
-/// there are. Each document that is evaluated takes one step.
+/// there are. Each document that is evaluated takes one step of work.
 pub(crate) fn reply_to_query<L: Ledger>(
     alloc: Global,
     documents: &Documents,
