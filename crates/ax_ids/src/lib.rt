@@ -1,0 +1,16 @@
+//! Ids: under which number each id stands.
+//!
+//! A map of texts goes to other memory for each text that it compares. Most ids are short, so here
+//! an id of at most 45 bytes is compared by three numbers that stand in the map itself; a longer
+//! one is compared as a text. The crate stands on `std` alone.
+//!
+//! Its one contract: an id stands under the number that was put last under just its bytes, and under
+//! none before that (`number_under` of `specs/Ids.antt`). A look-up takes no memory.
+#![tactic(auto)]
+
+mod id_key;
+mod ids;
+mod out_of_memory;
+
+pub use ids::Ids;
+pub use out_of_memory::Memory;
