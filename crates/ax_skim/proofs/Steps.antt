@@ -1,5 +1,5 @@
 -- A text that begins within a value is passed over.
-use Rattle.std.proofs.Common.{◌≡◌, ℕ, List, [], ◌∷◌, Bool, true, false, Option, Some, None, refl}
+use Rattle.std.proofs.Common.{◌≡◌, ℕ, List, [], ◌∷◌, Bool, true, false, refl}
 use Rattle.std.specs.Option.{option_and_then}
 use Rattle.ax_skim.specs.declared.mark.Mark.{Mark}
 use Rattle.ax_skim.specs.declared.mark.Mark.TheVariants.{Quote, Backslash, Opening, Closing, Comma, Other}
