@@ -8,6 +8,7 @@
 mod condition;
 mod conditions;
 mod member;
+mod number;
 mod operands;
 mod out_of_memory;
 mod plain;
