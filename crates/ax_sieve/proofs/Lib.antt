@@ -1,2 +1,4 @@
+pub mod Comparisons
 pub mod Conjunctions
 pub mod Decimals
+pub mod Shapes

@@ -5,6 +5,7 @@
 //! contract: a document that the sieve of a query drops has no rows in that query.
 #![tactic(auto)]
 
+mod comparing;
 mod condition;
 mod conditions;
 mod member;
@@ -12,6 +13,7 @@ mod number;
 mod operands;
 mod out_of_memory;
 mod plain;
+mod scalar;
 mod sieve;
 mod source;
 
