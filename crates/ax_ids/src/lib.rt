@@ -14,3 +14,6 @@ mod out_of_memory;
 
 pub use ids::Ids;
 pub use out_of_memory::Memory;
+
+#[cfg(test)]
+mod tests;
