@@ -1,13 +1,12 @@
 -- What the order of a scalar and a literal tells of their comparisons.
-use Rattle.std.proofs.Common.{◌≡◌, ℕ, ℤ, List, Bool, true, false, ◌&&◌, cond, Option, Some, None, option_map, refl, sym, ap, ◌∙◌, subst, rules, arith}
+use Rattle.std.proofs.Common.{◌≡◌, ℕ, ℤ, List, Bool, true, false, cond, Option, Some, None, refl, sym, ap, ◌∙◌, subst, rules}
 use Rattle.std.proofs.lemmas.Bool.{true≢false}
 use Rattle.std.specs.Bool.{beq}
 use Rattle.std.specs.Str.{bytes_eq}
 use Rattle.std.specs.declared.cmp.Ordering.{Ordering}
 use Rattle.std.specs.declared.cmp.Ordering.TheVariants.{Less, Equal, Greater}
 use Rattle.std.proofs.lemmas.Map.Text.{is_eq-slice_cmp}
-use Rattle.std.specs.Ordering.{is_eq, ordering_then, int_eq, int_cmp, nat_cmp}
-use Rattle.std.specs.Cmp.Lexicographic.{slice_cmp}
+use Rattle.std.specs.Ordering.{is_eq, ordering_then, int_eq, int_cmp}
 use Rattle.ax_tree.specs.declared.tree.Tree as tree
 use Rattle.ax_tree.specs.declared.tree.Tree.{Tree}
 use Rattle.ax_tree.specs.declared.tree.Tree.TheOpen.{Tree-F}
@@ -23,7 +22,7 @@ use Rattle.ax_mean.specs.Meaning.{is_yes}
 use Rattle.ax_mean.specs.Operators.{binary}
 use Rattle.ax_mean.specs.Sameness.{is_same}
 use Rattle.ax_mean.specs.ValueOrder.{value_cmp}
-use Rattle.ax_mean.specs.Values.{truth_of, of_truth, are_of_one_kind}
+use Rattle.ax_mean.specs.Values.{truth_of, of_truth}
 use Rattle.ax_sieve.specs.declared.scalar.Scalar.{Scalar}
 use Rattle.ax_sieve.specs.declared.scalar.Scalar.TheVariants as scalar
 use Rattle.ax_sieve.specs.Comparing.{scalar_order, passes, is_met}

@@ -1,18 +1,17 @@
 -- What the first byte of a canonical text tells of its tree.
-use Rattle.std.proofs.Common.{◌≡◌, ℕ, ℤ, pos, negsuc, List, [], ◌∷◌, ◌++◌, map, Bool, true, false, codes, slice_get, drop, Option, Some, None, IfSome, ◌||◌, ◌==◌, refl, sym, ap, ◌∙◌, subst, rules}
-use Rattle.std.proofs.lemmas.Bool.{false≢true, both_ways, eqb-false, eq-eqb, or_left, or_right}
+use Rattle.std.proofs.Common.{◌≡◌, ℕ, ℤ, pos, negsuc, List, [], ◌∷◌, true, false, codes, slice_get, drop, Option, Some, IfSome, ◌||◌, ◌==◌, refl, sym, ap, ◌∙◌, subst}
+use Rattle.std.proofs.lemmas.Bool.{both_ways, eqb-false, eq-eqb, or_left, or_right}
 use Rattle.std.proofs.lemmas.Option.{same_Some, none-some}
 use Rattle.std.specs.Fmt.{signed_decimal, decimal}
 use Rattle.std.specs.Char.{is_ascii_digit}
 use Rattle.json.specs.Print.{quoted}
-use Rattle.ax_tree.specs.CanonicalText.{canonical_text, text_level, in_brackets, member_text}
-use Rattle.ax_tree.specs.declared.members.Member.{Member}
+use Rattle.ax_tree.specs.CanonicalText.{canonical_text, text_level}
 use Rattle.ax_tree.specs.declared.tree.Tree as tree
 use Rattle.ax_tree.specs.declared.tree.Tree.{Tree}
 use Rattle.ax_tree.specs.declared.tree.Tree.TheOpen.{Tree-F}
 use Rattle.ax_tree.specs.declared.tree.Tree.TheViews.{roll-Tree}
 use Rattle.ax_tree.specs.declared.tree.Tree.TheFolds.{map-Tree, fold-roll-Tree, ind-Tree}
-use Rattle.ax_tree.specs.declared.tree.Tree.TheVariants.{rolls-Null, rolls-Truth, rolls-Number, rolls-Text, rolls-List, rolls-Object}
+use Rattle.ax_tree.specs.declared.tree.Tree.TheVariants.{rolls-Null, rolls-Truth, rolls-Number, rolls-Text}
 use Rattle.ax_mean.specs.declared.value.Value.TheVariants.{Defined}
 use Rattle.ax_sieve.specs.declared.scalar.Scalar.{Scalar}
 use Rattle.ax_sieve.specs.Scalars.{value_of}

@@ -2,7 +2,9 @@
 ghost use Rattle.std.specs.Prelude.{◌≡◌, true};
 ghost use Rattle.ax_sieve.specs.Names.{is_plain};
 
+use crate::comparing::may_be_true;
 use crate::member::member_name;
+use crate::member_value::member_value;
 use crate::plain::is_plain;
 use ax_mean::{BinaryOp, Expr, Text, Value};
 
@@ -16,10 +18,11 @@ pub(crate) struct Condition<'a> {
 }
 
 impl<'a> Condition<'a> {
-    ghost use Rattle.std.specs.Prelude.{IfSome};
+    ghost use Rattle.std.specs.Prelude.{false, IfSome, IsTrue};
+    ghost use Rattle.ax_tree.specs.CanonicalText.{canonical_text};
     ghost use Rattle.ax_tree.specs.declared.tree.Tree.{Tree};
     ghost use Rattle.ax_mean.specs.Meaning.{meaning};
-    ghost use Rattle.ax_sieve.specs.Conditions.{value};
+    ghost use Rattle.ax_sieve.specs.Conditions.{holds, value};
     ghost use Rattle.ax_sieve.specs.Operands.{document_env};
 
     /// The condition that an expression is, where the alias stands for the document; none of another
@@ -43,5 +46,17 @@ impl<'a> Condition<'a> {
             op: *op,
             literal,
         })
+    }
+
+    /// Whether it does not hold in the document of a canonical text; only where that is told at
+    /// once.
+    pub(crate) fn fails(&self, text: &[u8]) -> bool
+        ensures { IsTrue result → (tree : Tree) → text.now ≡ canonical_text tree
+            → holds self.now tree ≡ false }
+    {
+        match member_value(text, self.name.as_str()) {
+            Some(scalar) => !may_be_true(self.op, &scalar, self.literal),
+            None => false,
+        }
     }
 }

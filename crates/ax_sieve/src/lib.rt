@@ -9,6 +9,7 @@ mod comparing;
 mod condition;
 mod conditions;
 mod member;
+mod member_value;
 mod number;
 mod operands;
 mod out_of_memory;

@@ -15,8 +15,10 @@ pub struct Sieve<'a> {
 }
 
 impl<'a> Sieve<'a> {
-    ghost use Rattle.std.specs.Prelude.{IfOk};
-    ghost use Rattle.ax_sieve.specs.Conditions.{IsSieve};
+    ghost use Rattle.std.specs.Prelude.{◌≡◌, true, IfOk, IsTrue};
+    ghost use Rattle.ax_tree.specs.CanonicalText.{canonical_text};
+    ghost use Rattle.ax_tree.specs.declared.tree.Tree.{Tree};
+    ghost use Rattle.ax_sieve.specs.Conditions.{IsSieve, is_dropped};
 
     /// The conditions of WHERE that compare a member of the document with a literal, where the query
     /// has one source, without steps and IN. None of another query: then nothing is dropped.
@@ -30,5 +32,20 @@ impl<'a> Sieve<'a> {
         };
         let conditions = conditions_of(alloc, alias, operands(condition))?;
         Ok(Sieve { conditions })
+    }
+
+    /// Whether the document of that text has no rows; only where that can be told from the text at
+    /// once.
+    #[tactic(auto, using(std::proofs::lemmas::List::Folds::list_any_at))]
+    pub fn drops(&self, text: &[u8]) -> bool
+        ensures { IsTrue result → (tree : Tree) → text.now ≡ canonical_text tree
+            → is_dropped self.now tree ≡ true }
+    {
+        for condition in &self.conditions {
+            if condition.fails(text) {
+                return true;
+            }
+        }
+        false
     }
 }

@@ -34,7 +34,7 @@ neither false true k more = refl
 neither false false true more = refl
 neither false false false more = refl
 
-plain_in_text : (x : ℕ) (more : List ℕ) → (x ≡ 34 → ⊥) → (x ≡ 92 → ⊥)
+pub plain_in_text : (x : ℕ) (more : List ℕ) → (x ≡ 34 → ⊥) → (x ≡ 92 → ⊥)
     → past_text false (x ∷ more) ≡ past_text false more
 unfolding mark_of
 plain_in_text x more quote backslash =

@@ -106,6 +106,7 @@ fn has_backslash(text: &[u8]) -> bool
 }
 
 /// The id in the canonical text of a document; `None` also where it is written with an escape.
+#[tactic(auto, unfolding(json::specs::Print::escape_byte))]
 pub fn find_id(text: &[u8]) -> Option<&[u8]>
     ensures { (tree : Tree) → (id : List ℕ) → text.now ≡ canonical_text tree
         → document_id tree ≡ Some id → IfSome result (λ found. found.now ≡ id) }

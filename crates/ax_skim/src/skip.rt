@@ -1,10 +1,11 @@
 //! What follows a text and what follows a value, found without memory.
 
-ghost use Rattle.std.specs.Prelude.{◌≡◌, ◌<◌, ◌≤◌, length, IfSome, false};
+ghost use Rattle.std.specs.Prelude.{◌≡◌, ◌<◌, ◌≤◌, length, None, IfSome, MatchOption, false};
 ghost use Rattle.std.specs.Option.{option_map};
 ghost use Rattle.ax_skim.specs.Skipping.{past_text, past_value};
 
 use crate::mark::{Mark, mark_of};
+use memchr::memchr2;
 
 /// What follows the quote that closes a text, from behind the one that opens it on.
 pub(crate) fn after_text(text: &[u8]) -> Option<&[u8]>
@@ -12,7 +13,8 @@ pub(crate) fn after_text(text: &[u8]) -> Option<&[u8]>
     ensures shorter { IfSome result (λ after. length after.now < length text.now) }
 {
     let mut rest = text;
-    while let Some((&byte, after)) = rest.split_first() {
+    while let Some(marked) = from_mark(rest) {
+        let (&byte, after) = marked.split_first()?;
         match mark_of(byte) {
             Mark::Quote => return Some(after),
             Mark::Backslash => {
@@ -23,6 +25,19 @@ pub(crate) fn after_text(text: &[u8]) -> Option<&[u8]>
         }
     }
     None
+}
+
+/// The rest of a text from its first quote or backslash on. The bytes before it do nothing.
+#[tactic(auto, using(crate::proofs::Marked::first_mark))]
+fn from_mark(text: &[u8]) -> Option<&[u8]>
+    ensures same { MatchOption result (past_text false text.now ≡ None)
+        (λ rest. past_text false rest.now ≡ past_text false text.now) }
+    ensures within { IfSome result (λ rest. length rest.now ≤ length text.now) }
+{
+    match memchr2(b'"', b'\\', text) {
+        Some(at) => Some(text.split_at(at).1),
+        None => None,
+    }
 }
 
 /// What follows a value: the rest from the comma or the bracket on that stands behind it. A member

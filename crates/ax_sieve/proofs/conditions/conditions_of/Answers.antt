@@ -1,4 +1,4 @@
-use Rattle.std.proofs.Common.{sym, ◌∙◌, ap, subst}
+use Rattle.std.proofs.Common.{◌∙◌, ap}
 use Rattle.ax_sieve.proofs.Conjunctions.{along_items, one_more}
 use Rattle.ax_sieve.proofs.conditions.conditions_of.Goals as goal
 use Rattle.ax_sieve.proofs.conditions.conditions_of.Goals.{in-Some+in_ok-push, in_default}

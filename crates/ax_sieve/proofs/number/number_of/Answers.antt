@@ -1,4 +1,4 @@
-use Rattle.std.proofs.Common.{◌≡◌, List, ◌∷◌, ◌∙◌, rules}
+use Rattle.std.proofs.Common.{◌≡◌, ◌∷◌, ◌∙◌, rules}
 use Rattle.std.proofs.lemmas.Option.{IfSome_then}
 use Rattle.ax_sieve.proofs.Decimals.{negative_number}
 use Rattle.ax_sieve.proofs.number.number_of.Goals as goal

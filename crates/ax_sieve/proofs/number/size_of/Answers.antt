@@ -1,4 +1,4 @@
-use Rattle.std.proofs.Common.{◌≡◌, length, ◌≤◌, sym, ◌∙◌, arith}
+use Rattle.std.proofs.Common.{sym, ◌∙◌, arith}
 use Rattle.std.proofs.lemmas.List.{at_drop_all}
 use Rattle.ax_sieve.proofs.Decimals.{read_on, reads_decimal}
 use Rattle.ax_sieve.proofs.number.size_of.Goals as goal

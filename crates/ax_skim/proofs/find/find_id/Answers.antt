@@ -1,11 +1,5 @@
-use Rattle.std.proofs.Common.{refl}
-use Rattle.json.specs.Print.{escape_byte}
 use Rattle.ax_skim.proofs.Maps.{id_text}
 use Rattle.ax_skim.proofs.find.find_id.Goals as goal
-
-pub find_member-requires : goal.find_member-requires
-unfolding escape_byte
-find_member-requires c = record { plain = refl }
 
 pub returns : goal.returns
 returns c =
