@@ -135,7 +135,6 @@ fn add_documents<L: Ledger>(
 /// Takes the document whose text it is into the answer; one that the sieve of its query drops is not
 /// read, since it adds nothing. Where a text is no JSON, which no document's is, that is answered as
 /// want of memory.
-#[tactic(auto, using(crate::proofs::Dropped::nothing_added))]
 fn add_document<L: Ledger>(
     alloc: Global,
     reader: &mut TreeReader,
