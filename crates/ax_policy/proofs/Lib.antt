@@ -11,3 +11,4 @@ mod RuleLaws
 mod RuleMaps
 mod Searching
 mod Utf8
+mod Walks
