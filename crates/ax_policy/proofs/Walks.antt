@@ -185,8 +185,11 @@ no_higher piece a b e = by_place (take_less (length piece) a b e)
     by_place (inl less) =
         no_later (take (length piece) a) (take (length piece) b) piece less (against piece b) refl
     by_place (inr same) =
-        omega (arith, ap (λ l. ordering_index (slice_cmp nat_cmp l piece))
-        (same_from_Equal (take (length piece) a) (take (length piece) b) same))
+        omega (
+          arith,
+          ap (λ l. ordering_index (slice_cmp nat_cmp l piece))
+              (same_from_Equal (take (length piece) a) (take (length piece) b) same),
+        )
 
 piece_no_fall : (rules : List (Member Bool)) (skip : ℕ) (front piece : List ℕ)
     → IsRun rules skip front
@@ -256,9 +259,10 @@ kept_front p (first ∷ rest) zero h parts =
     rw none less
 kept_front p (first ∷ rest) (suc i) h parts =
     let here : p first ≡ true = parts.0 0 first (omega arith) (omega arith) in
-    let less : take i rest ≡ filter p rest = kept_front p rest i (omega arith)
-    (λ k d l m. parts.0 (suc k) d (omega arith) (omega arith),
-    λ k d l m. parts.1 (suc k) d (omega arith) (omega arith)) in
+    let less : take i rest ≡ filter p rest = kept_front p rest i (omega arith) (
+      λ k d l m. parts.0 (suc k) d (omega arith) (omega arith),
+      λ k d l m. parts.1 (suc k) d (omega arith) (omega arith),
+    ) in
     rw here (ap (λ l. first ∷ l) less)
 
 kept_back : (p : Member Bool → Bool) (rules : List (Member Bool)) (i : ℕ) → i ≤ length rules
@@ -273,9 +277,10 @@ kept_back p (first ∷ rest) zero h parts =
     rw none (ap (λ l. first ∷ l) less)
 kept_back p (first ∷ rest) (suc i) h parts =
     let here : p first ≡ true = parts.0 0 first (omega arith) (omega arith) in
-    let less : drop i rest ≡ filter (λ y. not (p y)) rest = kept_back p rest i (omega arith)
-    (λ k d l m. parts.0 (suc k) d (omega arith) (omega arith),
-    λ k d l m. parts.1 (suc k) d (omega arith) (omega arith)) in
+    let less : drop i rest ≡ filter (λ y. not (p y)) rest = kept_back p rest i (omega arith) (
+      λ k d l m. parts.0 (suc k) d (omega arith) (omega arith),
+      λ k d l m. parts.1 (suc k) d (omega arith) (omega arith),
+    ) in
     rw here less
 
 pub from_is : (rules : List (Member Bool)) (skip : ℕ) (front piece : List ℕ) (i : ℕ)

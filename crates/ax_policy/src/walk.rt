@@ -1,6 +1,6 @@
 //! A walk down a document beside the rules of a policy: at each step the rules that go on are found
 //! among those that were left, so that what is decided on a leaf costs what its last step costs.
-ghost use Rattle.std.specs.Prelude.{◌≡◌, ◌↔◌, ℕ, [], ◌∷◌, ◌++◌, List, IsTrue, IfOk, IfErr, not, drop, length};
+ghost use Rattle.std.specs.Prelude.{◌≡◌, ◌↔◌, ℕ, [], ◌∷◌, ◌++◌, List, IsTrue, IfOk, IfErr, true, not, drop, length};
 ghost use Rattle.std.specs.List.{All, filter};
 ghost use Rattle.std.specs.Ordering.{is_lt, is_le};
 ghost use Rattle.ax_mean.specs.declared.query.Step.{Step};
@@ -89,6 +89,7 @@ impl<'a> RuleWalk<'a> {
     }
 
     /// Whether the rule that decides on the leaf here is an included one.
+    #[tactic(auto, using(crate::proofs::WalkPlaces::decision_at))]
     fn decision(&self) -> Option<bool>
         ensures { (policy : Policy) (path : List Step) → IsAt self.now policy path
             → result ≡ spec.decision policy.rules path }
@@ -100,18 +101,37 @@ impl<'a> RuleWalk<'a> {
         ensures { (policy : Policy) (path : List Step) → IsAt self.entry policy path
             → IsAt result policy (path ++ step_of way.entry ∷ []) }
     {
+        if self.rules.is_empty() {
+            return self;
+        }
+        self.step_among(way)
+    }
+
+    /// The step where rules may go on with it.
+    fn step_among(self, way: Way<'_>) -> RuleWalk<'a>
+        ensures { (policy : Policy) (path : List Step) → IsAt self.entry policy path
+            → IsAt result policy (path ++ step_of way.entry ∷ []) }
+    {
         let rules = narrowed(self.rules, self.skip, way);
         let skip = bytes_behind(rules, self.skip, way);
         RuleWalk {
             on: self.on,
-            decided: either(marked(rules, skip, true), self.decided),
+            decided: self.decided_by(rules, skip),
             rules,
             skip,
         }
     }
+
+    /// What the longest rule with `/*` says once these rules are left behind so many bytes.
+    fn decided_by(&self, rules: &[Member<bool>], skip: usize) -> Option<bool>
+        ensures { (front : List ℕ) → IsRun rules.now skip front
+            → result ≡ either_of (under (front ++ mark_text true) rules.now) self.now.decided }
+    {
+        either(marked(rules, skip, true), self.decided)
+    }
 }
 
-/// The first, if it is there, else the other.
+/// The first where it is there, else the other.
 fn either(first: Option<bool>, other: Option<bool>) -> Option<bool>
     ensures { result ≡ either_of first other }
 {
