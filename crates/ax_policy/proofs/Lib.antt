@@ -11,3 +11,5 @@ mod RuleLaws
 mod RuleMaps
 mod Searching
 mod Utf8
+mod WalkPlaces
+mod Walks

@@ -10,4 +10,5 @@ pub mod Policies
 pub mod Reading
 pub mod Rules
 pub mod Sameness
+pub mod Walking
 pub mod Written

@@ -86,7 +86,7 @@ fn longest(rules: &[Member<bool>], path: &[Step]) -> Option<bool>
 }
 
 /// Whether the rule with that path is an included one; `None` where there is no such rule.
-fn search(rules: &[Member<bool>], steps: &[Step], all: bool) -> Option<bool>
+pub(crate) fn search(rules: &[Member<bool>], steps: &[Step], all: bool) -> Option<bool>
     requires { HaveRisingNames rules.now }
     ensures { result ≡ under (rule_text steps.now all) rules.now }
 {

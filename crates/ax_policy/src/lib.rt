@@ -25,8 +25,10 @@ mod rule_path;
 mod rules;
 #[cfg(test)]
 mod tests;
+mod walk;
 
 pub use mode::Mode;
 pub use policy::{Composite, Policy};
 pub use policy_fault::PolicyFault;
 pub use read::read_policy;
+pub use walk::RuleWalk;
