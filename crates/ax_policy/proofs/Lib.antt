@@ -1,11 +1,13 @@
 mod Below
 mod Comparisons
 mod Decisions
+mod DefaultRules
 mod Lists
 mod NormalTrees
 mod Orders
 mod PathReading
 mod PathTexts
+mod PlaceLaws
 mod Rooms
 mod RuleLaws
 mod RuleMaps
