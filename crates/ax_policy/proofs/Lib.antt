@@ -1,3 +1,4 @@
+mod Apart
 mod Below
 mod Comparisons
 mod Decisions

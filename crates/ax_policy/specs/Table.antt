@@ -122,6 +122,7 @@ pub record SetsNow (policy : Policy) (old new : Table) : Type 0 where
 -- no two numbers in use or now have policies of one normal text
 abbrev pub AreApart : Table → Type 0
 AreApart table =
-    (a b : ℕ) (policy other : Policy) → is_taken table a ≡ true → is_taken table b ≡ true
+    (a b : ℕ) (policy other : Policy) → a ≤ 8 → b ≤ 8
+    → is_taken table a ≡ true → is_taken table b ≡ true
     → policy_at table a ≡ Some policy → policy_at table b ≡ Some other
     → normal_text policy ≡ normal_text other → a ≡ b

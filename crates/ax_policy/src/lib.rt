@@ -9,6 +9,7 @@ mod compare;
 mod composites;
 mod covering;
 mod default;
+pub mod laws;
 mod limits;
 mod members;
 mod mode;
