@@ -58,7 +58,6 @@ either_way true b e = refl
 either_way false b e = absurd (cc)
 
 module _ (policy : Policy) (old new : Table) (sets : SetsNow policy old new) (apart : AreApart old) where
-
   -- another number that is in use or now was so before
   was_taken : (n : ℕ) → (n ≡ new.current → ⊥) → is_taken new n ≡ true → is_taken old n ≡ true
   was_taken n other taken =
