@@ -2,13 +2,16 @@ pub mod Comparing
 pub mod Composites
 pub mod Covering
 pub mod Deciding
+pub mod Default
 pub mod Limits
 pub mod Normal
 pub mod Ordering
 pub mod Paths
+pub mod Places
 pub mod Policies
 pub mod Reading
 pub mod Rules
 pub mod Sameness
 pub mod Walking
+pub mod Table
 pub mod Written

@@ -8,6 +8,8 @@
 mod compare;
 mod composites;
 mod covering;
+mod default;
+pub mod laws;
 mod limits;
 mod members;
 mod mode;
@@ -15,6 +17,7 @@ mod normal;
 mod ordering;
 mod overlap;
 mod path_text;
+mod place;
 mod policy;
 mod policy_fault;
 mod quoted;
@@ -23,12 +26,18 @@ mod read_path;
 mod read_rules;
 mod rule_path;
 mod rules;
+mod slot;
+mod table;
+mod table_fault;
 #[cfg(test)]
 mod tests;
 mod walk;
 
+pub use default::default_policy;
 pub use mode::Mode;
 pub use policy::{Composite, Policy};
 pub use policy_fault::PolicyFault;
 pub use read::read_policy;
 pub use walk::RuleWalk;
+pub use table::PolicyTable;
+pub use table_fault::TableFault;
