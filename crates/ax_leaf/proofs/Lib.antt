@@ -4,3 +4,4 @@ pub mod Ordered
 pub mod Steps
 pub mod OneSpelling
 pub mod SamePairs
+pub mod ShortTerms

@@ -1,2 +1,6 @@
+pub mod Base
+pub mod Lookup
 pub mod Pairs
 pub mod Payload
+pub mod Reading
+pub mod ShortTerm

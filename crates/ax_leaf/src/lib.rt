@@ -5,6 +5,8 @@
 pub mod laws;
 mod out_of_memory;
 mod pair;
+mod short_posting;
+pub mod short_term;
 mod writing;
 
 pub use out_of_memory::Memory;
