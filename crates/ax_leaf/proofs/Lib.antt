@@ -5,3 +5,6 @@ pub mod Steps
 pub mod OneSpelling
 pub mod SamePairs
 pub mod ShortTerms
+pub mod Read
+pub mod Following
+pub mod Listed

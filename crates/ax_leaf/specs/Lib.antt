@@ -4,3 +4,4 @@ pub mod Pairs
 pub mod Payload
 pub mod Reading
 pub mod ShortTerm
+pub mod TermList
