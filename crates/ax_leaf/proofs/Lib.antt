@@ -8,3 +8,4 @@ pub mod ShortTerms
 pub mod Read
 pub mod Following
 pub mod Listed
+pub mod Reaching

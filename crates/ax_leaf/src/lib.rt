@@ -2,6 +2,7 @@
 //! what each has in common with the term before.
 #![tactic(auto)]
 
+mod checking;
 pub mod laws;
 mod out_of_memory;
 mod pair;
