@@ -9,3 +9,4 @@ pub mod Read
 pub mod Following
 pub mod Listed
 pub mod Reaching
+pub mod Whole

@@ -92,10 +92,10 @@ list_parts last (d ∷ a) (f ∷ b) l h k e =
     same_posting d.term f.term d.numbers f.numbers a b term numbers
     (list_parts f.term a b (omega arith) h.1 k.1 (ap (λ (t : List ℕ). list_after t a) (sym term) ∙ rest))
 
-abbrev the_pair : List ℕ → ℕ → Pair
+abbrev pub the_pair : List ℕ → ℕ → Pair
 the_pair s n = record { term = s; number = n }
 
-same_pair : (s t : List ℕ) (m n : ℕ) → s ≡ t → m ≡ n → the_pair s m ≡ the_pair t n
+pub same_pair : (s t : List ℕ) (m n : ℕ) → s ≡ t → m ≡ n → the_pair s m ≡ the_pair t n
 same_pair s t m n e f = rw (e, f) refl
 
 pub one_leaf : (bytes : List ℕ) (low other : Pair) (a b : List Posting) → IsLeaf bytes low a → IsLeaf bytes other b → (low ≡ other) × (a ≡ b)

@@ -5,3 +5,4 @@ pub mod Payload
 pub mod Reading
 pub mod ShortTerm
 pub mod TermList
+pub mod View

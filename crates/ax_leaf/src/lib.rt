@@ -4,12 +4,14 @@
 
 mod checking;
 pub mod laws;
+mod leaf;
 mod out_of_memory;
 mod pair;
 mod short_posting;
 pub mod short_term;
 mod writing;
 
+pub use leaf::{Leaf, check};
 pub use out_of_memory::Memory;
 pub use pair::{Bytes, Pair};
 pub use writing::{encode, is_in_order};

@@ -19,6 +19,7 @@ pub struct ShortTerm<'a> {
 /// none comes first.
 pub(crate) fn split_number(bytes: &[u8]) -> Option<(u32, &[u8])>
     ensures found { IfSome result (λ x. bytes.now ≡ varint x.0 ++ x.1.now) }
+    ensures fits { IfSome result (λ x. x.0 < 2 ^ 32) }
     ensures only { (n : ℕ) (rest : List ℕ) → n < 2 ^ 32 → bytes.now ≡ varint n ++ rest
         → IsSomeAnd result (λ x. (x.0 ≡ n) × (x.1.now ≡ rest)) }
 {

@@ -9,7 +9,7 @@ ghost use Rattle.ax_leaf.specs.Pairs.{Rise, BeginsFrom, pair_cmp, postings_of};
 ghost use Rattle.ax_leaf.specs.Payload.{common, term_after, list_after, leaf, IsLeaf, AreGood};
 
 use crate::out_of_memory::Memory;
-use crate::pair::Pair;
+use crate::pair::{Pair, comes_before};
 use ax_gap::put_gaps;
 use ax_gap::varint::put_varint;
 use std::alloc::Global;
@@ -68,8 +68,8 @@ pub fn is_in_order(low: &Pair, pairs: &[Pair]) -> bool
 fn is_before(first: &Pair, second: &Pair) -> bool
     ensures { result ≡ is_lt (pair_cmp first.now second.now) }
 {
-    let terms = first.term.as_slice().cmp(second.term.as_slice());
-    terms.then(first.number.cmp(&second.number)).is_lt()
+    let term = first.term.as_slice();
+    comes_before(term, first.number, second.term.as_slice(), second.number)
 }
 
 /// Writes a low pair at the end.
