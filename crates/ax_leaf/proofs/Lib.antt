@@ -10,3 +10,5 @@ pub mod Following
 pub mod Listed
 pub mod Reaching
 pub mod Whole
+pub mod Meeting
+pub mod Searching

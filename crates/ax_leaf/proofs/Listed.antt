@@ -179,7 +179,7 @@ abbrev pub HasNoFirst : List ℕ → Type 0
 HasNoFirst bytes = (shared : ℕ) (part numbers after : List ℕ) → shared < 4294967296 → length part < 4294967296
     → IsRisingList numbers → 0 < length numbers → bytes ≡ short_term shared part ++ (gaps numbers ++ after) → ⊥
 
-fits_first : (last bytes : List ℕ) (posting : Posting) (postings : List Posting) → IsPosting posting → bytes ≡ list_after last (posting ∷ postings) → HasNoFirst bytes → ⊥
+pub fits_first : (last bytes : List ℕ) (posting : Posting) (postings : List Posting) → IsPosting posting → bytes ≡ list_after last (posting ∷ postings) → HasNoFirst bytes → ⊥
 fits_first last bytes posting postings is e none =
     let begins = list_begins last [] posting postings is.rising is.some in
     let shorter = common_prefix_len-le nat_eq last posting.term in

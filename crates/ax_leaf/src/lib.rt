@@ -3,6 +3,7 @@
 #![tactic(auto)]
 
 mod checking;
+mod finding;
 pub mod laws;
 mod leaf;
 mod out_of_memory;
