@@ -12,3 +12,5 @@ pub mod Reaching
 pub mod Whole
 pub mod Meeting
 pub mod Searching
+pub mod Going
+pub mod FromLow

@@ -80,11 +80,14 @@ one_less last bytes shared part ns after count h (posting ∷ postings, is) =
     let first : IsFirst last shared part ns after posting postings = first_of last bytes shared part ns after posting postings h is.are.1 is.spelled in
     record {
       follows = follows_of last shared part ns after posting postings first is.are.1 is.are.0;
-      more = (postings, record {
-        spelled = first.leaves ∙ ap (λ (t : List ℕ). list_after t postings) (sym first.is);
-        counted = omega (arith, is.counted);
-        are = subst (λ (t : List ℕ). AreAfter t postings) (sym first.is) is.are.2;
-      });
+      more = (
+        postings,
+        record {
+          spelled = first.leaves ∙ ap (λ (t : List ℕ). list_after t postings) (sym first.is);
+          counted = omega (arith, is.counted);
+          are = subst (λ (t : List ℕ). AreAfter t postings) (sym first.is) is.are.2;
+        },
+      );
     }
 
 -- the spelling of a list from that of its first posting and of the others
@@ -112,12 +115,14 @@ posting_is last shared part ns h some rising = record {
 pub one_more : (last bytes : List ℕ) (shared : ℕ) (part ns after : List ℕ) (count : ℕ) → Begins bytes shared part ns after
     → IsStep last shared part after count → HasListAfter last (suc count) bytes
 one_more last bytes shared part ns after count h step =
-    let (postings, is) = step.more in
-    (record { term = whole_term last shared part; numbers = ns } ∷ postings, record {
-      spelled = list_from last bytes shared part ns after postings h step.follows.within step.follows.longest is.spelled;
-      counted = omega (arith, is.counted);
-      are = (step.follows.after, posting_is last shared part ns step.follows h.some h.rising, is.are);
-    })
+    let (postings, is) = step.more in (
+      record { term = whole_term last shared part; numbers = ns } ∷ postings,
+      record {
+        spelled = list_from last bytes shared part ns after postings h step.follows.within step.follows.longest is.spelled;
+        counted = omega (arith, is.counted);
+        are = (step.follows.after, posting_is last shared part ns step.follows h.some h.rising, is.are);
+      },
+    )
 
 -- ---- the first of a list
 
@@ -134,23 +139,28 @@ first_less bytes shared part ns after count h (posting ∷ postings, is) =
     let term : part ≡ posting.term = ap (λ (n : ℕ). take n [] ++ part) (sym none) ∙ first.is in
     record {
       shares = none;
-      more = (postings, record {
-        spelled = first.leaves ∙ ap (λ (t : List ℕ). list_after t postings) (sym term);
-        counted = omega (arith, is.counted);
-        are = subst (λ (t : List ℕ). AreAfter t postings) (sym term) is.are.1;
-      });
+      more = (
+        postings,
+        record {
+          spelled = first.leaves ∙ ap (λ (t : List ℕ). list_after t postings) (sym term);
+          counted = omega (arith, is.counted);
+          are = subst (λ (t : List ℕ). AreAfter t postings) (sym term) is.are.1;
+        },
+      );
     }
 
 pub first_more : (bytes : List ℕ) (shared : ℕ) (part ns after : List ℕ) (count : ℕ) → Begins bytes shared part ns after → length part < 4294967296
     → IsStart shared part after count → HasTermList (suc count) bytes
 first_more bytes shared part ns after count h fits start =
     let (postings, is) = start.more in
-    let begins : Begins bytes 0 part ns after = subst (λ (n : ℕ). Begins bytes n part ns after) start.shares h in
-    (record { term = part; numbers = ns } ∷ postings, record {
-      spelled = list_from [] bytes 0 part ns after postings begins (omega arith) refl is.spelled;
-      counted = omega (arith, is.counted);
-      are = (record { short = fits; some = h.some; rising = h.rising }, is.are);
-    })
+    let begins : Begins bytes 0 part ns after = subst (λ (n : ℕ). Begins bytes n part ns after) start.shares h in (
+      record { term = part; numbers = ns } ∷ postings,
+      record {
+        spelled = list_from [] bytes 0 part ns after postings begins (omega arith) refl is.spelled;
+        counted = omega (arith, is.counted);
+        are = (record { short = fits; some = h.some; rising = h.rising }, is.are);
+      },
+    )
 
 -- ---- the end of a list
 

@@ -98,8 +98,7 @@ pub begins_where : (low : Pair) (part : List ℕ) (number : ℕ) (postings : Lis
     → (more : List Pair) × (pairs_of postings ≡ the_pair part number ∷ more) → result ≡ is_lt (pair_cmp (the_pair part number) low)
     → IsTrue (not result) ↔ BeginsFrom low (pairs_of postings)
 begins_where low part number postings result (more, e) is =
-    let both = not_less result (pair_cmp (the_pair part number) low) is in
-    (
+    let both = not_less result (pair_cmp (the_pair part number) low) is in (
       λ h. subst (BeginsFrom low) (sym e) (both.0 h),
       λ h. both.1 (subst (BeginsFrom low) e h),
     )

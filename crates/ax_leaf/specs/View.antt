@@ -1,9 +1,13 @@
 -- How the fields of a leaf and of a cursor over pairs stand for what callers see.
 use Rattle.std.specs.Prelude.{ℕ, List, [], ◌++◌, Option, Some, None}
+use Rattle.ax_gap.specs.Remaining.{RemainingGaps}
 use Rattle.ax_leaf.specs.Base.{Base}
+use Rattle.ax_leaf.specs.Pairs.{pairs_with, pairs_of}
 use Rattle.ax_leaf.specs.Reading.{postings_in}
-use Rattle.ax_leaf.specs.TermList.{IsTermList}
+use Rattle.ax_leaf.specs.TermList.{IsTermList, Spells}
 use Rattle.ax_leaf.specs.declared.leaf.Leaf.TheInside.{Inside}
+use Rattle.ax_leaf.specs.declared.pair.Pair.{Pair}
+use Rattle.ax_leaf.specs.declared.place.Place.{Place}
 
 abbrev pub base_of : Inside → Base
 base_of l = record { low = record { term = l.term.now; number = l.number }; postings = postings_in l.count [] l.list.now }
@@ -11,3 +15,17 @@ base_of l = record { low = record { term = l.term.now; number = l.number }; post
 -- the bytes behind the low pair and the count are postings
 abbrev pub IsBase : Inside → Type 0
 IsBase l = IsTermList l.count l.list.now (postings_in l.count [] l.list.now)
+
+-- the numbers that a cursor over a gap list has still to give, where there is one
+abbrev pub numbers_left : Option RemainingGaps → List ℕ
+numbers_left None = []
+numbers_left (Some cursor) = cursor.numbers
+
+-- the pairs of the posting that was reached, and those of the postings behind it
+abbrev pub pairs_at : Place → List Pair
+pairs_at p =
+    pairs_with p.term.items (numbers_left p.numbers) ++ pairs_of (postings_in p.count p.term.items p.rest.now)
+
+-- the bytes behind the posting that was reached are postings
+abbrev pub IsPlace : Place → Type 0
+IsPlace p = Spells p.term.items p.count p.rest.now

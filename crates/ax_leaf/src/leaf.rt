@@ -1,16 +1,22 @@
 //! The payload of a base, checked.
 
 ghost use Rattle.std.specs.Prelude.{◌≡◌, ◌↔◌, ℕ, ◌++◌, ◌<◌, ◌^◌, List, length, IsTrue, IfSome, IsSomeAnd};
+ghost use Rattle.std.specs.Option.{option_map};
 ghost use Rattle.ax_gap.specs.Varint.{varint};
 ghost use Rattle.ax_leaf.specs.declared.pair.Pair.{Pair};
 ghost use Rattle.ax_leaf.specs.Pairs.{Posting, BeginsFrom, pairs_of};
+ghost use Rattle.ax_leaf.specs.Lookup.{numbers_under};
 ghost use Rattle.ax_leaf.specs.Payload.{IsLeaf};
 ghost use Rattle.ax_leaf.specs.TermList.{IsTermList};
 
 use crate::checking::is_term_list;
+use crate::cursor::PairCursor;
+use crate::finding::find_in;
 use crate::pair::comes_before;
 use crate::short_posting::{ShortPosting, split_posting};
 use crate::short_term::split_number;
+use ax_gap::GapCursor;
+use std::alloc::Global;
 use std::marker::Model;
 
 /// The payload of a base that was checked. It borrows the payload, and takes no memory.
@@ -36,6 +42,31 @@ impl<'a> Model for Leaf<'a> {
     ghost view = { base_of };
 
     ghost invariant = { IsBase };
+}
+
+impl<'a> Leaf<'a> {
+    /// The term and the number of the low pair: the least pair that the page may have.
+    pub fn low(&self) -> (&[u8], u32)
+        ensures term { result.0.now ≡ self.now.low.term }
+        ensures number { result.1 ≡ self.now.low.number }
+    {
+        (self.term, self.number)
+    }
+
+    /// The numbers of the documents that have a term. `None` exactly where the base does not have
+    /// the term. It takes no memory, and goes over the postings once.
+    pub fn find(&self, term: &[u8]) -> Option<GapCursor<'_>>
+        ensures { option_map (λ cursor. cursor.numbers) result ≡ numbers_under term.now self.now.postings }
+    {
+        find_in(self.list, self.count, term)
+    }
+
+    /// A cursor over the pairs, in order. It takes memory once it gives pairs: for their terms.
+    pub fn cursor(&self, alloc: Global) -> PairCursor<'_>
+        ensures { result ≡ pairs_of self.now.postings }
+    {
+        PairCursor::at_first(alloc, self.list, self.count)
+    }
 }
 
 /// The base whose payload the bytes are. `None` exactly where they are the payload of none.

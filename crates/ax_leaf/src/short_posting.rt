@@ -26,7 +26,7 @@ pub(crate) fn split_posting(bytes: &[u8]) -> Option<(ShortPosting<'_>, &[u8])>
         → IsRisingList numbers → 0 < length numbers
         → bytes.now ≡ short_term shared part ++ (gaps numbers ++ rest)
         → IsSomeAnd result (λ x. (x.0.term.shared ≡ shared) × (x.0.term.rest.now ≡ part)
-            × (x.0.numbers.numbers ≡ numbers) × (x.1.now ≡ rest)) }
+        × (x.0.numbers.numbers ≡ numbers) × (x.1.now ≡ rest)) }
 {
     let (term, after) = split_term(bytes)?;
     let numbers = read_gaps(after)?;

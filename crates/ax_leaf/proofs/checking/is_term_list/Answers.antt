@@ -10,8 +10,7 @@ use Rattle.ax_leaf.proofs.checking.is_term_list.Goals.{In-Some, Else-first-ne0}
 
 pub returns-then-count-eq0 : goal.returns-then-count-eq0
 returns-then-count-eq0 c =
-    let zero : c.args.count ≡ 0 = omega arith in
-    (
+    let zero : c.args.count ≡ 0 = omega arith in (
       λ h. empty_list c.args.list.now c.args.count zero (nil_from_length c.args.list.now (eqb-true _ _ (sym c.is_empty.ensures ∙ h))),
       λ h. c.is_empty.ensures ∙ eq-eqb _ _ (ap length (none_listed c.args.list.now (subst (λ (n : ℕ). HasTermList n c.args.list.now) zero h))),
     )
@@ -52,8 +51,7 @@ returns c =
     let none : c.in-Some.first.term.shared ≡ 0 = omega arith in
     let term : (reached 1 c.args.list.now).term ≡ c.in-Some.first.term.rest.now =
     ap (λ (r : Reached). r.term) (first_reached c.args.list.now _ _ _ _ (begun in_some) none)
-    in
-    (
+    in (
       λ h. subst (λ (n : ℕ). HasTermList n c.args.list.now) (omega arith)
           (first_more c.args.list.now _ _ _ _ (c.args.count - 1) (begun in_some) c.in-Some.ensures.fits.1
           (record { shares = none; more = subst (λ t. HasListAfter t (c.args.count - 1) c.in-Some.rest.now) term (c.is_list_after_first.ensures.0 h) })),
