@@ -14,3 +14,4 @@ pub mod Meeting
 pub mod Searching
 pub mod Going
 pub mod FromLow
+pub mod Fronts

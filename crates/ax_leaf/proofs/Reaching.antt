@@ -81,6 +81,10 @@ module _ (list first rest : List ℕ) (count k size shared : ℕ) (part ns after
   pub no_step : (Follows (reached k list).term shared part → ⊥) → HasListAfter (reached 1 list).term (count - 1) first → ⊥
   no_step not h = not (step_of h).follows
 
+  pub term_there : (reached (k + 1) list).term ≡ whole_term (reached k list).term shared part
+  term_there =
+      ap (λ (r : Reached). r.term) (reached_more k list shared part ns after (subst (λ (bs : List ℕ). Begins bs shared part ns after) was.left begins))
+
   pub goes_on : shared < 4294967296 → length part < 4294967296 → Follows (reached k list).term shared part
       → IsUnderWay list first after count (k + 1) (shared + length part)
   goes_on few short follows =

@@ -1,12 +1,15 @@
 //! Whether bytes are the postings of a base.
 
-ghost use Rattle.std.specs.Prelude.{◌≡◌, ◌↔◌, IsTrue, nat_lt, if◌then◌else◌, ◌+◌, ◌-◌, ◌<◌, ◌^◌, length, slice_index};
+ghost use Rattle.std.specs.Prelude.{◌≡◌, ◌↔◌, IsTrue, nat_lt, if◌then◌else◌, ℕ, ◌+◌, ◌-◌, ◌<◌, ◌≤◌, ◌^◌, List, ◌++◌, length, take, slice_index};
 ghost use Rattle.ax_leaf.specs.Reading.{reached};
-ghost use Rattle.ax_leaf.specs.ShortTerm.{Follows};
-ghost use Rattle.ax_leaf.specs.TermList.{CanReach, HasListAfter, HasTermList};
+ghost use Rattle.ax_leaf.specs.ShortTerm.{whole_term, Follows};
+ghost use Rattle.ax_leaf.specs.TermList.{CanReach, HasFront, HasListAfter, HasTermList};
 
 use crate::short_posting::split_posting;
 use crate::short_term::ShortTerm;
+
+/// How many bytes of the term before are at hand. No page that is written has a longer term.
+const FRONT: usize = 4096;
 
 /// Are the bytes so many postings, whose terms rise?
 pub(crate) fn is_term_list(list: &[u8], count: usize) -> bool
@@ -21,37 +24,41 @@ pub(crate) fn is_term_list(list: &[u8], count: usize) -> bool
     if first.term.shared != 0 {
         return false;
     }
-    is_list_after_first(list, rest, first.term.rest.len(), count)
+    is_list_after_first(list, rest, first.term, count)
 }
 
-/// Are the bytes behind the first of so many postings the others, and do their terms rise? `size`
-/// is the length of the first one's term.
-fn is_list_after_first(list: &[u8], behind: &[u8], size: usize, count: usize) -> bool
+/// Are the bytes behind the first of so many postings the others, and do their terms rise?
+fn is_list_after_first(list: &[u8], behind: &[u8], first: ShortTerm<'_>, count: usize) -> bool
     requires reads { CanReach 1 list.now }
     requires behind { behind.now ≡ (reached 1 list.now).bytes }
-    requires size { size ≡ length (reached 1 list.now).term }
+    requires none { first.shared ≡ 0 }
+    requires term { first.rest.now ≡ (reached 1 list.now).term }
     ensures { IsTrue result ↔ HasListAfter (reached 1 list.now).term (count - 1) behind.now }
 {
+    let mut front = [0u8; FRONT];
+    keep_front(&mut front, first);
+    let mut size = first.rest.len();
     let mut rest = behind;
-    let mut size = size;
     for k in 1..count {
         let Some((posting, after)) = split_posting(rest) else {
             return false;
         };
-        if !follows(list, k, size, posting.term) {
+        if !follows(list, k, size, &front, posting.term) {
             return false;
         }
+        keep_front(&mut front, posting.term);
         size = posting.term.shared + posting.term.rest.len();
         rest = after;
     }
     rest.is_empty()
 }
 
-/// Does the term come after the one that is reached behind so many postings, which has `size`
-/// bytes, with no more in common than it says?
-fn follows(list: &[u8], count: usize, size: usize, term: ShortTerm<'_>) -> bool
+/// Does the term come after the one that is reached behind so many postings, with no more in common
+/// than it says? That one has `size` bytes, and `front` the first of them.
+fn follows(list: &[u8], count: usize, size: usize, front: &[u8], term: ShortTerm<'_>) -> bool
     requires reads { CanReach count list.now }
     requires size { size ≡ length (reached count list.now).term }
+    requires front { HasFront front.now (reached count list.now).term }
     requires few { term.shared < 2 ^ 32 }
     ensures { IsTrue result ↔ Follows (reached count list.now).term term.entry.shared term.entry.rest.now }
 {
@@ -67,11 +74,48 @@ fn follows(list: &[u8], count: usize, size: usize, term: ShortTerm<'_>) -> bool
     if term.shared == size {
         return true;
     }
-    byte_behind(list, count, term.shared) < first
+    byte_behind(list, count, front, term.shared) < first
 }
 
-/// The byte at a place of the term that is reached behind so many postings, 0 past its end.
-fn byte_behind(list: &[u8], count: usize, place: usize) -> u8
+/// Puts the bytes of a term over those of the term before, as far as there is room.
+fn keep_front(front: &mut [u8], term: ShortTerm<'_>)
+    ensures { (last : List ℕ) → HasFront front.old last → term.entry.shared ≤ length last
+        → HasFront front.new (whole_term last term.entry.shared term.entry.rest.now) }
+{
+    if term.shared >= front.len() {
+        return;
+    }
+    let kept = term.rest.len().min(front.len() - term.shared);
+    let (kept, _) = term.rest.split_at(kept);
+    put_at(front, term.shared, kept);
+}
+
+/// Puts bytes over those from a place on.
+fn put_at(front: &mut [u8], place: usize, bytes: &[u8])
+    requires { place + length bytes.now ≤ length front.old }
+    ensures { take (place + length bytes.now) front.new ≡ take place front.old ++ bytes.now }
+{
+    let end = place + bytes.len();
+    front[place..end].copy_from_slice(bytes);
+}
+
+/// The byte at a place of the term that is reached behind so many postings, of which `front` has
+/// the first bytes. A byte behind those is looked for from the first posting on.
+fn byte_behind(list: &[u8], count: usize, front: &[u8], place: usize) -> u8
+    requires reads { CanReach count list.now }
+    requires front { HasFront front.now (reached count list.now).term }
+    requires within { place < length (reached count list.now).term }
+    ensures { result ≡ slice_index (reached count list.now).term place }
+{
+    if place < front.len() {
+        return front[place];
+    }
+    far_byte_behind(list, count, place)
+}
+
+/// The byte at a place of the term that is reached behind so many postings, 0 past its end, by
+/// going over them.
+fn far_byte_behind(list: &[u8], count: usize, place: usize) -> u8
     requires { CanReach count list.now }
     ensures { result ≡ slice_index (reached count list.now).term place }
 {

@@ -6,7 +6,7 @@ use Rattle.ax_leaf.specs.TermList.{Begins, HasListAfter, HasTermList}
 use Rattle.ax_leaf.proofs.Listed.{IsStart, first_less, first_more, none_listed, empty_list, no_first}
 use Rattle.ax_leaf.proofs.Reaching.{behind, first_reached, one_reached}
 use Rattle.ax_leaf.proofs.checking.is_term_list.Goals as goal
-use Rattle.ax_leaf.proofs.checking.is_term_list.Goals.{In-Some, Else-first-ne0}
+use Rattle.ax_leaf.proofs.checking.is_term_list.Goals.{In-Some}
 
 pub returns-then-count-eq0 : goal.returns-then-count-eq0
 returns-then-count-eq0 c =
@@ -33,17 +33,17 @@ returns-then-first-ne0 c = (
   λ h. absurd (c.if-first-ne0.true (start (goal.at.returns-then-first-ne0 c).In-Some h).shares),
 )
 
-reached_first : (c : Else-first-ne0) → reached 1 c.args.list.now ≡ behind c.in-Some.first.term.rest.now c.in-Some.rest.now
-reached_first c = first_reached c.args.list.now _ _ _ _ (begun (goal.at.is_list_after_first-requires-clause-reads c).In-Some) (omega arith)
+reached_first : (c : In-Some) → c.in-Some.first.term.shared ≡ 0 → reached 1 c.args.list.now ≡ behind c.in-Some.first.term.rest.now c.in-Some.rest.now
+reached_first c none = first_reached c.args.list.now _ _ _ _ (begun c) none
 
 pub is_list_after_first-requires-clause-reads : goal.is_list_after_first-requires-clause-reads
 is_list_after_first-requires-clause-reads c = one_reached c.args.list.now _ _ _ _ (begun (goal.at.is_list_after_first-requires-clause-reads c).In-Some) (omega arith) c.in-Some.ensures.fits.1
 
 pub is_list_after_first-requires-clause-behind : goal.is_list_after_first-requires-clause-behind
-is_list_after_first-requires-clause-behind c = ap (λ (r : Reached). r.bytes) (sym (reached_first c))
+is_list_after_first-requires-clause-behind c = ap (λ (r : Reached). r.bytes) (sym (reached_first (goal.at.is_list_after_first-requires-clause-behind c).In-Some (omega arith)))
 
-pub is_list_after_first-requires-clause-size : goal.is_list_after_first-requires-clause-size
-is_list_after_first-requires-clause-size c = ap (λ (r : Reached). length r.term) (sym (reached_first c))
+pub is_list_after_first-requires-clause-term : goal.is_list_after_first-requires-clause-term
+is_list_after_first-requires-clause-term c = ap (λ (r : Reached). r.term) (sym (reached_first (goal.at.is_list_after_first-requires-clause-term c).In-Some (omega arith)))
 
 pub returns : goal.returns
 returns c =

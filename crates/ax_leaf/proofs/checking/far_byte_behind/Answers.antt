@@ -1,6 +1,6 @@
 use Rattle.std.proofs.Common.{arith, ◌∙◌}
 use Rattle.ax_leaf.proofs.Reaching.{byte_start, byte_step, within_by}
-use Rattle.ax_leaf.proofs.checking.byte_behind.Goals as goal
+use Rattle.ax_leaf.proofs.checking.far_byte_behind.Goals as goal
 
 pub loop-k-init : goal.loop-k-init
 loop-k-init c = byte_start c.args.list.now c.args.place
