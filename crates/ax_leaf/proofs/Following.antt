@@ -1,14 +1,14 @@
 -- Whether a term that is written after another comes after it: one byte decides.
-use Rattle.std.proofs.Common.{◌≡◌, ◌↔◌, ℕ, ◌+◌, ◌<◌, ◌≤◌, List, [], ◌∷◌, ◌++◌, length, get_or, take, drop, arith, refl, ap, ◌∙◌, sym, true, false, cond, nat_eq, zero, suc, ⊎_elim, ◌⊎◌, inl, inr}
-use Rattle.std.proofs.lemmas.Bool.{eq-eqb, ne_eqb, cases_order, cases_lt}
-use Rattle.std.proofs.lemmas.List.{length-append, length-take-le, take-append-drop, drop_more, drop_all}
+use Rattle.std.proofs.Common.{◌≡◌, ◌↔◌, ℕ, ◌+◌, ◌<◌, ◌≤◌, List, [], ◌∷◌, ◌++◌, length, take, drop, arith, refl, ap, ◌∙◌, sym, subst, Option, Some, None, slice_get, zero, suc, ⊎_elim, ◌⊎◌}
+use Rattle.std.proofs.lemmas.Bool.{eq-eqb, ne_eqb, cases_order}
+use Rattle.std.proofs.lemmas.List.{length-take-le, take-append-drop}
 use Rattle.std.specs.Cmp.{nat_cmp_is}
 use Rattle.std.specs.Cmp.Lexicographic.{slice_cmp}
 use Rattle.std.specs.Ordering.{nat_cmp, ordering_then}
 use Rattle.std.specs.declared.cmp.Ordering.{Ordering}
 use Rattle.std.specs.declared.cmp.Ordering.TheVariants.{Less, Equal, Greater}
 use Rattle.ax_leaf.specs.Payload.{common}
-use Rattle.ax_leaf.specs.ShortTerm.{whole_term, Follows}
+use Rattle.ax_leaf.specs.ShortTerm.{whole_term, Exceeds, Follows}
 
 -- ---- bytes that both have in front decide nothing
 
@@ -35,9 +35,7 @@ common_whole last shared rest h =
 
 -- the rest comes after what is behind the shared bytes, by its first byte
 abbrev Beats : List ℕ → List ℕ → Type 0
-Beats xs [] = ⊥
-Beats [] (b ∷ rest) = Unit {0}
-Beats (x ∷ xs) (b ∷ rest) = x < b
+Beats xs rest = Exceeds rest (slice_get xs 0)
 
 beats : (xs rest : List ℕ) → Beats xs rest → (slice_cmp nat_cmp xs rest ≡ Less) × (common xs rest ≡ 0)
 beats xs [] h = absurd h
@@ -62,39 +60,28 @@ beaten (x ∷ xs) (b ∷ rest) h k =
     o)
     (cases_order x b)
 
--- the byte of `last` behind the shared ones, where it has one
-beats_from : (last : List ℕ) (shared b : ℕ) (rest : List ℕ) → (shared ≡ length last) ⊎ ((shared < length last) × (get_or last shared 0 < b)) → Beats (drop shared last) (b ∷ rest)
-beats_from last shared b rest h =
-    ⊎_elim
-    (λ (e : shared ≡ length last). rw (drop_all shared last (omega arith)) tt)
-    (λ (l : (shared < length last) × (get_or last shared 0 < b)). rw (drop_more last shared 0 l.0) l.1)
-    h
-
-beats_says : (last : List ℕ) (shared b : ℕ) (rest : List ℕ) → shared < length last → Beats (drop shared last) (b ∷ rest) → get_or last shared 0 < b
-beats_says last shared b rest l h = rw (drop_more last shared 0 l) at h
+-- the byte of `last` behind the shared ones
+first_behind : (last : List ℕ) (shared : ℕ) → slice_get (drop shared last) 0 ≡ slice_get last shared
+first_behind last zero = refl
+first_behind [] (suc shared) = refl
+first_behind (x ∷ last) (suc shared) = first_behind last shared
 
 -- ---- the test of the code
 
-pub follows_from : (last : List ℕ) (shared b : ℕ) (rest part : List ℕ) → part ≡ b ∷ rest → shared ≤ length last → shared + length part < 4294967296
-    → (shared ≡ length last) ⊎ ((shared < length last) × (get_or last shared 0 < b)) → Follows last shared part
-follows_from last shared b rest part e within short h =
-    let both = beats (drop shared last) (b ∷ rest) (beats_from last shared b rest h) in
-    record {
-      within = within;
-      short = short;
-      after = cmp_whole last shared part ∙ ap (slice_cmp nat_cmp (drop shared last)) e ∙ both.0;
-      longest = common_whole last shared part within ∙ ap (λ (bs : List ℕ). shared + common (drop shared last) bs) e ∙ omega (arith, both.1);
-    }
-
-pub follows_beats : (last : List ℕ) (shared b : ℕ) (rest part : List ℕ) → part ≡ b ∷ rest → Follows last shared part → shared < length last → get_or last shared 0 < b
-follows_beats last shared b rest part e h l =
-    beats_says last shared b rest l
-    (beaten (drop shared last) (b ∷ rest)
-    (sym (ap (slice_cmp nat_cmp (drop shared last)) e) ∙ sym (cmp_whole last shared part) ∙ h.after)
-    (omega (arith, ap (common (drop shared last)) e, common_whole last shared part h.within, h.longest)))
-
-pub follows_some : (last : List ℕ) (shared : ℕ) (part : List ℕ) → part ≡ [] → Follows last shared part → ⊥
-follows_some last shared part e h =
-    beaten (drop shared last) []
-    (sym (ap (slice_cmp nat_cmp (drop shared last)) e) ∙ sym (cmp_whole last shared part) ∙ h.after)
-    (omega (arith, ap (common (drop shared last)) e, common_whole last shared part h.within, h.longest))
+pub follows_where : (last : List ℕ) (shared : ℕ) (rest : List ℕ) (byte : Option ℕ) → byte ≡ slice_get last shared → shared ≤ length last → shared + length rest < 4294967296
+    → Exceeds rest byte ↔ Follows last shared rest
+follows_where last shared rest byte e within short =
+    let same : byte ≡ slice_get (drop shared last) 0 = e ∙ sym (first_behind last shared) in
+    (
+      λ h.
+          let both = beats (drop shared last) rest (subst (Exceeds rest) same h) in
+          let is : Follows last shared rest = record {
+            within = within;
+            short = short;
+            after = cmp_whole last shared rest ∙ both.0;
+            longest = common_whole last shared rest within ∙ omega (arith, both.1);
+          }
+          in is,
+      λ h. subst (Exceeds rest) (sym same)
+          (beaten (drop shared last) rest (sym (cmp_whole last shared rest) ∙ h.after) (omega (arith, common_whole last shared rest h.within, h.longest))),
+    )

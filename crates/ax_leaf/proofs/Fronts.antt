@@ -1,7 +1,8 @@
 -- The first bytes of a term that is written after another, put over those of that one.
-use Rattle.std.proofs.Common.{◌≡◌, ℕ, ◌+◌, ◌-◌, ◌<◌, ◌≤◌, List, ◌++◌, length, get_or, take, min, arith, refl, ap, ◌∙◌, sym, ⊎_elim}
+use Rattle.std.proofs.Common.{◌≡◌, ℕ, ◌+◌, ◌-◌, ◌<◌, ◌≤◌, List, ◌++◌, length, get_or, take, min, arith, refl, ap, ◌∙◌, sym, ⊎_elim, Option, Some, None, slice_get}
 use Rattle.std.proofs.lemmas.Bool.{cases_lt}
 use Rattle.std.proofs.lemmas.List.{length-append, length-take-le, get_or-take, get_or_append_left, get_or-append_right}
+use Rattle.std.proofs.lemmas.Option.{slice_get_past, slice_get-get_or}
 use Rattle.ax_leaf.specs.ShortTerm.{whole_term}
 use Rattle.ax_leaf.specs.TermList.{HasFront}
 
@@ -28,3 +29,11 @@ front_kept front new last shared kept rest near many size e has within k h l =
     new_is ∙ get_or-append_right (take shared front) (take kept rest) shared k 0 over b ∙ get_or-take kept rest (k - shared) 0 (omega arith)
     ∙ sym (get_or-append_right (take shared last) rest shared k 0 first b))
     (cases_lt k shared)
+
+-- ---- a byte of the term
+
+pub none_there : (term : List ℕ) (place : ℕ) → length term ≤ place → slice_get term place ≡ None
+none_there = slice_get_past
+
+pub some_there : (term : List ℕ) (place byte : ℕ) → place < length term → byte ≡ get_or term place 0 → slice_get term place ≡ Some byte
+some_there term place byte h e = slice_get-get_or term place 0 h ∙ ap (λ (b : ℕ). Some b) (sym e)

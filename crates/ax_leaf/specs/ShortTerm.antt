@@ -1,6 +1,6 @@
 -- A term as it is written after another: how many bytes at their beginnings they have in common,
 -- and its bytes behind those. Bases and deltas write their terms so.
-use Rattle.std.specs.Prelude.{◌≡◌, ℕ, ◌+◌, ◌<◌, ◌≤◌, ◌^◌, List, ◌++◌, length, take}
+use Rattle.std.specs.Prelude.{◌≡◌, ℕ, ◌+◌, ◌<◌, ◌≤◌, ◌^◌, List, [], ◌∷◌, ◌++◌, Option, Some, None, length, take}
 use Rattle.std.specs.declared.cmp.Ordering.TheVariants.{Less}
 use Rattle.std.specs.Ordering.{nat_cmp}
 use Rattle.std.specs.Cmp.Lexicographic.{slice_cmp}
@@ -22,3 +22,10 @@ pub record Follows (last : List ℕ) (shared : ℕ) (rest : List ℕ) : Type 0 w
   pub short : shared + length rest < 2 ^ 32
   pub after : slice_cmp nat_cmp last (whole_term last shared rest) ≡ Less
   pub longest : common last (whole_term last shared rest) ≡ shared
+
+-- The rest begins with a byte, which is greater than the byte of `last` behind the shared ones, where
+-- there is one.
+abbrev pub Exceeds : List ℕ → Option ℕ → Type 0
+Exceeds [] byte = ⊥
+Exceeds (b ∷ rest) None = Unit {0}
+Exceeds (b ∷ rest) (Some byte) = byte < b

@@ -1,14 +1,15 @@
 //! Whether bytes are the postings of a base.
 
-ghost use Rattle.std.specs.Prelude.{◌≡◌, ◌↔◌, IsTrue, nat_lt, if◌then◌else◌, ℕ, ◌+◌, ◌-◌, ◌<◌, ◌≤◌, ◌^◌, List, ◌++◌, length, take, slice_index};
+ghost use Rattle.std.specs.Prelude.{◌≡◌, ◌↔◌, IsTrue, nat_lt, if◌then◌else◌, ℕ, ◌+◌, ◌-◌, ◌<◌, ◌≤◌, ◌^◌, List, [], ◌++◌, length, take, slice_index, slice_get};
 ghost use Rattle.ax_leaf.specs.Reading.{reached};
-ghost use Rattle.ax_leaf.specs.ShortTerm.{whole_term, Follows};
+ghost use Rattle.ax_leaf.specs.ShortTerm.{whole_term, Exceeds, Follows};
 ghost use Rattle.ax_leaf.specs.TermList.{CanReach, HasFront, HasListAfter, HasTermList};
 
 use crate::short_posting::split_posting;
 use crate::short_term::ShortTerm;
 
-/// How many bytes of the term before are at hand. No page that is written has a longer term.
+/// How many bytes of the term before are at hand. What stands behind them in a longer one is read
+/// from the payload again.
 const FRONT: usize = 4096;
 
 /// Are the bytes so many postings, whose terms rise?
@@ -16,7 +17,7 @@ pub(crate) fn is_term_list(list: &[u8], count: usize) -> bool
     ensures { IsTrue result ↔ HasTermList count list.now }
 {
     if count == 0 {
-        return list.is_empty();
+        return is_end(list);
     }
     let Some((first, rest)) = split_posting(list) else {
         return false;
@@ -50,7 +51,14 @@ fn is_list_after_first(list: &[u8], behind: &[u8], first: ShortTerm<'_>, count: 
         size = posting.term.shared + posting.term.rest.len();
         rest = after;
     }
-    rest.is_empty()
+    is_end(rest)
+}
+
+/// Are there no bytes?
+fn is_end(bytes: &[u8]) -> bool
+    ensures { IsTrue result ↔ (bytes.now ≡ []) }
+{
+    bytes.is_empty()
 }
 
 /// Does the term come after the one that is reached behind so many postings, with no more in common
@@ -62,19 +70,33 @@ fn follows(list: &[u8], count: usize, size: usize, front: &[u8], term: ShortTerm
     requires few { term.shared < 2 ^ 32 }
     ensures { IsTrue result ↔ Follows (reached count list.now).term term.entry.shared term.entry.rest.now }
 {
-    if term.shared > size {
+    if !fits_behind(size, term) {
         return false;
     }
-    if term.shared + term.rest.len() > u32::MAX as usize {
-        return false;
-    }
-    let Some((&first, _)) = term.rest.split_first() else {
+    let byte = byte_behind(list, count, size, front, term.shared);
+    exceeds(term.rest, byte)
+}
+
+/// Does a term of `size` bytes have as many as are shared, and is the term itself short enough?
+fn fits_behind(size: usize, term: ShortTerm<'_>) -> bool
+    requires { term.shared < 2 ^ 32 }
+    ensures { IsTrue result ↔ ((term.entry.shared ≤ size) × (term.entry.shared + length term.entry.rest.now < 2 ^ 32)) }
+{
+    term.shared <= size && term.shared + term.rest.len() <= u32::MAX as usize
+}
+
+/// Is there a first byte of the rest, and is it greater than the byte that the term before has in
+/// its place, where that has one?
+fn exceeds(rest: &[u8], byte: Option<u8>) -> bool
+    ensures { IsTrue result ↔ Exceeds rest.now byte }
+{
+    let Some((&first, _)) = rest.split_first() else {
         return false;
     };
-    if term.shared == size {
-        return true;
+    match byte {
+        None => true,
+        Some(byte) => byte < first,
     }
-    byte_behind(list, count, front, term.shared) < first
 }
 
 /// Puts the bytes of a term over those of the term before, as far as there is room.
@@ -99,18 +121,23 @@ fn put_at(front: &mut [u8], place: usize, bytes: &[u8])
     front[place..end].copy_from_slice(bytes);
 }
 
-/// The byte at a place of the term that is reached behind so many postings, of which `front` has
-/// the first bytes. A byte behind those is looked for from the first posting on.
-fn byte_behind(list: &[u8], count: usize, front: &[u8], place: usize) -> u8
+/// The byte at a place of the term that is reached behind so many postings, where there is one. The
+/// term has `size` bytes, and `front` the first of them; one behind those is looked for from the
+/// first posting on.
+#[tactic(auto, using(crate::proofs::Fronts::none_there, crate::proofs::Fronts::some_there))]
+fn byte_behind(list: &[u8], count: usize, size: usize, front: &[u8], place: usize) -> Option<u8>
     requires reads { CanReach count list.now }
+    requires size { size ≡ length (reached count list.now).term }
     requires front { HasFront front.now (reached count list.now).term }
-    requires within { place < length (reached count list.now).term }
-    ensures { result ≡ slice_index (reached count list.now).term place }
+    ensures { result ≡ slice_get (reached count list.now).term place }
 {
-    if place < front.len() {
-        return front[place];
+    if place >= size {
+        return None;
     }
-    far_byte_behind(list, count, place)
+    if place < front.len() {
+        return Some(front[place]);
+    }
+    Some(far_byte_behind(list, count, place))
 }
 
 /// The byte at a place of the term that is reached behind so many postings, 0 past its end, by

@@ -39,7 +39,5 @@ loop-k-preserved c =
 
 pub returns : goal.returns
 returns c =
-    let done = is_done c.args.list.now c.args.behind.now c.loop-k.rest.now c.args.count c.loop-k.k c.loop-k.size c.loop-k.invariant.way (omega arith) in (
-      λ h. done.0 (nil_from_length c.loop-k.rest.now (eqb-true _ _ (sym c.is_empty.ensures ∙ h))),
-      λ h. c.is_empty.ensures ∙ eq-eqb _ _ (ap length (done.1 h)),
-    )
+    let done = is_done c.args.list.now c.args.behind.now c.loop-k.rest.now c.args.count c.loop-k.k c.loop-k.size c.loop-k.invariant.way (omega arith) in
+    (λ h. done.0 (c.is_end.ensures.0 h), λ h. c.is_end.ensures.1 (done.1 h))

@@ -1,6 +1,5 @@
 use Rattle.std.proofs.Common.{◌≡◌, ◌∙◌, ℕ, ◌-◌, arith, refl, ap, sym, suc, true, false, length, subst}
-use Rattle.std.proofs.lemmas.Bool.{false≢true, eqb-true, eq-eqb}
-use Rattle.std.proofs.lemmas.List.{nil_from_length}
+use Rattle.std.proofs.lemmas.Bool.{false≢true}
 use Rattle.ax_leaf.specs.Reading.{Reached, reached}
 use Rattle.ax_leaf.specs.TermList.{Begins, HasListAfter, HasTermList}
 use Rattle.ax_leaf.proofs.Listed.{IsStart, first_less, first_more, none_listed, empty_list, no_first}
@@ -11,8 +10,8 @@ use Rattle.ax_leaf.proofs.checking.is_term_list.Goals.{In-Some}
 pub returns-then-count-eq0 : goal.returns-then-count-eq0
 returns-then-count-eq0 c =
     let zero : c.args.count ≡ 0 = omega arith in (
-      λ h. empty_list c.args.list.now c.args.count zero (nil_from_length c.args.list.now (eqb-true _ _ (sym c.is_empty.ensures ∙ h))),
-      λ h. c.is_empty.ensures ∙ eq-eqb _ _ (ap length (none_listed c.args.list.now (subst (λ (n : ℕ). HasTermList n c.args.list.now) zero h))),
+      λ h. empty_list c.args.list.now c.args.count zero (c.is_end.ensures.0 h),
+      λ h. c.is_end.ensures.1 (none_listed c.args.list.now (subst (λ (n : ℕ). HasTermList n c.args.list.now) zero h)),
     )
 
 pub returns-in_default : goal.returns-in_default
