@@ -71,8 +71,7 @@ first_behind (x ∷ last) (suc shared) = first_behind last shared
 pub follows_where : (last : List ℕ) (shared : ℕ) (rest : List ℕ) (byte : Option ℕ) → byte ≡ slice_get last shared → shared ≤ length last → shared + length rest < 4294967296
     → Exceeds rest byte ↔ Follows last shared rest
 follows_where last shared rest byte e within short =
-    let same : byte ≡ slice_get (drop shared last) 0 = e ∙ sym (first_behind last shared) in
-    (
+    let same : byte ≡ slice_get (drop shared last) 0 = e ∙ sym (first_behind last shared) in (
       λ h.
           let both = beats (drop shared last) rest (subst (Exceeds rest) same h) in
           let is : Follows last shared rest = record {

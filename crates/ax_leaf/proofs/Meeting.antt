@@ -6,7 +6,7 @@ use Rattle.std.proofs.lemmas.List.{length-take-le}
 use Rattle.std.specs.Cmp.{nat_cmp_is}
 use Rattle.std.specs.Cmp.Lexicographic.{slice_cmp}
 use Rattle.std.specs.Ordering.{nat_cmp, ordering_then, ordering_reverse}
-use Rattle.std.proofs.lemmas.Cmp.{nat_list_cmp_total}
+use Rattle.std.proofs.lemmas.Cmp.{nat_list_cmp_total, ranked}
 use Rattle.std.specs.declared.cmp.Ordering.{Ordering}
 use Rattle.std.specs.declared.cmp.Ordering.TheVariants.{Less, Equal, Greater}
 use Rattle.ax_leaf.specs.Lookup.{IsUpTo, IsMet}
@@ -98,3 +98,18 @@ met_up_to last sought matched shared rest met less =
     absurd (cc))
     (λ (l : matched ≤ shared). l)
     (cases_lt shared matched)
+
+-- the same, by how the two numbers compare
+pub met_less : (last sought : List ℕ) (matched shared : ℕ) (rest : List ℕ) → IsMet last sought matched shared rest → Less ≡ nat_cmp matched shared
+    → Less ≡ slice_cmp nat_cmp (whole_term last shared rest) sought
+met_less last sought matched shared rest met e = sym (met_before last sought matched shared rest met (ranked matched shared Less e)).less
+
+pub met_equal : (last sought : List ℕ) (matched shared : ℕ) (rest behind : List ℕ) (r : Ordering) → IsMet last sought matched shared rest → Equal ≡ nat_cmp matched shared
+    → behind ≡ drop matched sought → r ≡ slice_cmp nat_cmp rest behind → r ≡ slice_cmp nat_cmp (whole_term last shared rest) sought
+met_equal last sought matched shared rest behind r met e f g =
+    g ∙ ap (slice_cmp nat_cmp rest) f ∙ sym (met_alike last sought matched shared rest met (ranked matched shared Equal e))
+
+pub met_greater : (last sought : List ℕ) (matched shared : ℕ) (rest : List ℕ) → IsMet last sought matched shared rest → Greater ≡ nat_cmp matched shared
+    → Greater ≡ slice_cmp nat_cmp (whole_term last shared rest) sought
+met_greater last sought matched shared rest met e =
+    sym (after_from (whole_term last shared rest) sought (met_behind last sought matched shared rest met (ranked matched shared Greater e)))

@@ -12,8 +12,7 @@ ghost use Rattle.ax_leaf.specs.ShortTerm.{whole_term};
 ghost use Rattle.ax_leaf.specs.TermList.{IsTermList};
 
 use crate::short_posting::{ShortPosting, split_posting};
-use crate::short_term::ShortTerm;
-use crate::writing::in_common;
+use crate::short_term::{ShortTerm, in_common};
 use ax_gap::GapCursor;
 use std::cmp::Ordering;
 
@@ -38,6 +37,7 @@ pub(crate) fn find_in<'a>(list: &'a [u8], count: usize, sought: &[u8]) -> Option
 }
 
 /// How a term compares with the one that is sought.
+#[tactic(auto, using(crate::proofs::Meeting::met_less, crate::proofs::Meeting::met_equal, crate::proofs::Meeting::met_greater))]
 fn cmp_met(sought: &[u8], matched: usize, term: ShortTerm<'_>) -> Ordering
     ensures { (last : List ℕ) → IsMet last sought.now matched term.entry.shared term.entry.rest.now
         → result ≡ slice_cmp nat_cmp (whole_term last term.entry.shared term.entry.rest.now) sought.now }

@@ -1,5 +1,11 @@
 //! The payload of a base of a term page: its low pair, and its pairs, with the terms shortened by
-//! what each has in common with the term before.
+//! what each has in common with the term before. The crate stands on `ax_gap`, whose gap lists hold
+//! the numbers of each term, and on `ax_tree`.
+//!
+//! Its one contract: rising pairs under a low pair have one payload, `IsLeaf` of
+//! `specs/Payload.antt`. `encode` writes it. `check` reads it, and answers `None` exactly where the
+//! bytes are no payload; what it gives finds the numbers of a term, and has a cursor that gives the
+//! pairs, in order.
 #![tactic(auto)]
 
 mod checking;

@@ -1,10 +1,12 @@
 //! A term after another: writing one, and reading one as it is written.
 
-ghost use Rattle.std.specs.Prelude.{◌≡◌, ℕ, ◌++◌, ◌<◌, ◌^◌, List, length, IfSome, IsSomeAnd};
+ghost use Rattle.std.specs.Prelude.{◌≡◌, ℕ, ◌++◌, ◌<◌, ◌≤◌, ◌^◌, List, length, IfSome, IsSomeAnd, OnOk};
 ghost use Rattle.ax_gap.specs.Varint.{varint};
+ghost use Rattle.ax_leaf.specs.Payload.{common, term_after};
 ghost use Rattle.ax_leaf.specs.ShortTerm.{short_term};
 
-use ax_gap::varint::read_varint;
+use crate::out_of_memory::Memory;
+use ax_gap::varint::{put_varint, read_varint};
 
 /// A term as it is written after another.
 #[derive(Clone, Copy)]
@@ -17,7 +19,7 @@ pub struct ShortTerm<'a> {
 
 /// The number below 2^32 whose varint comes first, and the bytes after it. `None` exactly where
 /// none comes first.
-pub(crate) fn split_number(bytes: &[u8]) -> Option<(u32, &[u8])>
+pub fn split_number(bytes: &[u8]) -> Option<(u32, &[u8])>
     ensures found { IfSome result (λ x. bytes.now ≡ varint x.0 ++ x.1.now) }
     ensures fits { IfSome result (λ x. x.0 < 2 ^ 32) }
     ensures only { (n : ℕ) (rest : List ℕ) → n < 2 ^ 32 → bytes.now ≡ varint n ++ rest
@@ -42,4 +44,48 @@ pub fn split_term(bytes: &[u8]) -> Option<(ShortTerm<'_>, &[u8])>
     let (rest, after) = after.split_at_checked(size as usize)?;
     let shared = shared as usize;
     Some((ShortTerm { shared, rest }, after))
+}
+
+/// Writes a term after another at the end. `Memory` also where the term has 2^32 bytes or more.
+#[tactic(auto, using(std::proofs::lemmas::List::append_assoc), unfolding(crate::specs::Payload::term_after))]
+pub fn put_term(out: &mut Vec<u8>, last: &[u8], term: &[u8]) -> Result<(), Memory>
+    ensures short { OnOk result (length term.now < 2 ^ 32) }
+    ensures written { OnOk result (out.new.items ≡ out.old.items ++ term_after last.now term.now) }
+{
+    if term.len() > u32::MAX as usize {
+        return Err(Memory);
+    }
+    let shared = in_common(last, term);
+    let rest = &term[shared..];
+    put_length(out, shared)?;
+    put_length(out, rest.len())?;
+    out.extend_from_slice(rest)?;
+    Ok(())
+}
+
+/// Writes the varint of a length at the end. `Memory` also where the length has more than 32 bits.
+pub fn put_length(out: &mut Vec<u8>, length: usize) -> Result<(), Memory>
+    ensures fits { OnOk result (length < 2 ^ 32) }
+    ensures written { OnOk result (out.new.items ≡ out.old.items ++ varint length) }
+{
+    if length > u32::MAX as usize {
+        return Err(Memory);
+    }
+    put_varint(out, length as u32)?;
+    Ok(())
+}
+
+/// How many bytes at their beginnings two terms have in common.
+pub fn in_common(a: &[u8], b: &[u8]) -> usize
+    ensures shared { result ≡ common a.now b.now }
+    ensures first { result ≤ length a.now }
+    ensures second { result ≤ length b.now }
+{
+    let shorter = a.len().min(b.len());
+    for place in 0..shorter {
+        if a[place] != b[place] {
+            return place;
+        }
+    }
+    shorter
 }
