@@ -32,8 +32,8 @@ front_kept front new last shared kept rest near many size e has within k h l =
 
 -- ---- a byte of the term
 
-pub none_there : (term : List ℕ) (place : ℕ) → length term ≤ place → slice_get term place ≡ None
+pub none_there : (term : List ℕ) (position : ℕ) → length term ≤ position → slice_get term position ≡ None
 none_there = slice_get_past
 
-pub some_there : (term : List ℕ) (place byte : ℕ) → place < length term → byte ≡ get_or term place 0 → slice_get term place ≡ Some byte
-some_there term place byte h e = slice_get-get_or term place 0 h ∙ ap (λ (b : ℕ). Some b) (sym e)
+pub some_there : (term : List ℕ) (position byte : ℕ) → position < length term → byte ≡ get_or term position 0 → slice_get term position ≡ Some byte
+some_there term position byte h e = slice_get-get_or term position 0 h ∙ ap (λ (b : ℕ). Some b) (sym e)

@@ -18,38 +18,38 @@ reached_more k list shared part ns after h =
     ap (λ (n : ℕ). reached n list) (add-one k) ∙ ap reached_by (first_read (reached k list).term (reached k list).bytes shared part ns after h)
 
 -- a byte of a term that is written after another
-pub byte_of_whole : (last : List ℕ) (shared place byte : ℕ) (part : List ℕ) → shared ≤ length last → byte ≡ get_or last place 0
-    → cond (nat_lt place shared) byte (get_or part (place - shared) 0) ≡ get_or (whole_term last shared part) place 0
-byte_of_whole last shared place byte part within e =
+pub byte_of_whole : (last : List ℕ) (shared position byte : ℕ) (part : List ℕ) → shared ≤ length last → byte ≡ get_or last position 0
+    → cond (nat_lt position shared) byte (get_or part (position - shared) 0) ≡ get_or (whole_term last shared part) position 0
+byte_of_whole last shared position byte part within e =
     let size : length (take shared last) ≡ shared = length-take-le shared last within in
     ⊎_elim
-    (λ (l : place < shared). rw (lt-ltb place shared l) (e ∙ sym (get_or-take shared last place 0 l) ∙ sym (get_or_append_left (take shared last) part 0 place (omega arith))))
-    (λ (l : shared ≤ place). rw (le-ltb place shared l) (sym (get_or-append_right (take shared last) part shared place 0 size l)))
-    (cases_lt place shared)
+    (λ (l : position < shared). rw (lt-ltb position shared l) (e ∙ sym (get_or-take shared last position 0 l) ∙ sym (get_or_append_left (take shared last) part 0 position (omega arith))))
+    (λ (l : shared ≤ position). rw (le-ltb position shared l) (sym (get_or-append_right (take shared last) part shared position 0 size l)))
+    (cases_lt position shared)
 
 -- parts that were read are those of the posting that stands there
 pub within_by : (last bytes : List ℕ) (shared : ℕ) → (b : Begun last bytes) → shared ≡ b.shared → shared ≤ length last
 within_by last bytes shared b e = omega (arith, b.within)
 
-pub record IsByte (k : ℕ) (list rest : List ℕ) (byte place : ℕ) : Type 0 where
+pub record IsByte (k : ℕ) (list rest : List ℕ) (byte position : ℕ) : Type 0 where
   pub left : rest ≡ (reached k list).bytes
-  pub is : byte ≡ get_or (reached k list).term place 0
+  pub is : byte ≡ get_or (reached k list).term position 0
 
-pub byte_start : (list : List ℕ) (place : ℕ) → IsByte 0 list list 0 place
+pub byte_start : (list : List ℕ) (position : ℕ) → IsByte 0 list list 0 position
 unfolding reached
-byte_start list place = record { left = refl; is = refl }
+byte_start list position = record { left = refl; is = refl }
 
-pub byte_step : (k : ℕ) (list rest : List ℕ) (byte place shared : ℕ) (part ns after : List ℕ) (new : ℕ) → IsByte k list rest byte place
+pub byte_step : (k : ℕ) (list rest : List ℕ) (byte position shared : ℕ) (part ns after : List ℕ) (new : ℕ) → IsByte k list rest byte position
     → Begins rest shared part ns after → shared ≤ length (reached k list).term
-    → new ≡ cond (nat_lt place shared) byte (get_or part (place - shared) 0)
-    → IsByte (k + 1) list after new place
-byte_step k list rest byte place shared part ns after new was begins within e =
+    → new ≡ cond (nat_lt position shared) byte (get_or part (position - shared) 0)
+    → IsByte (k + 1) list after new position
+byte_step k list rest byte position shared part ns after new was begins within e =
     let more : reached (k + 1) list ≡ behind (whole_term (reached k list).term shared part) after =
     reached_more k list shared part ns after (subst (λ (bs : List ℕ). Begins bs shared part ns after) was.left begins)
     in
     record {
       left = ap (λ (r : Reached). r.bytes) (sym more);
-      is = e ∙ byte_of_whole (reached k list).term shared place byte part within was.is ∙ ap (λ (r : Reached). get_or r.term place 0) (sym more);
+      is = e ∙ byte_of_whole (reached k list).term shared position byte part within was.is ∙ ap (λ (r : Reached). get_or r.term position 0) (sym more);
     }
 
 -- ---- a list, posting by posting

@@ -7,7 +7,7 @@ use Rattle.ax_leaf.specs.Reading.{postings_in}
 use Rattle.ax_leaf.specs.TermList.{IsTermList, Spells}
 use Rattle.ax_leaf.specs.declared.leaf.Leaf.TheInside.{Inside}
 use Rattle.ax_leaf.specs.declared.pair.Pair.{Pair}
-use Rattle.ax_leaf.specs.declared.place.Place.{Place}
+use Rattle.ax_leaf.specs.declared.remaining.Remaining.{Remaining}
 
 abbrev pub base_of : Inside → Base
 base_of l = record { low = record { term = l.term.now; number = l.number }; postings = postings_in l.count [] l.list.now }
@@ -22,10 +22,10 @@ numbers_left None = []
 numbers_left (Some cursor) = cursor.numbers
 
 -- the pairs of the posting that was reached, and those of the postings behind it
-abbrev pub pairs_at : Place → List Pair
-pairs_at p =
-    pairs_with p.term.items (numbers_left p.numbers) ++ pairs_of (postings_in p.count p.term.items p.rest.now)
+abbrev pub pairs_remaining : Remaining → List Pair
+pairs_remaining r =
+    pairs_with r.term.items (numbers_left r.numbers) ++ pairs_of (postings_in r.count r.term.items r.rest.now)
 
 -- the bytes behind the posting that was reached are postings
-abbrev pub IsPlace : Place → Type 0
-IsPlace p = Spells p.term.items p.count p.rest.now
+abbrev pub IsSpelled : Remaining → Type 0
+IsSpelled r = Spells r.term.items r.count r.rest.now

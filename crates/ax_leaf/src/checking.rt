@@ -86,7 +86,7 @@ fn fits_behind(size: usize, term: ShortTerm<'_>) -> bool
 }
 
 /// Is there a first byte of the rest, and is it greater than the byte that the term before has in
-/// its place, where that has one?
+/// its position, where that has one?
 fn exceeds(rest: &[u8], byte: Option<u8>) -> bool
     ensures { IsTrue result ↔ Exceeds rest.now byte }
 {
@@ -112,39 +112,39 @@ fn keep_front(front: &mut [u8], term: ShortTerm<'_>)
     put_at(front, term.shared, kept);
 }
 
-/// Puts bytes over those from a place on.
-fn put_at(front: &mut [u8], place: usize, bytes: &[u8])
-    requires { place + length bytes.now ≤ length front.old }
-    ensures { take (place + length bytes.now) front.new ≡ take place front.old ++ bytes.now }
+/// Puts bytes over those from a position on.
+fn put_at(front: &mut [u8], position: usize, bytes: &[u8])
+    requires { position + length bytes.now ≤ length front.old }
+    ensures { take (position + length bytes.now) front.new ≡ take position front.old ++ bytes.now }
 {
-    let end = place + bytes.len();
-    front[place..end].copy_from_slice(bytes);
+    let end = position + bytes.len();
+    front[position..end].copy_from_slice(bytes);
 }
 
-/// The byte at a place of the term that is reached behind so many postings, where there is one. The
+/// The byte at a position of the term that is reached behind so many postings, where there is one. The
 /// term has `size` bytes, and `front` the first of them; one behind those is looked for from the
 /// first posting on.
 #[tactic(auto, using(crate::proofs::Fronts::none_there, crate::proofs::Fronts::some_there))]
-fn byte_behind(list: &[u8], count: usize, size: usize, front: &[u8], place: usize) -> Option<u8>
+fn byte_behind(list: &[u8], count: usize, size: usize, front: &[u8], position: usize) -> Option<u8>
     requires reads { CanReach count list.now }
     requires size { size ≡ length (reached count list.now).term }
     requires front { HasFront front.now (reached count list.now).term }
-    ensures { result ≡ slice_get (reached count list.now).term place }
+    ensures { result ≡ slice_get (reached count list.now).term position }
 {
-    if place >= size {
+    if position >= size {
         return None;
     }
-    if place < front.len() {
-        return Some(front[place]);
+    if position < front.len() {
+        return Some(front[position]);
     }
-    Some(far_byte_behind(list, count, place))
+    Some(far_byte_behind(list, count, position))
 }
 
-/// The byte at a place of the term that is reached behind so many postings, 0 past its end, by
+/// The byte at a position of the term that is reached behind so many postings, 0 past its end, by
 /// going over them.
-fn far_byte_behind(list: &[u8], count: usize, place: usize) -> u8
+fn far_byte_behind(list: &[u8], count: usize, position: usize) -> u8
     requires { CanReach count list.now }
-    ensures { result ≡ slice_index (reached count list.now).term place }
+    ensures { result ≡ slice_index (reached count list.now).term position }
 {
     let mut rest = list;
     let mut byte = 0;
@@ -152,18 +152,18 @@ fn far_byte_behind(list: &[u8], count: usize, place: usize) -> u8
         let Some((posting, after)) = split_posting(rest) else {
             return 0;
         };
-        byte = byte_with(byte, posting.term, place);
+        byte = byte_with(byte, posting.term, position);
         rest = after;
     }
     byte
 }
 
-/// The byte at a place of a term, from that of the term before it; 0 past the end.
-fn byte_with(before: u8, term: ShortTerm<'_>, place: usize) -> u8
-    ensures { result ≡ (if nat_lt place term.entry.shared then before else slice_index term.entry.rest.now (place - term.entry.shared)) }
+/// The byte at a position of a term, from that of the term before it; 0 past the end.
+fn byte_with(before: u8, term: ShortTerm<'_>, position: usize) -> u8
+    ensures { result ≡ (if nat_lt position term.entry.shared then before else slice_index term.entry.rest.now (position - term.entry.shared)) }
 {
-    if place < term.shared {
+    if position < term.shared {
         return before;
     }
-    term.rest.get(place - term.shared).copied().unwrap_or(0)
+    term.rest.get(position - term.shared).copied().unwrap_or(0)
 }

@@ -6,7 +6,7 @@ ghost use Rattle.ax_leaf.specs.Reading.{postings_in};
 ghost use Rattle.ax_leaf.specs.TermList.{IsTermList};
 
 use crate::out_of_memory::Memory;
-use crate::place::{Place, change_behind};
+use crate::remaining::{Remaining, change_behind};
 use std::alloc::Global;
 use std::marker::Model;
 
@@ -15,7 +15,7 @@ use std::marker::Model;
 /// It holds the term of the next pair, for which it takes memory.
 #[derive(Drop)]
 pub struct PairCursor<'a> {
-    place: Place<'a>,
+    remaining: Remaining<'a>,
 }
 
 impl<'a> Model for PairCursor<'a> {
@@ -24,11 +24,11 @@ impl<'a> Model for PairCursor<'a> {
 
     ghost Value = { List Pair };
 
-    ghost use Rattle.ax_leaf.specs.View.{pairs_at, IsPlace};
+    ghost use Rattle.ax_leaf.specs.View.{pairs_remaining, IsSpelled};
 
-    ghost view = { λ c. pairs_at c.place };
+    ghost view = { λ c. pairs_remaining c.remaining };
 
-    ghost invariant = { λ c. IsPlace c.place };
+    ghost invariant = { λ c. IsSpelled c.remaining };
 }
 
 impl<'a> PairCursor<'a> {
@@ -37,13 +37,13 @@ impl<'a> PairCursor<'a> {
         requires { IsTermList count list.now (postings_in count [] list.now) }
         ensures { result ≡ pairs_of (postings_in count [] list.entry.now) }
     {
-        let place = Place {
+        let remaining = Remaining {
             term: Vec::new(alloc),
             numbers: None,
             count,
             rest: list,
         };
-        PairCursor { place }
+        PairCursor { remaining }
     }
 
     /// The number of the next pair, whose term is then in `term`, in place of what was there.
@@ -56,12 +56,12 @@ impl<'a> PairCursor<'a> {
             (λ number. self.old ≡ record { term = term.new.items; number = number } ∷ self.new))
             (λ _. (self.new ≡ self.old) × (term.new.items ≡ term.old.items)) }
     {
-        self.place.reach()?;
-        if self.place.is_spent() {
+        self.remaining.reach()?;
+        if self.remaining.is_spent() {
             return Ok(None);
         }
-        change_behind(term, 0, self.place.term.as_slice())?;
-        let number = self.place.take_number();
+        change_behind(term, 0, self.remaining.term.as_slice())?;
+        let number = self.remaining.take_number();
         Ok(number)
     }
 }

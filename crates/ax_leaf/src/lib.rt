@@ -15,7 +15,7 @@ pub mod laws;
 mod leaf;
 mod out_of_memory;
 mod pair;
-mod place;
+mod remaining;
 mod short_posting;
 pub mod short_term;
 mod writing;

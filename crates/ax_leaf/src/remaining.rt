@@ -1,7 +1,7 @@
-//! Where a cursor over pairs stands.
+//! What a cursor over pairs has still to give.
 
 ghost use Rattle.std.specs.Prelude.{◌≡◌, ◌↔◌, [], ◌∷◌, ◌++◌, take, IsTrue, OnOk, OnErr, MatchOption};
-ghost use Rattle.ax_leaf.specs.View.{IsPlace, numbers_left, pairs_at};
+ghost use Rattle.ax_leaf.specs.View.{IsSpelled, numbers_left, pairs_remaining};
 
 use crate::out_of_memory::Memory;
 use crate::short_posting::{ShortPosting, split_posting};
@@ -9,7 +9,7 @@ use ax_gap::GapCursor;
 
 /// A posting of a base, of which some numbers may be given, and the postings behind it.
 #[derive(Drop)]
-pub(crate) struct Place<'a> {
+pub(crate) struct Remaining<'a> {
     /// The term of the posting that was reached: empty before the first.
     pub(crate) term: Vec<u8>,
     /// Its numbers.
@@ -19,7 +19,7 @@ pub(crate) struct Place<'a> {
     pub(crate) rest: &'a [u8],
 }
 
-impl<'a> Place<'a> {
+impl<'a> Remaining<'a> {
     /// Do no numbers remain of the posting that was reached?
     pub(crate) fn is_spent(&self) -> bool
         ensures { IsTrue result ↔ (numbers_left self.now.numbers ≡ []) }
@@ -33,10 +33,10 @@ impl<'a> Place<'a> {
     /// Goes to the next posting, where no number of the one that was reached remains. After
     /// `Memory` it stands where it stood.
     pub(crate) fn reach(&mut self) -> Result<(), Memory>
-        requires { IsPlace self.old }
-        ensures is { IsPlace self.new }
-        ensures same { pairs_at self.new ≡ pairs_at self.old }
-        ensures reached { OnOk result (numbers_left self.new.numbers ≡ [] → pairs_at self.new ≡ []) }
+        requires { IsSpelled self.old }
+        ensures is { IsSpelled self.new }
+        ensures same { pairs_remaining self.new ≡ pairs_remaining self.old }
+        ensures reached { OnOk result (numbers_left self.new.numbers ≡ [] → pairs_remaining self.new ≡ []) }
     {
         if !self.is_spent() {
             return Ok(());
@@ -57,11 +57,11 @@ impl<'a> Place<'a> {
 
     /// The next number of the posting that was reached. `None` exactly where none remains.
     pub(crate) fn take_number(&mut self) -> Option<u32>
-        requires { IsPlace self.old }
-        ensures is { IsPlace self.new }
+        requires { IsSpelled self.old }
+        ensures is { IsSpelled self.new }
         ensures taken { MatchOption result
             (numbers_left self.old.numbers ≡ [])
-            (λ number. pairs_at self.old ≡ record { term = self.old.term.items; number = number } ∷ pairs_at self.new) }
+            (λ number. pairs_remaining self.old ≡ record { term = self.old.term.items; number = number } ∷ pairs_remaining self.new) }
     {
         match &mut self.numbers {
             None => None,

@@ -3,8 +3,8 @@ use Rattle.ax_leaf.specs.Pairs.{pairs_with, pairs_of}
 use Rattle.ax_leaf.specs.Reading.{postings_in}
 use Rattle.ax_leaf.specs.View.{numbers_left}
 use Rattle.ax_leaf.proofs.Going.{Goes, goes_on, has_first}
-use Rattle.ax_leaf.proofs.place.Place.reach.Goals as goal
-use Rattle.ax_leaf.proofs.place.Place.reach.Goals.{In_ok-change_behind}
+use Rattle.ax_leaf.proofs.remaining.Remaining.reach.Goals as goal
+use Rattle.ax_leaf.proofs.remaining.Remaining.reach.Goals.{In_ok-change_behind}
 
 pub returns-in_default-clause-reached : goal.returns-in_default-clause-reached
 returns-in_default-clause-reached c =
