@@ -1,6 +1,6 @@
 use Rattle.std.proofs.Common.{arith}
 use Rattle.ax_leaf.proofs.Shared.{no_more}
-use Rattle.ax_leaf.proofs.writing.in_common.Goals as goal
+use Rattle.ax_leaf.proofs.short_term.in_common.Goals as goal
 
 pub returns-clause-shared : goal.returns-clause-shared
 returns-clause-shared c =

@@ -1,6 +1,6 @@
 use Rattle.std.proofs.Common.{◌≡◌, ◌+◌, drop, nat_eq}
 use Rattle.std.specs.List.{common_prefix_len}
-use Rattle.ax_leaf.proofs.writing.in_common.Given as goal
+use Rattle.ax_leaf.proofs.short_term.in_common.Given as goal
 
 abbrev pub invariant-loop-place : goal.invariant-loop-place
 invariant-loop-place l =
