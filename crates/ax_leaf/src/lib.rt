@@ -1,9 +1,4 @@
 //! The payload of a base of a term page: its low pair, and its pairs, with the terms shortened by
-//! what each has in common with the term before.
-//!
-//! Stands on `ax_gap` and `ax_tree`. Its one contract: `encode` gives the one payload of pairs that
-//! rise (`payload_is_of_one`), and fails only out of memory, which a term or a count above 32 bits
-//! is, too.
 //! what each has in common with the term before. The crate stands on `ax_gap`, whose gap lists hold
 //! the numbers of each term, and on `ax_tree`.
 //!

@@ -12,6 +12,6 @@ pub mod Policies
 pub mod Reading
 pub mod Rules
 pub mod Sameness
-pub mod Walking
 pub mod Table
+pub mod Walking
 pub mod Written

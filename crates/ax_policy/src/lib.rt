@@ -38,6 +38,6 @@ pub use mode::Mode;
 pub use policy::{Composite, Policy};
 pub use policy_fault::PolicyFault;
 pub use read::read_policy;
-pub use walk::RuleWalk;
 pub use table::PolicyTable;
 pub use table_fault::TableFault;
+pub use walk::RuleWalk;
