@@ -1,16 +1,15 @@
 -- The pairs of rising postings rise, so none is before a pair before which the first is not.
-use Rattle.std.proofs.Common.{◌≡◌, ℕ, ◌+◌, ◌<◌, List, [], ◌∷◌, ◌++◌, length, arith, refl, ap, ◌∙◌, sym, All}
+use Rattle.std.proofs.Common.{◌≡◌, ℕ, ◌+◌, ◌<◌, List, [], ◌∷◌, ◌++◌, length, arith, refl, sym, All}
 use Rattle.std.proofs.lemmas.Cmp.{nat_list_cmp_total, nat_cmp_total, tied_itself, then_total, on_total}
 use Rattle.std.proofs.lemmas.List.Elements.{All-nil, All-cons}
 use Rattle.std.specs.Cmp.{IsTotalOrder, nat_cmp_is}
 use Rattle.std.specs.Cmp.Lexicographic.{slice_cmp}
-use Rattle.std.specs.Ordering.{nat_cmp, ordering_then}
-use Rattle.std.specs.declared.cmp.Ordering.{Ordering}
-use Rattle.std.specs.declared.cmp.Ordering.TheVariants.{Less, Equal, Greater}
+use Rattle.std.specs.Ordering.{nat_cmp}
+use Rattle.std.specs.declared.cmp.Ordering.TheVariants.{Less}
 use Rattle.ax_gap.proofs.Rising.{RisesFrom, rises}
 use Rattle.ax_leaf.specs.declared.pair.Pair.{Pair}
 use Rattle.ax_leaf.specs.Pairs.{Posting, pair_cmp, pairs_with, pairs_of, Rise, RiseAfter, BeginsFrom}
-use Rattle.ax_leaf.specs.Payload.{IsPosting, AreAfter, ArePostings}
+use Rattle.ax_leaf.specs.Payload.{AreAfter, ArePostings}
 use Rattle.ax_leaf.proofs.Whole.{the_pair}
 
 by_number : (term : List ℕ) (m n : ℕ) → m < n → pair_cmp (the_pair term m) (the_pair term n) ≡ Less

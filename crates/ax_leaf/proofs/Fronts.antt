@@ -1,5 +1,5 @@
 -- The first bytes of a term that is written after another, put over those of that one.
-use Rattle.std.proofs.Common.{◌≡◌, ℕ, ◌+◌, ◌-◌, ◌<◌, ◌≤◌, List, ◌++◌, length, get_or, take, min, arith, refl, ap, ◌∙◌, sym, ⊎_elim, Option, Some, None, slice_get}
+use Rattle.std.proofs.Common.{◌≡◌, ℕ, ◌+◌, ◌-◌, ◌<◌, ◌≤◌, List, ◌++◌, length, get_or, take, min, arith, ap, ◌∙◌, sym, ⊎_elim, Some, None, slice_get}
 use Rattle.std.proofs.lemmas.Bool.{cases_lt}
 use Rattle.std.proofs.lemmas.List.{length-append, length-take-le, get_or-take, get_or_append_left, get_or-append_right}
 use Rattle.std.proofs.lemmas.Option.{slice_get_past, slice_get-get_or}

@@ -1,6 +1,5 @@
 -- A cursor goes from one posting to the next.
-use Rattle.std.proofs.Common.{◌≡◌, ℕ, ◌+◌, ◌-◌, ◌<◌, List, [], ◌∷◌, ◌++◌, length, arith, refl, ap, ◌∙◌, sym, subst}
-use Rattle.ax_leaf.specs.declared.pair.Pair.{Pair}
+use Rattle.std.proofs.Common.{◌≡◌, ℕ, ◌-◌, ◌<◌, List, [], ◌∷◌, ◌++◌, length, arith, refl, ap, ◌∙◌, sym, subst}
 use Rattle.ax_leaf.specs.Pairs.{Posting, pairs_with, pairs_of}
 use Rattle.ax_leaf.specs.Payload.{list_after, AreGood}
 use Rattle.ax_leaf.specs.Reading.{postings_in}

@@ -1,17 +1,16 @@
 -- A list of postings is its first and a list of those behind it.
-use Rattle.std.proofs.Common.{◌≡◌, ℕ, ◌+◌, ◌-◌, ◌<◌, ◌≤◌, List, [], ◌∷◌, ◌++◌, length, take, drop, arith, refl, ap, ◌∙◌, sym, subst, suc, zero, Option, Some, nat_eq}
-use Rattle.std.proofs.lemmas.List.{append_assoc, append-nil, length-append, length-take-le, drop_at, length-drop}
+use Rattle.std.proofs.Common.{◌≡◌, ℕ, ◌+◌, ◌<◌, ◌≤◌, List, [], ◌∷◌, ◌++◌, length, take, drop, arith, refl, ap, ◌∙◌, sym, subst, suc, Option, Some, nat_eq}
+use Rattle.std.proofs.lemmas.List.{append-nil, length-append, length-take-le, drop_at, length-drop}
 use Rattle.std.proofs.lemmas.List.Sums.{common_prefix_len-le}
 use Rattle.std.specs.Cmp.Lexicographic.{slice_cmp}
 use Rattle.std.specs.Ordering.{nat_cmp}
 use Rattle.std.specs.declared.cmp.Ordering.TheVariants.{Less}
 use Rattle.ax_gap.specs.Gaps.{IsRisingList, gaps}
-use Rattle.ax_gap.specs.Varint.{varint}
 use Rattle.ax_leaf.specs.Pairs.{Posting}
-use Rattle.ax_leaf.specs.Payload.{common, term_after, list_after, IsPosting, AreGood, AreAfter, ArePostings}
+use Rattle.ax_leaf.specs.Payload.{common, list_after, IsPosting, AreAfter}
 use Rattle.ax_leaf.specs.Reading.{first_posting}
 use Rattle.ax_leaf.specs.ShortTerm.{short_term, whole_term, Follows}
-use Rattle.ax_leaf.specs.TermList.{IsListAfter, HasListAfter, IsTermList, HasTermList, Begins}
+use Rattle.ax_leaf.specs.TermList.{HasListAfter, HasTermList, Begins}
 use Rattle.ax_leaf.proofs.OneSpelling.{varint_parts}
 use Rattle.ax_leaf.proofs.Read.{found, first_read, list_read, list_begins}
 use Rattle.ax_leaf.proofs.ShortTerms.{short_parts}

@@ -1,12 +1,12 @@
 -- What is reached behind one posting more.
-use Rattle.std.proofs.Common.{◌≡◌, ◌↔◌, ℕ, ◌+◌, ◌-◌, ◌<◌, ◌≤◌, List, [], ◌∷◌, ◌++◌, length, get_or, take, arith, refl, ap, ◌∙◌, sym, subst, suc, add-one, cond, nat_lt, ⊎_elim, true, false, below_more}
+use Rattle.std.proofs.Common.{◌≡◌, ◌↔◌, ℕ, ◌+◌, ◌-◌, ◌<◌, ◌≤◌, List, [], length, get_or, take, arith, refl, ap, ◌∙◌, sym, subst, suc, add-one, cond, nat_lt, ⊎_elim, below_more}
 use Rattle.std.proofs.lemmas.Bool.{cases_lt, lt-ltb, le-ltb}
 use Rattle.std.proofs.lemmas.List.{length-append, length-take-le, get_or_append_left, get_or-append_right, get_or-take}
-use Rattle.ax_leaf.specs.Reading.{Reached, reached, reached_by, first_posting}
+use Rattle.ax_leaf.specs.Reading.{Reached, reached, reached_by}
 use Rattle.ax_leaf.specs.ShortTerm.{whole_term, Follows}
 use Rattle.ax_leaf.specs.TermList.{HasListAfter, Begins, Begun, CanReach}
 use Rattle.ax_leaf.proofs.Listed.{IsStep, one_more, one_less, HasNoFirst, no_first_after, none_left, end_after}
-use Rattle.ax_leaf.proofs.Read.{found, first_read}
+use Rattle.ax_leaf.proofs.Read.{first_read}
 
 abbrev pub behind : List ℕ → List ℕ → Reached
 behind term bytes = record { term = term; bytes = bytes }

@@ -2,7 +2,6 @@
 use Rattle.std.proofs.Common.{◌≡◌, ℕ, ◌-◌, ◌<◌, List, [], ◌∷◌, ◌++◌, length, take, drop, refl, ap, ◌∙◌, sym, subst, Option, Some}
 use Rattle.std.proofs.lemmas.List.{append_assoc, append-nil, take_at, drop_at, length-drop}
 use Rattle.ax_gap.specs.Gaps.{IsRisingList, gaps, gaps_from}
-use Rattle.ax_gap.specs.Reading.{first_varint, first_gaps}
 use Rattle.ax_gap.specs.Varint.{varint}
 use Rattle.ax_gap.proofs.GapLaws.{given, gaps-parts, first_gaps_again}
 use Rattle.ax_gap.proofs.Rising.{rises}

@@ -1,5 +1,5 @@
 -- The parts of a term that is written after another, with which bytes begin.
-use Rattle.std.proofs.Common.{◌≡◌, ℕ, ◌+◌, ◌<◌, List, ◌++◌, length, take, drop, arith, refl, ap, ◌∙◌, sym}
+use Rattle.std.proofs.Common.{◌≡◌, ℕ, ◌<◌, List, ◌++◌, length, take, drop, arith, ap, ◌∙◌, sym}
 use Rattle.std.proofs.lemmas.List.{append_assoc, length-append, take_at, drop_at, take-append-drop}
 use Rattle.ax_gap.specs.Varint.{varint}
 use Rattle.ax_leaf.specs.ShortTerm.{short_term}

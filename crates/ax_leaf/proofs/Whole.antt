@@ -1,15 +1,14 @@
 -- A payload is its low pair, a count and the postings.
-use Rattle.std.proofs.Common.{◌≡◌, ◌↔◌, ℕ, ◌+◌, ◌<◌, List, [], ◌∷◌, ◌++◌, length, take, arith, refl, ap, ◌∙◌, sym, subst, true, false, Bool, not, IsTrue, Option, Some, slice_get}
-use Rattle.std.proofs.lemmas.Bool.{false≢true, true≢false}
+use Rattle.std.proofs.Common.{◌≡◌, ◌↔◌, ℕ, ◌<◌, List, [], ◌∷◌, ◌++◌, length, take, arith, refl, ap, ◌∙◌, sym, subst, Bool, not, IsTrue, Some, slice_get}
+use Rattle.std.proofs.lemmas.Bool.{true≢false}
 use Rattle.std.proofs.lemmas.List.{append_assoc}
-use Rattle.std.specs.Cmp.Lexicographic.{slice_cmp}
-use Rattle.std.specs.Ordering.{is_lt, nat_cmp}
+use Rattle.std.specs.Ordering.{is_lt}
 use Rattle.std.specs.declared.cmp.Ordering.{Ordering}
 use Rattle.std.specs.declared.cmp.Ordering.TheVariants.{Less, Equal, Greater}
 use Rattle.ax_gap.specs.Varint.{varint}
 use Rattle.ax_leaf.specs.declared.pair.Pair.{Pair}
 use Rattle.ax_leaf.specs.Pairs.{Posting, pair_cmp, pairs_with, pairs_of, BeginsFrom}
-use Rattle.ax_leaf.specs.Payload.{list_after, leaf, IsLeaf, IsPosting, AreGood, AreAfter, ArePostings}
+use Rattle.ax_leaf.specs.Payload.{list_after, leaf, IsLeaf, AreGood, AreAfter, ArePostings}
 use Rattle.ax_leaf.specs.Reading.{postings_in}
 use Rattle.ax_leaf.specs.TermList.{IsTermList, HasTermList, Begins}
 use Rattle.ax_leaf.proofs.Listed.{IsFirst, first_of}

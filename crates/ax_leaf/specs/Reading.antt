@@ -1,7 +1,7 @@
 -- Reading the postings with which bytes begin, as functions on lists. Only clauses of private
 -- functions, and the views of a leaf and of a cursor, cite these: what is read is said by the
 -- grammar of `Payload`.
-use Rattle.std.specs.Prelude.{ℕ, List, [], ◌∷◌, ◌++◌, Option, Some, None, take, drop, option_and_then, zero, suc}
+use Rattle.std.specs.Prelude.{ℕ, List, [], ◌∷◌, Option, Some, None, take, drop, option_and_then, zero, suc}
 use Rattle.ax_gap.specs.Reading.{first_varint, first_gaps}
 use Rattle.ax_leaf.specs.Pairs.{Posting}
 use Rattle.ax_leaf.specs.ShortTerm.{whole_term}

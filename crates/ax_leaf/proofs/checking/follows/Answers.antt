@@ -1,4 +1,4 @@
-use Rattle.std.proofs.Common.{◌≡◌, ◌∙◌, ◌+◌, ◌≤◌, ◌<◌, arith, sym, false, true}
+use Rattle.std.proofs.Common.{◌∙◌, arith, sym}
 use Rattle.std.proofs.lemmas.Bool.{false≢true}
 use Rattle.ax_leaf.specs.Reading.{reached}
 use Rattle.ax_leaf.proofs.Following.{follows_where}

@@ -1,6 +1,5 @@
-use Rattle.std.proofs.Common.{◌≡◌, ◌∙◌, arith, refl, ap, sym, true, false, length, subst}
-use Rattle.std.proofs.lemmas.Bool.{false≢true, eqb-true, eq-eqb}
-use Rattle.std.proofs.lemmas.List.{nil_from_length}
+use Rattle.std.proofs.Common.{◌≡◌, ◌∙◌, arith, sym, true, false, subst}
+use Rattle.std.proofs.lemmas.Bool.{false≢true}
 use Rattle.ax_leaf.specs.Reading.{reached}
 use Rattle.ax_leaf.specs.TermList.{Begins, HasFront}
 use Rattle.ax_leaf.proofs.Reaching.{no_more_there, no_step, term_there, goes_on, is_done}

@@ -1,4 +1,4 @@
-use Rattle.std.proofs.Common.{◌≡◌, ◌∙◌, ℕ, ◌-◌, arith, refl, ap, sym, suc, true, false, length, subst}
+use Rattle.std.proofs.Common.{◌≡◌, ℕ, ◌-◌, arith, ap, sym, subst}
 use Rattle.std.proofs.lemmas.Bool.{false≢true}
 use Rattle.ax_leaf.specs.Reading.{Reached, reached}
 use Rattle.ax_leaf.specs.TermList.{Begins, HasListAfter, HasTermList}

@@ -1,4 +1,4 @@
-use Rattle.std.proofs.Common.{◌≡◌, ◌∙◌, ◌+◌, ◌++◌, take, length, arith, ap, sym}
+use Rattle.std.proofs.Common.{◌∙◌, ◌+◌, ◌++◌, take, arith, ap, sym}
 use Rattle.ax_leaf.proofs.Fronts.{front_kept}
 use Rattle.ax_leaf.proofs.checking.keep_front.Goals as goal
 

@@ -1,5 +1,4 @@
-use Rattle.std.proofs.Common.{◌≡◌, ◌∙◌, ℕ, ◌-◌, ◌+◌, List, [], arith, ap, sym, subst, Less, Equal, Greater, Option, Some, None}
-use Rattle.ax_leaf.specs.Lookup.{numbers_under}
+use Rattle.std.proofs.Common.{ℕ, ◌-◌, List, arith, sym, subst}
 use Rattle.ax_leaf.specs.Pairs.{Posting}
 use Rattle.ax_leaf.specs.TermList.{IsTermList}
 use Rattle.ax_leaf.proofs.Meeting.{met_up_to}

@@ -1,4 +1,4 @@
-use Rattle.std.proofs.Common.{◌≤◌, ◌+◌, arith, ap, ◌∙◌, sym}
+use Rattle.std.proofs.Common.{◌+◌, arith, ap, ◌∙◌, sym}
 use Rattle.ax_leaf.specs.Payload.{common}
 use Rattle.ax_leaf.proofs.Meeting.{met_before, met_common}
 use Rattle.ax_leaf.proofs.finding.matched_by.Goals as goal

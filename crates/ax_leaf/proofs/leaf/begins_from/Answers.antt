@@ -1,5 +1,4 @@
-use Rattle.std.proofs.Common.{◌≡◌, ◌-◌, ℕ, arith, suc, subst}
-use Rattle.std.proofs.lemmas.Bool.{false≢true}
+use Rattle.std.proofs.Common.{◌-◌, ℕ, arith, subst}
 use Rattle.ax_leaf.specs.TermList.{HasTermList}
 use Rattle.ax_leaf.proofs.Listed.{no_first}
 use Rattle.ax_leaf.proofs.Whole.{the_pair, first_pair, begins_where}

@@ -1,4 +1,4 @@
-use Rattle.std.proofs.Common.{◌≡◌, ◌∙◌, ℕ, ◌++◌, List, [], length, refl, ap, sym, subst, true, false, not, IsTrue}
+use Rattle.std.proofs.Common.{◌≡◌, ◌∙◌, ◌++◌, List, [], length, sym, subst}
 use Rattle.std.proofs.lemmas.Bool.{false≢true}
 use Rattle.ax_gap.specs.Varint.{varint}
 use Rattle.ax_leaf.specs.declared.pair.Pair.{Pair}
