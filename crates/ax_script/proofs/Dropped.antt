@@ -23,7 +23,7 @@ module _ (query : Query) (entries : List (ℕ × Tree)) (number : ℕ) (tree : T
   gathers_in (Some held) rows gathers = (
     gathers.0,
     subst (λ (envs : List Env). Holds held query envs)
-    (sym (none_more (λ e. envs_of_tree query e.1) entries (number, tree) no_envs)) gathers.1,
+        (sym (none_more (λ e. envs_of_tree query e.1) entries (number, tree) no_envs)) gathers.1,
   )
   gathers_in None rows gathers = (
     gathers.0,

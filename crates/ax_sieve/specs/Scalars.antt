@@ -1,4 +1,4 @@
--- Values that are read from a text at once.
+-- Scalars that are read from a text at once, and undefined.
 use Rattle.ax_tree.specs.declared.tree.Tree as tree
 use Rattle.ax_mean.specs.declared.value.Value.{Value}
 use Rattle.ax_mean.specs.declared.value.Value.TheVariants.{Undefined, Defined}

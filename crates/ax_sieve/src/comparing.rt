@@ -19,6 +19,7 @@ pub(crate) fn may_be_true(op: BinaryOp, scalar: &Scalar, literal: &Value) -> boo
 }
 
 /// Whether a comparison is true of two scalars in that order; none: they are of two kinds.
+#[inline]
 fn is_met(op: BinaryOp, order: Option<Ordering>) -> bool
     ensures { result ≡ met_test op order }
 {
@@ -34,6 +35,7 @@ fn is_met(op: BinaryOp, order: Option<Ordering>) -> bool
 }
 
 /// The order of a scalar and a literal of its kind; none across kinds.
+#[inline]
 fn order(scalar: &Scalar, literal: &Value) -> Option<Ordering>
     ensures { result ≡ scalar_order (value_of scalar.now) literal.now }
 {

@@ -20,3 +20,6 @@ mod source;
 
 pub use out_of_memory::Memory;
 pub use sieve::Sieve;
+
+#[cfg(test)]
+mod tests;

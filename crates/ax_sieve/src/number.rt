@@ -2,7 +2,7 @@
 ghost use Rattle.std.specs.Prelude.{◌≡◌, ℕ, ℤ, pos, neg_ℤ, IfSome};
 ghost use Rattle.std.specs.Fmt.{decimal, signed_decimal};
 
-/// As many digits as the largest number has; none of a document has more.
+/// As many digits as the largest number of a document has.
 const MOST_DIGITS: usize = 19;
 
 /// The number that a text writes; none of a text that writes no number, and none of the least
@@ -19,6 +19,7 @@ pub(crate) fn number_of(text: &[u8]) -> Option<i64>
     }
 }
 
+#[inline]
 fn below_zero(size: u64) -> Option<i64>
     ensures { IfSome result (λ number. number ≡ neg_ℤ (pos size)) }
 {
@@ -26,7 +27,7 @@ fn below_zero(size: u64) -> Option<i64>
     Some(-number)
 }
 
-/// The number that digits write.
+/// The number that digits write; none where there are more than a document's numbers have.
 fn size_of(digits: &[u8]) -> Option<u64>
     ensures { (number : ℕ) → digits.now ≡ decimal number → IfSome result (λ found. found ≡ number) }
 {

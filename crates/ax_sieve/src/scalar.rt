@@ -12,7 +12,7 @@ ghost use Rattle.ax_sieve.specs.Scalars.{value_of};
 use crate::number::number_of;
 use ax_skim::plain_text;
 
-/// A value that is told from its text at once.
+/// A scalar that is told from its text at once, which keeps a text where it stands; or undefined.
 #[derive(Debug, Clone, Copy)]
 pub(crate) enum Scalar<'t> {
     Undefined,
@@ -22,9 +22,9 @@ pub(crate) enum Scalar<'t> {
     Text(&'t [u8]),
 }
 
-#[tactic(auto, using(crate::proofs::Shapes::is_null, crate::proofs::Shapes::is_true, crate::proofs::Shapes::is_false))]
 /// The scalar of a canonical text; none where it is not told at once: of a list, of a map, and of a
 /// text with an escape.
+#[tactic(auto, using(crate::proofs::Shapes::is_null, crate::proofs::Shapes::is_true, crate::proofs::Shapes::is_false))]
 pub(crate) fn read_scalar(text: &[u8]) -> Option<Scalar>
     ensures { (tree : Tree) → text.now ≡ canonical_text tree
         → IfSome result (λ scalar. value_of scalar ≡ Defined tree) }
@@ -39,6 +39,7 @@ pub(crate) fn read_scalar(text: &[u8]) -> Option<Scalar>
     }
 }
 
+#[inline]
 fn read_text(text: &[u8]) -> Option<Scalar>
     ensures { (bytes : List ℕ) → text.now ≡ quoted bytes
         → IfSome result (λ scalar. value_of scalar ≡ Defined (tree.Text bytes)) }
@@ -46,6 +47,7 @@ fn read_text(text: &[u8]) -> Option<Scalar>
     Some(Scalar::Text(plain_text(text)?))
 }
 
+#[inline]
 fn read_number(text: &[u8]) -> Option<Scalar>
     ensures { (number : ℤ) → text.now ≡ signed_decimal number
         → IfSome result (λ scalar. value_of scalar ≡ Defined (tree.Number number)) }
@@ -53,6 +55,7 @@ fn read_number(text: &[u8]) -> Option<Scalar>
     Some(Scalar::Number(number_of(text)?))
 }
 
+#[inline]
 fn begins_number(byte: u8) -> bool
     ensures { result ≡ (is_ascii_digit byte || (byte == 45)) }
 {

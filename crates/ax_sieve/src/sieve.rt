@@ -34,7 +34,7 @@ impl<'a> Sieve<'a> {
         Ok(Sieve { conditions })
     }
 
-    /// Whether the document of that text has no rows; only where that can be told from the text at
+    /// Whether the document of that canonical text has no rows; only where the text tells it at
     /// once.
     #[tactic(auto, using(std::proofs::lemmas::List::Folds::list_any_at))]
     pub fn drops(&self, text: &[u8]) -> bool
