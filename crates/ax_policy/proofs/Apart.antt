@@ -9,7 +9,7 @@ use Rattle.ax_policy.specs.declared.policy.Policy.{Policy}
 use Rattle.ax_policy.specs.Normal.{normal_text}
 use Rattle.ax_policy.specs.Paths.{either}
 use Rattle.ax_policy.specs.Table.{Table, AreApart, SetsNow, numbers, number_for, policy_at, count_at, is_used, is_taken, is_free, is_same, is_text_of}
-use Rattle.ax_policy.proofs.PlaceLaws.{this, found_passes, within_eight, among_numbers}
+use Rattle.ax_policy.proofs.NumberLaws.{this, found_passes, within_eight, among_numbers}
 use Rattle.ax_policy.proofs.Searching.{both, both_true, bytes_eq_same, same_bytes}
 
 -- ---- numbers that are found

@@ -8,10 +8,10 @@ mod Insertion
 mod Lists
 mod NormalFits
 mod NormalTrees
+mod NumberLaws
 mod Orders
 mod PathReading
 mod PathTexts
-mod PlaceLaws
 mod PolicyAgain
 mod Rooms
 mod RuleLaws

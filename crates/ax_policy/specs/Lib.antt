@@ -5,9 +5,9 @@ pub mod Deciding
 pub mod Default
 pub mod Limits
 pub mod Normal
+pub mod NumberUses
 pub mod Ordering
 pub mod Paths
-pub mod Places
 pub mod Policies
 pub mod Reading
 pub mod Rules

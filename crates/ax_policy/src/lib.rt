@@ -14,10 +14,10 @@ mod limits;
 mod members;
 mod mode;
 mod normal;
+mod number_use;
 mod ordering;
 mod overlap;
 mod path_text;
-mod place;
 mod policy;
 mod policy_fault;
 mod quoted;
@@ -32,6 +32,8 @@ mod table_fault;
 #[cfg(test)]
 mod tests;
 mod walk;
+#[cfg(test)]
+mod walk_tests;
 
 pub use default::default_policy;
 pub use mode::Mode;

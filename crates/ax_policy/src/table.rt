@@ -1,13 +1,11 @@
 //! Policies by number, and which of them is the policy now.
-ghost use Rattle.std.specs.Prelude.{◌≡◌, ◌+◌, ◌-◌, ◌<◌, ◌≤◌, IfOk, OnOk, OnErr, Ok, Err, Some, None, IsSome, IsTrue, count_by, find, length, replicate};
+ghost use Rattle.std.specs.Prelude.{◌≡◌, ◌+◌, ◌-◌, ◌<◌, ◌≤◌, IfOk, OnOk, OnErr, IsSome, length, replicate};
 ghost use Rattle.std.specs.Option.{option_copied};
-ghost use Rattle.ax_policy.specs.Normal.{normal_text};
-ghost use Rattle.ax_policy.specs.Paths.{either};
-ghost use Rattle.ax_policy.specs.Places.{place_of, with_places, no_places};
+ghost use Rattle.ax_policy.specs.NumberUses.{use_of, with_uses, nothing_found};
 ghost use Rattle.ax_policy.specs.Table as spec;
 
 use crate::default::default_policy;
-use crate::place::{Place, Places};
+use crate::number_use::{NumberUse, NumbersFound};
 use crate::policy::Policy;
 use crate::slot::Slot;
 use crate::table_fault::TableFault;
@@ -174,34 +172,34 @@ impl PolicyTable {
         ensures full { result ≡ Err TableFault.Full → spec.most_others ≤ spec.others_in_use policy.now self.now }
     {
         let text = policy.normal(alloc)?;
-        let places = self.places(alloc, text.as_slice())?;
-        places.number()
+        let found = self.numbers_found(alloc, text.as_slice())?;
+        found.number()
     }
 
     /// What there is among the numbers for a policy of that normal text.
-    fn places(&self, alloc: Global, text: &[u8]) -> Result<Places, Memory>
-        ensures { IfOk result (λ places. places ≡ with_places text.now self.now no_places spec.numbers) }
+    fn numbers_found(&self, alloc: Global, text: &[u8]) -> Result<NumbersFound, Memory>
+        ensures { IfOk result (λ found. found ≡ with_uses text.now self.now nothing_found spec.numbers) }
     {
-        let mut places = Places::none();
+        let mut found = NumbersFound::none();
         for number in numbers() {
-            places = places.with(*number, self.place(alloc, *number, text)?);
+            found = found.with(*number, self.number_use(alloc, *number, text)?);
         }
-        Ok(places)
+        Ok(found)
     }
 
-    fn place(&self, alloc: Global, number: u8, text: &[u8]) -> Result<Place, Memory>
-        ensures { IfOk result (λ place. place ≡ place_of text.now self.now number) }
+    fn number_use(&self, alloc: Global, number: u8, text: &[u8]) -> Result<NumberUse, Memory>
+        ensures { IfOk result (λ number_use. number_use ≡ use_of text.now self.now number) }
     {
         if !self.is_taken(number) {
-            return Ok(Place::Free);
+            return Ok(NumberUse::Free);
         }
         if self.has_text(alloc, number, text)? {
-            return Ok(Place::Same);
+            return Ok(NumberUse::Same);
         }
         if self.is_used(number) {
-            Ok(Place::Other)
+            Ok(NumberUse::Other)
         } else {
-            Ok(Place::Idle)
+            Ok(NumberUse::Idle)
         }
     }
 

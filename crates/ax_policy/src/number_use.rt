@@ -1,7 +1,7 @@
 //! What the numbers of a table are for a new policy.
-ghost use Rattle.std.specs.Prelude.{◌≡◌, ◌+◌, ◌<◌, ◌≤◌, IfOk, OnOk, Ok, Err, Some, None, ◌⊎◌};
+ghost use Rattle.std.specs.Prelude.{◌≡◌, ◌+◌, ◌<◌, ◌≤◌, IfOk, OnOk, ◌⊎◌};
 ghost use Rattle.ax_policy.specs.Paths.{either};
-ghost use Rattle.ax_policy.specs.Places as spec;
+ghost use Rattle.ax_policy.specs.NumberUses as spec;
 ghost use Rattle.ax_policy.specs.Table.{most_others};
 
 use crate::table_fault::TableFault;
@@ -11,7 +11,7 @@ const MOST_OTHERS: u8 = 8;
 
 /// What a number is for a new policy.
 #[derive(Clone, Copy, Debug)]
-pub(crate) enum Place {
+pub(crate) enum NumberUse {
     /// Neither in use nor now.
     Free,
     /// In use or now, under a policy of the same normal text.
@@ -24,7 +24,7 @@ pub(crate) enum Place {
 
 /// What there is among the numbers for a new policy.
 #[derive(Clone, Copy, Debug)]
-pub(crate) struct Places {
+pub(crate) struct NumbersFound {
     /// How many are in use under other policies.
     others: u8,
     /// The least that is in use or now under a policy of the same normal text.
@@ -33,11 +33,11 @@ pub(crate) struct Places {
     free: Option<u8>,
 }
 
-impl Places {
-    pub(crate) fn none() -> Places
-        ensures { result ≡ spec.no_places }
+impl NumbersFound {
+    pub(crate) fn none() -> NumbersFound
+        ensures { result ≡ spec.nothing_found }
     {
-        Places {
+        NumbersFound {
             others: 0,
             same: None,
             free: None,
@@ -45,25 +45,25 @@ impl Places {
     }
 
     /// With a number more, which is above those before.
-    pub(crate) fn with(self, number: u8, place: Place) -> Places
+    pub(crate) fn with(self, number: u8, number_use: NumberUse) -> NumbersFound
         requires { self.others < 9 }
-        ensures places { result ≡ spec.with_place self number place }
+        ensures found { result ≡ spec.with_use self number number_use }
         ensures others { result.others ≤ self.others + 1 }
     {
-        match place {
-            Place::Free => Places {
+        match number_use {
+            NumberUse::Free => NumbersFound {
                 free: self.free.or(Some(number)),
                 ..self
             },
-            Place::Same => Places {
+            NumberUse::Same => NumbersFound {
                 same: self.same.or(Some(number)),
                 ..self
             },
-            Place::Other => Places {
+            NumberUse::Other => NumbersFound {
                 others: self.others + 1,
                 ..self
             },
-            Place::Idle => self,
+            NumberUse::Idle => self,
         }
     }
 

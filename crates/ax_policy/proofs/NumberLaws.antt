@@ -5,37 +5,37 @@ use Rattle.std.specs.List.{fold, range_with_len, list_all, list_any}
 use Rattle.std.specs.Prelude.{nat_le, Result, Ok, Err, IfOk, OnOk}
 use Rattle.std.proofs.lemmas.List.Sums.{sum_by-cons}
 use Rattle.std.proofs.lemmas.Bool.{ne_eqb, eqb-true, eq-eqb, leb-true}
-use Rattle.ax_policy.specs.declared.place.Place.{Place}
-use Rattle.ax_policy.specs.declared.place.Place.TheVariants.{Free, Same, Other, Idle}
-use Rattle.ax_policy.specs.declared.place.Places.{Places}
+use Rattle.ax_policy.specs.declared.number_use.NumberUse.{NumberUse}
+use Rattle.ax_policy.specs.declared.number_use.NumberUse.TheVariants.{Free, Same, Other, Idle}
+use Rattle.ax_policy.specs.declared.number_use.NumbersFound.{NumbersFound}
 use Rattle.ax_policy.specs.declared.policy.Policy.{Policy}
 use Rattle.ax_policy.specs.declared.table_fault.TableFault.{TableFault}
 use Rattle.ax_policy.specs.declared.table_fault.TableFault.TheVariants.{Full}
 use Rattle.ax_policy.specs.Normal.{normal_text}
 use Rattle.ax_policy.specs.Paths.{either}
-use Rattle.ax_policy.specs.Places.{place_of, with_place, with_places, no_places}
+use Rattle.ax_policy.specs.NumberUses.{use_of, with_use, with_uses, nothing_found}
 use Rattle.ax_policy.specs.Table.{Table, numbers, policy_at, is_used, is_taken, is_free, is_same, is_other, is_text_of, most_others, number_for, others_in_use}
 use Rattle.ax_policy.proofs.Searching.{both}
 
--- a place by what is known of its number: in use, now, of the same normal text
-abbrev place_by : Bool → Bool → Bool → Place
-place_by used now has = cond (used || now) (cond has Same (cond used Other Idle)) Free
+-- a use by what is known of its number: in use, now, of the same normal text
+abbrev use_by : Bool → Bool → Bool → NumberUse
+use_by used now has = cond (used || now) (cond has Same (cond used Other Idle)) Free
 
 -- ---- how many others are in use
 
-others_step : (used now has : Bool) (p : Places) (n : ℕ)
-    → (with_place p n (place_by used now has)).others ≡ p.others + cond (used && not has) 1 0
+others_step : (used now has : Bool) (p : NumbersFound) (n : ℕ)
+    → (with_use p n (use_by used now has)).others ≡ p.others + cond (used && not has) 1 0
 others_step true now true p n = omega arith
 others_step true now false p n = refl
 others_step false true true p n = omega arith
 others_step false true false p n = omega arith
 others_step false false has p n = omega arith
 
-pub others_found : (text : List ℕ) (table : Table) (ns : List ℕ) (p : Places)
-    → (with_places text table p ns).others ≡ p.others + count_by (is_other text table) ns
+pub others_found : (text : List ℕ) (table : Table) (ns : List ℕ) (p : NumbersFound)
+    → (with_uses text table p ns).others ≡ p.others + count_by (is_other text table) ns
 others_found text table [] p = omega arith
 others_found text table (n ∷ ns) p =
-    let later = others_found text table ns (with_place p n (place_of text table n)) in
+    let later = others_found text table ns (with_use p n (use_of text table n)) in
     let step = others_step (is_used table n) (n == table.current) (is_text_of text (policy_at table n)) p n in
     omega (arith, later, step, sum_by-cons (λ m. cond (is_other text table m) 1 0) n ns)
 
@@ -51,16 +51,16 @@ moved true n None rest = refl
 moved true n (Some m) rest = refl
 moved false n found rest = refl
 
-same_step : (used now has : Bool) (p : Places) (n : ℕ)
-    → (with_place p n (place_by used now has)).same ≡ or_this ((used || now) && has) n p.same
+same_step : (used now has : Bool) (p : NumbersFound) (n : ℕ)
+    → (with_use p n (use_by used now has)).same ≡ or_this ((used || now) && has) n p.same
 same_step true now true p n = refl
 same_step true now false p n = refl
 same_step false true true p n = refl
 same_step false true false p n = refl
 same_step false false has p n = refl
 
-free_step : (used now has : Bool) (p : Places) (n : ℕ)
-    → (with_place p n (place_by used now has)).free ≡ or_this (not (used || now)) n p.free
+free_step : (used now has : Bool) (p : NumbersFound) (n : ℕ)
+    → (with_use p n (use_by used now has)).free ≡ or_this (not (used || now)) n p.free
 free_step true now true p n = refl
 free_step true now false p n = refl
 free_step false true true p n = refl
@@ -71,20 +71,20 @@ end_of : (found : Option ℕ) → found ≡ either found None
 end_of None = refl
 end_of (Some n) = refl
 
-pub same_found : (text : List ℕ) (table : Table) (ns : List ℕ) (p : Places)
-    → (with_places text table p ns).same ≡ either p.same (find (is_same text table) ns)
+pub same_found : (text : List ℕ) (table : Table) (ns : List ℕ) (p : NumbersFound)
+    → (with_uses text table p ns).same ≡ either p.same (find (is_same text table) ns)
 same_found text table [] p = end_of p.same
 same_found text table (n ∷ ns) p =
-    same_found text table ns (with_place p n (place_of text table n))
+    same_found text table ns (with_use p n (use_of text table n))
     ∙ ap (λ found. either found (find (is_same text table) ns))
     (same_step (is_used table n) (n == table.current) (is_text_of text (policy_at table n)) p n)
     ∙ moved (is_same text table n) n p.same (find (is_same text table) ns)
 
-pub free_found : (text : List ℕ) (table : Table) (ns : List ℕ) (p : Places)
-    → (with_places text table p ns).free ≡ either p.free (find (is_free table) ns)
+pub free_found : (text : List ℕ) (table : Table) (ns : List ℕ) (p : NumbersFound)
+    → (with_uses text table p ns).free ≡ either p.free (find (is_free table) ns)
 free_found text table [] p = end_of p.free
 free_found text table (n ∷ ns) p =
-    free_found text table ns (with_place p n (place_of text table n))
+    free_found text table ns (with_use p n (use_of text table n))
     ∙ ap (λ found. either found (find (is_free table) ns))
     (free_step (is_used table n) (n == table.current) (is_text_of text (policy_at table n)) p n)
     ∙ moved (is_free table n) n p.free (find (is_free table) ns)
@@ -224,24 +224,24 @@ among_numbers n h = among_range n 0 9 (omega arith) (omega arith)
 
 -- ---- what the pass found, in the words of the table
 
-pub record IsFound (policy : Policy) (table : Table) (found : Places) : Type 0 where
+pub record IsFound (policy : Policy) (table : Table) (found : NumbersFound) : Type 0 where
   pub others : found.others ≡ others_in_use policy table
   pub number : either found.same found.free ≡ number_for policy table
 
-pub is_found : (policy : Policy) (table : Table) (text : List ℕ) (found : Places)
-    → text ≡ normal_text policy → found ≡ with_places text table no_places numbers
+pub is_found : (policy : Policy) (table : Table) (text : List ℕ) (found : NumbersFound)
+    → text ≡ normal_text policy → found ≡ with_uses text table nothing_found numbers
     → IsFound policy table found
 is_found policy table text found t e =
-    let whole : found ≡ with_places (normal_text policy) table no_places numbers =
-    e ∙ ap (λ l. with_places l table no_places numbers) t in
+    let whole : found ≡ with_uses (normal_text policy) table nothing_found numbers =
+    e ∙ ap (λ l. with_uses l table nothing_found numbers) t in
     record {
-      others = ap (λ p. p.others) whole ∙ others_found (normal_text policy) table numbers no_places
+      others = ap (λ p. p.others) whole ∙ others_found (normal_text policy) table numbers nothing_found
           ∙ zero-add _;
       number = ap (λ p. either p.same p.free) whole
-          ∙ ap (λ o. either o (with_places (normal_text policy) table no_places numbers).free)
-          (same_found (normal_text policy) table numbers no_places)
+          ∙ ap (λ o. either o (with_uses (normal_text policy) table nothing_found numbers).free)
+          (same_found (normal_text policy) table numbers nothing_found)
           ∙ ap (either (find (is_same (normal_text policy) table) numbers))
-          (free_found (normal_text policy) table numbers no_places);
+          (free_found (normal_text policy) table numbers nothing_found);
     }
 
 -- the number that is taken, or the refusal
@@ -251,13 +251,13 @@ pub record IsNumber (policy : Policy) (table : Table) (result : Result ℕ Table
   pub room : OnOk result (others_in_use policy table < most_others)
   pub full : result ≡ Err Full → most_others ≤ others_in_use policy table
 
-full_when : (policy : Policy) (table : Table) (found : Places) → IsFound policy table found
+full_when : (policy : Policy) (table : Table) (found : NumbersFound) → IsFound policy table found
     → ((most_others ≤ found.others) ⊎ (either found.same found.free ≡ None))
     → most_others ≤ others_in_use policy table
 full_when policy table found f (inl h) = omega (arith, f.others)
 full_when policy table found f (inr h) = eight_others (normal_text policy) table (sym f.number ∙ h)
 
-pub is_number : (policy : Policy) (table : Table) (found : Places) (result : Result ℕ TableFault)
+pub is_number : (policy : Policy) (table : Table) (found : NumbersFound) (result : Result ℕ TableFault)
     → IsFound policy table found
     → IfOk result (λ n. either found.same found.free ≡ this n)
     → OnOk result (found.others < most_others)
