@@ -1,6 +1,6 @@
 -- Policies of different normal texts stay so when one is made the policy now: it takes the number
 -- that has its text, where there is one.
-use Rattle.std.proofs.Common.{◌≡◌, ◌≢◌, ℕ, ◌<◌, ◌≤◌, ◌==◌, List, [], ◌∷◌, Bool, true, false, cond, ◌&&◌, ◌||◌, Option, Some, None, find, refl, sym, ap, ◌∙◌, subst, true≢false, ◌⊎◌, inl, inr}
+use Rattle.std.proofs.Common.{◌≡◌, ◌≢◌, ℕ, ◌≤◌, ◌==◌, List, [], ◌∷◌, Bool, true, false, cond, ◌||◌, Option, Some, None, find, refl, sym, ap, ◌∙◌, true≢false}
 use Rattle.std.specs.List.{list_any}
 use Rattle.std.specs.Prelude.{nat_lt}
 use Rattle.std.specs.Str.{bytes_eq}
@@ -8,7 +8,7 @@ use Rattle.std.proofs.lemmas.Bool.{eqb-true, eq-eqb, ne_eqb}
 use Rattle.ax_policy.specs.declared.policy.Policy.{Policy}
 use Rattle.ax_policy.specs.Normal.{normal_text}
 use Rattle.ax_policy.specs.Paths.{either}
-use Rattle.ax_policy.specs.Table.{Table, AreApart, SetsNow, numbers, number_for, policy_at, count_at, is_used, is_taken, is_free, is_same, is_text_of}
+use Rattle.ax_policy.specs.Table.{Table, AreApart, SetsNow, numbers, policy_at, is_used, is_taken, is_free, is_same, is_text_of}
 use Rattle.ax_policy.proofs.NumberLaws.{this, found_passes, within_eight, among_numbers}
 use Rattle.ax_policy.proofs.Searching.{both, both_true, bytes_eq_same, same_bytes}
 

@@ -1,5 +1,5 @@
 -- The rules of the policy of a new store are written as paths are.
-use Rattle.std.proofs.Common.{◌≡◌, List, [], ◌∷◌, Bool, true, false, refl, sym, ap, ◌∙◌}
+use Rattle.std.proofs.Common.{◌≡◌, List, [], ◌∷◌, Bool, true, false, refl, ap, ◌∙◌}
 use Rattle.std.specs.Prelude.{codes}
 use Rattle.ax_mean.specs.declared.query.Step.TheVariants.{Name}
 use Rattle.ax_tree.specs.declared.members.Member.{Member}

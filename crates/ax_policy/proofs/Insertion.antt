@@ -1,6 +1,6 @@
 -- Elements put one by one among others, in the order of a text of each: the list that is made rises
 -- strictly, and a list that does so is made again from its own elements.
-use Rattle.std.proofs.Common.{◌≡◌, ℕ, List, [], ◌∷◌, Bool, true, false, Ordering, Less, Equal, Greater, refl, sym, ap, ◌∙◌, subst}
+use Rattle.std.proofs.Common.{◌≡◌, ℕ, List, [], ◌∷◌, Ordering, Less, Equal, Greater, refl, sym, ap, ◌∙◌, subst}
 use Rattle.std.specs.Cmp.Lexicographic.{slice_cmp}
 use Rattle.std.specs.List.{fold, AllByRecursion}
 use Rattle.std.specs.Ordering.{nat_cmp, ordering_reverse}

@@ -3,7 +3,6 @@ use Rattle.std.proofs.Common.{◌≡◌, ℕ, List, [], ◌∷◌, map, Bool, tr
 use Rattle.std.specs.Prelude.{codes}
 use Rattle.std.specs.List.{list_all}
 use Rattle.ax_mean.specs.declared.query.Order.{Order}
-use Rattle.ax_tree.specs.CanonicalText.{canonical_text}
 use Rattle.ax_tree.specs.WellFormed.{numbers_fit}
 use Rattle.ax_tree.specs.declared.members.Member.{Member}
 use Rattle.ax_tree.specs.declared.tree.Tree as tree
@@ -12,7 +11,7 @@ use Rattle.ax_tree.specs.declared.tree.Tree.TheVariants as trees
 use Rattle.ax_tree.proofs.OneText.{one_text}
 use Rattle.ax_policy.specs.declared.policy.Policy.{Policy}
 use Rattle.ax_policy.specs.Composites.{composite_tree, order_word, part_tree}
-use Rattle.ax_policy.specs.Normal.{mode_word, normal_text, normal_tree, path_tree, path_trees, rules_with, text_tree}
+use Rattle.ax_policy.specs.Normal.{mode_word, normal_text, normal_tree, path_tree, path_trees, rules_with}
 use Rattle.ax_policy.specs.Paths.{steps_text}
 use Rattle.ax_policy.specs.Policies.{policy_of}
 use Rattle.ax_policy.proofs.PolicyAgain.{read_again}

@@ -1,7 +1,7 @@
 -- What one pass over the numbers finds for a new policy: how many others are in use, and the least
 -- numbers that it may have; and that there is one of these where fewer than eight others are in use.
 use Rattle.std.proofs.Common.{◌≡◌, ℕ, ◌+◌, ◌<◌, ◌≤◌, ◌==◌, zero, suc, List, [], ◌∷◌, length, Bool, true, false, cond, not, ◌&&◌, ◌||◌, Option, Some, None, count_by, find, zero-add, refl, sym, ap, ◌∙◌, arith, ◌≢◌, true≢false, ◌⊎◌, inl, inr, ⊎_elim}
-use Rattle.std.specs.List.{fold, range_with_len, list_all, list_any}
+use Rattle.std.specs.List.{range_with_len, list_all, list_any}
 use Rattle.std.specs.Prelude.{nat_le, Result, Ok, Err, IfOk, OnOk}
 use Rattle.std.proofs.lemmas.List.Sums.{sum_by-cons}
 use Rattle.std.proofs.lemmas.Bool.{ne_eqb, eqb-true, eq-eqb, leb-true}
@@ -14,7 +14,7 @@ use Rattle.ax_policy.specs.declared.table_fault.TableFault.TheVariants.{Full}
 use Rattle.ax_policy.specs.Normal.{normal_text}
 use Rattle.ax_policy.specs.Paths.{either}
 use Rattle.ax_policy.specs.NumberUses.{use_of, with_use, with_uses, nothing_found}
-use Rattle.ax_policy.specs.Table.{Table, numbers, policy_at, is_used, is_taken, is_free, is_same, is_other, is_text_of, most_others, number_for, others_in_use}
+use Rattle.ax_policy.specs.Table.{Table, numbers, policy_at, is_used, is_free, is_same, is_other, is_text_of, most_others, number_for, others_in_use}
 use Rattle.ax_policy.proofs.Searching.{both}
 
 -- a use by what is known of its number: in use, now, of the same normal text

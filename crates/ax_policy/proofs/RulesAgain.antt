@@ -1,9 +1,9 @@
 -- The rules of a policy that was read, read again from the two lists that its normal tree has of them:
 -- every path is one that is read as it stands, the rules rise, and what was allowed is allowed again.
-use Rattle.std.proofs.Common.{◌≡◌, ℕ, List, [], ◌∷◌, map, Bool, true, false, cond, not, ◌&&◌, ◌||◌, Option, Some, None, Ordering, Less, Equal, Greater, refl, sym, ap, ◌∙◌, subst}
-use Rattle.std.specs.Prelude.{IfSome, option_map, option_and_then, codes}
+use Rattle.std.proofs.Common.{◌≡◌, ℕ, List, [], ◌∷◌, map, Bool, true, false, cond, not, ◌&&◌, ◌||◌, Option, Some, None, Ordering, Less, Equal, Greater, refl, sym, ap, ◌∙◌}
+use Rattle.std.specs.Prelude.{IfSome, option_and_then, codes}
 use Rattle.std.specs.Cmp.Lexicographic.{slice_cmp}
-use Rattle.std.specs.List.{fold, filter, list_any, AllByRecursion}
+use Rattle.std.specs.List.{fold, AllByRecursion}
 use Rattle.std.specs.Ordering.{nat_cmp, is_eq, match_ordering, ordering_reverse}
 use Rattle.std.specs.Str.{bytes_eq}
 use Rattle.std.proofs.lemmas.Cmp.{nat_list_cmp_total}
@@ -22,10 +22,9 @@ use Rattle.ax_policy.specs.Paths.{either, is_empty, marked_path, rule_path, rule
 use Rattle.ax_policy.specs.Reading.{both as both_of, list_value_level, read_all, trees_of}
 use Rattle.ax_policy.specs.Rules.{with_rule, flagged, is_in, share, says_of_all, holds_all, if_allowed, rules_from, rules_of, texts_of, item_text, path_text}
 use Rattle.ax_policy.specs.Written.{is_path}
-use Rattle.ax_policy.proofs.Insertion.{IsPut, Puts, IsBefore, Rises, all_rise, all_before, put_first, stays_first}
+use Rattle.ax_policy.proofs.Insertion.{Puts, IsBefore, Rises, all_rise, all_before, put_first, stays_first}
 use Rattle.ax_policy.proofs.PathTexts.{path_again}
 use Rattle.ax_policy.proofs.RuleLaws.{says}
-use Rattle.ax_policy.proofs.Searching.{both, both_true}
 use Rattle.ax_policy.proofs.TreeLooks.{out_list, out_object}
 
 -- ---- what holds of a value that is there

@@ -1,12 +1,10 @@
 -- Where a walk stands: the rules that begin with a path, and what a step makes of them.
-use Rattle.std.proofs.Common.{◌≡◌, ℕ, ◌+◌, ◌≤◌, zero, suc, List, [], ◌∷◌, ◌++◌, length, take, drop, Bool, true, false, cond, ◌&&◌, Option, Some, None, refl, sym, ap, subst, ◌∙◌, arith, append_assoc, append-nil}
+use Rattle.std.proofs.Common.{◌≡◌, ℕ, ◌+◌, ◌≤◌, zero, suc, List, [], ◌∷◌, ◌++◌, length, take, drop, Bool, true, false, cond, ◌&&◌, Option, Some, refl, sym, ap, subst, ◌∙◌, arith, append-nil}
 use Rattle.std.specs.Prelude.{nat_eq}
 use Rattle.std.specs.List.{All, filter}
-use Rattle.std.specs.Option.{unwrap_or}
-use Rattle.std.specs.Ordering.{is_eq}
 use Rattle.std.specs.Str.{bytes_eq}
 use Rattle.std.proofs.lemmas.Grind.{flat_map-append}
-use Rattle.std.proofs.lemmas.List.{length-append, take-append-le}
+use Rattle.std.proofs.lemmas.List.{take-append-le}
 use Rattle.std.proofs.lemmas.List.Elements.{All-weaker, filter_agree, filter_passes}
 use Rattle.std.proofs.lemmas.Map.Text.{is_eq-slice_cmp}
 use Rattle.ax_mean.specs.declared.query.Step.{Step}
@@ -14,14 +12,13 @@ use Rattle.ax_tree.specs.Names.{HaveRisingNames}
 use Rattle.ax_tree.specs.declared.members.Member.{Member}
 use Rattle.ax_policy.specs.declared.policy.Policy.{Policy}
 use Rattle.ax_policy.specs.declared.walk.RuleWalk.{RuleWalk}
-use Rattle.ax_policy.specs.Comparing.{against}
 use Rattle.ax_policy.specs.Covering.{indexes}
 use Rattle.ax_policy.specs.Deciding.{longest, decision, begins_with}
 use Rattle.ax_policy.specs.Paths.{steps_text, step_text, mark_text, rule_text, either}
 use Rattle.ax_policy.specs.Rules.{under}
-use Rattle.ax_policy.specs.Walking.{IsAt, IsRun, GoOn, goes_on, bytes_of, beginning_with}
+use Rattle.ax_policy.specs.Walking.{IsAt, IsRun, goes_on, bytes_of, beginning_with}
 use Rattle.ax_policy.proofs.Below.{begins_is, begins_so}
-use Rattle.ax_policy.proofs.Searching.{same_bytes, no_flag}
+use Rattle.ax_policy.proofs.Searching.{same_bytes}
 use Rattle.ax_policy.proofs.Walks.{rising_filter, filter_both}
 
 -- ---- rules that begin with a path

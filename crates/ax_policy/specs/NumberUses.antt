@@ -6,7 +6,7 @@ use Rattle.ax_policy.specs.declared.number_use.NumberUse.{NumberUse}
 use Rattle.ax_policy.specs.declared.number_use.NumberUse.TheVariants.{Free, Same, Other, Idle}
 use Rattle.ax_policy.specs.declared.number_use.NumbersFound.{NumbersFound}
 use Rattle.ax_policy.specs.Paths.{either}
-use Rattle.ax_policy.specs.Table.{Table, numbers, policy_at, is_taken, is_used, is_text_of}
+use Rattle.ax_policy.specs.Table.{Table, policy_at, is_taken, is_used, is_text_of}
 
 -- for a policy of that normal text
 abbrev pub use_of : List ℕ → Table → ℕ → NumberUse

@@ -1,7 +1,7 @@
 -- Policies by number, from 0 to 8, each with the count of the documents that are under it, and which
 -- of them is the policy now. A new policy takes the number that is in use or now under the same
 -- normal text, and else the least that is neither, whatever policy that had before.
-use Rattle.std.specs.Prelude.{◌≡◌, ◌≢◌, ◌≤◌, ◌<◌, ℕ, List, [], ◌∷◌, length, replicate, if◌then◌else◌, sum_by, count_by, find, slice_index_or}
+use Rattle.std.specs.Prelude.{◌≡◌, ◌≢◌, ◌≤◌, ℕ, List, [], ◌∷◌, length, replicate, if◌then◌else◌, sum_by, count_by, find, slice_index_or}
 use Rattle.std.specs.Prelude.{Bool, true, false, not, ◌&&◌, ◌||◌, ◌==◌, nat_lt, Option, Some, None, IsSome}
 use Rattle.std.specs.Str.{bytes_eq}
 use Rattle.ax_policy.specs.declared.policy.Policy.{Policy}

@@ -1,5 +1,5 @@
 -- Before what follows lie the front and the piece.
-use Rattle.std.proofs.Common.{sym, ◌∙◌}
+use Rattle.std.proofs.Common.{◌∙◌}
 use Rattle.ax_policy.specs.Walking.{way_text}
 use Rattle.ax_policy.proofs.Walks.{follows_within, before_follows, not_ends}
 use Rattle.ax_policy.proofs.walk.bytes_before_rest.Goals as goal

@@ -1,7 +1,7 @@
 -- At the top every rule begins so, and that for all paths decides.
 use Rattle.ax_policy.proofs.WalkPlaces.{at_top}
 use Rattle.ax_policy.proofs.policy.Policy.walk.Goals as goal
-use Rattle.std.proofs.Common.{refl, sym, ap, subst, ◌∙◌, List, [], Bool, true}
+use Rattle.std.proofs.Common.{refl, ap, subst, ◌∙◌, List, [], Bool, true}
 use Rattle.ax_tree.specs.Names.{HaveRisingNames}
 use Rattle.ax_tree.specs.declared.members.Member.{Member}
 use Rattle.ax_policy.specs.Paths.{rule_text}

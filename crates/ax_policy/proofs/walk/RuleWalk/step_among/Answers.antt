@@ -1,6 +1,5 @@
 -- What is narrowed, counted and marked is where the walk stands a step further.
-use Rattle.std.proofs.Common.{refl, sym, subst, List, Bool, true}
-use Rattle.std.specs.List.{All, filter}
+use Rattle.std.proofs.Common.{refl, sym, subst, List, Bool}
 use Rattle.std.proofs.lemmas.List.Elements.{filter_passes}
 use Rattle.ax_tree.specs.declared.members.Member.{Member}
 use Rattle.ax_policy.specs.Paths.{steps_text}
