@@ -1,3 +1,4 @@
+//! The bytes of a step, of a name as a step, and of a value.
 ghost use Rattle.std.specs.Prelude.{◌≡◌, [], ◌∷◌, ◌++◌, OnOk, OnErr};
 ghost use Rattle.std.specs.Int.{w64, to_be_bytes};
 ghost use Rattle.ax_mean.specs.declared.query.Step.TheVariants.{Name};
