@@ -1,0 +1,4 @@
+mod EachOffered
+mod Nowhere
+mod Rising
+mod Telling
