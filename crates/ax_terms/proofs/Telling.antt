@@ -1,5 +1,5 @@
 -- The first 129 bytes of a text tell what a term keeps of it.
-use Rattle.std.proofs.Common.{◌≡◌, ℕ, ◌≤◌, ◌<◌, List, length, take, min, nat_lt, refl, arith, ap, ◌∙◌}
+use Rattle.std.proofs.Common.{◌≡◌, ℕ, List, length, take, min, nat_lt, arith, ap, ◌∙◌}
 use Rattle.std.proofs.lemmas.Bool.Decides.{nat_tests}
 use Rattle.std.proofs.lemmas.List.{length-take, take-take, take_min}
 use Rattle.ax_term.specs.CutTexts.{cut}

@@ -1,4 +1,5 @@
 pub mod Bytes
+pub mod Counting
 pub mod Counts
 pub mod Leaves
 pub mod TermsOf

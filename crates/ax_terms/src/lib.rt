@@ -7,10 +7,14 @@
 #![tactic(auto)]
 
 mod composites;
+mod count;
+mod counter;
 mod in_order;
+mod numbered;
 mod term_count;
 mod term_value;
 
 pub use ax_mean::Memory;
 pub use ax_term::Bytes;
+pub use count::count_all;
 pub use term_count::TermCount;
