@@ -24,9 +24,9 @@ use Rattle.ax_term.specs.CutValues.{cut_of}
 use Rattle.ax_term.specs.TermBytes.{step_bytes, path_bytes, value_bytes}
 use Rattle.ax_terms.specs.declared.counter.Counter.{Counter}
 use Rattle.ax_terms.specs.declared.counter.Place.{Place}
-use Rattle.ax_terms.specs.Counting.{AreNumbered, AreNumbers, Counted, Counts, Gives, HasNumber, IsAt, IsStepTo, Keeps, below, key_of, number_back, numbers_in}
+use Rattle.ax_terms.specs.Counting.{AreNumbered, AreNumbers, Counted, Counts, Gives, HasNumber, IsAt, IsStepTo, Keeps, key_of, number_back, numbers_in}
 use Rattle.ax_terms.specs.Counts.{capped, counts_of, distinct_terms, path_size, term_count}
-use Rattle.ax_terms.specs.Leaves.{Leaf, alone, behind, item_leaves, leaves, leaves_in, member_leaves}
+use Rattle.ax_terms.specs.Leaves.{Leaf, alone, behind, below, item_leaves, leaves, leaves_in, member_leaves}
 use Rattle.ax_terms.specs.TermsOf.{leaf_term}
 use Rattle.ax_terms.proofs.Distinct.{greatest_more, length_more, sum_more, symmetric}
 use Rattle.ax_terms.proofs.PathNumbers.{kept_back, keys_kept, none_is_not, numbered_kept, numbered_more, same_member}

@@ -10,29 +10,29 @@ use Rattle.std.specs.Set.{is_member, unique_keys}
 use Rattle.std.specs.Str.{bytes_eq}
 use Rattle.ax_tree.specs.Nesting.{greatest}
 
-abbrev Terms : Type 0
+abbrev pub Terms : Type 0
 Terms = List (List ℕ)
 
-abbrev unique : Terms → Terms
+abbrev pub unique : Terms → Terms
 unique ts = unique_keys bytes_eq ts
 
-abbrev among : Terms → List ℕ → Bool
+abbrev pub among : Terms → List ℕ → Bool
 among ts t = is_member bytes_eq ts t
 
 -- the weights of some terms together
-abbrev weight : (List ℕ → ℕ) → Terms → ℕ
+abbrev pub weight : (List ℕ → ℕ) → Terms → ℕ
 weight w [] = 0
 weight w (t ∷ ts) = w t + weight w ts
 
-weight-length : (ts : Terms) → length ts ≡ weight (λ t. 1) ts
+pub weight-length : (ts : Terms) → length ts ≡ weight (λ t. 1) ts
 weight-length [] = refl
 weight-length (t ∷ ts) = let e = weight-length ts in omega (arith, e)
 
-weight-sum : (ts : Terms) → sum_by length ts ≡ weight length ts
+pub weight-sum : (ts : Terms) → sum_by length ts ≡ weight length ts
 weight-sum [] = refl
 weight-sum (t ∷ ts) = sum_by-cons length t ts ∙ ap (λ n. length t + n) (weight-sum ts)
 
-weight-cond : (w : List ℕ → ℕ) (b : Bool) (t : List ℕ) (ts us : Terms)
+pub weight-cond : (w : List ℕ → ℕ) (b : Bool) (t : List ℕ) (ts us : Terms)
     → weight w (cond b us (t ∷ ts)) ≡ cond b (weight w us) (w t + weight w ts)
 weight-cond w true t ts us = refl
 weight-cond w false t ts us = refl

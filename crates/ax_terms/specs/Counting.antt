@@ -17,7 +17,7 @@ use Rattle.ax_term.specs.TermBytes.{step_bytes, value_bytes}
 use Rattle.ax_terms.specs.declared.counter.Counter.{Counter}
 use Rattle.ax_terms.specs.declared.counter.Place.{Place}
 use Rattle.ax_terms.specs.Counts.{capped, counts_of}
-use Rattle.ax_terms.specs.Leaves.{Leaf}
+use Rattle.ax_terms.specs.Leaves.{Leaf, below}
 
 -- the number of a path, found by the number of the path above it and the bytes of its last step
 abbrev pub Numbers : Type 0
@@ -87,10 +87,6 @@ pub record IsStepTo (old : Counter) (at : Place) (step : Step) (place : Place) (
   pub keeps : Keeps (numbers_in old) (numbers_in new)
   pub leads : (path : List Step) → IsAt old path at → IsAt new (path ++ step ∷ []) place
   pub counts : (done : List Leaf) → Counts old done → Counts new done
-
--- a leaf of the tree at that path
-abbrev pub below : List Step → Leaf → Leaf
-below path leaf = record { path = path ++ leaf.path; tree = leaf.tree }
 
 -- besides what was counted, the leaves of a tree at the place are
 pub record Counted (old : Counter) (at : Place) (leaves : List Leaf) (new : Counter) : Type 0 where

@@ -1,6 +1,6 @@
 -- The leaves of a tree, which an index holds: its scalars, empty lists and empty maps, each with the
 -- path to it. All elements of a list are behind one step. As in Shukla et al. (VLDB 2015).
-use Rattle.std.specs.Prelude.{List, [], ◌∷◌, map}
+use Rattle.std.specs.Prelude.{List, [], ◌∷◌, ◌++◌, map}
 use Rattle.std.specs.List.{flat_map}
 use Rattle.ax_tree.specs.declared.members.Member.{Member}
 use Rattle.ax_tree.specs.declared.tree.Tree as tree
@@ -54,3 +54,7 @@ leaves = fold-Tree (List Leaf) leaves_level
 -- a member beside the leaves of its value
 abbrev pub leaves_in : Member Tree → Member (List Leaf)
 leaves_in m = record { name = m.name; value = leaves m.value }
+
+-- a leaf of the tree at that path, seen from the top
+abbrev pub below : List Step → Leaf → Leaf
+below path leaf = record { path = path ++ leaf.path; tree = leaf.tree }

@@ -2,4 +2,5 @@ pub mod Bytes
 pub mod Counting
 pub mod Counts
 pub mod Leaves
+pub mod SameLeaves
 pub mod TermsOf

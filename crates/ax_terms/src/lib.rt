@@ -10,9 +10,12 @@ mod composites;
 mod count;
 mod counter;
 mod in_order;
+pub mod laws;
 mod numbered;
 mod term_count;
 mod term_value;
+#[cfg(test)]
+mod tests;
 
 pub use ax_mean::Memory;
 pub use ax_term::Bytes;
