@@ -14,7 +14,7 @@ use Rattle.ax_term.specs.TermOrder.{order_of_bytes, order_of_texts, kind, order_
 not_equal : {A : Type 0} (o : Ordering) → is_eq o ≡ false → o ≡ Equal → A
 not_equal o apart e = absurd (let f : true ≡ false = ap is_eq (sym e) ∙ apart in let g : ⊥ = cc in g)
 
-both_equal : (o p : Ordering) → ordering_then o p ≡ Equal → (o ≡ Equal) × (p ≡ Equal)
+pub both_equal : (o p : Ordering) → ordering_then o p ≡ Equal → (o ≡ Equal) × (p ≡ Equal)
 both_equal Less p h = not_equal Less refl h
 both_equal Equal p h = (refl, h)
 both_equal Greater p h = not_equal Greater refl h
@@ -25,7 +25,7 @@ one_bool false true e = not_equal Less refl e
 one_bool true false e = not_equal Greater refl e
 one_bool true true e = refl
 
-one_list : IsAntisymmetric order_of_bytes
+pub one_list : IsAntisymmetric order_of_bytes
 one_list = slice_cmp-IsAntisymmetric nat_cmp-IsAntisymmetric
 
 one_text : IsAntisymmetric order_of_texts
@@ -54,7 +54,7 @@ one_step Step.Item (Step.Name b) e = not_equal Less refl e
 one_step (Step.Name a) Step.Item e = not_equal Greater refl e
 one_step (Step.Name a) (Step.Name b) e = ap Step.Name (one_list a b e)
 
-one_path : IsAntisymmetric order_of_paths
+pub one_path : IsAntisymmetric order_of_paths
 one_path = slice_cmp-IsAntisymmetric one_step
 
 one_column : IsAntisymmetric order_of_columns

@@ -1,0 +1,10 @@
+mod AnyOrder
+mod CountLaws
+mod Distinct
+mod EachOffered
+mod Nowhere
+mod PathNumbers
+mod Rising
+mod SameCounts
+mod Sequences
+mod Telling
