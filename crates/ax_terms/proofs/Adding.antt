@@ -1,5 +1,5 @@
 -- What adding the terms of leaves comes to.
-use Rattle.std.proofs.Common.{◌≡◌, ℕ, ◌+◌, ◌<◌, ◌≤◌, List, [], ◌∷◌, ◌++◌, Bool, true, false, map, drop, length, get_or, refl, sym, ap, ◌∙◌, subst, inl, inr, ⊎_elim, append_assoc}
+use Rattle.std.proofs.Common.{◌≡◌, ℕ, ◌+◌, ◌<◌, ◌≤◌, List, [], ◌∷◌, ◌++◌, Bool, true, false, map, drop, length, get_or, refl, sym, ap, ◌∙◌, subst, inl, inr, ⊎_elim, append_assoc, if◌then◌else◌}
 use Rattle.std.proofs.Math.ListN.{drop_of_length-le}
 use Rattle.std.proofs.lemmas.Bool.{false≢true}
 use Rattle.std.proofs.lemmas.List.{append-nil}
@@ -18,7 +18,7 @@ use Rattle.ax_policy.specs.declared.policy.Policy.{Policy}
 use Rattle.ax_policy.specs.declared.walk.RuleWalk.{RuleWalk}
 use Rattle.ax_policy.specs.Covering.{Covers}
 use Rattle.ax_policy.specs.Walking.{IsAt}
-use Rattle.ax_terms.specs.Adding.{AddsAt, HasCovered, front_of}
+use Rattle.ax_terms.specs.Adding.{AddsAt, HasCovered, front_of, term_from}
 use Rattle.ax_terms.specs.Leaves.{Leaf, alone, behind, below, item_leaves, leaves, leaves_in, member_leaves}
 use Rattle.ax_terms.specs.TermsOf.{leaf_term}
 use Rattle.ax_terms.proofs.Sequences.{contains_first, contains_map, from_map, items_behind, next, none_in_nil, only_one}
@@ -151,7 +151,7 @@ is_leaf policy path given bytes covered is = (
   is ∙ ap (λ p. leaf_term (leaf_at p given)) (sym (append-nil path)),
 )
 
-pub leaf_added : (walk : RuleWalk) (front : List ℕ) (given : Tree) (old new : List (List ℕ)) (term : List ℕ)
+leaf_added : (walk : RuleWalk) (front : List ℕ) (given : Tree) (old new : List (List ℕ)) (term : List ℕ)
     (covered : Bool)
     → ((policy : Policy) (path : List Step) → IsAt walk policy path → IsTrue covered ↔ Covers policy path)
     → covered ≡ true → term ≡ front ++ 1 ∷ value_bytes (cut_of (Defined given))
@@ -174,7 +174,7 @@ leaf_added walk front given old new term covered covers is_so is n = record {
       );
 }
 
-pub leaf_passed : (walk : RuleWalk) (front : List ℕ) (given : Tree) (old : List (List ℕ)) (covered : Bool)
+leaf_passed : (walk : RuleWalk) (front : List ℕ) (given : Tree) (old : List (List ℕ)) (covered : Bool)
     → ((policy : Policy) (path : List Step) → IsAt walk policy path → IsTrue covered ↔ Covers policy path)
     → covered ≡ false → AddsAt walk front (alone given) old old
 leaf_passed walk front given old covered covers is_not = record {
@@ -186,6 +186,17 @@ leaf_passed walk front given old covered covers is_not = record {
         h),
   );
 }
+
+-- where the leaf's term is added just if it is covered
+pub leaf_told : (walk : RuleWalk) (front : List ℕ) (given : Tree) (old new : List (List ℕ)) (covered : Bool)
+    → ((policy : Policy) (path : List Step) → IsAt walk policy path → IsTrue covered ↔ Covers policy path)
+    → new ≡ old ++ (if covered then term_from front given ∷ [] else [])
+    → AddsAt walk front (alone given) old new
+leaf_told walk front given old new true covers n =
+    leaf_added walk front given old new (term_from front given) true covers refl refl n
+leaf_told walk front given old new false covers n =
+    subst (AddsAt walk front (alone given) old) (sym (n ∙ append-nil old))
+    (leaf_passed walk front given old false covers refl)
 
 -- ---- the trees of a list, and those of a map
 

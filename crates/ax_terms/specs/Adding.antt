@@ -2,8 +2,11 @@
 -- words.
 use Rattle.std.specs.Prelude.{◌≡◌, ◌↔◌, ◌⊎◌, ℕ, List, ◌∷◌, ◌++◌}
 use Rattle.std.specs.List.{Contains, flat_map}
+use Rattle.ax_tree.specs.declared.tree.Tree.{Tree}
 use Rattle.ax_mean.specs.declared.query.Step.{Step}
-use Rattle.ax_term.specs.TermBytes.{step_bytes}
+use Rattle.ax_mean.specs.declared.value.Value.TheVariants.{Defined}
+use Rattle.ax_term.specs.CutValues.{cut_of}
+use Rattle.ax_term.specs.TermBytes.{step_bytes, value_bytes}
 use Rattle.ax_policy.specs.declared.policy.Policy.{Policy}
 use Rattle.ax_policy.specs.declared.walk.RuleWalk.{RuleWalk}
 use Rattle.ax_policy.specs.Covering.{Covers}
@@ -25,6 +28,10 @@ Adds policy path leaves old new =
 -- what a term at that path begins with
 abbrev pub front_of : List Step → List ℕ
 front_of path = 2 ∷ flat_map step_bytes path
+
+-- the term of a leaf, from what it begins with
+abbrev pub term_from : List ℕ → Tree → List ℕ
+term_from front given = front ++ 1 ∷ value_bytes (cut_of (Defined given))
 
 -- the same, wherever the walk and the front of its terms are
 pub record AddsAt (walk : RuleWalk) (front : List ℕ) (leaves : List Leaf) (old new : List (List ℕ)) : Type 0 where

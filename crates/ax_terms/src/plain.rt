@@ -1,10 +1,7 @@
 //! The terms of leaves that are covered.
-ghost use Rattle.std.specs.Prelude.{◌≡◌, ◌∷◌, ◌++◌, map, IfOk, OnOk};
+ghost use Rattle.std.specs.Prelude.{◌≡◌, [], ◌∷◌, ◌++◌, map, IfOk, OnOk, if◌then◌else◌};
 ghost use Rattle.std.specs.List.{flat_map};
-ghost use Rattle.ax_mean.specs.declared.value.Value.TheVariants.{Defined};
-ghost use Rattle.ax_term.specs.CutValues.{cut_of};
-ghost use Rattle.ax_term.specs.TermBytes.{value_bytes};
-ghost use Rattle.ax_terms.specs.Adding.{AddsAt};
+ghost use Rattle.ax_terms.specs.Adding.{AddsAt, term_from};
 ghost use Rattle.ax_terms.specs.Leaves.{alone, item_leaves, leaves, leaves_in, member_leaves};
 
 use crate::term_value::term_value;
@@ -96,7 +93,7 @@ fn append_members(
     Ok(())
 }
 
-/// Appends the term of the tree as a leaf, where it is covered.
+/// Appends the term of the tree as a leaf, where the walk is at one that is covered.
 fn append_leaf(
     alloc: Global,
     terms: &mut Vec<Bytes>,
@@ -107,17 +104,30 @@ fn append_leaf(
     ensures { OnOk result
         (AddsAt walk.entry front.now (alone tree.now) terms.old.items terms.new.items) }
 {
-    if !walk.covers() {
-        return Ok(());
+    append_if(alloc, terms, front, walk.covers(), tree)?;
+    Ok(())
+}
+
+/// Appends the term of the tree as a leaf, if it is covered.
+fn append_if(
+    alloc: Global,
+    terms: &mut Vec<Bytes>,
+    front: &[u8],
+    covered: bool,
+    tree: &Tree,
+) -> Result<(), Memory>
+    ensures { OnOk result (terms.new.items
+        ≡ terms.old.items ++ (if covered then term_from front.now tree.now ∷ [] else [])) }
+{
+    if covered {
+        terms.push(term_behind(alloc, front, tree)?)?;
     }
-    terms.push(term_behind(alloc, front, tree)?)?;
     Ok(())
 }
 
 /// The term of the tree as a leaf, from what it begins with.
 fn term_behind(alloc: Global, front: &[u8], tree: &Tree) -> Result<Bytes, Memory>
-    ensures { IfOk result (λ bytes.
-        bytes ≡ front.now ++ 1 ∷ value_bytes (cut_of (Defined tree.now))) }
+    ensures { IfOk result (λ bytes. bytes ≡ term_from front.now tree.now) }
 {
     let value = term_value(alloc, tree)?;
     let mut bytes = Vec::with_capacity(alloc, front.len().saturating_add(ROOM))?;
