@@ -1,3 +1,4 @@
+mod Adding
 mod AnyOrder
 mod CountLaws
 mod Distinct
@@ -8,3 +9,4 @@ mod Rising
 mod SameCounts
 mod Sequences
 mod Telling
+mod TermSets

@@ -12,8 +12,10 @@ mod counter;
 mod in_order;
 pub mod laws;
 mod numbered;
+mod plain;
 mod term_count;
 mod term_value;
+mod terms;
 #[cfg(test)]
 mod tests;
 
@@ -21,3 +23,4 @@ pub use ax_mean::Memory;
 pub use ax_term::Bytes;
 pub use count::count_all;
 pub use term_count::TermCount;
+pub use terms::terms_of;
