@@ -9,7 +9,7 @@ use Rattle.ax_mean.specs.declared.query.Step.{Step}
 use Rattle.ax_term.specs.CutValues.{CutValue}
 use Rattle.ax_term.specs.Fitting.{IsTerm}
 use Rattle.ax_term.specs.Terms.{Term}
-use Rattle.ax_term.specs.TermOrder.{order_of_bytes, order_of_texts, kind, order_of_values, order_of_steps, order_of_paths, order_of_columns, order_of_composites, directed, order_of_value_lists, family, order_of_terms}
+use Rattle.ax_term.specs.TermOrder.{order_of_bytes, order_of_texts, rank, order_of_values, order_of_steps, order_of_paths, order_of_columns, order_of_composites, directed, order_of_value_lists, family, order_of_terms}
 
 not_equal : {A : Type 0} (o : Ordering) → is_eq o ≡ false → o ≡ Equal → A
 not_equal o apart e = absurd (let f : true ≡ false = ap is_eq (sym e) ∙ apart in let g : ⊥ = cc in g)
@@ -46,7 +46,7 @@ one_value (CutValue.Number a) (CutValue.Number b) e =
 one_value (CutValue.Text a) (CutValue.Text b) e = ap CutValue.Text (one_text a b e)
 one_value (CutValue.List a) (CutValue.List b) e = ap CutValue.List (one_text a b e)
 one_value (CutValue.Object a) (CutValue.Object b) e = ap CutValue.Object (one_text a b e)
-one_value a b e = not_equal (nat_cmp (kind a) (kind b)) refl e
+one_value a b e = not_equal (nat_cmp (rank a) (rank b)) refl e
 
 one_step : IsAntisymmetric order_of_steps
 one_step Step.Item Step.Item e = refl
