@@ -61,8 +61,8 @@ impl<'a> Answer<'a> {
         }
     }
 
-    /// Takes in a document: its number and its tree. It takes one step. Where memory runs out, the
-    /// answer is of no more use.
+    /// Takes in a document: its number and its tree. It takes one step of work. Where memory runs
+    /// out, the answer is of no more use.
     pub fn add<L: Ledger>(
         &mut self,
         alloc: Global,
@@ -110,7 +110,7 @@ fn finished(alloc: Global, query: &Query, rows: Vec<KeyedRow>) -> Result<Vec<Key
     Ok(finish(alloc, query, rows)?)
 }
 
-/// Adds the rows of a document that pass WHERE to the groups. It takes one step.
+/// Adds the rows of a document that pass WHERE to the groups. It takes one step of work.
 fn add_to_groups<L: Ledger>(
     alloc: Global,
     query: &Query,

@@ -1,5 +1,5 @@
--- Where a member is put among the members of a map: in the place of the one of its name, or between
--- two others.
+-- At which position a member is put among the members of a map: at that of the one of its name, or
+-- between two others.
 use Rattle.std.specs.Prelude.{◌≡◌, ℕ, List, ◌∷◌, ◌++◌, ◌+◌, ◌<◌, ◌≤◌, length, take, drop}
 use Rattle.ax_tree.specs.declared.members.Member.{Member}
 use Rattle.ax_tree.specs.declared.tree.Tree.{Tree}

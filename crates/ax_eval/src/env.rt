@@ -36,7 +36,7 @@ impl Env {
         }
     }
 
-    /// Binds an alias behind those that are there.
+    /// Binds an alias behind those that are there. Unchanged where memory runs out.
     pub fn push(&mut self, alias: Text, value: Value) -> Result<(), Memory>
         ensures ok { OnOk result (self.new ≡ self.old ++ (alias, value) ∷ []) }
         ensures err { OnErr result (self.new ≡ self.old) }

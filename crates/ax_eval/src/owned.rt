@@ -1,3 +1,4 @@
+//! The value of an expression as one of its own, over an environment that owns its values.
 ghost use Rattle.std.specs.Prelude.{◌≡◌, IfOk};
 ghost use Rattle.ax_mean.specs.Meaning.{meaning};
 

@@ -52,7 +52,7 @@ impl<'a> Scope<'a> {
         }
     }
 
-    /// Binds an alias to a tree, behind those that are there.
+    /// Binds an alias to a tree, behind those that are there. Unchanged where memory runs out.
     pub fn push(&mut self, alias: &'a Text, tree: &'a Tree) -> Result<(), Memory>
         ensures ok { OnOk result (self.new ≡ self.old ++ (alias.now, Defined tree.now) ∷ []) }
         ensures err { OnErr result (self.new ≡ self.old) }
@@ -62,7 +62,7 @@ impl<'a> Scope<'a> {
         Ok(())
     }
 
-    /// Binds an alias to a value, behind those that are there.
+    /// Binds an alias to a value, behind those that are there. Unchanged where memory runs out.
     pub fn push_value(&mut self, alias: &'a Text, value: &'a Value) -> Result<(), Memory>
         ensures ok { OnOk result (self.new ≡ self.old ++ (alias.now, value.now) ∷ []) }
         ensures err { OnErr result (self.new ≡ self.old) }

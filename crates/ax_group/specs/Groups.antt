@@ -64,8 +64,9 @@ with_rows exprs groups (env ∷ envs) =
 abbrev pub groups_of : List Expr → List Env → List Group
 groups_of exprs envs = with_rows exprs (groups_before exprs) envs
 
--- What the aliases stand for in the first row. What is picked is built of aggregates, literals and
--- expressions behind GROUP BY, so all rows of a group show the same.
+-- What the aliases stand for in the first row, by which a group shows. What a query read from a
+-- text picks is built of aggregates, literals and expressions behind GROUP BY, so there all rows
+-- show the same.
 abbrev pub first_env : List Env → Env
 first_env [] = []
 first_env (env ∷ envs) = env

@@ -12,6 +12,7 @@ Key = ℕ × ℤ × List ℕ
 abbrev pub value_key : Value → Key
 value_key value = (rank value, number_key value, bytes_key value)
 
+-- a key of the code, as contracts see it
 abbrev pub seen_key : SortKey → Key
 seen_key key = (key.rank, key.number, key.bytes.items)
 

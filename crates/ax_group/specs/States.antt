@@ -71,7 +71,7 @@ state_row picked state =
     keyed state.values 0 []
     (shown (pick_filled picked (map value_of state.tallies.items)) (env_or_empty state.first))
 
--- one value more for the tally at that place
+-- one value more for the tally at that position
 abbrev pub with_one : ℕ → Value → List Tally → List Tally
 with_one n value [] = []
 with_one zero value (t ∷ ts) = tally_with t value ∷ ts

@@ -62,6 +62,7 @@ greater a b = if is_lt (value_cmp a b) then b else a
 abbrev pub is_composed : Value → Bool
 is_composed value = nat_le 5 (kind value)
 
+-- MIN and MAX, by which of two values is kept
 abbrev pub outermost : (Value → Value → Value) → List Value → Value
 outermost f values = if list_any is_composed values then Undefined else chain f values
 

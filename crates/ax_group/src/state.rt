@@ -124,7 +124,7 @@ fn add_all(tallies: &mut Vec<Tally>, values: Vec<Value>)
     }
 }
 
-/// One value more for the tally at that place.
+/// One value more for the tally at that position.
 #[tactic(auto, using(crate::proofs::StateLaws::set_is))]
 fn add_at(tallies: &mut Vec<Tally>, at: usize, value: Value)
     requires { at < length tallies.old.items }

@@ -4,3 +4,14 @@ pub mod Ordered
 pub mod Steps
 pub mod OneSpelling
 pub mod SamePairs
+pub mod ShortTerms
+pub mod Read
+pub mod Following
+pub mod Listed
+pub mod Reaching
+pub mod Whole
+pub mod Meeting
+pub mod Searching
+pub mod Going
+pub mod FromLow
+pub mod Fronts

@@ -13,19 +13,19 @@ use Rattle.ax_leaf.specs.declared.pair.Pair.{Pair}
 use Rattle.ax_leaf.specs.Pairs.{Posting}
 use Rattle.ax_leaf.specs.Payload.{common, term_after, list_after, leaf, IsLeaf, AreAfter, ArePostings}
 
-varint_parts : (m n : ℕ) (x y : List ℕ) → varint m ++ x ≡ varint n ++ y → (m ≡ n) × (x ≡ y)
+pub varint_parts : (m n : ℕ) (x y : List ℕ) → varint m ++ x ≡ varint n ++ y → (m ≡ n) × (x ≡ y)
 varint_parts m n x y e =
     let read : found m x ≡ found n y = sym (first_varint_again m x) ∙ ap first_varint e ∙ first_varint_again n y in
     (same_number m n x y read, same_after m n x y read)
 
-gaps_parts : (a b x y : List ℕ) → IsRisingList a → IsRisingList b → gaps a ++ x ≡ gaps b ++ y → (a ≡ b) × (x ≡ y)
+pub gaps_parts : (a b x y : List ℕ) → IsRisingList a → IsRisingList b → gaps a ++ x ≡ gaps b ++ y → (a ≡ b) × (x ≡ y)
 gaps_parts a b x y h k e =
     let (same, bytes, rest) = one_list_form (gaps a) (gaps b) x y a b (spells_list_grammar a h) (spells_list_grammar b k) e in (same, rest)
 
 cons_parts : (a b : ℕ) (s t x y : List ℕ) → a ≡ b → (s ≡ t) × (x ≡ y) → (a ∷ s ≡ b ∷ t) × (x ≡ y)
 cons_parts a b s t x y e h = (rw (e, h.0) refl, h.1)
 
-append_parts : (s t x y : List ℕ) → length s ≡ length t → s ++ x ≡ t ++ y → (s ≡ t) × (x ≡ y)
+pub append_parts : (s t x y : List ℕ) → length s ≡ length t → s ++ x ≡ t ++ y → (s ≡ t) × (x ≡ y)
 append_parts [] [] x y l e = (refl, e)
 append_parts [] (b ∷ t) x y l e = absurd (omega arith)
 append_parts (a ∷ s) [] x y l e = absurd (omega arith)
@@ -34,7 +34,7 @@ append_parts (a ∷ s) (b ∷ t) x y l e = cons_parts a b s t x y (cc) (append_p
 one_more : (x y m k : ℕ) (last s : List ℕ) → m ≡ suc k → x ≡ y → s ≡ take k last ++ drop k s → y ∷ s ≡ take m (x ∷ last) ++ drop m (y ∷ s)
 one_more x y m k last s e f h = rw (e, f) (ap (λ (bs : List ℕ). y ∷ bs) h)
 
-whole_term : (last s : List ℕ) → s ≡ take (common last s) last ++ drop (common last s) s
+pub whole_term : (last s : List ℕ) → s ≡ take (common last s) last ++ drop (common last s) s
 whole_term [] s = refl
 whole_term (x ∷ last) [] = refl
 whole_term (x ∷ last) (y ∷ s) =
@@ -92,10 +92,10 @@ list_parts last (d ∷ a) (f ∷ b) l h k e =
     same_posting d.term f.term d.numbers f.numbers a b term numbers
     (list_parts f.term a b (omega arith) h.1 k.1 (ap (λ (t : List ℕ). list_after t a) (sym term) ∙ rest))
 
-abbrev the_pair : List ℕ → ℕ → Pair
+abbrev pub the_pair : List ℕ → ℕ → Pair
 the_pair s n = record { term = s; number = n }
 
-same_pair : (s t : List ℕ) (m n : ℕ) → s ≡ t → m ≡ n → the_pair s m ≡ the_pair t n
+pub same_pair : (s t : List ℕ) (m n : ℕ) → s ≡ t → m ≡ n → the_pair s m ≡ the_pair t n
 same_pair s t m n e f = rw (e, f) refl
 
 pub one_leaf : (bytes : List ℕ) (low other : Pair) (a b : List Posting) → IsLeaf bytes low a → IsLeaf bytes other b → (low ≡ other) × (a ≡ b)

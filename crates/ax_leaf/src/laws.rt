@@ -1,9 +1,10 @@
 //! Laws of the format: what holds of the definitions themselves, whichever call reads or writes.
 
-ghost use Rattle.std.specs.Prelude.{◌≡◌, ℕ, List};
+ghost use Rattle.std.specs.Prelude.{◌≡◌, ℕ, List, All};
+ghost use Rattle.std.specs.declared.cmp.Ordering.TheVariants.{Less};
 ghost use Rattle.ax_leaf.specs.declared.pair.Pair.{Pair};
-ghost use Rattle.ax_leaf.specs.Pairs.{Posting, postings_of, pairs_of};
-ghost use Rattle.ax_leaf.specs.Payload.{IsLeaf};
+ghost use Rattle.ax_leaf.specs.Pairs.{Posting, pair_cmp, Rise, BeginsFrom, postings_of, pairs_of};
+ghost use Rattle.ax_leaf.specs.Payload.{IsLeaf, ArePostings};
 
 /// A payload is that of one low pair and one list of postings alone.
 pub fn payload_is_of_one()
@@ -14,4 +15,15 @@ pub fn payload_is_of_one()
 /// The postings of pairs hold these pairs, in order.
 pub fn postings_hold_the_pairs()
     ensures { (pairs : List Pair) → pairs_of (postings_of pairs) ≡ pairs }
+{}
+
+/// The pairs of postings whose terms rise, rise too.
+pub fn pairs_of_postings_rise()
+    ensures { (postings : List Posting) → ArePostings postings → Rise (pairs_of postings) }
+{}
+
+/// Where the terms of postings rise and their first pair is not before the low pair, no pair is.
+pub fn no_pair_is_before_the_low_one()
+    ensures { (low : Pair) (postings : List Posting) → ArePostings postings → BeginsFrom low (pairs_of postings)
+        → All (λ pair. pair_cmp pair low ≡ Less → ⊥) (pairs_of postings) }
 {}

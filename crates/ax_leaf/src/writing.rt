@@ -9,12 +9,14 @@ ghost use Rattle.ax_leaf.specs.Pairs.{Rise, BeginsFrom, pair_cmp, postings_of};
 ghost use Rattle.ax_leaf.specs.Payload.{common, term_after, list_after, leaf, IsLeaf, AreGood};
 
 use crate::out_of_memory::Memory;
-use crate::pair::Pair;
+use crate::pair::{Pair, comes_before};
+use crate::short_term::{put_length, put_term};
 use ax_gap::put_gaps;
 use ax_gap::varint::put_varint;
 use std::alloc::Global;
 
-/// The payload of a base with these pairs, whose page has this low pair.
+/// The payload of a base with these pairs, whose page has this low pair. The pairs have to rise,
+/// and none to be before the low pair: `is_in_order` tells it.
 ///
 /// `Memory` also where a term has 2^32 bytes or more, or where there are so many terms: no payload
 /// has them.
@@ -68,8 +70,8 @@ pub fn is_in_order(low: &Pair, pairs: &[Pair]) -> bool
 fn is_before(first: &Pair, second: &Pair) -> bool
     ensures { result ≡ is_lt (pair_cmp first.now second.now) }
 {
-    let terms = first.term.as_slice().cmp(second.term.as_slice());
-    terms.then(first.number.cmp(&second.number)).is_lt()
+    let term = first.term.as_slice();
+    comes_before(term, first.number, second.term.as_slice(), second.number)
 }
 
 /// Writes a low pair at the end.
@@ -121,7 +123,7 @@ fn put_list(alloc: Global, out: &mut Vec<u8>, pairs: &[Pair]) -> Result<usize, M
 
 /// Writes a term after another, and the gap list of its numbers, at the end. `Memory` also where
 /// the term has 2^32 bytes or more.
-#[tactic(auto, using(std::proofs::lemmas::List::append_assoc), unfolding(crate::specs::Payload::term_after))]
+#[tactic(auto, using(std::proofs::lemmas::List::append_assoc))]
 fn put_posting(out: &mut Vec<u8>, last: &[u8], term: &[u8], numbers: &[u32]) -> Result<(), Memory>
     requires rising { IsStrictlyIncreasing numbers.now }
     requires some { 0 < length numbers.now }
@@ -130,41 +132,7 @@ fn put_posting(out: &mut Vec<u8>, last: &[u8], term: &[u8], numbers: &[u32]) -> 
     ensures list { OnOk result (IsRisingList numbers.now) }
     ensures written { OnOk result (out.new.items ≡ out.old.items ++ term_after last.now term.now ++ gaps numbers.now) }
 {
-    if term.len() > u32::MAX as usize {
-        return Err(Memory);
-    }
-    let shared = in_common(last, term);
-    let rest = &term[shared..];
-    put_length(out, shared)?;
-    put_length(out, rest.len())?;
-    out.extend_from_slice(rest)?;
+    put_term(out, last, term)?;
     put_gaps(out, numbers)?;
     Ok(())
-}
-
-/// Writes the varint of a length at the end. `Memory` also where the length has more than 32 bits.
-fn put_length(out: &mut Vec<u8>, length: usize) -> Result<(), Memory>
-    ensures fits { OnOk result (length < 2 ^ 32) }
-    ensures written { OnOk result (out.new.items ≡ out.old.items ++ varint length) }
-{
-    if length > u32::MAX as usize {
-        return Err(Memory);
-    }
-    put_varint(out, length as u32)?;
-    Ok(())
-}
-
-/// How many bytes at their beginnings two terms have in common.
-pub(crate) fn in_common(a: &[u8], b: &[u8]) -> usize
-    ensures shared { result ≡ common a.now b.now }
-    ensures first { result ≤ length a.now }
-    ensures second { result ≤ length b.now }
-{
-    let shorter = a.len().min(b.len());
-    for place in 0..shorter {
-        if a[place] != b[place] {
-            return place;
-        }
-    }
-    shorter
 }

@@ -8,7 +8,7 @@ use Rattle.ax_lines.specs.declared.line.Line.TheVariants as line
 use Rattle.ax_lines.specs.declared.refusal.Refusal.{Refusal}
 use Rattle.ax_lines.specs.Lines.{line_of}
 use Rattle.ax_grammar.specs.Query.{query_in}
-use Rattle.ax_machine.specs.Querying.{asked}
+use Rattle.ax_machine.specs.Querying.{rows_or_refusal}
 use Rattle.ax_machine.specs.Run.{Exchange, after_line}
 
 -- a write needs the document that it replaces
@@ -24,7 +24,7 @@ query_need (Err why) container = 0
 abbrev pub most_steps_of : Container → Result Line Refusal → ℕ
 most_steps_of container (Ok (line.Upsert tree)) = write_need (document_id tree) container
 most_steps_of container (Ok (line.Query body)) =
-    2 * query_need (asked (query_in body.params body.text) container) container
+    2 * query_need (rows_or_refusal (query_in body.params body.text) container) container
 most_steps_of container (Err why) = 0
 
 -- the most steps that a line counts

@@ -46,13 +46,13 @@ rows_of query container =
     map (λ row. canonical_text row.shown) (answer_of query (numbered container))
 
 -- the rows of a query, or the first refusal of it; a text that is no query is refused
-abbrev pub asked : Option Query → Container → Result (List (List ℕ)) Refusal
-asked None container = Err refusal.Query
-asked (Some query) container = unless (causes query) (Ok (rows_of query container))
+abbrev pub rows_or_refusal : Option Query → Container → Result (List (List ℕ)) Refusal
+rows_or_refusal None container = Err refusal.Query
+rows_or_refusal (Some query) container = unless (causes query) (Ok (rows_of query container))
 
 abbrev pub rows_reply : Result (List (List ℕ)) Refusal → reply.Reply
 rows_reply (Ok rows) = reply.Rows rows reply.End
 rows_reply (Err why) = reply.Refused why
 
 abbrev pub query_reply : Body → Container → reply.Reply
-query_reply body container = rows_reply (asked (query_in body.params body.text) container)
+query_reply body container = rows_reply (rows_or_refusal (query_in body.params body.text) container)

@@ -14,6 +14,6 @@ pub data Reply : Type 0 where
   Rows : List (List ℕ) → RowsEnd → Reply
   Refused : Refusal → Reply
 
--- the reply to a line that is not served for want of memory
+-- the reply to a line that is not answered by its step, for want of memory
 abbrev pub out_of_memory : Reply
 out_of_memory = Refused refusal.Memory

@@ -14,13 +14,13 @@ use Rattle.ax_machine.specs.Reply as reply
 use Rattle.ax_machine.specs.Querying.{query_reply}
 
 -- the refusal of a line whose write is refused
-abbrev pub refusal_of : WriteRefusal → Refusal
-refusal_of Full = refusal.Full
+abbrev pub write_refusal : WriteRefusal → Refusal
+write_refusal Full = refusal.Full
 
 -- a write that was made, or that was refused and changed nothing
 abbrev pub written : Container → Result Container WriteRefusal → Container × reply.Reply
 written before (Ok after) = (after, reply.Ok)
-written before (Err why) = (before, reply.Refused (refusal_of why))
+written before (Err why) = (before, reply.Refused (write_refusal why))
 
 -- an upsert of a tree by the id that it has as a document; no line asks for one of a tree without
 abbrev pub upsert_by : Option (List ℕ) → Tree → Container → Container × reply.Reply

@@ -3,7 +3,7 @@ ghost use Rattle.std.specs.List.{list_any};
 ghost use Rattle.ax_tree.specs.Document.{document_id};
 ghost use Rattle.ax_container.specs.Container.{has_id};
 ghost use Rattle.ax_container.specs.Upsert.{with_tree};
-ghost use Rattle.ax_machine.specs.Querying.{asked, query_reply, rows_reply};
+ghost use Rattle.ax_machine.specs.Querying.{query_reply, rows_or_refusal, rows_reply};
 ghost use Rattle.ax_machine.specs.Step.{step, upsert_by};
 ghost use Rattle.ax_machine.specs.ReplyTexts.{reply_text};
 
@@ -24,7 +24,8 @@ const MOST_DOCUMENTS: usize = 1_048_576;
 /// The greatest next number: no document takes it.
 const LAST_NUMBER: u32 = 4_294_967_295;
 
-/// A store that is a list of whole documents, copied at each write: slow, and easy to believe.
+/// A store that is a list of whole documents, copied at each replacement: slow, and easy to
+/// believe.
 #[derive(Drop)]
 pub struct PlainMachine {
     documents: Vec<PlainDocument>,
@@ -60,6 +61,7 @@ impl PlainMachine {
     }
 
     /// Serves one line, and answers the text of its reply. The line comes without its newline.
+    /// Out of memory changes nothing.
     pub fn answer(&mut self, alloc: Global, line: &[u8]) -> Result<Vec<u8>, Memory>
         ensures reply { IfOk result (λ text. text.items ≡ reply_text (step self.old line.now).1) }
         ensures after { OnOk result (self.new ≡ (step self.old line.now).0) }
@@ -85,7 +87,7 @@ impl PlainMachine {
     /// The reply to a query that was read.
     fn asked(&self, alloc: Global, query: &Query) -> Result<Vec<u8>, Memory>
         ensures { IfOk result (λ text. text.items ≡ reply_text
-            (rows_reply (asked (Some query.now) self.now))) }
+            (rows_reply (rows_or_refusal (Some query.now) self.now))) }
     {
         if let Some(refusal) = refusal_of(query) {
             return refusal_line(alloc, refusal);

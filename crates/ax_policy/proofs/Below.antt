@@ -25,14 +25,14 @@ use Rattle.ax_policy.proofs.PathTexts.{Front, front_of_text, front_in_text}
 -- ---- rules that are kept
 
 -- the text begins so
-begins_is : (steps : List Step) (text rest : List ℕ) → text ≡ steps_text steps ++ rest
+pub begins_is : (steps : List Step) (text rest : List ℕ) → text ≡ steps_text steps ++ rest
     → begins_with steps text ≡ true
 begins_is steps text rest e =
     ap (λ l. bytes_eq (take (length (steps_text steps)) l) (steps_text steps)) e
     ∙ ap (λ l. bytes_eq l (steps_text steps)) (take-append_seam (steps_text steps) rest)
     ∙ bytes_eq_same (steps_text steps)
 
-begins_so : (steps : List Step) (text : List ℕ) → begins_with steps text ≡ true
+pub begins_so : (steps : List Step) (text : List ℕ) → begins_with steps text ≡ true
     → text ≡ steps_text steps ++ drop (length (steps_text steps)) text
 begins_so steps text b =
     sym (take-append-drop (length (steps_text steps)) text)

@@ -36,7 +36,7 @@ ends_first text piece more order one = (
 
 -- ---- a text that begins so
 
-bytes_before : (text piece rest : List ℕ) → GoesOn text piece rest → text ≡ piece ++ rest
+pub bytes_before : (text piece rest : List ℕ) → GoesOn text piece rest → text ≡ piece ++ rest
 bytes_before text piece rest g = same_from_Equal text (piece ++ rest) (g rest ∙ cmp_same rest)
 
 pub begins_ok : (text : List ℕ) (steps : List Step) (rest : List ℕ) → GoesOn text (steps_text steps) rest

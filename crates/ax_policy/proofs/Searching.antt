@@ -50,7 +50,7 @@ same_from_Equal a b e = same_bytes a b (sym (is_eq-slice_cmp a b) ∙ ap is_eq e
 
 -- ---- rising texts
 
-skipped : (first next : Member Bool) (rest : List (Member Bool))
+pub skipped : (first next : Member Bool) (rest : List (Member Bool))
     → HaveRisingNames (first ∷ next ∷ rest) → HaveRisingNames (first ∷ rest)
 skipped first next [] r = refl
 skipped first next (third ∷ rest) r =
@@ -74,7 +74,7 @@ after first (next ∷ rest) d r zero h = is_lt_Less _ (both (is_lt (cmp first.na
 after first (next ∷ rest) d r (suc k) h =
     after first rest d (skipped first next rest r) k (omega arith)
 
-rises : (rules : List (Member Bool)) (d : Member Bool) → HaveRisingNames rules → (i j : ℕ) → i < j
+pub rises : (rules : List (Member Bool)) (d : Member Bool) → HaveRisingNames rules → (i j : ℕ) → i < j
     → j < length rules → cmp (get_or rules i d).name (get_or rules j d).name ≡ Less
 rises [] d r i j h k = absurd (omega arith)
 rises (first ∷ rest) d r i zero h k = absurd (omega arith)
@@ -128,7 +128,7 @@ most_is_two Equal = omega arith
 most_is_two Greater = omega arith
 
 -- against a text, an earlier rule is no later than another
-no_later : (a b key : List ℕ) → cmp a b ≡ Less → (o : Ordering) → cmp b key ≡ o
+pub no_later : (a b key : List ℕ) → cmp a b ≡ Less → (o : Ordering) → cmp b key ≡ o
     → ordering_index (cmp a key) ≤ ordering_index (cmp b key)
 no_later a b key e Less f =
     let less : cmp a key ≡ Less = nat_list_cmp_total.trans a b key e f in
@@ -139,7 +139,7 @@ no_later a b key e Equal f =
     rw (less, f) (omega arith)
 no_later a b key e Greater f = rw f (most_is_two (cmp a key))
 
-no_fall : (rules : List (Member Bool)) (key : List ℕ) → HaveRisingNames rules
+pub no_fall : (rules : List (Member Bool)) (key : List ℕ) → HaveRisingNames rules
     → IsNonDecreasingBy (λ y. ordering_index (slice_cmp nat_cmp y.name key)) rules
 no_fall rules key r i j d h k = by_place (cases_lt i j)
   where

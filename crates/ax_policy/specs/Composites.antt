@@ -24,7 +24,7 @@ abbrev pub order_word : Bool → List ℕ
 order_word false = codes "ascending"
 order_word true = codes "descending"
 
--- one path of a composite, with its direction
+-- a column: one path of a composite, with its direction
 abbrev pub part_tree : Order → Tree
 part_tree part =
     tree.Object
@@ -56,7 +56,7 @@ directed given path =
     then option_map (λ down. record { path = path; down = down }) (direction_of given)
     else None
 
--- one path of a composite, with its direction
+-- a column: one path of a composite, with its direction
 abbrev pub part_of : Tree → Option Order
 part_of given =
     option_and_then (directed (member (codes "order") given))
@@ -108,7 +108,7 @@ with_composite (first ∷ rest) composite =
     (first ∷ rest)
     (first ∷ with_composite rest composite)
 
--- a composite put at this place, or nothing; no public clause cites it
+-- a composite put at this position, or nothing; no public clause cites it
 abbrev pub placed : Option ℕ → List (List Order) → List Order → List (List Order)
 placed None composites composite = composites
 placed (Some at) composites composite = insert composites at composite

@@ -2,12 +2,16 @@ pub mod Comparing
 pub mod Composites
 pub mod Covering
 pub mod Deciding
+pub mod Default
 pub mod Limits
 pub mod Normal
+pub mod NumberUses
 pub mod Ordering
 pub mod Paths
 pub mod Policies
 pub mod Reading
 pub mod Rules
 pub mod Sameness
+pub mod Table
+pub mod Walking
 pub mod Written

@@ -46,7 +46,7 @@ fn after_step<'a>(text: &'a [u8], step: &Step) -> Result<&'a [u8], Ordering>
     }
 }
 
-fn after_name<'a>(text: &'a [u8], name: &[u8]) -> Result<&'a [u8], Ordering>
+pub(crate) fn after_name<'a>(text: &'a [u8], name: &[u8]) -> Result<&'a [u8], Ordering>
     ensures rest { IfOk result (λ rest. GoesOn text.now (spec.name_text name.now) rest.now) }
     ensures order { IfErr result (Ends text.now (spec.name_text name.now)) }
 {
@@ -56,7 +56,7 @@ fn after_name<'a>(text: &'a [u8], name: &[u8]) -> Result<&'a [u8], Ordering>
     after_byte(rest, b'"')
 }
 
-fn after_item(text: &[u8]) -> Result<&[u8], Ordering>
+pub(crate) fn after_item(text: &[u8]) -> Result<&[u8], Ordering>
     ensures rest { IfOk result (λ rest. GoesOn text.now (spec.step_text Item) rest.now) }
     ensures order { IfErr result (Ends text.now (spec.step_text Item)) }
 {

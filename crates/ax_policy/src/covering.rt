@@ -15,8 +15,8 @@ use ax_mean::{Member, Path, Step};
 
 impl Policy {
     /// Whether the leaf at that path is indexed: of the included and excluded paths that match, the
-    /// one with most steps decides, and of equal steps the one with `/?`. Looks at as many paths as
-    /// the leaf's has steps, each found by halves.
+    /// one with most steps decides, and of equal steps the one with `/?`. Makes at most two
+    /// searches by halves more than the path has steps.
     pub fn covers(&self, path: &Path) -> bool
         ensures { IsTrue result ↔ Covers self.now path.now }
     {
@@ -86,7 +86,7 @@ fn longest(rules: &[Member<bool>], path: &[Step]) -> Option<bool>
 }
 
 /// Whether the rule with that path is an included one; `None` where there is no such rule.
-fn search(rules: &[Member<bool>], steps: &[Step], all: bool) -> Option<bool>
+pub(crate) fn search(rules: &[Member<bool>], steps: &[Step], all: bool) -> Option<bool>
     requires { HaveRisingNames rules.now }
     ensures { result ≡ under (rule_text steps.now all) rules.now }
 {

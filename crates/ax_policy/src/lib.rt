@@ -8,10 +8,13 @@
 mod compare;
 mod composites;
 mod covering;
+mod default;
+pub mod laws;
 mod limits;
 mod members;
 mod mode;
 mod normal;
+mod number_use;
 mod ordering;
 mod overlap;
 mod path_text;
@@ -23,10 +26,20 @@ mod read_path;
 mod read_rules;
 mod rule_path;
 mod rules;
+mod slot;
+mod table;
+mod table_fault;
 #[cfg(test)]
 mod tests;
+mod walk;
+#[cfg(test)]
+mod walk_tests;
 
+pub use default::default_policy;
 pub use mode::Mode;
 pub use policy::{Composite, Policy};
 pub use policy_fault::PolicyFault;
 pub use read::read_policy;
+pub use table::PolicyTable;
+pub use table_fault::TableFault;
+pub use walk::RuleWalk;

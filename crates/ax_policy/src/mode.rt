@@ -4,6 +4,6 @@
 pub enum Mode {
     /// Each write indexes its document.
     Consistent,
-    /// Nothing is indexed.
+    /// No leaf is indexed.
     None,
 }

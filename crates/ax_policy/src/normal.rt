@@ -141,7 +141,7 @@ fn word(alloc: Global, word: &str) -> Result<Tree, Memory>
     Ok(Tree::Text(text_of(alloc, word)?))
 }
 
-fn text_of(alloc: Global, text: &str) -> Result<Text, Memory>
+pub(crate) fn text_of(alloc: Global, text: &str) -> Result<Text, Memory>
     ensures { IfOk result (λ made. made ≡ text.now) }
 {
     Ok(Text::from_string(String::from_str(alloc, text)?))

@@ -19,7 +19,7 @@ impl Policy {
         self.is_orderable(orders.as_slice())
     }
 
-    /// The composite at that place of the policy's normal text, from 0; `None` where the policy
+    /// The composite at that position in the policy's normal text; `None` where the policy
     /// offers none there, as under mode `none` or where `automatic` is false.
     pub fn composite(&self, at: u8) -> Option<&Composite>
         ensures { option_copied result ≡ slice_get (offered_by self.now) at }

@@ -3,10 +3,12 @@ use ax_mean::Memory;
 /// Why a tree was not read as an indexing policy.
 #[derive(Clone, Copy, Debug, PartialEq, Eq)]
 pub enum PolicyFault {
-    /// The tree is no policy: a member has a wrong shape or another value than those that it may
-    /// have; the mode is `consistent` and `/*` is in neither list of paths; a path is in both; in
-    /// one composite a path equals or begins another; or a name, a path, a composite or the normal
-    /// text is too long.
+    /// The tree is no policy: it is no map; a member has a wrong shape or another value than those
+    /// that it may have; another kind of index is asked for; the mode is `consistent` and `/*` is
+    /// in neither list of paths; a path is in both; there are more than 8 composites; one has fewer
+    /// than 2 or more than 8 paths, or a path in it equals or begins another; or one is too long: a
+    /// name above 255 bytes, an encoded path, or those of a composite together, above 1,024, the
+    /// normal text above 60,000.
     Refused,
     /// Out of memory.
     Memory,

@@ -1,5 +1,6 @@
-use crate::{PolicyFault, read_policy};
-use ax_mean::Memory;
+use crate::read_path::rule_path;
+use crate::{Policy, PolicyFault, PolicyTable, TableFault, default_policy, read_policy};
+use ax_mean::{Items, Memory};
 use ax_text::read_tree;
 use std::alloc::Global;
 use std::test::Fail;
@@ -91,5 +92,238 @@ fn paths_are_read_as_they_are_written(rt: HostRuntime) -> Result<(), Fail> {
         )?;
         assert_eq!(rt; !normal(alloc, text.as_str())?.is_empty(), good, "{path}");
     }
+    Ok(())
+}
+
+/// The policy that a text is.
+fn policy(alloc: Global, text: &str) -> Result<Policy, Memory> {
+    let Ok(tree) = read_tree(alloc, text.as_bytes()) else {
+        return Err(Memory);
+    };
+    match read_policy(alloc, &tree) {
+        Ok(policy) => Ok(policy),
+        Err(_) => Err(Memory),
+    }
+}
+
+#[test]
+fn the_default_policy_has_its_normal_text(rt: HostRuntime) -> Result<(), Fail> {
+    let alloc = rt.alloc();
+    let text = default_policy(alloc)?.normal(alloc)?;
+    assert_eq!(rt;
+        text.as_slice(),
+        br#"{"automatic":true,"compositeIndexes":[],"excludedPaths":[{"path":"/\"_etag\"/?"}],"includedPaths":[{"path":"/*"}],"indexingMode":"consistent"}"#.as_slice()
+    );
+    Ok(())
+}
+
+/// Whether the policy that a text is covers a leaf, `/a/?`, or each below it, `/a/*`.
+fn is_covered(alloc: Global, text: &str, path: &str) -> Result<bool, Memory> {
+    let policy = policy(alloc, text)?;
+    covers(alloc, &policy, path)
+}
+
+fn covers(alloc: Global, policy: &Policy, path: &str) -> Result<bool, Memory> {
+    match rule_path(alloc, path)? {
+        Some(path) => Ok(if path.all {
+            policy.covers_all(&path.steps)
+        } else {
+            policy.covers(&path.steps)
+        }),
+        None => Err(Memory),
+    }
+}
+
+// By the manual's rule: most steps, and of equal steps `/?`.
+#[test]
+fn the_most_precise_path_decides(rt: HostRuntime) -> Result<(), Fail> {
+    let alloc = rt.alloc();
+    for (text, path, expected) in [
+        (LEAF_OUT, "/a/?", false),
+        (LEAF_OUT, "/a/b/?", true),
+        (LEAF_OUT, "/b/*", true),
+        (LEAF_OUT, "/a/*", false),
+        (LEAF_IN, "/a/?", false),
+        (LEAF_IN, "/a/b/?", true),
+        (LEAF_IN, "/a/b/c/?", false),
+        (ITEMS_OUT, "/a/[]/?", false),
+        (ITEMS_OUT, r#"/a/"[]"/?"#, true),
+        (ITEMS_OUT, "/a/[]/b/*", true),
+        (BOTH_MARKS, "/a/?", true),
+        (BOTH_MARKS, "/a/b/?", false),
+        (
+            r#"{"indexingMode":"none","includedPaths":[{"path":"/*"}]}"#,
+            "/a/?",
+            false,
+        ),
+        (
+            r#"{"automatic":false,"includedPaths":[{"path":"/*"}]}"#,
+            "/a/?",
+            false,
+        ),
+    ] {
+        assert_eq!(rt; is_covered(alloc, text, path)?, expected, "{text} {path}");
+    }
+    Ok(())
+}
+
+const LEAF_OUT: &str = r#"{"includedPaths":[{"path":"/*"}],"excludedPaths":[{"path":"/a/?"}]}"#;
+
+const LEAF_IN: &str =
+    r#"{"includedPaths":[{"path":"/a/b/?"}],"excludedPaths":[{"path":"/*"},{"path":"/a/*"}]}"#;
+
+const ITEMS_OUT: &str = r#"{"includedPaths":[{"path":"/*"}],"excludedPaths":[{"path":"/a/[]/?"}]}"#;
+
+const BOTH_MARKS: &str =
+    r#"{"includedPaths":[{"path":"/a/?"}],"excludedPaths":[{"path":"/*"},{"path":"/a/*"}]}"#;
+
+/// Whether the policy that a text is keeps the order of the first composite of another.
+fn is_kept(alloc: Global, text: &str, orders: &str) -> Result<bool, Memory> {
+    let policy = policy(alloc, text)?;
+    keeps(alloc, &policy, orders)
+}
+
+fn keeps(alloc: Global, keeper: &Policy, orders: &str) -> Result<bool, Memory> {
+    let other = policy(alloc, orders)?;
+    match other.composite(0) {
+        Some(orders) => Ok(keeper.orderable(orders)),
+        None => Err(Memory),
+    }
+}
+
+#[test]
+fn orders_are_kept_with_all_directions_equal_or_opposite(rt: HostRuntime) -> Result<(), Fail> {
+    let alloc = rt.alloc();
+    for (policy, orders, expected) in [
+        (
+            "",
+            r#"[{"path":"/a"},{"path":"/b","order":"descending"}]"#,
+            true,
+        ),
+        (
+            "",
+            r#"[{"path":"/a","order":"descending"},{"path":"/b"}]"#,
+            true,
+        ),
+        ("", r#"[{"path":"/a"},{"path":"/b"}]"#, false),
+        (
+            "",
+            r#"[{"path":"/b","order":"descending"},{"path":"/a"}]"#,
+            false,
+        ),
+        (
+            r#""indexingMode":"none","#,
+            r#"[{"path":"/a"},{"path":"/b","order":"descending"}]"#,
+            false,
+        ),
+        (
+            r#""automatic":false,"#,
+            r#"[{"path":"/a"},{"path":"/b","order":"descending"}]"#,
+            false,
+        ),
+    ] {
+        let text = format!(in alloc;
+            "{{{policy}\"includedPaths\":[{{\"path\":\"/*\"}}],\"compositeIndexes\":[[{{\"path\":\"/a\"}},{{\"path\":\"/b\",\"order\":\"descending\"}}]]}}"
+        )?;
+        let wanted = format!(in alloc;
+            "{{\"includedPaths\":[{{\"path\":\"/*\"}}],\"compositeIndexes\":[{orders}]}}"
+        )?;
+        assert_eq!(rt;
+            is_kept(alloc, text.as_str(), wanted.as_str())?,
+            expected,
+            "{policy} {orders}"
+        );
+    }
+    assert!(rt; default_policy(alloc)?.orderable(&Items::new(alloc)));
+    Ok(())
+}
+
+/// The number under which the policy that excludes that name is now; `None` where the table is full.
+fn set_now(alloc: Global, table: &mut PolicyTable, name: &str) -> Result<Option<u8>, Memory> {
+    let text = format!(in alloc;
+        "{{\"includedPaths\":[{{\"path\":\"/*\"}}],\"excludedPaths\":[{{\"path\":\"/{name}/?\"}}]}}"
+    )?;
+    let policy = policy(alloc, text.as_str())?;
+    match table.set_now(alloc, policy) {
+        Ok(()) => Ok(Some(table.now())),
+        Err(TableFault::Full) => Ok(None),
+        Err(TableFault::Memory) => Err(Memory),
+    }
+}
+
+/// One document more under the policy now.
+fn create(table: &mut PolicyTable) {
+    let number = table.now();
+    if table.count(number) < 1_048_576 {
+        table.count_in(number);
+    }
+}
+
+#[test]
+fn a_policy_keeps_its_number_while_it_is_in_use(rt: HostRuntime) -> Result<(), Fail> {
+    let alloc = rt.alloc();
+    let mut table = PolicyTable::fresh(alloc)?;
+    for (name, documents, expected) in [
+        ("_etag", false, 0),
+        ("a", false, 1),
+        ("b", true, 0),
+        ("a", false, 1),
+        ("b", false, 0),
+        ("c", true, 1),
+        ("a", false, 2),
+        ("c", false, 1),
+    ] {
+        let number = set_now(alloc, &mut table, name)?;
+        assert_eq!(rt; number, Some(expected), "{name}");
+        if documents {
+            create(&mut table);
+        }
+    }
+    assert_eq!(rt; table.left(), 1);
+    Ok(())
+}
+
+#[test]
+fn a_ninth_policy_in_use_is_too_many(rt: HostRuntime) -> Result<(), Fail> {
+    let alloc = rt.alloc();
+    let mut table = PolicyTable::fresh(alloc)?;
+    for (name, expected) in [
+        ("p1", 1),
+        ("p2", 0),
+        ("p3", 2),
+        ("p4", 3),
+        ("p5", 4),
+        ("p6", 5),
+        ("p7", 6),
+        ("p8", 7),
+    ] {
+        let number = set_now(alloc, &mut table, name)?;
+        assert_eq!(rt; number, Some(expected), "{name}");
+        create(&mut table);
+    }
+    assert_eq!(rt; set_now(alloc, &mut table, "p9")?, None);
+    assert_eq!(rt; set_now(alloc, &mut table, "p3")?, Some(2));
+    assert_eq!(rt; table.left(), 7);
+    Ok(())
+}
+
+#[test]
+fn a_policy_is_put_under_a_number_and_started(rt: HostRuntime) -> Result<(), Fail> {
+    let alloc = rt.alloc();
+    let mut table = PolicyTable::fresh(alloc)?;
+    let policy = default_policy(alloc)?;
+    table.put(3, policy)?;
+    assert!(rt; table.policy(3).is_some());
+    assert!(rt; table.policy(4).is_none());
+    if table.policy(3).is_some() {
+        table.start(3);
+    }
+    create(&mut table);
+    let number = table.now();
+    assert_eq!(rt; (number, table.count(3)), (3, 1));
+    if table.count(number) > 0 {
+        table.count_out(number);
+    }
+    assert_eq!(rt; table.count(3), 0);
     Ok(())
 }

@@ -1,3 +1,3 @@
-pub mod Bytes
+pub mod ByteOrder
 pub mod Collected
 pub mod SortKeys

@@ -9,6 +9,7 @@
 
 mod aggregates;
 mod answer;
+mod key_bytes;
 mod keyed;
 pub mod laws;
 mod out_of_memory;
@@ -21,7 +22,6 @@ mod sort;
 mod sort_key;
 mod unseen;
 mod walk;
-mod written;
 
 pub use aggregates::has_groups;
 pub use answer::finish;

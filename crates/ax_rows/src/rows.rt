@@ -14,7 +14,7 @@ use std::mem;
 use std::sync::ledger::Ledger;
 
 /// The rows of a document that pass WHERE and show something, each with its key, in the order of
-/// their places. It takes one step, also where it runs out of memory.
+/// their places. It takes one step of work, also where it runs out of memory.
 ///
 /// A position of more than 32 bits, which a row would have in its place, is answered as want of
 /// memory.
@@ -61,7 +61,7 @@ pub fn append_rows<L: Ledger>(
 }
 
 /// The environments of the rows of a document that pass WHERE, in the order of their places. It
-/// takes one step, also where it runs out of memory.
+/// takes one step of work, also where it runs out of memory.
 pub fn envs_of<L: Ledger>(
     alloc: Global,
     query: &Query,

@@ -3,8 +3,8 @@ ghost use Rattle.std.specs.Option.{option_copied};
 ghost use Rattle.ax_mean.specs.declared.value.Value.TheVariants.{Defined};
 ghost use Rattle.ax_rows.specs.SortKeys.{sort_key, directed_key, value_or_undefined};
 
+use crate::key_bytes::KeyBytes;
 use crate::out_of_memory::Memory;
-use crate::written::Written;
 use ax_mean::{Tree, Value};
 use std::alloc::Global;
 use std::cmp::Reverse;
@@ -15,7 +15,7 @@ use std::cmp::Reverse;
 pub struct SortKey {
     pub rank: u8,
     pub number: i64,
-    pub bytes: Written,
+    pub bytes: KeyBytes,
 }
 
 /// A key that rises, or one that falls, where DESC is written.
@@ -63,11 +63,11 @@ impl SortKey {
             Tree::Number(number) => Ok(SortKey {
                 rank: 4,
                 number: *number,
-                bytes: Written::nothing(alloc),
+                bytes: KeyBytes::nothing(alloc),
             }),
-            Tree::Text(text) => Ok(SortKey::written(5, Written::text(alloc, text)?)),
-            Tree::List(_) => Ok(SortKey::written(6, Written::tree(alloc, tree)?)),
-            Tree::Object(_) => Ok(SortKey::written(7, Written::tree(alloc, tree)?)),
+            Tree::Text(text) => Ok(SortKey::written(5, KeyBytes::text(alloc, text)?)),
+            Tree::List(_) => Ok(SortKey::written(6, KeyBytes::tree(alloc, tree)?)),
+            Tree::Object(_) => Ok(SortKey::written(7, KeyBytes::tree(alloc, tree)?)),
         }
     }
 
@@ -78,11 +78,11 @@ impl SortKey {
         SortKey {
             rank,
             number: 0,
-            bytes: Written::nothing(alloc),
+            bytes: KeyBytes::nothing(alloc),
         }
     }
 
-    fn written(rank: u8, bytes: Written) -> SortKey
+    fn written(rank: u8, bytes: KeyBytes) -> SortKey
         ensures { result ≡ record { rank = rank; number = pos 0; bytes = bytes } }
     {
         SortKey {

@@ -1,8 +1,8 @@
 ghost use Rattle.std.specs.Prelude.{◌≡◌, false, IfOk};
 ghost use Rattle.ax_mean.specs.Answer.{unseen};
 
+use crate::key_bytes::KeyBytes;
 use crate::out_of_memory::Memory;
-use crate::written::Written;
 use ax_mean::KeyedRow;
 use std::alloc::Global;
 use std::collections::BTreeSet;
@@ -14,7 +14,7 @@ pub fn distinct(alloc: Global, rows: Vec<KeyedRow>) -> Result<Vec<KeyedRow>, Mem
     let mut seen = BTreeSet::new(alloc);
     let mut kept = Vec::new(alloc);
     for row in rows {
-        if seen.insert(Written::tree(alloc, &row.shown)?)? {
+        if seen.insert(KeyBytes::tree(alloc, &row.shown)?)? {
             kept.push(row)?;
         } else {
             drop(row);

@@ -21,8 +21,10 @@ pub trait Taker {
         ensures { OnOk result
             (Took self.old (record { env = scope.now; place = place.now } ∷ []) self.new) };
 
+    /// Taking no row leaves a taker as it is.
     ghost none: { (taker : Self) → Took taker [] taker };
 
+    /// Some rows and then others are taken as all of them.
     ghost both: { (a b c : Self) (xs ys : List Bound)
         → Took a xs b → Took b ys c → Took a (xs ++ ys) c };
 }

@@ -3,8 +3,8 @@ use Rattle.std.proofs.Common.{◌≡◌, ◌⊎◌, inl, inr, ℕ, ◌+◌, ◌�
 use Rattle.std.proofs.Common.{Option, Some, None, Result, Ok, Err, refl, sym, ap, subst, ◌∙◌, arith}
 use Rattle.std.specs.Prelude.{IsSome, IfOk, IfErr}
 use Rattle.std.proofs.lemmas.Bool.{false≢true}
-use Rattle.std.specs.BTreeMap.{get_by_text}
 use Rattle.std.specs.Global.{Vec}
+use Rattle.ax_ids.specs.Ids.{number_under}
 use Rattle.ax_disk.specs.model.Image.{Image}
 use Rattle.ax_disk.specs.model.Moments.{History}
 use Rattle.ax_disk.specs.model.Stays.{Rests, Turns}
@@ -85,7 +85,7 @@ holds_room documents store before same holds = record {
 
 -- the contents and the numbers are as they were
 pub holds_same : (old new : Documents) (before : Container) → contents_in new ≡ contents_in old
-    → ((id : List ℕ) → get_by_text new.numbers id ≡ get_by_text old.numbers id)
+    → ((id : List ℕ) → number_under new.numbers id ≡ number_under old.numbers id)
     → Holds old before → Holds new before
 holds_same old new before contents numbers holds = record {
   stand = subst (λ c. ContentsStandFor c before) (sym contents) holds.stand;

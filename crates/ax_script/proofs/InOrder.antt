@@ -264,6 +264,15 @@ module _ (contents : Contents) (container : Container)
   distinct_here n k next = subst IdsAreDistinct next.here
       (distinct_above n container.entries stand.sound.distinct)
 
+  -- the next document's text is the canonical text of its tree
+  pub canonical_here : (n k : ℕ) (text : List ℕ) (next : Next n k pages container.entries)
+      → Some text ≡ option_map (λ (payload : List ℕ). drop 1 payload)
+      (finite.get contents.documents k)
+      → text ≡ canonical_text next.entry.tree
+  canonical_here n k text next is =
+      let some : Some text ≡ Some (canonical_text next.entry.tree) =
+      text_here n k (Some text) next is in cc
+
   -- the next document's text stands for its tree
   pub read_here : (n k : ℕ) (text : List ℕ) (next : Next n k pages container.entries)
       → Some text ≡ option_map (λ (payload : List ℕ). drop 1 payload)
@@ -271,10 +280,8 @@ module _ (contents : Contents) (container : Container)
       → reading text ≡ Stands next.entry.tree
   read_here n k text next is =
       let stored = stored_here n k next in
-      let some : Some text ≡ Some (canonical_text next.entry.tree) =
-      text_here n k (Some text) next is in
-      let same : text ≡ canonical_text next.entry.tree = cc in
-      ap reading same ∙ text-stands next.entry.tree stored.well_formed stored.shallow
+      ap reading (canonical_here n k text next is)
+      ∙ text-stands next.entry.tree stored.well_formed stored.shallow
 
   -- one document more was taken in
   pub taken_on : (n k : ℕ) (done : List (ℕ × Tree)) (next : Next n k pages container.entries)

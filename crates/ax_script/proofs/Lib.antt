@@ -1,6 +1,7 @@
 mod Answering
 mod Counting
 mod DiskMoments
+mod Dropped
 mod Endings
 mod Holding
 mod InOrder

@@ -3,7 +3,7 @@
 use Rattle.std.proofs.Common.{◌≡◌, ◌⊎◌, inl, inr, ℕ, false, List, Result, Ok, Err, sym, subst, ap}
 use Rattle.std.proofs.Common.{◌∙◌, arith}
 use Rattle.std.specs.Prelude.{IfOk}
-use Rattle.std.specs.BTreeMap.{get_by_text}
+use Rattle.ax_ids.specs.Ids.{number_under}
 use Rattle.ax_disk.specs.model.Image.{Image}
 use Rattle.ax_disk.specs.model.Pending.{Unsynced, MayLeave}
 use Rattle.ax_disk.specs.model.Moments.{History, Progresses}
@@ -119,7 +119,7 @@ module _ (old mid new : List ℕ → History) (name there now : List ℕ) (is : 
       → IsStore before (old name) → IsOpened store (mid there).reads (new now)
       → IfOk result (λ documents. documents.store ≡ store)
       → ((container : Container) → ContentsStandFor (store_contents store) container
-      → IfOk result (λ documents. (id : List ℕ) → get_by_text documents.numbers id
+      → IfOk result (λ documents. (id : List ℕ) → number_under documents.numbers id
       ≡ number_in id container))
       → IfOk result (λ documents. Holds documents before)
   holds_opened (Err status) store before was opened same numbers = tt

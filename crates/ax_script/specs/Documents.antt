@@ -1,10 +1,10 @@
 -- The documents of an open store: what its pages have, and under which number each id stands.
 use Rattle.std.specs.Prelude.{◌≡◌, ℕ, List, Bool, ◌||◌, nat_le, false, Option, option_map, Result, Ok, Err}
-use Rattle.std.specs.BTreeMap.{get_by_text}
 use Rattle.std.specs.FinMap as map
 use Rattle.std.specs.Io.KnownBytes.{Appends}
 use Rattle.ax_base.specs.Appends.{AppendsPrefix}
 use Rattle.std.specs.Global.{Vec}
+use Rattle.ax_ids.specs.Ids.{number_under}
 use Rattle.ax_disk.specs.model.Moments.{History}
 use Rattle.ax_disk.specs.model.Stays.{Turns}
 use Rattle.ax_pages.specs.Contents.{Contents, next_number}
@@ -32,7 +32,7 @@ number_in id container = option_map (λ entry. entry.number) (entry_of id contai
 -- the documents are those of the container
 pub record Holds (documents : Documents) (container : Container) : Type 0 where
   pub stand : ContentsStandFor (contents_in documents) container
-  pub numbers : (id : List ℕ) → get_by_text documents.numbers id ≡ number_in id container
+  pub numbers : (id : List ℕ) → number_under documents.numbers id ≡ number_in id container
 
 -- the store under the documents has not failed, and agrees with the disk where that is honest
 pub record Works (honest : Type 0) (documents : Documents) (history : History) : Type 0 where
@@ -82,7 +82,7 @@ WorksAfterAnswer honest (Ok text) documents history = Works honest documents his
 WorksAfterAnswer honest (Err answer.Memory) documents history = Works honest documents history
 WorksAfterAnswer honest (Err answer.Disk) documents history = Unit {0}
 
--- the reply to an answer was written whole; none is written where the disk failed
+-- the reply that an answer is was written whole; none is written where the disk failed
 abbrev pub WritesWhole : Result (Vec ℕ) AnswerFault → Option (List ℕ) → Option (List ℕ) → Type 0
 WritesWhole (Ok text) old new = Appends old new text.items
 WritesWhole (Err answer.Memory) old new = Appends old new (reply_text out_of_memory)

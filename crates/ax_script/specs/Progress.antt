@@ -1,5 +1,5 @@
--- How far a run has come, for the private parts of the top call: in the streams, and on the disk where
--- that is honest.
+-- How far a run has come, for `serve_line` and the private parts of the top call: in the streams,
+-- and on the disk where that is honest.
 use Rattle.std.specs.Prelude.{◌≡◌, ℕ, ◌+◌, ◌≤◌, List, [], ◌∷◌, length, take, Option}
 use Rattle.std.specs.List.{concat}
 use Rattle.std.specs.Io.KnownBytes.{Appends}
@@ -48,8 +48,8 @@ outlets written history steps = record { written = written; history = history; s
 abbrev pub Shows : Container → Image → Type 0
 Shows container image = StandsFor image container
 
--- The image stands for the container after a prefix of the lines. A text of this length has no reply
--- whole of a line behind it.
+-- The image stands for the container after a prefix of the lines. The prefix has each line whose
+-- reply, behind those before it, ends within a text of this length.
 pub record Reaches (before : Container) (run : List Exchange) (text : List ℕ)
     (image : Image) : Type 0 where
   pub count : ℕ
@@ -58,7 +58,7 @@ pub record Reaches (before : Container) (run : List Exchange) (text : List ℕ)
   pub enough : (lines : ℕ) → lines ≤ length run
       → length (concat (take lines (texts before run))) ≤ length text → lines ≤ count
 
--- the disk went through the lines of the run, and holds the container after them
+-- the disk went through the lines of the run, and stands for the container after them
 pub record Passes (honest : Type 0) (before : Container) (run : List Exchange) (now : Container)
     (old new : History) : Type 0 where
   pub moments : honest → Progresses old new 0 (length run) (StandsAfter before run)

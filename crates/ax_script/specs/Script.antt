@@ -10,7 +10,7 @@ use Rattle.ax_script.specs.Streams.{Streams, Moves}
 use Rattle.ax_script.specs.declared.status.Status.{Status}
 use Rattle.ax_script.specs.declared.status.Status.TheVariants as status
 
--- the most bytes that one run takes
+-- a run that takes more bytes than these ends as Long
 abbrev pub most_input : ℕ
 most_input = 2 ^ 40
 

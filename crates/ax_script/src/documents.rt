@@ -1,10 +1,10 @@
 //! The documents of an open store, and how one is upserted.
 
 ghost use Rattle.std.specs.Prelude.{◌≡◌, ◌<◌, ◌≤◌, ℕ, List, drop, Err, IsTrue, IfSome, IfNone, None, Some, option_map, true};
-ghost use Rattle.std.specs.BTreeMap.{get_by_text};
 ghost use Rattle.ax_faults.specs.Faults.{Rose};
 ghost use Rattle.std.specs.FinMap as map;
 ghost use Rattle.ax_tree.specs.Document.{document_id};
+ghost use Rattle.ax_ids.specs.Ids.{number_under};
 ghost use Rattle.ax_lines.specs.Asked.{IsStorable};
 ghost use Rattle.ax_container.specs.Container.{Container};
 ghost use Rattle.ax_pages.specs.Contents.{next_number as next_number_of, policy_now, is_given};
@@ -15,11 +15,11 @@ ghost use Rattle.ax_script.specs.Documents.{contents_in, Holds, Works, is_full_o
 use crate::batches::{creating, replacing};
 use ax_cache::NoPages;
 use ax_disk::Disk;
+use ax_ids::Ids;
 use ax_pages::Page;
 use ax_store::Store;
 use ax_tree::{Tree, id_of};
 use std::alloc::Global;
-use std::collections::BTreeMap;
 
 /// The most documents that a store holds.
 const MOST_DOCUMENTS: usize = 1_048_576;
@@ -50,7 +50,7 @@ pub enum UpsertFault {
     /// The document is none that the store has, and no document can be created: there are 1,048,576,
     /// or no number is left. Nothing has changed.
     Full,
-    /// Out of memory. Nothing has changed.
+    /// Out of memory, or the pages are those of no container. Nothing has changed.
     Memory,
     /// The disk failed. The store is to be opened again.
     Disk,
@@ -60,7 +60,7 @@ pub enum UpsertFault {
 #[derive(Drop)]
 pub struct Documents {
     pub(crate) store: Store<NoPages>,
-    pub(crate) numbers: BTreeMap<String, u32>,
+    pub(crate) numbers: Ids,
     pub(crate) alloc: Global,
 }
 
@@ -91,9 +91,9 @@ impl Documents {
 
     /// The number under which an id stands.
     fn number(&self, id: &str) -> Option<u32>
-        ensures { result ≡ get_by_text self.now.numbers id.now }
+        ensures { result ≡ number_under self.now.numbers id.now }
     {
-        self.numbers.get(id).copied()
+        self.numbers.get(id)
     }
 
     /// The number that the next creation takes.
@@ -145,7 +145,7 @@ impl Documents {
         requires storable { IsStorable tree.now }
         requires works { Works (IsTrue (D.is_honest disk.old)) self.old (D.history disk.old (D.attached disk.old)) }
         ensures tells { (before : Container) → (id : List ℕ) → Holds self.old before → document_id tree.now ≡ Some id
-            → get_by_text self.old.numbers id ≡ Some number
+            → number_under self.old.numbers id ≡ Some number
             → TellsUpsert (IsTrue (D.is_honest disk.old)) before id tree.now result self.new
             (D.history disk.old (D.attached disk.old)) (D.history disk.new (D.attached disk.new)) }
         ensures works { WorksAfterUpsert (IsTrue (D.is_honest disk.old)) result self.new
@@ -178,7 +178,7 @@ impl Documents {
         requires storable { IsStorable tree.now }
         requires works { Works (IsTrue (D.is_honest disk.old)) self.old (D.history disk.old (D.attached disk.old)) }
         ensures tells { (before : Container) → Holds self.old before → document_id tree.now ≡ Some id.now
-            → get_by_text self.old.numbers id.now ≡ None
+            → number_under self.old.numbers id.now ≡ None
             → TellsUpsert (IsTrue (D.is_honest disk.old)) before id.now tree.now result self.new
             (D.history disk.old (D.attached disk.old)) (D.history disk.new (D.attached disk.new)) }
         ensures works { WorksAfterUpsert (IsTrue (D.is_honest disk.old)) result self.new
@@ -204,10 +204,7 @@ impl Documents {
         let Ok(()) = self.store.reserve(2) else {
             return Err(UpsertFault::Memory);
         };
-        let Ok(key) = String::from_str(self.alloc, id) else {
-            return Err(UpsertFault::Memory);
-        };
-        let Ok(_) = self.numbers.insert(key, number) else {
+        let Ok(()) = self.numbers.insert(self.alloc, id, number) else {
             return Err(UpsertFault::Memory);
         };
         match self.store.commit(disk, batch) {

@@ -1,16 +1,17 @@
 //! Opening a store, and finding under which number each id stands.
 
-ghost use Rattle.std.specs.Prelude.{◌≡◌, ◌≤◌, Err, IsTrue, IfOk, IfErr, OnOk, Some, cond};
+ghost use Rattle.std.specs.Prelude.{◌≡◌, ◌≤◌, Err, IsTrue, IfOk, IfErr, IfSome, OnOk, Some, cond};
 ghost use Rattle.ax_faults.specs.Faults.{Rose};
 ghost use Rattle.ax_disk.specs.model.Stays.{SinceBarrier};
 ghost use Rattle.ax_container.specs.Container.{Container};
 ghost use Rattle.ax_image.specs.StandsFor.{ContentsStandFor};
 ghost use Rattle.ax_store.specs.Store.{store_contents};
 ghost use Rattle.std.specs.Prelude.{ℕ, List};
-ghost use Rattle.std.specs.BTreeMap.{get_by_text};
 ghost use Rattle.std.specs.Str.{bytes_eq};
 ghost use Rattle.ax_tree.specs.declared.tree.Tree.{Tree as TreeOf};
+ghost use Rattle.ax_tree.specs.CanonicalText.{canonical_text};
 ghost use Rattle.ax_tree.specs.Document.{document_id};
+ghost use Rattle.ax_ids.specs.Ids.{number_under};
 ghost use Rattle.ax_text.specs.Reading.{reading, Stands};
 ghost use Rattle.ax_script.specs.Documents.{number_in};
 ghost use Rattle.ax_script.specs.DiskScript.{IsStore};
@@ -22,14 +23,16 @@ use crate::documents::{Documents, next_text};
 use crate::status::Status;
 use ax_cache::NoPages;
 use ax_disk::Disk;
+use ax_ids::{Ids, Memory};
+use ax_skim::find_id;
 use ax_store::{Store, StoreFault};
 use ax_text::{TextFault, TreeReader};
-use ax_tree::{Memory, id_of};
+use ax_tree::id_of;
 use std::alloc::Global;
-use std::collections::BTreeMap;
+use std::str;
 
-/// Opens the store of a name. Each document's text is read as JSON once; one that is no document is
-/// under no id.
+/// Opens the store of a name. Each document's id is looked for in its text; a text that is no
+/// document's is under any id or none.
 pub(crate) fn open_documents<D: Disk>(
     alloc: Global,
     disk: &mut D,
@@ -66,10 +69,10 @@ pub(crate) fn open_documents<D: Disk>(
 fn number_all(alloc: Global, store: Store<NoPages>) -> Result<Documents, Status>
     ensures store { IfOk result (λ documents. documents.store ≡ store) }
     ensures numbers { (container : Container) → ContentsStandFor (store_contents store) container
-        → IfOk result (λ documents. (id : List ℕ) → get_by_text documents.numbers id ≡ number_in id container) }
+        → IfOk result (λ documents. (id : List ℕ) → number_under documents.numbers id ≡ number_in id container) }
     ensures only { IfErr result (λ status. status ≡ Status.Memory) }
 {
-    let mut numbers = BTreeMap::new(alloc);
+    let mut numbers = Ids::new(alloc);
     let mut reader = TreeReader::new(alloc);
     let mut number = 0;
     'texts: while let Some((next, text)) = next_text(&store, number) {
@@ -85,17 +88,44 @@ fn number_all(alloc: Global, store: Store<NoPages>) -> Result<Documents, Status>
     })
 }
 
-/// Puts the number under the id of the document that the text stands for.
+/// Puts the number under the id of the document whose canonical text it is.
 fn put_id(
     alloc: Global,
     reader: &mut TreeReader,
-    numbers: &mut BTreeMap<String, u32>,
+    numbers: &mut Ids,
+    number: u32,
+    text: &[u8],
+) -> Result<(), Memory>
+    ensures { (tree : TreeOf) → (id : List ℕ) → text.now ≡ canonical_text tree
+        → reading text.now ≡ Stands tree → document_id tree ≡ Some id
+        → OnOk result ((other : List ℕ) → number_under numbers.new other
+        ≡ cond (bytes_eq id other) (Some number) (number_under numbers.old other)) }
+{
+    match id_at_once(text) {
+        Some(id) => numbers.insert(alloc, id, number),
+        None => put_read_id(alloc, reader, numbers, number, text),
+    }
+}
+
+/// The id of the document of that canonical text; `None` also where it is not told at once.
+fn id_at_once(text: &[u8]) -> Option<&str>
+    ensures { (tree : TreeOf) → (id : List ℕ) → text.now ≡ canonical_text tree
+        → document_id tree ≡ Some id → IfSome result (λ found. found.now ≡ id) }
+{
+    str::from_utf8(find_id(text)?).ok()
+}
+
+/// Puts the number under the id of the document that the text stands for.
+fn put_read_id(
+    alloc: Global,
+    reader: &mut TreeReader,
+    numbers: &mut Ids,
     number: u32,
     text: &[u8],
 ) -> Result<(), Memory>
     ensures { (tree : TreeOf) → (id : List ℕ) → reading text.now ≡ Stands tree → document_id tree ≡ Some id
-        → OnOk result ((other : List ℕ) → get_by_text numbers.new other
-        ≡ cond (bytes_eq id other) (Some number) (get_by_text numbers.old other)) }
+        → OnOk result ((other : List ℕ) → number_under numbers.new other
+        ≡ cond (bytes_eq id other) (Some number) (number_under numbers.old other)) }
 {
     let tree = match reader.read(alloc, text) {
         Ok(tree) => tree,
@@ -105,7 +135,6 @@ fn put_id(
     let Some(id) = id_of(&tree) else {
         return Ok(());
     };
-    let key = String::from_str(alloc, id.as_str())?;
-    numbers.insert(key, number)?;
+    numbers.insert(alloc, id.as_str(), number)?;
     Ok(())
 }

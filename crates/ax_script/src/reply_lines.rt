@@ -8,7 +8,8 @@ use ax_mean::KeyedRow;
 use ax_tree::{Memory, Tree, append_tree};
 use std::alloc::Global;
 
-/// The reply to a line that is not served because memory ran out. It takes none itself.
+/// The reply to a line that is not answered by its step because memory ran out. It takes none
+/// itself.
 pub fn out_of_memory_line() -> &'static [u8]
     ensures { result.now ≡ reply_text reply.out_of_memory }
 {

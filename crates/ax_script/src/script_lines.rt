@@ -14,7 +14,7 @@ use ax_lines::first_line;
 use std::alloc::Global;
 use std::sync::ledger::Ledger;
 
-/// The most bytes that one run takes.
+/// A run that takes more bytes than these ends as `Long`.
 const MOST_INPUT: u64 = 1 << 40;
 
 /// Reads the source to its end, piece by piece into `buffer`, and serves each line as soon as its

@@ -23,10 +23,11 @@ const PIECE: usize = 65_536;
 ///
 /// The statuses and their causes: `Words` exactly where the words are not `run STORE`, and then
 /// nothing is touched; `DiskFault`, `ReadFault` and `WriteFault` only where a call on the disk, the
-/// source or the sink failed in this run; `Damaged` and `Newer` only where the store is outside the
-/// format at that place, or of that later version, and it is as it was; `Long` exactly where more
-/// than 2^40 bytes were taken; `Memory` where memory ran out outside the serving of a line; else
-/// `Done`, where all input was read and served.
+/// source or the sink failed in this run; over an honest disk `Damaged` and `Newer` only where the
+/// store is outside the format at that offset, or of that later version, and it is as it was; where
+/// it also stands for a container, `Long` exactly where more than 2^40 bytes were taken, and
+/// without a failed call only `Done`, `Memory` or `Long`. `Memory` comes where memory ran out
+/// outside the serving of a line; at `Done` all input was read and served.
 pub fn run<D: Disk, S: Source, K: Sink, L: Ledger>(
     alloc: Global,
     words: &[String],
@@ -39,9 +40,9 @@ pub fn run<D: Disk, S: Source, K: Sink, L: Ledger>(
     ensures untouched { result ≡ Status.Words
         → (disk.new ≡ disk.old) × (source.new ≡ source.old) × (sink.new ≡ sink.old) }
 
-    // What was written is the text of a run of the lines that were taken, whole at `Done`; no more
-    // steps of work were counted than these lines may count; and at each moment a crash leaves the
-    // container after some of these lines.
+    // Over an honest disk whose store stands for a container: what was written is the text of a run
+    // of the lines that were taken, whole at `Done`; no more steps of work were counted than these
+    // lines may count; and at each moment a crash leaves the container after some of these lines.
     ensures script { IsTrue (D.is_honest disk.old) → (before : Container)
         → IsStore before (D.history disk.old (D.store_named (store_word words.now)))
         → RunsOnDisk before result

@@ -34,10 +34,10 @@ pub(crate) enum AnswerFault {
     Disk,
 }
 
-/// Serves one line, which comes without its newline: its change is made and durable, and its reply is
-/// whole in memory before the first byte of it is written. Out of memory is a reply of its own, which
-/// needs none. At `DiskFault` nothing was written; at `WriteFault` the sink was given some prefix of
-/// the reply.
+/// Serves one line, which comes without its newline: makes its change, durable where the disk is
+/// honest, and then writes its reply. Out of memory is a reply of its own, which needs none. The
+/// errors are `DiskFault` and `WriteFault`, each only where a call on the disk or the sink failed
+/// in this call: the sink was given some prefix of the reply, and the store is to be opened again.
 #[tactic(auto, using(crate::proofs::Replying::whole_of, crate::proofs::Replying::part_of, crate::proofs::Replying::works_of))]
 pub fn serve_line<D: Disk, K: Sink, L: Ledger>(
     alloc: Global,

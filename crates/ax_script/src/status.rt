@@ -18,7 +18,7 @@ pub enum Status {
     WriteFault,
     /// The store's bytes are outside the format.
     Damaged {
-        /// The list: 0 the root, 1 area A, 2 area B.
+        /// The extent: 0 the root, 1 A, 2 B.
         extent: u8,
         /// The offset in that list.
         at: u64,

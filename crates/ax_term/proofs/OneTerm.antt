@@ -9,12 +9,12 @@ use Rattle.ax_mean.specs.declared.query.Step.{Step}
 use Rattle.ax_term.specs.CutValues.{CutValue}
 use Rattle.ax_term.specs.Fitting.{IsTerm}
 use Rattle.ax_term.specs.Terms.{Term}
-use Rattle.ax_term.specs.TermOrder.{order_of_bytes, order_of_texts, kind, order_of_values, order_of_steps, order_of_paths, order_of_columns, order_of_composites, directed, order_of_value_lists, family, order_of_terms}
+use Rattle.ax_term.specs.TermOrder.{order_of_bytes, order_of_texts, rank, order_of_values, order_of_steps, order_of_paths, order_of_columns, order_of_composites, directed, order_of_value_lists, family, order_of_terms}
 
 not_equal : {A : Type 0} (o : Ordering) → is_eq o ≡ false → o ≡ Equal → A
 not_equal o apart e = absurd (let f : true ≡ false = ap is_eq (sym e) ∙ apart in let g : ⊥ = cc in g)
 
-both_equal : (o p : Ordering) → ordering_then o p ≡ Equal → (o ≡ Equal) × (p ≡ Equal)
+pub both_equal : (o p : Ordering) → ordering_then o p ≡ Equal → (o ≡ Equal) × (p ≡ Equal)
 both_equal Less p h = not_equal Less refl h
 both_equal Equal p h = (refl, h)
 both_equal Greater p h = not_equal Greater refl h
@@ -25,7 +25,7 @@ one_bool false true e = not_equal Less refl e
 one_bool true false e = not_equal Greater refl e
 one_bool true true e = refl
 
-one_list : IsAntisymmetric order_of_bytes
+pub one_list : IsAntisymmetric order_of_bytes
 one_list = slice_cmp-IsAntisymmetric nat_cmp-IsAntisymmetric
 
 one_text : IsAntisymmetric order_of_texts
@@ -46,7 +46,7 @@ one_value (CutValue.Number a) (CutValue.Number b) e =
 one_value (CutValue.Text a) (CutValue.Text b) e = ap CutValue.Text (one_text a b e)
 one_value (CutValue.List a) (CutValue.List b) e = ap CutValue.List (one_text a b e)
 one_value (CutValue.Object a) (CutValue.Object b) e = ap CutValue.Object (one_text a b e)
-one_value a b e = not_equal (nat_cmp (kind a) (kind b)) refl e
+one_value a b e = not_equal (nat_cmp (rank a) (rank b)) refl e
 
 one_step : IsAntisymmetric order_of_steps
 one_step Step.Item Step.Item e = refl
@@ -54,7 +54,7 @@ one_step Step.Item (Step.Name b) e = not_equal Less refl e
 one_step (Step.Name a) Step.Item e = not_equal Greater refl e
 one_step (Step.Name a) (Step.Name b) e = ap Step.Name (one_list a b e)
 
-one_path : IsAntisymmetric order_of_paths
+pub one_path : IsAntisymmetric order_of_paths
 one_path = slice_cmp-IsAntisymmetric one_step
 
 one_column : IsAntisymmetric order_of_columns

@@ -23,7 +23,7 @@ abbrev pub raised : ℤ → ℕ
 raised (pos n) = 2 ^ 63 + n
 raised (negsuc n) = 2 ^ 63 - 1 - n
 
--- a byte for the kind, and behind it what tells the values of a kind apart: the raised number in 8
+-- a byte for the rank, and behind it what tells the values of a rank apart: the raised number in 8
 -- bytes, the high ones first, or the text
 abbrev pub value_bytes : CutValue → List ℕ
 value_bytes CutValue.Undefined = 0x10 ∷ []

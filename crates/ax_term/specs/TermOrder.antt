@@ -20,24 +20,24 @@ order_of_bytes = slice_cmp nat_cmp
 abbrev pub order_of_texts : CutText → CutText → Ordering
 order_of_texts = then_cmp (on (λ t. t.front) order_of_bytes) (on (λ t. t.is_cut) bool_cmp)
 
--- where a value's kind stands among the kinds, as in the order of whole values
-abbrev pub kind : CutValue → ℕ
-kind CutValue.Undefined = 0
-kind CutValue.Null = 1
-kind CutValue.False = 2
-kind CutValue.True = 3
-kind (CutValue.Number number) = 4
-kind (CutValue.Text text) = 5
-kind (CutValue.List text) = 6
-kind (CutValue.Object text) = 7
+-- the place of a value's kind, false and true apart, as in the order of whole values
+abbrev pub rank : CutValue → ℕ
+rank CutValue.Undefined = 0
+rank CutValue.Null = 1
+rank CutValue.False = 2
+rank CutValue.True = 3
+rank (CutValue.Number number) = 4
+rank (CutValue.Text text) = 5
+rank (CutValue.List text) = 6
+rank (CutValue.Object text) = 7
 
--- by kind; numbers then by value, texts, lists and maps by what is kept of their texts
+-- by rank; numbers then by value, texts, lists and maps by what is kept of their texts
 abbrev pub order_of_values : CutValue → CutValue → Ordering
 order_of_values (CutValue.Number a) (CutValue.Number b) = int_cmp a b
 order_of_values (CutValue.Text a) (CutValue.Text b) = order_of_texts a b
 order_of_values (CutValue.List a) (CutValue.List b) = order_of_texts a b
 order_of_values (CutValue.Object a) (CutValue.Object b) = order_of_texts a b
-order_of_values a b = nat_cmp (kind a) (kind b)
+order_of_values a b = nat_cmp (rank a) (rank b)
 
 -- the step to any element of a list comes before names, and names go by bytes
 abbrev pub order_of_steps : Step → Step → Ordering

@@ -17,7 +17,7 @@ mod terms;
 mod tests;
 
 pub use ax_mean::{Memory, Order, Path, Step};
-pub use pieces::{append_step, append_value};
+pub use pieces::{append_name, append_step, append_value};
 pub use range::TermRange;
 pub use term_value::{Bytes, TermValue};
 pub use terms::{Composite, composite_term, id_term, term};

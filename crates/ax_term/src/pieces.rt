@@ -1,12 +1,14 @@
+//! The bytes of a step, of a name as a step, and of a value.
 ghost use Rattle.std.specs.Prelude.{◌≡◌, [], ◌∷◌, ◌++◌, OnOk, OnErr};
 ghost use Rattle.std.specs.Int.{w64, to_be_bytes};
+ghost use Rattle.ax_mean.specs.declared.query.Step.TheVariants.{Name};
 ghost use Rattle.ax_term.specs.CutTexts.{cut};
 ghost use Rattle.ax_term.specs.CutValues.{cut_value};
 ghost use Rattle.ax_term.specs.TermBytes.{escaped, raised, step_bytes, text_bytes, value_bytes};
 
 use crate::room::put_escaped;
 use crate::term_value::TermValue;
-use ax_mean::{Memory, Step};
+use ax_mean::{Memory, Step, Text};
 
 /// How many bytes of a text a term keeps.
 const KEPT: usize = 128;
@@ -18,9 +20,17 @@ pub fn append_step(out: &mut Vec<u8>, step: &Step) -> Result<(), Memory>
 {
     match step {
         Step::Item => out.push(0x02)?,
-        Step::Name(name) => append_text(out, 0x03, name.as_str().as_bytes(), 0x01)?,
+        Step::Name(name) => append_name(out, name)?,
     }
     Ok(())
+}
+
+/// Appends the step to the member of that name. Where memory runs out, `out` is as it was.
+pub fn append_name(out: &mut Vec<u8>, name: &Text) -> Result<(), Memory>
+    ensures ok { OnOk result (out.new.items ≡ out.old.items ++ step_bytes (Name name.now)) }
+    ensures err { OnErr result (out.new.items ≡ out.old.items) }
+{
+    append_text(out, 0x03, name.as_str().as_bytes(), 0x01)
 }
 
 /// Appends a value. Where memory runs out, `out` is as it was.

@@ -1,5 +1,6 @@
 use ax_mean::Items;
 
+/// A list of bytes over a vector.
 pub type Bytes = Items<u8>;
 
 /// The value of a term.

@@ -47,7 +47,7 @@ pub fn term(alloc: Global, path: &Path, value: &TermValue) -> Result<Vec<u8>, Me
     Ok(out)
 }
 
-/// The term of the values at the paths of a composite, which are at most 255.
+/// The term of the values at the paths of a composite: one value for each path, and at most 255.
 pub fn composite_term(
     alloc: Global,
     composite: &Composite,

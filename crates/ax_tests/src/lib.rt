@@ -1,4 +1,4 @@
-//! Tests that cross crates: rows of scripts with their replies, each failing read and write, every
+//! Tests that cross crates: scripts with their replies, each failing read and write, every
 //! status, and the program against the plain machine. They show what no contract says: that a call
 //! succeeds where memory is there, and that the definitions mean what is meant.
 //!

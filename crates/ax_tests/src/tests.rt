@@ -1,11 +1,11 @@
 mod bodies;
-mod borders;
 mod crashes;
 mod disks;
 mod faults;
+mod limits;
 mod lines;
+mod outputs;
 mod plain_machine;
 mod queries;
-mod rows;
 mod script;
 mod statuses;

@@ -18,7 +18,7 @@ pub struct FileDisk {
 }
 
 impl FileDisk {
-    /// A disk with no store attached: until then each call fails.
+    /// A disk with no store attached: until one is, each other call fails.
     pub fn new(rt: HostRuntime) -> FileDisk {
         FileDisk {
             rt,

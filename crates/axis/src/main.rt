@@ -1,6 +1,7 @@
 //! The program `axis`: the real parts of the outside, handed to the top call.
 //!
-//! Everything that it means stands on `ax_script::run`. What is printed on standard error and the exit
+//! Everything that it means stands on `ax_script::run`. Over `FileDisk`, which is not honest, that
+//! contract speaks only of words, faults and steps. What is printed on standard error and the exit
 //! code are shown by a run of the program alone.
 #![tactic(auto)]
 

@@ -1,5 +1,5 @@
 use Rattle.std.proofs.Common.{◌≡◌, ◌-◌, ◌^◌, ℕ, List, find}
-use Rattle.std.specs.BTreeMap.{get_by_text}
+use Rattle.ax_ids.specs.Ids.{number_under}
 use Rattle.ax_container.specs.Container.{Container, has_id}
 use Rattle.ax_image.specs.StandsFor.{ContentsStandFor}
 use Rattle.ax_store.specs.Store.{store_contents}
@@ -14,5 +14,5 @@ decreases-texts l = 2 ^ 32 - l.number
 abbrev pub invariant-texts : goal.invariant-texts
 invariant-texts l = (container : Container)
     → ContentsStandFor (store_contents l.store) container → (id : List ℕ)
-    → number_or (find (has_id id) (above l.number container.entries)) (get_by_text l.numbers id)
+    → number_or (find (has_id id) (above l.number container.entries)) (number_under l.numbers id)
     ≡ number_in id container

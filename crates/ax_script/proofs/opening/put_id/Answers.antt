@@ -1,19 +1,5 @@
--- The id of the document that the text stands for is put into the map.
-use Rattle.std.proofs.Common.{◌≡◌, Some, cond, string_bytes, sym, ap, ◌∙◌}
-use Rattle.std.specs.BTreeMap.{get_by_text}
-use Rattle.std.specs.Str.{bytes_eq}
-use Rattle.std.proofs.lemmas.Map.Text.{btree_map_updates_text}
-use Rattle.ax_tree.specs.Document.{document_id}
-use Rattle.ax_text.specs.Reading.{Stands}
+-- Where the id is not told at once, the text is read.
 use Rattle.ax_script.proofs.opening.put_id.Goals as goal
 
-pub returns : goal.returns
-returns c = λ tree id reads doc other.
-    let both : Stands c.in-Ok.tree ≡ Stands tree = sym c.in-Ok.ensures.tree ∙ reads in
-    let same : c.in-Ok.tree ≡ tree = cc in
-    let ids : Some c.in-Some.id.now ≡ Some id = c.in-Some.ensures ∙ ap document_id same ∙ doc in
-    let own : c.in-Some.id.now ≡ id = cc in
-    btree_map_updates_text (string_bytes c.in_ok-key.key) c.args.numbers.now c.insert.new.self
-    (Some c.args.number) c.in_ok-insert.ensures.updates other
-    ∙ ap (λ k. cond (bytes_eq k other) (Some c.args.number) (get_by_text c.args.numbers.now other))
-    (c.in_ok-key.ensures.ok ∙ c.as_str.ensures.text ∙ own)
+pub returns-in-None : goal.returns-in-None
+returns-in-None c = λ tree id text reads doc. c.put_read_id.ensures tree id reads doc

@@ -3,13 +3,13 @@ use Rattle.std.proofs.Common.{◌++◌, ◌∙◌, [], ap, sym, subst, arith, le
 use Rattle.std.proofs.lemmas.List.{append-nil}
 use Rattle.ax_answer.specs.Gathering.{Gathers}
 use Rattle.ax_script.specs.Documents.{contents_in}
-use Rattle.ax_script.proofs.InOrder.{pairs, next_entry, read_here, taken_on}
+use Rattle.ax_script.proofs.InOrder.{pairs, next_entry, read_here, canonical_here, taken_on}
 use Rattle.ax_script.proofs.InOrder.{one_less, at_the_end, at_the_start}
 use Rattle.ax_script.proofs.querying.add_documents.Goals as goal
 
 pub texts-init : goal.texts-init
 texts-init g c = record {
-  added = λ container query holds gathers.
+  added = λ container query holds sifts gathers.
       ([], ap pairs (at_the_start (contents_in c.args.documents.now) container holds.stand), gathers);
   bound = λ container holds.
       omega (
@@ -22,16 +22,18 @@ texts-init g c = record {
 
 pub texts-preserved : goal.texts-preserved
 texts-preserved g c = record {
-  added = λ container query holds gathers.
+  added = λ container query holds sifts gathers.
       let contents = contents_in c.args.documents.now in
       let next = next_entry contents container holds.stand c.texts.number c.in-Some.next
       c.in-Some.ensures.found in
       let reads = read_here contents container holds.stand c.texts.number c.in-Some.next
       c.in-Some.text.now next c.in-Some.ensures.text in
-      let before = c.texts.invariant.added container query holds gathers in (
+      let text = canonical_here contents container holds.stand c.texts.number c.in-Some.next
+      c.in-Some.text.now next c.in-Some.ensures.text in
+      let before = c.texts.invariant.added container query holds sifts gathers in (
         _,
         taken_on contents container holds.stand c.texts.number c.in-Some.next before.0 next before.1,
-        c.in_ok-add_document.ensures.added next.entry.tree reads query before.0 before.2,
+        c.in_ok-add_document.ensures.added next.entry.tree text reads query before.0 sifts before.2,
       );
   bound = λ container holds.
       let contents = contents_in c.args.documents.now in
@@ -60,9 +62,9 @@ returns-in_err-add_document-clause-bound g c = λ container holds.
     )
 
 pub returns-clause-added : goal.returns-clause-added
-returns-clause-added g c = λ container query holds gathers.
+returns-clause-added g c = λ container query holds sifts gathers.
     let end = at_the_end (contents_in c.args.documents.now) container holds.stand
     c.texts.number c.in_default.ensures.none in
-    let all = c.texts.invariant.added container query holds gathers in
+    let all = c.texts.invariant.added container query holds sifts gathers in
     subst (λ entries. Gathers c.texts.answer query entries)
     (sym (append-nil all.0) ∙ ap (λ es. all.0 ++ pairs es) (sym end) ∙ all.1) all.2

@@ -1,7 +1,6 @@
 -- The parts lead from the container to the one in which the document is created.
-use Rattle.std.proofs.Common.{refl, ◌≡◌, ◌<◌, List, ℕ, Some, cond, string_bytes, sym, subst, ◌∙◌, arith}
+use Rattle.std.proofs.Common.{◌≡◌, ◌<◌, List, ℕ, Some, cond, sym, subst, ◌∙◌, arith}
 use Rattle.std.specs.Str.{bytes_eq}
-use Rattle.std.proofs.lemmas.Map.Text.{btree_map_updates_text}
 use Rattle.ax_container.specs.Upsert.{created}
 use Rattle.ax_frame.specs.Part.{PartValue}
 use Rattle.ax_image.specs.UpsertParts.{creating_parts}
@@ -46,20 +45,10 @@ pub returns-in_default-reserve-clause-works : goal.returns-in_default-reserve-cl
 returns-in_default-reserve-clause-works g c =
     works_room _ c.args.self.now c.reserve.new.self _ c.reserve.ensures.same c.requires.works
 
-pub returns-in_default-from_str-clause-tells : goal.returns-in_default-from_str-clause-tells
-returns-in_default-from_str-clause-tells g c = λ before holds doc at. (
-  holds_room c.args.self.now c.reserve.new.self before c.reserve.ensures.same holds,
-  still _ c.args.self.now _ before before c.requires.works holds,
-)
-
-pub returns-in_default-from_str-clause-works : goal.returns-in_default-from_str-clause-works
-returns-in_default-from_str-clause-works g c =
-    works_room _ c.args.self.now c.reserve.new.self _ c.reserve.ensures.same c.requires.works
-
 pub returns-in_default-insert-clause-tells : goal.returns-in_default-insert-clause-tells
 returns-in_default-insert-clause-tells g c = λ before holds doc at. (
   holds_same c.args.self.now _ before c.reserve.ensures.same.contents
-      (λ id. rw c.in_default-insert.ensures.err refl) holds,
+      c.in_default-insert.ensures.err holds,
   still _ c.args.self.now _ before before c.requires.works holds,
 )
 
@@ -106,11 +95,8 @@ returns-in-Ok-commit-clause-tells g c = λ before holds doc at.
             (store_contents c.commit.new.self) (batch_parts c.in-Ok.batch) _ (created id c.args.tree.now before)
             leads c.in-Ok.ensures.parts c.reserve.ensures.same.contents c.in-Ok-commit.ensures.ok;
         numbers = λ other.
-            btree_map_updates_text (string_bytes c.in-Ok-from_str.key) c.args.self.now.numbers
-            c.insert.new.self (Some c.next_number-number.result) c.in-Ok-insert.ensures.updates
-            other
-            ∙ (λ i. cond (bytes_eq (c.in-Ok-from_str.ensures.ok i) other) (Some (next i))
-            (holds.numbers other i))
+            c.in-Ok-insert.ensures.ok other
+            ∙ (λ i. cond (bytes_eq id other) (Some (next i)) (holds.numbers other i))
             ∙ sym (numbers_created other id c.args.tree.now before placed);
       },
       λ honest. turned_by (contents_in c.args.self.now) (store_contents c.reserve.new.self) (batch_parts c.in-Ok.batch) _

@@ -1,0 +1,5 @@
+pub mod Comparisons
+pub mod Conjunctions
+pub mod Decimals
+pub mod PlainNames
+pub mod Shapes

@@ -1,0 +1,5 @@
+pub mod Comparing
+pub mod Conditions
+pub mod Names
+pub mod Operands
+pub mod Scalars

@@ -1,0 +1,76 @@
+//! What follows a text and what follows a value, found without memory.
+
+ghost use Rattle.std.specs.Prelude.{◌≡◌, ◌<◌, ◌≤◌, length, None, IfSome, MatchOption, false};
+ghost use Rattle.std.specs.Option.{option_map};
+ghost use Rattle.ax_skim.specs.Skipping.{past_text, past_value};
+
+use crate::mark::{Mark, mark_of};
+use memchr::memchr2;
+
+/// What follows the quote that closes a text, from behind the one that opens it on.
+pub(crate) fn after_text(text: &[u8]) -> Option<&[u8]>
+    ensures after { option_map (λ after. after.now) result ≡ past_text false text.now }
+    ensures shorter { IfSome result (λ after. length after.now < length text.now) }
+{
+    let mut rest = text;
+    while let Some(marked) = from_mark(rest) {
+        let (&byte, after) = marked.split_first()?;
+        match mark_of(byte) {
+            Mark::Quote => return Some(after),
+            Mark::Backslash => {
+                let (_, behind) = after.split_first()?;
+                rest = behind;
+            }
+            _ => rest = after,
+        }
+    }
+    None
+}
+
+/// The rest of a text from its first quote or backslash on. The bytes before it do nothing.
+#[tactic(auto, using(crate::proofs::Marked::first_mark))]
+fn from_mark(text: &[u8]) -> Option<&[u8]>
+    ensures same { MatchOption result (past_text false text.now ≡ None)
+        (λ rest. past_text false rest.now ≡ past_text false text.now) }
+    ensures within { IfSome result (λ rest. length rest.now ≤ length text.now) }
+{
+    match memchr2(b'"', b'\\', text) {
+        Some(at) => Some(text.split_at(at).1),
+        None => None,
+    }
+}
+
+/// What follows a value: the rest from the comma or the bracket on that stands behind it. A member
+/// is passed over in the same way, with its name.
+#[tactic(auto, using(crate::proofs::Steps::steps))]
+pub(crate) fn after_value(text: &[u8]) -> Option<&[u8]>
+    ensures after { option_map (λ after. after.now) result ≡ past_value text.now }
+    ensures within { IfSome result (λ after. length after.now ≤ length text.now) }
+{
+    let mut depth: usize = 0;
+    let mut rest = text;
+    while let Some((&byte, after)) = rest.split_first() {
+        match mark_of(byte) {
+            Mark::Quote => rest = after_text(after)?,
+            Mark::Opening => {
+                depth += 1;
+                rest = after;
+            }
+            Mark::Closing => {
+                if depth == 0 {
+                    return Some(rest);
+                }
+                depth -= 1;
+                rest = after;
+            }
+            Mark::Comma => {
+                if depth == 0 {
+                    return Some(rest);
+                }
+                rest = after;
+            }
+            _ => rest = after,
+        }
+    }
+    None
+}

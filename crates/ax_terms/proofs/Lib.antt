@@ -1,0 +1,12 @@
+mod Adding
+mod AnyOrder
+mod CountLaws
+mod Distinct
+mod EachOffered
+mod Nowhere
+mod PathNumbers
+mod Rising
+mod SameCounts
+mod Sequences
+mod Telling
+mod TermSets

@@ -1,0 +1,7 @@
+pub mod Adding
+pub mod Bytes
+pub mod Counting
+pub mod Counts
+pub mod Leaves
+pub mod SameLeaves
+pub mod TermsOf
