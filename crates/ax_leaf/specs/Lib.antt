@@ -1,5 +1,6 @@
 pub mod Base
 pub mod Lookup
+pub mod Low
 pub mod Pairs
 pub mod Payload
 pub mod Reading

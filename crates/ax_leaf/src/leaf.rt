@@ -1,8 +1,7 @@
 //! The payload of a base, checked.
 
-ghost use Rattle.std.specs.Prelude.{◌≡◌, ◌↔◌, ℕ, ◌++◌, ◌<◌, ◌^◌, List, length, IsTrue, IfSome, IsSomeAnd};
+ghost use Rattle.std.specs.Prelude.{◌≡◌, ◌↔◌, List, IsTrue, IfSome, IsSomeAnd};
 ghost use Rattle.std.specs.Option.{option_map};
-ghost use Rattle.ax_gap.specs.Varint.{varint};
 ghost use Rattle.ax_leaf.specs.declared.pair.Pair.{Pair};
 ghost use Rattle.ax_leaf.specs.Pairs.{Posting, BeginsFrom, pairs_of};
 ghost use Rattle.ax_leaf.specs.Lookup.{numbers_under};
@@ -12,6 +11,7 @@ ghost use Rattle.ax_leaf.specs.TermList.{IsTermList};
 use crate::checking::is_term_list;
 use crate::cursor::PairCursor;
 use crate::finding::find_in;
+use crate::low::split_low;
 use crate::pair::comes_before;
 use crate::short_posting::{ShortPosting, split_posting};
 use crate::short_term::split_number;
@@ -90,21 +90,6 @@ pub fn check(payload: &[u8]) -> Option<Leaf<'_>>
         count,
         list,
     })
-}
-
-/// The term and the number of the low pair with which the bytes begin, and the bytes after it.
-/// `None` exactly where they begin with none.
-fn split_low(bytes: &[u8]) -> Option<(&[u8], u32, &[u8])>
-    ensures found { IfSome result (λ x. bytes.now ≡ varint (length x.0.now) ++ (x.0.now ++ (varint x.1 ++ x.2.now))) }
-    ensures fits { IfSome result (λ x. (length x.0.now < 2 ^ 32) × (x.1 < 2 ^ 32)) }
-    ensures only { (term rest : List ℕ) (number : ℕ) → length term < 2 ^ 32 → number < 2 ^ 32
-        → bytes.now ≡ varint (length term) ++ (term ++ (varint number ++ rest))
-        → IsSomeAnd result (λ x. (x.0.now ≡ term) × (x.1 ≡ number) × (x.2.now ≡ rest)) }
-{
-    let (size, after) = split_number(bytes)?;
-    let (term, after) = after.split_at_checked(size as usize)?;
-    let (number, rest) = split_number(after)?;
-    Some((term, number, rest))
 }
 
 /// Is the first pair of the postings not before the low pair?

@@ -13,6 +13,7 @@ mod cursor;
 mod finding;
 pub mod laws;
 mod leaf;
+mod low;
 mod out_of_memory;
 mod pair;
 mod remaining;
@@ -22,6 +23,7 @@ mod writing;
 
 pub use cursor::PairCursor;
 pub use leaf::{Leaf, check};
+pub use low::split_low;
 pub use out_of_memory::Memory;
 pub use pair::{Bytes, Pair};
 pub use writing::{encode, is_in_order};

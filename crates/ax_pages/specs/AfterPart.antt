@@ -1,20 +1,25 @@
 -- How a part changes what the pages have, and which parts are outside the format after the parts
 -- before them: the grammar of parts.
 -- From the store's own file format (docs/FORMAT.md, "Parts"); no other document has it.
-use Rattle.std.specs.Prelude.{ℕ, Bool, ◌==◌, ◌&&◌, ◌||◌, nat_lt, nat_le, if◌then◌else◌, List, [], ◌∷◌, length, Option, Some, None, slice_index, option_and_then}
+use Rattle.std.specs.Prelude.{ℕ, Bool, not, ◌==◌, ◌&&◌, ◌||◌, nat_lt, nat_le, if◌then◌else◌, List, [], ◌∷◌, ◌++◌, length, Option, Some, None, is_some, slice_index, slice_set, option_and_then, unwrap_or}
 use Rattle.std.specs.FinMap as map
+use Rattle.std.specs.List.{list_any}
+use Rattle.std.specs.Str.{bytes_eq}
+use Rattle.ax_leaf.specs.declared.pair.Pair.{Pair}
+use Rattle.ax_leaf.specs.Low.{low_in, first_pair}
 use Rattle.ax_frame.specs.Part.{PartValue}
 use Rattle.ax_pages.specs.declared.page.Page.{Page}
-use Rattle.ax_pages.specs.declared.page.Page.TheVariants.{Meta, Policy, Document}
+use Rattle.ax_pages.specs.declared.page.Page.TheVariants.{Meta, Policy, Document, Term}
 use Rattle.ax_pages.specs.declared.page.Kind.{Kind}
 use Rattle.ax_pages.specs.declared.page.Kind.TheVariants as kind
-use Rattle.ax_pages.specs.Contents.{Contents, next_in, now_in, is_given}
+use Rattle.ax_pages.specs.Contents.{Contents, TermPage, next_in, now_in, is_given, low_of, term_page}
 
 -- the kinds of parts by their numbers
 abbrev pub kind_of : ℕ → Option Kind
 kind_of number =
     if number == 1 then Some kind.Meta else (if number == 2 then Some kind.Policy else
-    (if number == 3 then Some kind.Document else (if number == 4 then Some kind.Gone else None)))
+    (if number == 3 then Some kind.Document else (if number == 4 then Some kind.Gone else
+    (if number == 5 then Some kind.Base else (if number == 6 then Some kind.Delta else None)))))
 
 -- the greatest number of a policy
 abbrev pub last_policy : ℕ
@@ -43,6 +48,54 @@ is_document key payload contents =
 abbrev pub is_gone : ℕ → List ℕ → Bool
 is_gone key payload = nat_lt 0 key && length payload == 0
 
+-- the most term pages
+abbrev pub most_term_pages : ℕ
+most_term_pages = 2147483648
+
+abbrev pub is_same : Pair → Pair → Bool
+is_same p q = bytes_eq p.term q.term && (p.number == q.number)
+
+-- the low pair with which a payload begins
+abbrev pub low_at_front : List ℕ → Pair
+low_at_front payload = unwrap_or (low_in payload) first_pair
+
+-- a term page has this low pair
+abbrev pub is_taken : Pair → List TermPage → Bool
+is_taken low pages = list_any (λ page. is_same low (low_of page)) pages
+
+-- a base of a page that exists has the low pair of that page
+abbrev pub is_own : ℕ → Pair → Contents → Bool
+is_own key low contents = nat_lt key (length contents.terms) && is_same low (low_of (term_page key contents))
+
+-- The first base of a page gives it the next number, and a low pair that no page has.
+abbrev pub is_new : ℕ → Pair → Contents → Bool
+is_new key low contents =
+    (key == length contents.terms) && nat_lt key most_term_pages && not (is_taken low contents.terms)
+
+-- a payload of a base: it begins with a low pair
+abbrev pub is_base : ℕ → List ℕ → Contents → Bool
+is_base key payload contents =
+    is_some (low_in payload) && (is_own key (low_at_front payload) contents || is_new key (low_at_front payload) contents)
+
+-- a delta is of a page that exists
+abbrev pub is_delta : ℕ → Contents → Bool
+is_delta key contents = nat_lt key (length contents.terms)
+
+abbrev pub with_base : List ℕ → TermPage
+with_base payload = record { base = Some payload; deltas = [] }
+
+abbrev pub with_delta : List ℕ → TermPage → TermPage
+with_delta payload page = record page { deltas = page.deltas ++ payload ∷ [] }
+
+-- the term pages after a base: it takes the place of a page, or is the last one
+abbrev pub after_base : ℕ → List ℕ → Contents → List TermPage
+after_base key payload contents =
+    if nat_lt key (length contents.terms) then slice_set contents.terms key (with_base payload)
+    else contents.terms ++ with_base payload ∷ []
+
+abbrev pub after_delta : ℕ → List ℕ → Contents → List TermPage
+after_delta key payload contents = slice_set contents.terms key (with_delta payload (term_page key contents))
+
 -- the contents after a part of this kind, or none where it is outside the format
 abbrev pub after_kind : Option Kind → ℕ → List ℕ → Contents → Option Contents
 after_kind (Some kind.Meta) key payload contents =
@@ -53,6 +106,10 @@ after_kind (Some kind.Document) key payload contents =
     if is_document key payload contents then Some (record contents { documents = map.insert contents.documents key payload }) else None
 after_kind (Some kind.Gone) key payload contents =
     if is_gone key payload then Some (record contents { documents = map.remove contents.documents key }) else None
+after_kind (Some kind.Base) key payload contents =
+    if is_base key payload contents then Some (record contents { terms = after_base key payload contents }) else None
+after_kind (Some kind.Delta) key payload contents =
+    if is_delta key contents then Some (record contents { terms = after_delta key payload contents }) else None
 after_kind None key payload contents = None
 
 abbrev pub after_part : PartValue → Contents → Option Contents
@@ -69,15 +126,19 @@ page_of_kind (Some kind.Meta) key = Some Meta
 page_of_kind (Some kind.Policy) key = Some (Policy key)
 page_of_kind (Some kind.Document) key = Some (Document key)
 page_of_kind (Some kind.Gone) key = Some (Document key)
+page_of_kind (Some kind.Base) key = Some (Term key)
+page_of_kind (Some kind.Delta) key = Some (Term key)
 page_of_kind None key = None
 
 abbrev pub page_of : PartValue → Option Page
 page_of part = page_of_kind (kind_of part.kind) part.key
 
--- what a part leaves in its page: its payload, or nothing where it says that a document is gone
-abbrev pub left_by_kind : Option Kind → List ℕ → Option (List ℕ)
-left_by_kind (Some kind.Gone) payload = None
-left_by_kind _ payload = Some payload
+-- What a part makes of the parts of its page: nothing is left where it says that a document is gone, a
+-- delta stands behind the others, and any other part alone.
+abbrev pub after_kind_in_page : Option Kind → List ℕ → List (List ℕ) → List (List ℕ)
+after_kind_in_page (Some kind.Gone) payload parts = []
+after_kind_in_page (Some kind.Delta) payload parts = parts ++ payload ∷ []
+after_kind_in_page _ payload parts = payload ∷ []
 
-abbrev pub left_by : PartValue → Option (List ℕ)
-left_by part = left_by_kind (kind_of part.kind) part.payload
+abbrev pub after_in_page : PartValue → List (List ℕ) → List (List ℕ)
+after_in_page part parts = after_kind_in_page (kind_of part.kind) part.payload parts

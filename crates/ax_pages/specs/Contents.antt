@@ -1,10 +1,13 @@
--- What a store's pages have: for the meta, each policy and each document, the payload that counts.
+-- What a store's pages have: for the meta, each policy and each document, the payload that counts;
+-- for each term page the payloads of its last base and of the deltas behind that.
 -- From the store's own file format (docs/FORMAT.md, "Parts"); no other document has it.
-use Rattle.std.specs.Prelude.{ℕ, Bool, ◌==◌, ◌||◌, List, ◌++◌, Option, None, take, drop}
+use Rattle.std.specs.Prelude.{ℕ, Bool, ◌==◌, ◌||◌, List, [], ◌∷◌, ◌++◌, Option, None, take, drop, slice_index_or, option_and_then, unwrap_or}
 use Rattle.std.specs.Int.{w32, from_le_bytes, to_le_bytes}
 use Rattle.std.specs.Ordering.{nat_cmp}
 use Rattle.std.specs.FinMap as map
 use Rattle.std.specs.Option.{option_map_or, option_to_list}
+use Rattle.ax_leaf.specs.declared.pair.Pair.{Pair}
+use Rattle.ax_leaf.specs.Low.{low_in, first_pair}
 use Rattle.ax_pages.specs.declared.page.Page.{Page}
 use Rattle.ax_pages.specs.declared.page.Page.TheVariants.{Meta, Policy, Document, Term}
 
@@ -12,26 +15,48 @@ use Rattle.ax_pages.specs.declared.page.Page.TheVariants.{Meta, Policy, Document
 abbrev pub Numbered : Type 0
 Numbered = map.FinMap nat_cmp (List ℕ)
 
+-- a term page
+pub record TermPage : Type 0 where
+  -- the payload of its last base; none before the first
+  pub base : Option (List ℕ)
+  -- the payloads of the deltas behind that base, in order
+  pub deltas : List (List ℕ)
+
+-- a page of which there is no part
+abbrev pub no_term_page : TermPage
+no_term_page = record { base = None; deltas = [] }
+
 pub record Contents : Type 0 where
   -- none before the first part of the meta
   pub meta : Option (List ℕ)
   pub policies : Numbered
   pub documents : Numbered
+  -- by number, from 0 on
+  pub terms : List TermPage
 
--- no page has anything
+-- No page has anything. One term page exists from the start.
 abbrev pub no_contents : Contents
-no_contents = record { meta = None; policies = map.empty; documents = map.empty }
+no_contents = record { meta = None; policies = map.empty; documents = map.empty; terms = no_term_page ∷ [] }
 
--- what a page has
-abbrev pub payload_of : Page → Contents → Option (List ℕ)
-payload_of Meta contents = contents.meta
-payload_of (Policy number) contents = map.get contents.policies number
-payload_of (Document number) contents = map.get contents.documents number
-payload_of (Term number) contents = None
+-- the term page of a number
+abbrev pub term_page : ℕ → Contents → TermPage
+term_page number contents = slice_index_or contents.terms number no_term_page
 
--- the parts of a page: one, where it has something
+-- the parts of a term page: its base, and the deltas behind it
+abbrev pub term_parts : TermPage → List (List ℕ)
+term_parts page = option_to_list page.base ++ page.deltas
+
+-- The least pair that a term page may have: the one in its base. The page that exists from the start
+-- may have each pair, also before its first base.
+abbrev pub low_of : TermPage → Pair
+low_of page = unwrap_or (option_and_then low_in page.base) first_pair
+
+-- the parts of a page: of the meta, of a policy and of a document the one that counts, where there is one
 abbrev pub parts_of : Page → Contents → List (List ℕ)
-parts_of page contents = option_to_list (payload_of page contents)
+parts_of Meta contents = option_to_list contents.meta
+parts_of (Policy number) contents = option_to_list (map.get contents.policies number)
+parts_of (Document number) contents = option_to_list (map.get contents.documents number)
+parts_of (Term number) contents = term_parts (term_page number contents)
 
 -- the two numbers in a payload of the meta, low bytes first: the next number, and the policy now
 abbrev pub next_in : List ℕ → ℕ

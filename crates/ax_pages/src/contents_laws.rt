@@ -1,11 +1,12 @@
-//! Laws of what pages have: one contents for bytes, one offset where they are spoiled, and that of each page the
-//! last part counts.
+//! Laws of what pages have: one contents for bytes, one offset where they are spoiled, that of each page the last
+//! part counts, and that term pages are told apart by their low pairs.
 
-ghost use Rattle.std.specs.Prelude.{◌≡◌, ◌≢◌, ℕ, List, Some, [], ◌∷◌, ◌++◌};
+ghost use Rattle.std.specs.Prelude.{◌≡◌, ◌≢◌, ℕ, ◌<◌, length, List, Some, [], ◌∷◌, ◌++◌};
 ghost use Rattle.std.specs.List.{AllByRecursion};
 ghost use Rattle.ax_frame.specs.Part.{PartValue};
-ghost use Rattle.ax_pages.specs.Contents.{Contents, payload_of};
-ghost use Rattle.ax_pages.specs.AfterPart.{after_parts, page_of, left_by};
+ghost use Rattle.ax_pages.specs.Contents.{Contents, no_contents, parts_of};
+ghost use Rattle.ax_pages.specs.AfterPart.{after_parts, page_of, after_in_page};
+ghost use Rattle.ax_pages.specs.TermPages.{AreApart, KeepsLow};
 ghost use Rattle.ax_pages.specs.Leads.{Leads, IsSpoiled, LeadOn, AreSpoiled};
 ghost use Rattle.ax_pages.specs.HasContents.{HasContents, IsSpoiledImage};
 ghost use Rattle.ax_pages.specs.declared.page.Page.{Page};
@@ -41,13 +42,24 @@ pub fn one_outcome_of_an_image()
         → HasContents contents image → IsSpoiledImage image area i → ⊥ }
 {}
 
-/// Of each page the last part counts, and a page of which there is no part is as it was.
+/// A page has what its last part makes of what it had, whatever parts of other pages follow: of the meta, a policy and a
+/// document the last part counts, and of a term page the last base with the deltas behind it. A page of which there
+/// is no part is as it was.
 pub fn the_last_part_counts()
     ensures last { (front back : List PartValue) (part : PartValue) (page : Page) (before after : Contents)
         → after_parts (front ++ part ∷ back) before ≡ Some after
         → page_of part ≡ Some page → AllByRecursion (λ other. page_of other ≢ Some page) back
-        → payload_of page after ≡ left_by part }
+        → (between : Contents) × (after_parts front before ≡ Some between)
+        × (parts_of page after ≡ after_in_page part (parts_of page between)) }
     ensures none { (parts : List PartValue) (page : Page) (before after : Contents)
         → after_parts parts before ≡ Some after → AllByRecursion (λ other. page_of other ≢ Some page) parts
-        → payload_of page after ≡ payload_of page before }
+        → parts_of page after ≡ parts_of page before }
+{}
+
+/// The term pages of a store, as parts make them: there is one from the start, none is ever gone, and each keeps its low
+/// pair, which no other has.
+pub fn term_pages_are_told_apart()
+    ensures apart { (parts : List PartValue) (contents : Contents) → after_parts parts no_contents ≡ Some contents → AreApart contents }
+    ensures kept { (parts : List PartValue) (before after : Contents) (number : ℕ) → after_parts parts before ≡ Some after
+        → number < length before.terms → KeepsLow number before after }
 {}

@@ -3,8 +3,7 @@
 ghost use Rattle.std.specs.Prelude.{◌≡◌};
 ghost use Rattle.ax_pages.specs.AfterPart.{kind_of};
 
-/// A page of a store: all parts of the meta, of one policy, of one document or of one term page. No
-/// part of a term page is within the format, so no term page has one.
+/// A page of a store: all parts of the meta, of one policy, of one document or of one term page.
 #[derive(Clone, Copy, Debug, PartialEq, Eq)]
 pub enum Page {
     /// The next number and the number of the policy now.
@@ -28,6 +27,10 @@ pub enum Kind {
     Document,
     /// The document of the part's key is gone.
     Gone,
+    /// The term page of the part's key has this payload alone from now on.
+    Base,
+    /// The term page of the part's key has this payload behind its others.
+    Delta,
 }
 
 /// The kind of a number. `None` exactly for a number of no kind.
@@ -39,6 +42,8 @@ pub fn kind_of_number(number: u8) -> Option<Kind>
         2 => Some(Kind::Policy),
         3 => Some(Kind::Document),
         4 => Some(Kind::Gone),
+        5 => Some(Kind::Base),
+        6 => Some(Kind::Delta),
         _ => None,
     }
 }
