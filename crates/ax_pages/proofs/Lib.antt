@@ -1,3 +1,5 @@
 pub mod OneContents
+pub mod TermLists
 pub mod LastPart
 pub mod ImageContents
+pub mod ToldApart
