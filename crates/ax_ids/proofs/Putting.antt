@@ -1,5 +1,5 @@
 -- What stands under an id after a number was put under one.
-use Rattle.std.proofs.Common.{◌≡◌, ℕ, Bool, true, false, cond, List, ◌++◌, take, drop, Option, Some, None, Ordering, refl, ap, subst, ◌∙◌, sym, ⊎_elim, string_bytes}
+use Rattle.std.proofs.Common.{◌≡◌, ℕ, Bool, true, false, cond, List, ◌++◌, take, drop, Some, Ordering, refl, ap, subst, ◌∙◌, sym, ⊎_elim, string_bytes}
 use Rattle.std.specs.BTreeMap.{BTreeMap, Updates, get, get_by_text, is_at}
 use Rattle.std.specs.Ordering.{is_eq, nat_cmp, ordering_then}
 use Rattle.std.specs.Prelude.{String}
@@ -14,14 +14,12 @@ use Rattle.std.proofs.lemmas.List.{take-append-drop}
 use Rattle.std.proofs.lemmas.Map.Lookups.{exact_unsigned}
 use Rattle.std.proofs.lemmas.Map.Text.{btree_map_updates_text}
 use Rattle.std.proofs.lemmas.Slice.Eq.{bytes_eq-Decides}
+use Rattle.ax_ids.specs.declared.id_key.Chunks.{Chunks}
 use Rattle.ax_ids.specs.declared.id_key.IdKey.{IdKey}
 use Rattle.ax_ids.specs.declared.ids.Ids.{Ids}
-use Rattle.ax_ids.specs.Keys.{are_bytes, key_of, is_short, short_key}
-use Rattle.ax_ids.specs.Ids.{key_cmp, number_under}
+use Rattle.ax_ids.specs.Keys.{are_bytes, as_number, chunks_of, key_of, is_short, fits_chunks}
+use Rattle.ax_ids.specs.Ids.{chunks_cmp, number_among, number_under}
 use Rattle.ax_ids.proofs.Numbers.{bytes_below, front_below, rest_below, same_bytes}
-
-abbrev the_none : Option IdKey
-the_none = None
 
 then_equal : (o p : Ordering) → is_eq (ordering_then o p) ≡ true → (o ≡ Equal) × (is_eq p ≡ true)
 then_equal Less p h = absurd (false≢true h)
@@ -33,12 +31,12 @@ equal Less h = absurd (false≢true h)
 equal Equal h = refl
 equal Greater h = absurd (false≢true h)
 
--- ids of one key are the same
-pub same_id : (a b : List ℕ) → are_bytes a ≡ true → are_bytes b ≡ true
-    → is_eq (key_cmp (key_of a) (key_of b)) ≡ true → a ≡ b
-same_id a b known others h =
-    let x = key_of a in
-    let y = key_of b in
+-- ids of the same chunks are the same
+pub same_in_chunks : (a b : List ℕ) → are_bytes a ≡ true → are_bytes b ≡ true
+    → is_eq (chunks_cmp (chunks_of a) (chunks_of b)) ≡ true → a ≡ b
+same_in_chunks a b known others h =
+    let x = chunks_of a in
+    let y = chunks_of b in
     let below = bytes_below a known in
     let under = bytes_below b others in
     let one = then_equal (nat_cmp x.front y.front) _ h in
@@ -55,19 +53,32 @@ same_id a b known others h =
     sym (take-append-drop 15 (drop 15 a)) ∙ (λ i. middle i ++ rest i) ∙ take-append-drop 15 (drop 15 b) in
     sym (take-append-drop 15 a) ∙ (λ i. front i ++ behind i) ∙ take-append-drop 15 b
 
-pub same_key : (id : List ℕ) → is_eq (key_cmp (key_of id) (key_of id)) ≡ true
-same_key id =
-    let key = key_of id in
-    rw (tied_itself nat_cmp_total key.front, tied_itself nat_cmp_total key.middle, tied_itself nat_cmp_total key.rest) refl
+pub same_chunks : (id : List ℕ) → is_eq (chunks_cmp (chunks_of id) (chunks_of id)) ≡ true
+same_chunks id =
+    let chunks = chunks_of id in
+    rw (tied_itself nat_cmp_total chunks.front, tied_itself nat_cmp_total chunks.middle, tied_itself nat_cmp_total chunks.rest) refl
 
--- keys compare as the ids do
-pub keys_tell : (a b : List ℕ) → are_bytes a ≡ true → are_bytes b ≡ true
-    → is_at (key_cmp (key_of a)) (key_of b) ≡ bytes_eq a b
-keys_tell a b known others =
+-- chunks compare as the ids do
+pub chunks_tell : (a b : List ℕ) → are_bytes a ≡ true → are_bytes b ≡ true
+    → is_at (chunks_cmp (chunks_of a)) (chunks_of b) ≡ bytes_eq a b
+chunks_tell a b known others =
     let told = bytes_eq-Decides a b in
-    same_from_decides (is_at (key_cmp (key_of a)) (key_of b)) (bytes_eq a b) (
-      λ h. same_id a b known others h,
-      λ (same : a ≡ b). subst (λ (x : List ℕ). is_eq (key_cmp (key_of a) (key_of x)) ≡ true) same (same_key a),
+    same_from_decides (is_at (chunks_cmp (chunks_of a)) (chunks_of b)) (bytes_eq a b) (
+      λ h. same_in_chunks a b known others h,
+      λ (same : a ≡ b). subst (λ (x : List ℕ). is_eq (chunks_cmp (chunks_of a) (chunks_of x)) ≡ true) same (same_chunks a),
+    )
+    told
+
+-- and numbers
+numbers_tell : (a b : List ℕ) → are_bytes a ≡ true → are_bytes b ≡ true
+    → is_at (nat_cmp (as_number a)) (as_number b) ≡ bytes_eq a b
+numbers_tell a b known others =
+    let told = bytes_eq-Decides a b in
+    same_from_decides (is_at (nat_cmp (as_number a)) (as_number b)) (bytes_eq a b) (
+      λ h. same_bytes a b (bytes_below a known) (bytes_below b others)
+          (exact_unsigned (as_number a) (as_number b) (equal (nat_cmp (as_number a) (as_number b)) h)),
+      λ (same : a ≡ b). subst (λ (x : List ℕ). is_eq (nat_cmp (as_number a) (as_number x)) ≡ true) same
+          (rw (tied_itself nat_cmp_total (as_number a)) refl),
     )
     told
 
@@ -82,65 +93,117 @@ differs_too test a b fails holds =
     false_from_ne_true (bytes_eq a b)
     (λ same. false≢true (sym fails ∙ ap test ((bytes_eq-Decides a b).0 same) ∙ holds))
 
-some_key : (test : Bool) (key other : IdKey) → Some key ≡ cond test (Some other) None
-    → (test ≡ true) × (key ≡ other)
-some_key true key other h = (refl, cc)
-some_key false key other h = absurd cc
+-- which key an id has tells how long it is
+short_is : (few fits : Bool) (number own : ℕ) (chunks : Chunks)
+    → IdKey.Short number ≡ cond few (IdKey.Short own) (cond fits (IdKey.Medium chunks) IdKey.Long)
+    → (few ≡ true) × (number ≡ own)
+short_is true fits number own chunks h = (refl, cc)
+short_is false true number own chunks h = absurd cc
+short_is false false number own chunks h = absurd cc
 
-no_key : (test : Bool) (other : IdKey) → the_none ≡ cond test (Some other) None → test ≡ false
-no_key true other h = absurd cc
-no_key false other h = refl
+medium_is : (few fits : Bool) (number : ℕ) (chunks own : Chunks)
+    → IdKey.Medium chunks ≡ cond few (IdKey.Short number) (cond fits (IdKey.Medium own) IdKey.Long)
+    → (few ≡ false) × (fits ≡ true) × (chunks ≡ own)
+medium_is true fits number chunks own h = absurd cc
+medium_is false true number chunks own h = (refl, refl, cc)
+medium_is false false number chunks own h = absurd cc
 
--- what stands under an id after a change in the map of short ids
-short_put_at : (old : Ids) (short : BTreeMap IdKey ℕ) (id : List ℕ) (number : ℕ)
-    → are_bytes id ≡ true → is_short id ≡ true → Updates key_cmp old.short short (key_of id) (Some number)
-    → (other : List ℕ) → number_under (record old { short = short }) other
-    ≡ cond (bytes_eq id other) (Some number) (number_under old other)
+long_is : (few fits : Bool) (number : ℕ) (chunks : Chunks)
+    → IdKey.Long ≡ cond few (IdKey.Short number) (cond fits (IdKey.Medium chunks) IdKey.Long)
+    → (few ≡ false) × (fits ≡ false)
+long_is true fits number chunks h = absurd cc
+long_is false true number chunks h = absurd cc
+long_is false false number chunks h = (refl, refl)
+
+-- a change that is seen at lists of bytes, and the others have no number before it or after
+changed : (old new : Ids) (id : List ℕ) (number : ℕ) → are_bytes id ≡ true
+    → ((other : List ℕ) → are_bytes other ≡ true
+    → number_among new other ≡ cond (bytes_eq id other) (Some number) (number_among old other))
+    → (other : List ℕ) → number_under new other ≡ cond (bytes_eq id other) (Some number) (number_under old other)
 unfolding number_under
-short_put_at old short id number bytes few updates other =
+changed old new id number bytes among other =
     ⊎_elim
-    (λ (are : are_bytes other ≡ true). ⊎_elim
-    (λ (fit : is_short other ≡ true). rw (are, fit) (updates.0 (key_of other)
-    ∙ ap (λ b. cond b (Some number) (get key_cmp old.short (key_of other))) (keys_tell id other bytes are)))
-    (λ (more : is_short other ≡ false). rw (are, more, differs is_short id other few more) refl)
-    (cases_Bool (is_short other)))
+    (λ (are : are_bytes other ≡ true). rw (are) (among other are))
     (λ (are_not : are_bytes other ≡ false). rw (are_not, differs are_bytes id other bytes are_not) refl)
     (cases_Bool (are_bytes other))
+
+-- what stands under an id of bytes after a change in the map of short ids
+short_put_at : (old : Ids) (short : BTreeMap ℕ ℕ) (id : List ℕ) (number : ℕ)
+    → are_bytes id ≡ true → is_short id ≡ true → Updates nat_cmp old.short short (as_number id) (Some number)
+    → (other : List ℕ) → are_bytes other ≡ true → number_among (record old { short = short }) other
+    ≡ cond (bytes_eq id other) (Some number) (number_among old other)
+short_put_at old short id number bytes few updates other are =
+    ⊎_elim
+    (λ (fit : is_short other ≡ true). rw (fit) (updates.0 (as_number other)
+    ∙ ap (λ b. cond b (Some number) (get nat_cmp old.short (as_number other))) (numbers_tell id other bytes are)))
+    (λ (more : is_short other ≡ false). rw (more, differs is_short id other few more) refl)
+    (cases_Bool (is_short other))
+
+-- in that of ids in three chunks
+medium_put_at : (old : Ids) (medium : BTreeMap Chunks ℕ) (id : List ℕ) (number : ℕ)
+    → are_bytes id ≡ true → is_short id ≡ false → fits_chunks id ≡ true
+    → Updates chunks_cmp old.medium medium (chunks_of id) (Some number)
+    → (other : List ℕ) → are_bytes other ≡ true → number_among (record old { medium = medium }) other
+    ≡ cond (bytes_eq id other) (Some number) (number_among old other)
+medium_put_at old medium id number bytes more fits updates other are =
+    ⊎_elim
+    (λ (few : is_short other ≡ true). rw (few, differs_too is_short id other more few) refl)
+    (λ (not_few : is_short other ≡ false). ⊎_elim
+    (λ (fit : fits_chunks other ≡ true). rw (not_few, fit) (updates.0 (chunks_of other)
+    ∙ ap (λ b. cond b (Some number) (get chunks_cmp old.medium (chunks_of other))) (chunks_tell id other bytes are)))
+    (λ (many : fits_chunks other ≡ false). rw (not_few, many, differs fits_chunks id other fits many) refl)
+    (cases_Bool (fits_chunks other)))
+    (cases_Bool (is_short other))
 
 -- and in that of long ones
 long_put_at : (old : Ids) (long : BTreeMap (String Global) ℕ) (id : List ℕ) (number : ℕ)
-    → are_bytes id ≡ true → is_short id ≡ false
+    → is_short id ≡ false → fits_chunks id ≡ false
     → ((other : List ℕ) → get_by_text long other ≡ cond (bytes_eq id other) (Some number) (get_by_text old.long other))
-    → (other : List ℕ) → number_under (record old { long = long }) other
-    ≡ cond (bytes_eq id other) (Some number) (number_under old other)
-unfolding number_under
-long_put_at old long id number bytes many updates other =
+    → (other : List ℕ) → number_among (record old { long = long }) other
+    ≡ cond (bytes_eq id other) (Some number) (number_among old other)
+long_put_at old long id number more many updates other =
     ⊎_elim
-    (λ (are : are_bytes other ≡ true). ⊎_elim
-    (λ (fit : is_short other ≡ true). rw (are, fit, differs_too is_short id other many fit) refl)
-    (λ (more : is_short other ≡ false). rw (are, more) (updates other))
-    (cases_Bool (is_short other)))
-    (λ (are_not : are_bytes other ≡ false). rw (are_not, differs are_bytes id other bytes are_not) refl)
-    (cases_Bool (are_bytes other))
+    (λ (few : is_short other ≡ true). rw (few, differs_too is_short id other more few) refl)
+    (λ (not_few : is_short other ≡ false). ⊎_elim
+    (λ (fit : fits_chunks other ≡ true). rw (not_few, fit, differs_too fits_chunks id other many fit) refl)
+    (λ (not_fit : fits_chunks other ≡ false). rw (not_few, not_fit) (updates other))
+    (cases_Bool (fits_chunks other)))
+    (cases_Bool (is_short other))
 
-pub short_put : (old : Ids) (short : BTreeMap IdKey ℕ) (key : IdKey) (bytes id : List ℕ) (number : ℕ)
-    → bytes ≡ id → are_bytes bytes ≡ true → Some key ≡ short_key bytes
-    → Updates key_cmp old.short short key (Some number)
+pub short_put : (old : Ids) (short : BTreeMap ℕ ℕ) (key : ℕ) (bytes id : List ℕ) (number : ℕ)
+    → bytes ≡ id → are_bytes bytes ≡ true → IdKey.Short key ≡ key_of bytes
+    → Updates nat_cmp old.short short key (Some number)
     → (other : List ℕ) → number_under (record old { short = short }) other
     ≡ cond (bytes_eq id other) (Some number) (number_under old other)
 short_put old short key bytes id number same known named updates =
-    let found = some_key (is_short bytes) key (key_of bytes) named in
-    let own : key ≡ key_of id = found.1 ∙ ap key_of same in
-    short_put_at old short id number (sym (ap are_bytes same) ∙ known) (sym (ap is_short same) ∙ found.0)
-    (subst (λ (k : IdKey). Updates key_cmp old.short short k (Some number)) own updates)
+    let found = short_is (is_short bytes) (fits_chunks bytes) key (as_number bytes) (chunks_of bytes) named in
+    let own : key ≡ as_number id = found.1 ∙ ap as_number same in
+    let are : are_bytes id ≡ true = sym (ap are_bytes same) ∙ known in
+    changed old (record old { short = short }) id number are
+    (short_put_at old short id number are (sym (ap is_short same) ∙ found.0)
+    (subst (λ (k : ℕ). Updates nat_cmp old.short short k (Some number)) own updates))
+
+pub medium_put : (old : Ids) (medium : BTreeMap Chunks ℕ) (key : Chunks) (bytes id : List ℕ) (number : ℕ)
+    → bytes ≡ id → are_bytes bytes ≡ true → IdKey.Medium key ≡ key_of bytes
+    → Updates chunks_cmp old.medium medium key (Some number)
+    → (other : List ℕ) → number_under (record old { medium = medium }) other
+    ≡ cond (bytes_eq id other) (Some number) (number_under old other)
+medium_put old medium key bytes id number same known named updates =
+    let found = medium_is (is_short bytes) (fits_chunks bytes) (as_number bytes) key (chunks_of bytes) named in
+    let own : key ≡ chunks_of id = found.2 ∙ ap chunks_of same in
+    let are : are_bytes id ≡ true = sym (ap are_bytes same) ∙ known in
+    changed old (record old { medium = medium }) id number are
+    (medium_put_at old medium id number are (sym (ap is_short same) ∙ found.0) (sym (ap fits_chunks same) ∙ found.1)
+    (subst (λ (k : Chunks). Updates chunks_cmp old.medium medium k (Some number)) own updates))
 
 pub long_put : (old : Ids) (long : BTreeMap (String Global) ℕ) (text : String Global) (bytes id : List ℕ) (number : ℕ)
-    → bytes ≡ id → are_bytes bytes ≡ true → the_none ≡ short_key bytes → string_bytes text ≡ id
+    → bytes ≡ id → are_bytes bytes ≡ true → IdKey.Long ≡ key_of bytes → string_bytes text ≡ id
     → Updates string_cmp old.long long text (Some number)
     → (other : List ℕ) → number_under (record old { long = long }) other
     ≡ cond (bytes_eq id other) (Some number) (number_under old other)
 long_put old long text bytes id number same known named spelled updates =
-    long_put_at old long id number (sym (ap are_bytes same) ∙ known)
-    (sym (ap is_short same) ∙ no_key (is_short bytes) (key_of bytes) named)
+    let found = long_is (is_short bytes) (fits_chunks bytes) (as_number bytes) (chunks_of bytes) named in
+    changed old (record old { long = long }) id number (sym (ap are_bytes same) ∙ known)
+    (λ other _. long_put_at old long id number (sym (ap is_short same) ∙ found.0) (sym (ap fits_chunks same) ∙ found.1)
     (λ other. btree_map_updates_text (string_bytes text) old.long long (Some number) updates other
-    ∙ ap (λ k. cond (bytes_eq k other) (Some number) (get_by_text old.long other)) spelled)
+    ∙ ap (λ k. cond (bytes_eq k other) (Some number) (get_by_text old.long other)) spelled) other)

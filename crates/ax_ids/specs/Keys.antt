@@ -1,8 +1,9 @@
--- What a short id is compared by: its bytes in three chunks, each as a number.
+-- What an id is compared by: its bytes as one number or in three chunks, each as a number, or its text.
 -- It is this project's own; it comes from no public document.
-use Rattle.std.specs.Prelude.{ℕ, List, ◌∷◌, Bool, nat_lt, nat_le, length, take, drop, Option, Some, None, cond}
+use Rattle.std.specs.Prelude.{ℕ, List, ◌∷◌, Bool, nat_lt, nat_le, length, take, drop, cond}
 use Rattle.std.specs.List.{list_all}
 use Rattle.std.specs.Int.Digits.{number_from_digits}
+use Rattle.ax_ids.specs.declared.id_key.Chunks.{Chunks}
 use Rattle.ax_ids.specs.declared.id_key.IdKey.{IdKey}
 
 -- the most bytes of a chunk
@@ -18,17 +19,22 @@ abbrev pub as_number : List ℕ → ℕ
 as_number bytes = number_from_digits 256 (1 ∷ bytes)
 
 -- the bytes of an id in three chunks
-abbrev pub key_of : List ℕ → IdKey
-key_of id = record {
+abbrev pub chunks_of : List ℕ → Chunks
+chunks_of id = record {
   front = as_number (take most_in_chunk id);
   middle = as_number (take most_in_chunk (drop most_in_chunk id));
   rest = as_number (drop most_in_chunk (drop most_in_chunk id));
 }
 
--- three chunks have all of its bytes
+-- one chunk has all of its bytes
 abbrev pub is_short : List ℕ → Bool
-is_short id = nat_le (length id) 45
+is_short id = nat_le (length id) 15
 
--- the key of an id, where it is short
-abbrev pub short_key : List ℕ → Option IdKey
-short_key id = cond (is_short id) (Some (key_of id)) None
+-- three chunks have all of its bytes
+abbrev pub fits_chunks : List ℕ → Bool
+fits_chunks id = nat_le (length id) 45
+
+-- the key of an id
+abbrev pub key_of : List ℕ → IdKey
+key_of id =
+    cond (is_short id) (IdKey.Short (as_number id)) (cond (fits_chunks id) (IdKey.Medium (chunks_of id)) IdKey.Long)

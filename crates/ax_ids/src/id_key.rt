@@ -1,35 +1,46 @@
-//! What a short id is compared by.
+//! What an id is compared by.
 
 ghost use Rattle.std.specs.Prelude.{◌≡◌, ◌≤◌, ◌-◌, length, take, drop, true};
-ghost use Rattle.ax_ids.specs.Keys.{are_bytes, as_number, most_in_chunk, short_key};
+ghost use Rattle.ax_ids.specs.Keys.{are_bytes, as_number, most_in_chunk, key_of};
 
 /// The most bytes of a chunk.
 const MOST_IN_CHUNK: usize = 15;
 
-/// The most bytes of an id that has a key.
-const MOST_IN_KEY: usize = 45;
-
-/// The bytes of a short id in three chunks, each as a number. Ids of one key are the same id.
+/// The bytes of an id in three chunks, each as a number.
 #[derive(Clone, Copy, PartialEq, Eq, PartialOrd, Ord)]
-pub(crate) struct IdKey {
+pub(crate) struct Chunks {
     front: u128,
     middle: u128,
     rest: u128,
 }
 
+/// What an id is compared by. Ids of one key that is not `Long` are the same id.
+#[derive(Clone, Copy)]
+pub(crate) enum IdKey {
+    /// Of at most 15 bytes: they are one number.
+    Short(u128),
+    /// Of 16 to 45 bytes.
+    Medium(Chunks),
+    /// Of more: it is compared as a text.
+    Long,
+}
+
 impl IdKey {
-    /// The key of an id. `None` exactly where it has more than 45 bytes.
+    /// The key of an id.
     #[tactic(auto, using(crate::proofs::Numbers::all_bytes))]
-    pub(crate) fn of(id: &[u8]) -> Option<IdKey>
+    pub(crate) fn of(id: &[u8]) -> IdKey
         ensures bytes { are_bytes id.now ≡ true }
-        ensures key { result ≡ short_key id.now }
+        ensures key { result ≡ key_of id.now }
     {
-        if id.len() > MOST_IN_KEY {
-            return None;
-        }
         let (front, behind) = split_chunk(id);
+        if behind.is_empty() {
+            return IdKey::Short(as_number(front));
+        }
         let (middle, rest) = split_chunk(behind);
-        Some(IdKey {
+        if rest.len() > MOST_IN_CHUNK {
+            return IdKey::Long;
+        }
+        IdKey::Medium(Chunks {
             front: as_number(front),
             middle: as_number(middle),
             rest: as_number(rest),

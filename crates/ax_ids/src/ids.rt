@@ -4,7 +4,7 @@ ghost use Rattle.std.specs.Prelude.{◌≡◌, ℕ, List, OnOk, OnErr, Some, Non
 ghost use Rattle.std.specs.Str.{bytes_eq};
 ghost use Rattle.ax_ids.specs.Ids.{number_under};
 
-use crate::id_key::IdKey;
+use crate::id_key::{Chunks, IdKey};
 use crate::out_of_memory::Memory;
 use std::alloc::Global;
 use std::collections::BTreeMap;
@@ -12,7 +12,8 @@ use std::collections::BTreeMap;
 /// Ids, each with the number that was put last under it.
 #[derive(Drop)]
 pub struct Ids {
-    short: BTreeMap<IdKey, u32>,
+    short: BTreeMap<u128, u32>,
+    medium: BTreeMap<Chunks, u32>,
     long: BTreeMap<String, u32>,
 }
 
@@ -24,6 +25,7 @@ impl Ids {
     {
         Ids {
             short: BTreeMap::new(alloc),
+            medium: BTreeMap::new(alloc),
             long: BTreeMap::new(alloc),
         }
     }
@@ -34,21 +36,23 @@ impl Ids {
         ensures { result ≡ number_under self.now id.now }
     {
         match IdKey::of(id.as_bytes()) {
-            Some(key) => self.short.get(&key).copied(),
-            None => self.long.get(id).copied(),
+            IdKey::Short(bytes) => self.short.get(&bytes).copied(),
+            IdKey::Medium(chunks) => self.medium.get(&chunks).copied(),
+            IdKey::Long => self.long.get(id).copied(),
         }
     }
 
     /// Puts a number under an id, in the place of an earlier one. Out of memory, nothing has changed.
-    #[tactic(auto, using(crate::proofs::Putting::short_put, crate::proofs::Putting::long_put), unfolding(crate::specs::Ids::number_under))]
+    #[tactic(auto, using(crate::proofs::Putting::short_put, crate::proofs::Putting::medium_put, crate::proofs::Putting::long_put), unfolding(crate::specs::Ids::number_under))]
     pub fn insert(&mut self, alloc: Global, id: &str, number: u32) -> Result<(), Memory>
         ensures ok { OnOk result ((other : List ℕ) → number_under self.new other
             ≡ cond (bytes_eq id.now other) (Some number) (number_under self.old other)) }
         ensures err { OnErr result ((other : List ℕ) → number_under self.new other ≡ number_under self.old other) }
     {
         match IdKey::of(id.as_bytes()) {
-            Some(key) => self.short.insert(key, number)?,
-            None => self.long.insert(String::from_str(alloc, id)?, number)?,
+            IdKey::Short(bytes) => self.short.insert(bytes, number)?,
+            IdKey::Medium(chunks) => self.medium.insert(chunks, number)?,
+            IdKey::Long => self.long.insert(String::from_str(alloc, id)?, number)?,
         };
         Ok(())
     }

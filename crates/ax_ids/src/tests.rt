@@ -2,11 +2,11 @@ use crate::Ids;
 use std::test::Fail;
 
 // Ids that begin alike, end in a zero byte, or have just as many bytes as one, two or three chunks,
-// or one more.
+// or one more; of 15 and of 16 bytes also such as end in a zero byte.
 #[test]
 fn each_id_has_the_number_that_was_put_last(rt: HostRuntime) -> Result<(), Fail> {
     let alloc = rt.alloc();
-    let texts: [(&str, u32); 7] = [
+    let texts: [(&str, u32); 11] = [
         ("", 1),
         ("a", 2),
         ("a\0", 3),
@@ -14,6 +14,10 @@ fn each_id_has_the_number_that_was_put_last(rt: HostRuntime) -> Result<(), Fail>
         ("ab", 5),
         ("1f0e5f0a-8d3e-4c2b-9a61-0c5d7e8f9a1b", 6),
         ("1f0e5f0a-8d3e-4c2b-9a61-0c5d7e8f9a1c", 7),
+        ("abcdefghijklmn", 21),
+        ("abcdefghijklmn\0", 22),
+        ("abcdefghijklmno", 23),
+        ("abcdefghijklmno\0", 24),
     ];
     let counts: [(usize, u32); 9] = [
         (1, 11),
