@@ -11,8 +11,10 @@
 mod checking;
 mod cursor;
 mod finding;
+pub mod front;
 pub mod laws;
 mod leaf;
+pub mod matching;
 mod out_of_memory;
 mod pair;
 mod remaining;
