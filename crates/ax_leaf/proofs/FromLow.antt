@@ -12,10 +12,10 @@ use Rattle.ax_leaf.specs.Pairs.{Posting, pair_cmp, pairs_with, pairs_of, Rise, R
 use Rattle.ax_leaf.specs.Payload.{AreAfter, ArePostings}
 use Rattle.ax_leaf.proofs.Whole.{the_pair}
 
-by_number : (term : List ℕ) (m n : ℕ) → m < n → pair_cmp (the_pair term m) (the_pair term n) ≡ Less
+pub by_number : (term : List ℕ) (m n : ℕ) → m < n → pair_cmp (the_pair term m) (the_pair term n) ≡ Less
 by_number term m n h = rw (tied_itself nat_list_cmp_total term) (sym (nat_cmp_is m n Less h))
 
-by_term : (a b : List ℕ) (m n : ℕ) → slice_cmp nat_cmp a b ≡ Less → pair_cmp (the_pair a m) (the_pair b n) ≡ Less
+pub by_term : (a b : List ℕ) (m n : ℕ) → slice_cmp nat_cmp a b ≡ Less → pair_cmp (the_pair a m) (the_pair b n) ≡ Less
 by_term a b m n h = rw h refl
 
 -- the pairs of a term, behind one of them, and others behind all of them

@@ -3,8 +3,7 @@ use Rattle.std.proofs.Common.{◌≡◌, ℕ, ◌+◌, ◌-◌, ◌<◌, ◌≤�
 use Rattle.std.proofs.lemmas.Bool.{cases_lt}
 use Rattle.std.proofs.lemmas.List.{length-append, length-take-le, get_or-take, get_or_append_left, get_or-append_right}
 use Rattle.std.proofs.lemmas.Option.{slice_get_past, slice_get-get_or}
-use Rattle.ax_leaf.specs.ShortTerm.{whole_term}
-use Rattle.ax_leaf.specs.TermList.{HasFront}
+use Rattle.ax_leaf.specs.ShortTerm.{whole_term, HasFront}
 
 pub front_stays : (front last : List ℕ) (shared : ℕ) (rest : List ℕ) → length front ≤ shared → HasFront front last → shared ≤ length last → HasFront front (whole_term last shared rest)
 front_stays front last shared rest far has within k h l =

@@ -19,7 +19,7 @@ abbrev pub AreFit : List Posting → Type 0
 AreFit [] = Unit {0}
 AreFit (posting ∷ postings) = IsStrictlyIncreasing posting.numbers × (0 < length posting.numbers) × AreFit postings
 
-increasing_with : (ns : List ℕ) (n : ℕ) → IsStrictlyIncreasing ns → ((k : ℕ) → k < length ns → get_or ns k 0 < n) → IsStrictlyIncreasing (ns ++ n ∷ [])
+pub increasing_with : (ns : List ℕ) (n : ℕ) → IsStrictlyIncreasing ns → ((k : ℕ) → k < length ns → get_or ns k 0 < n) → IsStrictlyIncreasing (ns ++ n ∷ [])
 increasing_with ns n up below k h =
     let whole : length (ns ++ n ∷ []) ≡ length ns + 1 = length-append ns (n ∷ []) in
     ⊎_elim
@@ -30,7 +30,7 @@ increasing_with ns n up below k h =
     omega (arith, below k (omega arith), last, get_or-append ns (n ∷ []) 0 k (omega arith)))
     (cases_lt (k + 1) (length ns))
 
-below_with : (ns : List ℕ) (m n : ℕ) → ((k : ℕ) → k < length ns → get_or ns k 0 ≤ m) → m < n → (k : ℕ) → k < length (ns ++ n ∷ []) → get_or (ns ++ n ∷ []) k 0 ≤ n
+pub below_with : (ns : List ℕ) (m n : ℕ) → ((k : ℕ) → k < length ns → get_or ns k 0 ≤ m) → m < n → (k : ℕ) → k < length (ns ++ n ∷ []) → get_or (ns ++ n ∷ []) k 0 ≤ n
 below_with ns m n below h k l =
     let whole : length (ns ++ n ∷ []) ≡ length ns + 1 = length-append ns (n ∷ []) in
     ⊎_elim
@@ -40,12 +40,12 @@ below_with ns m n below h k l =
     omega (arith, ap (λ (i : ℕ). get_or (ns ++ n ∷ []) i 0) at ∙ get_or-append_seam ns n [] 0))
     (cases_lt k (length ns))
 
-same_cmp : (xs : List ℕ) → slice_cmp nat_cmp xs xs ≡ Equal
+pub same_cmp : (xs : List ℕ) → slice_cmp nat_cmp xs xs ≡ Equal
 same_cmp [] = refl
 same_cmp (x ∷ xs) = rw (sym (nat_cmp_is x x Equal refl)) (same_cmp xs)
 
 -- a number that compares as less is below
-below_from : (m n : ℕ) → nat_cmp m n ≡ Less → m < n
+pub below_from : (m n : ℕ) → nat_cmp m n ≡ Less → m < n
 below_from m n h =
     ⊎_elim
     (λ (l : m < n). l)
@@ -56,16 +56,16 @@ below_from m n h =
     (cases_lt n m))
     (cases_lt m n)
 
-numbers_rise : (p q : Pair) → q.term ≡ p.term → pair_cmp p q ≡ Less → p.number < q.number
+pub numbers_rise : (p q : Pair) → q.term ≡ p.term → pair_cmp p q ≡ Less → p.number < q.number
 numbers_rise p q e h =
     let terms : slice_cmp nat_cmp p.term q.term ≡ Equal = ap (slice_cmp nat_cmp p.term) e ∙ same_cmp p.term in
     let numbers : nat_cmp p.number q.number ≡ Less = rw terms at h in
     below_from p.number q.number numbers
 
-one_increases : (n : ℕ) → IsStrictlyIncreasing (n ∷ [])
+pub one_increases : (n : ℕ) → IsStrictlyIncreasing (n ∷ [])
 one_increases n k h = absurd (omega arith)
 
-one_below : (n : ℕ) (k : ℕ) → k < length (n ∷ []) → get_or (n ∷ []) k 0 ≤ n
+pub one_below : (n : ℕ) (k : ℕ) → k < length (n ∷ []) → get_or (n ∷ []) k 0 ≤ n
 one_below n zero h = omega arith
 one_below n (suc k) h = absurd (omega arith)
 

@@ -43,7 +43,7 @@ whole_term (x ∷ last) (y ∷ s) =
       | false ↦ λ h. refl
     ] refl
 
-term_parts : (last s t x y : List ℕ) → term_after last s ++ x ≡ term_after last t ++ y → (s ≡ t) × (x ≡ y)
+pub term_parts : (last s t x y : List ℕ) → term_after last s ++ x ≡ term_after last t ++ y → (s ≡ t) × (x ≡ y)
 unfolding term_after
 term_parts last s t x y e =
     let c : ℕ = common last s in

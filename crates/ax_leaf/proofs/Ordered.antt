@@ -11,15 +11,15 @@ use Rattle.ax_leaf.specs.declared.pair.Pair.{Pair}
 use Rattle.ax_leaf.specs.Pairs.{Posting, pair_cmp, Rise, RiseAfter, postings_from, postings_of}
 use Rattle.ax_leaf.specs.Payload.{AreGood, AreAfter, ArePostings}
 
-first_decides : (o r : Ordering) → (o ≡ Equal → ⊥) → ordering_then o r ≡ Less → o ≡ Less
+pub first_decides : (o r : Ordering) → (o ≡ Equal → ⊥) → ordering_then o r ≡ Less → o ≡ Less
 first_decides Less r apart h = refl
 first_decides Equal r apart h = absurd (apart refl)
 first_decides Greater r apart h = absurd (cc)
 
-differ : (a b : List ℕ) → bytes_eq a b ≡ false → a ≡ b → ⊥
+pub differ : (a b : List ℕ) → bytes_eq a b ≡ false → a ≡ b → ⊥
 differ a b h e = let k : bytes_eq a b ≡ true = (bytes_eq-Decides a b).1 e in absurd (cc)
 
-terms_rise : (term : List ℕ) (p q : Pair) → p.term ≡ term → bytes_eq q.term term ≡ false → pair_cmp p q ≡ Less → slice_cmp nat_cmp term q.term ≡ Less
+pub terms_rise : (term : List ℕ) (p q : Pair) → p.term ≡ term → bytes_eq q.term term ≡ false → pair_cmp p q ≡ Less → slice_cmp nat_cmp term q.term ≡ Less
 terms_rise term p q e h less =
     ap (λ (bs : List ℕ). slice_cmp nat_cmp bs q.term) (sym e)
     ∙ first_decides (slice_cmp nat_cmp p.term q.term) (nat_cmp p.number q.number)

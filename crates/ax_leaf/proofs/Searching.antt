@@ -22,11 +22,11 @@ use Rattle.std.proofs.lemmas.List.Sums.{common_prefix_len-le}
 pub less_not_greater : (o : Ordering) → o ≡ Less → o ≡ Greater → ⊥
 less_not_greater o h k = cc
 
-apart_terms : (a b : List ℕ) → slice_cmp nat_cmp a b ≡ Less → a ≡ b → ⊥
+pub apart_terms : (a b : List ℕ) → slice_cmp nat_cmp a b ≡ Less → a ≡ b → ⊥
 apart_terms a b h e =
     let equal : slice_cmp nat_cmp a b ≡ Equal = ap (slice_cmp nat_cmp a) (sym e) ∙ tied_itself nat_list_cmp_total a in cc
 
-other_term : (a b : List ℕ) → (a ≡ b → ⊥) → bytes_eq a b ≡ false
+pub other_term : (a b : List ℕ) → (a ≡ b → ⊥) → bytes_eq a b ≡ false
 other_term a b h = false_from_ne_true (bytes_eq a b) (λ e. h ((bytes_eq-Decides a b).0 e))
 
 pub passed : (term : List ℕ) (posting : Posting) (postings : List Posting) → (posting.term ≡ term → ⊥) → numbers_under term (posting ∷ postings) ≡ numbers_under term postings

@@ -1,6 +1,6 @@
 -- A term as it is written after another: how many bytes at their beginnings they have in common,
 -- and its bytes behind those. Bases and deltas write their terms so.
-use Rattle.std.specs.Prelude.{◌≡◌, ℕ, ◌+◌, ◌<◌, ◌≤◌, ◌^◌, List, [], ◌∷◌, ◌++◌, Option, Some, None, length, take}
+use Rattle.std.specs.Prelude.{◌≡◌, ℕ, ◌+◌, ◌<◌, ◌≤◌, ◌^◌, List, [], ◌∷◌, ◌++◌, Option, Some, None, length, take, slice_index}
 use Rattle.std.specs.declared.cmp.Ordering.TheVariants.{Less}
 use Rattle.std.specs.Ordering.{nat_cmp}
 use Rattle.std.specs.Cmp.Lexicographic.{slice_cmp}
@@ -29,3 +29,7 @@ abbrev pub Exceeds : List ℕ → Option ℕ → Type 0
 Exceeds [] byte = ⊥
 Exceeds (b ∷ rest) None = Unit {0}
 Exceeds (b ∷ rest) (Some byte) = byte < b
+
+-- the bytes are those with which a term begins, as far as both reach
+abbrev pub HasFront : List ℕ → List ℕ → Type 0
+HasFront front term = (k : ℕ) → k < length front → k < length term → slice_index front k ≡ slice_index term k

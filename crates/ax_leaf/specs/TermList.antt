@@ -1,6 +1,6 @@
 -- The postings that bytes spell, behind a term or from the first on. Only clauses of private
 -- functions and the views of a leaf and of a cursor cite these.
-use Rattle.std.specs.Prelude.{◌≡◌, ℕ, ◌<◌, ◌≤◌, ◌^◌, List, [], ◌++◌, length, slice_index}
+use Rattle.std.specs.Prelude.{◌≡◌, ℕ, ◌<◌, ◌≤◌, ◌^◌, List, [], ◌++◌, length}
 use Rattle.ax_gap.specs.Gaps.{IsRisingList, gaps}
 use Rattle.ax_leaf.specs.Pairs.{Posting}
 use Rattle.ax_leaf.specs.Payload.{list_after, AreGood, AreAfter, ArePostings}
@@ -51,7 +51,3 @@ pub record Begun (last bytes : List ℕ) : Type 0 where
 -- so many postings stand one behind another
 abbrev pub CanReach : ℕ → List ℕ → Type 0
 CanReach count bytes = (k : ℕ) → k < count → Begun (reached k bytes).term (reached k bytes).bytes
-
--- the bytes are those with which a term begins, as far as both reach
-abbrev pub HasFront : List ℕ → List ℕ → Type 0
-HasFront front term = (k : ℕ) → k < length front → k < length term → slice_index front k ≡ slice_index term k

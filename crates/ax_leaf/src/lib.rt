@@ -11,9 +11,11 @@
 mod checking;
 mod cursor;
 mod finding;
+pub mod front;
 pub mod laws;
 mod leaf;
 mod low;
+pub mod matching;
 mod out_of_memory;
 mod pair;
 mod remaining;

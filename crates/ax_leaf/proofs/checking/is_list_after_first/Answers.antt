@@ -1,7 +1,8 @@
 use Rattle.std.proofs.Common.{◌≡◌, ◌∙◌, arith, sym, true, false, subst}
 use Rattle.std.proofs.lemmas.Bool.{false≢true}
 use Rattle.ax_leaf.specs.Reading.{reached}
-use Rattle.ax_leaf.specs.TermList.{Begins, HasFront}
+use Rattle.ax_leaf.specs.ShortTerm.{HasFront}
+use Rattle.ax_leaf.specs.TermList.{Begins}
 use Rattle.ax_leaf.proofs.Reaching.{no_more_there, no_step, term_there, goes_on, is_done}
 use Rattle.ax_leaf.proofs.checking.is_list_after_first.Goals as goal
 

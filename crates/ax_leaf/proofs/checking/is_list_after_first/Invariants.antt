@@ -1,5 +1,5 @@
 use Rattle.ax_leaf.specs.Reading.{reached}
-use Rattle.ax_leaf.specs.TermList.{HasFront}
+use Rattle.ax_leaf.specs.ShortTerm.{HasFront}
 use Rattle.ax_leaf.proofs.Reaching.{IsUnderWay}
 use Rattle.ax_leaf.proofs.checking.is_list_after_first.Given as goal
 

@@ -1,6 +1,6 @@
 use Rattle.std.proofs.Common.{◌∙◌, ◌+◌, ◌++◌, take, arith, ap, sym}
 use Rattle.ax_leaf.proofs.Fronts.{front_kept}
-use Rattle.ax_leaf.proofs.checking.keep_front.Goals as goal
+use Rattle.ax_leaf.proofs.front.keep_front.Goals as goal
 
 pub returns : goal.returns
 returns c last has within =

@@ -1,7 +1,7 @@
 use Rattle.std.proofs.Common.{◌+◌, arith, ap, ◌∙◌, sym}
 use Rattle.ax_leaf.specs.Payload.{common}
 use Rattle.ax_leaf.proofs.Meeting.{met_before, met_common}
-use Rattle.ax_leaf.proofs.finding.matched_by.Goals as goal
+use Rattle.ax_leaf.proofs.matching.matched_by.Goals as goal
 
 pub returns-then-matched-term : goal.returns-then-matched-term
 returns-then-matched-term c last met l =
