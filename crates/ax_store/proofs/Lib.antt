@@ -1,4 +1,5 @@
 pub mod Searching
+pub mod RowsNear
 pub mod RowMaps
 pub mod KeptRows
 pub mod MapLens

@@ -1,9 +1,9 @@
 //! The rows of a directory, and how one is found and changed.
 
-ghost use Rattle.std.specs.Prelude.{◌≡◌, ◌+◌, ◌<◌, ◌≤◌, ℕ, None, IfOk, IfErr, IfSome, IfNone, is_some, filter, vec_len, vec_capacity};
+ghost use Rattle.std.specs.Prelude.{◌≡◌, ◌+◌, ◌<◌, ◌≤◌, ℕ, None, IfOk, IfErr, IfSome, IfNone, is_some, filter, length, vec_len, vec_capacity};
 ghost use Rattle.std.specs.List.{insert};
 ghost use Rattle.std.specs.FinMap as map;
-ghost use Rattle.ax_store.specs.Rows.{AreRising, IsAt, IsGapFor, IsFirstAbove, map_of, payload_kept, offset_kept};
+ghost use Rattle.ax_store.specs.Rows.{AreRising, IsAt, IsGapFor, IsFirstAbove, number_at, map_of, payload_kept, offset_kept};
 ghost use Rattle.ax_store.specs.Listed.{IsNextAfter};
 
 use crate::kept_part::KeptPart;
@@ -23,7 +23,7 @@ pub(crate) fn search(rows: &[Row], number: u32) -> Result<usize, usize>
 {
     match at_its_number(rows, number) {
         Some(at) => Ok(at),
-        None => search_by_halves(rows, number),
+        None => search_near(rows, number),
     }
 }
 
@@ -36,6 +36,52 @@ fn at_its_number(rows: &[Row], number: u32) -> Option<usize>
     let at = number.checked_sub(first.number)? as usize;
     let row = rows.get(at)?;
     if row.number == number { Some(at) } else { None }
+}
+
+/// Searches only the rows that can have the number. From row to row the numbers rise by one or more,
+/// so it stands no further from either end than its number is from the number there: these rows are
+/// at most one more than the numbers between the ends that have no row.
+fn search_near(rows: &[Row], number: u32) -> Result<usize, usize>
+    requires { AreRising rows.now }
+    ensures found { IfOk result (IsAt rows.now number) }
+    ensures absent { IfErr result (IsGapFor rows.now number) }
+{
+    let from = lesser_rows(rows, number);
+    let end = rows_up_to(rows, number);
+    match search_by_halves(&rows[from..end], number) {
+        Ok(at) => Ok(from + at),
+        Err(at) => Err(from + at),
+    }
+}
+
+/// How many rows at the front have lesser numbers, as the last row tells.
+fn lesser_rows(rows: &[Row], number: u32) -> usize
+    requires { AreRising rows.now }
+    ensures within { result ≤ length rows.now }
+    ensures lesser { (i : ℕ) → i < result → number_at rows.now i < number }
+{
+    match rows.last() {
+        Some(last) => match last.number.checked_sub(number) {
+            Some(ahead) => rows.len().saturating_sub(ahead as usize + 1),
+            None => rows.len(),
+        },
+        None => 0,
+    }
+}
+
+/// How many rows at the front can have numbers up to this one, as the first row tells.
+fn rows_up_to(rows: &[Row], number: u32) -> usize
+    requires { AreRising rows.now }
+    ensures within { result ≤ length rows.now }
+    ensures greater { (i : ℕ) → result ≤ i → i < length rows.now → number < number_at rows.now i }
+{
+    match rows.first() {
+        Some(first) => match number.checked_sub(first.number) {
+            Some(behind) => rows.len().min(behind as usize + 1),
+            None => 0,
+        },
+        None => 0,
+    }
 }
 
 fn search_by_halves(rows: &[Row], number: u32) -> Result<usize, usize>
