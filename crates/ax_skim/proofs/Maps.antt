@@ -129,3 +129,11 @@ pub id_text : (text value id : List ℕ) (t : Tree)
     → text ≡ canonical_text t → document_id t ≡ Some id → value ≡ quoted id
 id_text text value id t looked is named =
     some_same value (quoted id) (looked t is ∙ id_of_value (member (codes "id") t) id named)
+
+-- a document has a member for its id
+pub id_there : (text id : List ℕ) (t : Tree)
+    → ((tree : Tree) → text ≡ canonical_text tree
+    → None ≡ option_map canonical_text (member (codes "id") tree))
+    → text ≡ canonical_text t → document_id t ≡ Some id → ⊥
+id_there text id t looked is named =
+    none_some (quoted id) (looked t is ∙ id_of_value (member (codes "id") t) id named)
