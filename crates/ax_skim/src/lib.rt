@@ -9,7 +9,7 @@
 #![tactic(auto)]
 
 mod find;
-mod mark;
+mod role;
 mod skip;
 #[cfg(test)]
 mod tests;
