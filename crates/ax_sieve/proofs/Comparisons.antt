@@ -1,5 +1,5 @@
 -- What the order of a scalar and a literal tells of their comparisons.
-use Rattle.std.proofs.Common.{◌≡◌, ℕ, ℤ, List, Bool, true, false, cond, Option, Some, None, refl, sym, ap, ◌∙◌, subst, rules}
+use Rattle.std.proofs.Common.{◌≡◌, ℕ, ℤ, List, Bool, true, false, cond, Option, Some, None, refl, sym, ap, ap₂, ◌∙◌, subst, rules}
 use Rattle.std.proofs.lemmas.Bool.{true≢false}
 use Rattle.std.specs.Bool.{beq}
 use Rattle.std.specs.Str.{bytes_eq}
@@ -7,26 +7,67 @@ use Rattle.std.specs.declared.cmp.Ordering.{Ordering}
 use Rattle.std.specs.declared.cmp.Ordering.TheVariants.{Less, Equal, Greater}
 use Rattle.std.proofs.lemmas.Map.Text.{is_eq-slice_cmp}
 use Rattle.std.specs.Ordering.{is_eq, ordering_then, int_eq, int_cmp}
+use Rattle.ax_tree.specs.Document.{member}
 use Rattle.ax_tree.specs.declared.tree.Tree as tree
 use Rattle.ax_tree.specs.declared.tree.Tree.{Tree}
 use Rattle.ax_tree.specs.declared.tree.Tree.TheOpen.{Tree-F}
 use Rattle.ax_tree.specs.declared.tree.Tree.TheViews.{roll-Tree}
 use Rattle.ax_tree.specs.declared.tree.Tree.TheFolds.{ind-Tree}
 use Rattle.ax_tree.specs.declared.tree.Tree.TheVariants.{rolls-Null, rolls-Truth, rolls-Number, rolls-Text, rolls-List, rolls-Object}
+use Rattle.ax_mean.specs.declared.expr.Expr as expr
+use Rattle.ax_mean.specs.declared.expr.Expr.{Expr}
 use Rattle.ax_mean.specs.declared.operator.BinaryOp.{BinaryOp}
 use Rattle.ax_mean.specs.declared.operator.BinaryOp.TheVariants as op
 use Rattle.ax_mean.specs.declared.value.Value.{Value}
 use Rattle.ax_mean.specs.declared.value.Value.TheVariants.{Undefined, Defined}
 use Rattle.ax_mean.specs.Comparison.{comparison, equality}
-use Rattle.ax_mean.specs.Meaning.{is_yes}
+use Rattle.ax_mean.specs.Meaning.{Env, is_yes, meaning}
 use Rattle.ax_mean.specs.Operators.{binary}
 use Rattle.ax_mean.specs.Sameness.{is_same}
 use Rattle.ax_mean.specs.ValueOrder.{value_cmp}
-use Rattle.ax_mean.specs.Values.{truth_of, of_truth}
+use Rattle.ax_mean.specs.Values.{of_tree, truth_of, of_truth}
+use Rattle.ax_sieve.specs.declared.literal.Literal.{Literal}
 use Rattle.ax_sieve.specs.declared.scalar.Scalar.{Scalar}
 use Rattle.ax_sieve.specs.declared.scalar.Scalar.TheVariants as scalar
 use Rattle.ax_sieve.specs.Comparing.{scalar_order, passes, is_met}
+use Rattle.ax_sieve.specs.Literals.{literal_value}
+use Rattle.ax_sieve.specs.Operands.{document_env}
 use Rattle.ax_sieve.specs.Scalars.{value_of}
+
+then_same : (o : Ordering) → ordering_then o Equal ≡ o
+then_same Less = refl
+then_same Equal = refl
+then_same Greater = refl
+
+pub numbers_ordered : (s : Scalar) (a b : ℤ) (o : Ordering) → s ≡ scalar.Number a → o ≡ int_cmp a b
+    → Some o ≡ scalar_order (value_of s) (Defined (tree.Number b))
+unfolding tree.out-Tree denote.Hole.Carrier.out
+numbers_ordered s a b o is found =
+    ap Some (found ∙ sym (then_same (int_cmp a b)))
+    ∙ ap (λ t. scalar_order (value_of t) (Defined (tree.Number b))) (sym is)
+
+pub of_two_kinds : (s : Scalar) (n : ℤ) → ((m : ℤ) → s ≡ scalar.Number m → ⊥)
+    → None ≡ scalar_order (value_of s) (Defined (tree.Number n))
+unfolding tree.out-Tree denote.Hole.Carrier.out
+of_two_kinds (scalar.Number m) n apart = absurd (apart m refl)
+of_two_kinds scalar.Undefined n apart = refl
+of_two_kinds scalar.Null n apart = refl
+of_two_kinds (scalar.Truth b) n apart = refl
+of_two_kinds (scalar.Text text) n apart = refl
+
+compare_means : (env : Env) (op : BinaryOp) (left right : Expr)
+    → meaning env (expr.Compare op left right) ≡ binary op (meaning env left) (meaning env right)
+compare_means env op left right = search (rules, expr.the_lemmas)
+
+pub member_compared : (alias name : List ℕ) (op : BinaryOp) (x left right : Expr) (b : Literal)
+    → x ≡ expr.Compare op left right
+    → ((tree : Tree) → meaning (document_env alias tree) left ≡ of_tree (member name tree))
+    → ((env : Env) → meaning env right ≡ literal_value b) → (tree : Tree)
+    → meaning (document_env alias tree) x ≡ binary op (of_tree (member name tree)) (literal_value b)
+member_compared alias name op x left right b is first second tree =
+    let env : Env = document_env alias tree in
+    ap (meaning env) is ∙ compare_means env op left right
+    ∙ ap₂ (binary op) (first tree) (second env)
 
 truth_again : (t : Option Bool) → truth_of (of_truth t) ≡ t
 unfolding tree.out-Tree denote.Hole.Carrier.out
@@ -83,9 +124,7 @@ equal_truths false true = same_truths false true
 equal_truths false false = same_truths false false
 
 then_equal : (o : Ordering) → is_eq o ≡ is_eq (ordering_then o Equal)
-then_equal Less = refl
-then_equal Equal = refl
-then_equal Greater = refl
+then_equal o = ap is_eq (sym (then_same o))
 
 equal_at : (s : Scalar) (x : Tree-F Tree) → IsTold s (Defined (tree_at x))
 unfolding tree.out-Tree denote.Hole.Carrier.out

@@ -3,3 +3,4 @@ pub mod Conjunctions
 pub mod Decimals
 pub mod PlainNames
 pub mod Shapes
+pub mod Signs

@@ -12,11 +12,12 @@ use Rattle.ax_mean.specs.Rows.{envs_of_tree, keyed_rows}
 use Rattle.ax_mean.specs.Values.{of_tree, truth_of}
 use Rattle.ax_sieve.specs.declared.condition.Condition.{Condition}
 use Rattle.ax_sieve.specs.declared.sieve.Sieve.{Sieve}
+use Rattle.ax_sieve.specs.Literals.{literal_value}
 
 -- the value of the comparison, in a document
 abbrev pub value : Condition → Tree → Value
 value condition tree =
-    binary condition.op (of_tree (member condition.name.now tree)) condition.literal.now
+    binary condition.op (of_tree (member condition.name.now tree)) (literal_value condition.literal)
 
 abbrev pub holds : Condition → Tree → Bool
 holds condition tree = is_yes (truth_of (value condition tree))

@@ -1,19 +1,24 @@
 //! Comparisons of scalars with literals.
 ghost use Rattle.std.specs.Prelude.{◌≡◌, false, IsFalse};
+ghost use Rattle.ax_tree.specs.declared.tree.Tree as tree;
 ghost use Rattle.ax_mean.specs.Meaning.{is_yes};
 ghost use Rattle.ax_mean.specs.Operators.{binary};
 ghost use Rattle.ax_mean.specs.Values.{truth_of};
+ghost use Rattle.ax_mean.specs.declared.value.Value.TheVariants.{Defined};
 ghost use Rattle.ax_sieve.specs.Comparing.{scalar_order, is_met as met_test};
+ghost use Rattle.ax_sieve.specs.Literals.{literal_value};
 ghost use Rattle.ax_sieve.specs.Scalars.{value_of};
 
+use crate::literal::Literal;
 use crate::scalar::Scalar;
 use ax_mean::{BinaryOp, Tree, Value};
 use std::cmp::Ordering;
 
 /// Whether a comparison may be true; no operator but the six comparisons is told to be false.
 #[tactic(auto, using(crate::proofs::Comparisons::not_met))]
-pub(crate) fn may_be_true(op: BinaryOp, scalar: &Scalar, literal: &Value) -> bool
-    ensures { IsFalse result → is_yes (truth_of (binary op (value_of scalar.now) literal.now)) ≡ false }
+pub(crate) fn may_be_true(op: BinaryOp, scalar: &Scalar, literal: &Literal) -> bool
+    ensures { IsFalse result
+        → is_yes (truth_of (binary op (value_of scalar.now) (literal_value literal.now))) ≡ false }
 {
     is_met(op, order(scalar, literal))
 }
@@ -36,10 +41,31 @@ fn is_met(op: BinaryOp, order: Option<Ordering>) -> bool
 
 /// The order of a scalar and a literal of its kind; none across kinds.
 #[inline]
-fn order(scalar: &Scalar, literal: &Value) -> Option<Ordering>
-    ensures { result ≡ scalar_order (value_of scalar.now) literal.now }
+fn order(scalar: &Scalar, literal: &Literal) -> Option<Ordering>
+    ensures { result ≡ scalar_order (value_of scalar.now) (literal_value literal.now) }
 {
-    let Value::Defined(tree) = literal else {
+    match literal {
+        Literal::Value(value) => order_to_value(scalar, value),
+        Literal::Number(number) => order_to_number(scalar, number),
+    }
+}
+
+#[inline]
+#[tactic(auto, using(crate::proofs::Comparisons::of_two_kinds))]
+fn order_to_number(scalar: &Scalar, number: &i64) -> Option<Ordering>
+    ensures { result ≡ scalar_order (value_of scalar.now) (Defined (tree.Number number.now)) }
+{
+    match scalar {
+        Scalar::Number(own) => Some(own.cmp(number)),
+        _ => None,
+    }
+}
+
+#[inline]
+fn order_to_value(scalar: &Scalar, value: &Value) -> Option<Ordering>
+    ensures { result ≡ scalar_order (value_of scalar.now) value.now }
+{
+    let Value::Defined(tree) = value else {
         return None;
     };
     match (scalar, tree) {

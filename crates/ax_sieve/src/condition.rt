@@ -1,24 +1,26 @@
 //! A condition on a document, and the one that an expression is.
-ghost use Rattle.std.specs.Prelude.{◌≡◌, true};
+ghost use Rattle.std.specs.Prelude.{◌≡◌, true, IfSome};
+ghost use Rattle.ax_mean.specs.declared.expr.Expr as exprs;
 ghost use Rattle.ax_sieve.specs.Names.{is_plain};
 
 use crate::comparing::may_be_true;
+use crate::literal::{Literal, literal_of};
 use crate::member::member_name;
 use crate::member_value::member_value;
 use crate::plain::is_plain;
-use ax_mean::{BinaryOp, Expr, Text, Value};
+use ax_mean::{BinaryOp, Expr, Text};
 
 /// That a member of a document compares so with a literal.
 #[derive(Debug, Clone, Copy)]
 pub(crate) struct Condition<'a> {
     pub(crate) name: &'a Text,
     pub(crate) op: BinaryOp,
-    pub(crate) literal: &'a Value,
+    pub(crate) literal: Literal<'a>,
     ghost plain: { is_plain name.now ≡ true },
 }
 
 impl<'a> Condition<'a> {
-    ghost use Rattle.std.specs.Prelude.{false, IfSome, IsTrue};
+    ghost use Rattle.std.specs.Prelude.{false, IsTrue};
     ghost use Rattle.ax_tree.specs.CanonicalText.{canonical_text};
     ghost use Rattle.ax_tree.specs.declared.tree.Tree.{Tree};
     ghost use Rattle.ax_mean.specs.Meaning.{meaning};
@@ -31,21 +33,13 @@ impl<'a> Condition<'a> {
         ensures { IfSome result (λ condition. (tree : Tree)
             → meaning (document_env alias.now tree) expr.now ≡ value condition tree) }
     {
-        let Expr::Compare(op, left, right) = expr else {
-            return None;
-        };
-        let Expr::Literal(literal) = right.get() else {
-            return None;
-        };
-        let name = member_name(alias, left.get())?;
+        let (op, left, right) = comparison_of(expr)?;
+        let literal = literal_of(right)?;
+        let name = member_name(alias, left)?;
         if !is_plain(name.as_str().as_bytes()) {
             return None;
         }
-        Some(Condition {
-            name,
-            op: *op,
-            literal,
-        })
+        Some(Condition { name, op, literal })
     }
 
     /// Whether it does not hold in the document of a canonical text; only where that is told at
@@ -55,8 +49,19 @@ impl<'a> Condition<'a> {
             → holds self.now tree ≡ false }
     {
         match member_value(text, self.name.as_str()) {
-            Some(scalar) => !may_be_true(self.op, &scalar, self.literal),
+            Some(scalar) => !may_be_true(self.op, &scalar, &self.literal),
             None => false,
         }
+    }
+}
+
+/// The operator of a comparison, and what stands on its left and on its right; none of another
+/// expression.
+fn comparison_of(expr: &Expr) -> Option<(BinaryOp, &Expr, &Expr)>
+    ensures { IfSome result (λ parts. expr.now ≡ exprs.Compare parts.0 parts.1.now parts.2.now) }
+{
+    match expr {
+        Expr::Compare(op, left, right) => Some((*op, left.get(), right.get())),
+        _ => None,
     }
 }

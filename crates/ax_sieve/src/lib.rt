@@ -1,5 +1,6 @@
 //! Which documents a query passes over, told from their texts: the conditions of WHERE that compare
-//! a member of a document with a literal, asked of that member's text.
+//! a member of a document with a literal, or with a number that has a sign, asked of that member's
+//! text.
 //!
 //! Stands on `ax_mean`, whose queries it reads, and on `ax_skim`, which finds the members. Its one
 //! contract: a document that the sieve of a query drops has no rows in that query.
@@ -8,6 +9,7 @@
 mod comparing;
 mod condition;
 mod conditions;
+mod literal;
 mod member;
 mod member_value;
 mod number;

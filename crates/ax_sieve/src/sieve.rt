@@ -20,8 +20,9 @@ impl<'a> Sieve<'a> {
     ghost use Rattle.ax_tree.specs.declared.tree.Tree.{Tree};
     ghost use Rattle.ax_sieve.specs.Conditions.{IsSieve, is_dropped};
 
-    /// The conditions of WHERE that compare a member of the document with a literal, where the query
-    /// has one source, without steps and IN. None of another query: then nothing is dropped.
+    /// The conditions of WHERE that compare a member of the document with a literal, or with a number
+    /// that has one sign, where the query has one source, without steps and IN. None of another
+    /// query: then nothing is dropped.
     pub fn of(alloc: Global, query: &'a Query) -> Result<Sieve<'a>, Memory>
         ensures { IfOk result (λ sieve. IsSieve sieve query.now) }
     {

@@ -9,7 +9,7 @@ use Rattle.ax_tree.specs.declared.members.Member.{Member}
 use Rattle.ax_tree.specs.declared.tree.Tree.{Tree}
 use Rattle.ax_tree.specs.CanonicalText.{comma, member_text, canonical_text}
 use Rattle.ax_tree.specs.Document.{value_of}
-use Rattle.ax_skim.specs.Marks.{mark_of}
+use Rattle.ax_skim.specs.Roles.{role_of}
 use Rattle.ax_skim.specs.Members.{IsPlain, with_text, members_text, past_prefix, past_name, after_comma, past_member}
 use Rattle.ax_skim.specs.Skipping.{past_value}
 use Rattle.ax_skim.proofs.Escapes.{escape-name, same_name}
@@ -27,7 +27,7 @@ first_member m [] = refl
 first_member m (n ∷ ms) = append_assoc (member_text (with_text m)) _ (125 ∷ [])
 
 tail_ends : (ms : List (Member Tree)) → past_value (tail ms) ≡ Some (tail ms)
-unfolding mark_of
+unfolding role_of
 tail_ends [] = refl
 tail_ends (m ∷ ms) = refl
 
@@ -37,7 +37,7 @@ passed m ms =
     ∙ member_passed m.name (canonical_text m.value) (tree_passed m.value) 0 (tail ms) ∙ tail_ends ms
 
 none_behind : past_member (members_text []) ≡ None
-unfolding mark_of
+unfolding role_of
 none_behind = refl
 
 pub value_ends : (t : Tree) (ms : List (Member Tree))

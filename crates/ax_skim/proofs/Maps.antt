@@ -10,8 +10,8 @@ use Rattle.ax_tree.specs.declared.tree.Tree.TheViews.{roll-out-Tree}
 use Rattle.ax_tree.specs.declared.tree.Tree.TheFolds.{map-Tree}
 use Rattle.ax_tree.specs.CanonicalText.{text_level, canonical_text}
 use Rattle.ax_tree.specs.Document.{value_of, member_level, member, text_value_level, text_value, is_id, document_id}
-use Rattle.ax_skim.specs.declared.mark.Mark.TheVariants.{Opening, Other}
-use Rattle.ax_skim.specs.Marks.{mark_of}
+use Rattle.ax_skim.specs.declared.role.ByteRole.TheVariants.{Opening, Other}
+use Rattle.ax_skim.specs.Roles.{role_of}
 use Rattle.ax_skim.specs.Members.{members_text, past_prefix}
 use Rattle.ax_skim.proofs.Passing.{AreOther, signed_other, text-roll}
 
@@ -25,11 +25,11 @@ text_of_level t = ap canonical_text (sym (roll-out-Tree t)) ∙ text-roll (out-T
 abbrev past_bracket : List ℕ → Option (List ℕ)
 past_bracket = past_prefix (123 ∷ [])
 
-no_opening : (x : ℕ) (b : Bool) (text : List ℕ) → (123 == x) ≡ b → mark_of x ≡ Other
+no_opening : (x : ℕ) (b : Bool) (text : List ℕ) → (123 == x) ≡ b → role_of x ≡ Other
     → cond b (Some text) None ≡ None
-unfolding mark_of
+unfolding role_of
 no_opening x true text is other =
-    let same : 123 ≡ x = grind (arith, is) in absurd (apart (ap mark_of same ∙ other))
+    let same : 123 ≡ x = grind (arith, is) in absurd (apart (ap role_of same ∙ other))
   where
     apart : Opening ≡ Other → ⊥
     apart e = cc
@@ -129,3 +129,11 @@ pub id_text : (text value id : List ℕ) (t : Tree)
     → text ≡ canonical_text t → document_id t ≡ Some id → value ≡ quoted id
 id_text text value id t looked is named =
     some_same value (quoted id) (looked t is ∙ id_of_value (member (codes "id") t) id named)
+
+-- a document has a member for its id
+pub id_there : (text id : List ℕ) (t : Tree)
+    → ((tree : Tree) → text ≡ canonical_text tree
+    → None ≡ option_map canonical_text (member (codes "id") tree))
+    → text ≡ canonical_text t → document_id t ≡ Some id → ⊥
+id_there text id t looked is named =
+    none_some (quoted id) (looked t is ∙ id_of_value (member (codes "id") t) id named)

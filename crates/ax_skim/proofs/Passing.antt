@@ -14,15 +14,15 @@ use Rattle.ax_tree.specs.declared.tree.Tree.TheOpen.{Tree-F}
 use Rattle.ax_tree.specs.declared.tree.Tree.TheViews.{roll-Tree}
 use Rattle.ax_tree.specs.declared.tree.Tree.TheFolds.{map-Tree, fold-roll-Tree, ind-Tree}
 use Rattle.ax_tree.specs.CanonicalText.{comma, member_text, in_brackets, text_level, canonical_text}
-use Rattle.ax_skim.specs.declared.mark.Mark.TheVariants.{Opening, Closing, Comma, Other}
-use Rattle.ax_skim.specs.Marks.{mark_of}
+use Rattle.ax_skim.specs.declared.role.ByteRole.TheVariants.{Opening, Closing, Comma, Other}
+use Rattle.ax_skim.specs.Roles.{role_of}
 use Rattle.ax_skim.specs.Members.{with_text}
 use Rattle.ax_skim.specs.Skipping.{text_step, past_text, outside, step, past}
 use Rattle.ax_skim.proofs.Steps.{steps}
 
 -- ---- texts
 
-other_in_text : (x : ℕ) (more : List ℕ) → mark_of x ≡ Other
+other_in_text : (x : ℕ) (more : List ℕ) → role_of x ≡ Other
     → past_text false (x ∷ more) ≡ past_text false more
 other_in_text x more is = ap (λ m. text_step false m more (λ e. past_text e more)) is
 
@@ -36,19 +36,19 @@ neither false false false more = refl
 
 pub plain_in_text : (x : ℕ) (more : List ℕ) → (x ≡ 34 → ⊥) → (x ≡ 92 → ⊥)
     → past_text false (x ∷ more) ≡ past_text false more
-unfolding mark_of
+unfolding role_of
 plain_in_text x more quote backslash =
     rw (ne_eqb x 34 quote, ne_eqb x 92 backslash) (neither _ _ _ more)
 
-hex_is_other : (d : ℕ) → d < 16 → mark_of (digit_char d) ≡ Other
-unfolding mark_of
+hex_is_other : (d : ℕ) → d < 16 → role_of (digit_char d) ≡ Other
+unfolding role_of
 hex_is_other d small = grind (arith, nat_tests)
 
 control_in_text : (b : Bool) (letter x : ℕ) (more : List ℕ) → x < 32
     → past_text false (cond b (92 ∷ letter ∷ [])
     (92 ∷ 117 ∷ 48 ∷ 48 ∷ digit_char (x / 16) ∷ digit_char (x % 16) ∷ []) ++ more)
     ≡ past_text false more
-unfolding mark_of
+unfolding role_of
 control_in_text true letter x more small = refl
 control_in_text false letter x more small =
     other_in_text (digit_char (x / 16)) _ (hex_is_other (x / 16) (omega arith))
@@ -56,7 +56,7 @@ control_in_text false letter x more small =
 
 byte_in_text : (x : ℕ) (more : List ℕ)
     → past_text false (escape_byte x ++ more) ≡ past_text false more
-unfolding escape_byte mark_of
+unfolding escape_byte role_of
 byte_in_text x more = go (cases_eq x 34) (cases_eq x 92) (cases_lt x 32)
   where
     go : (x ≡ 34) ⊎ (x ≡ 34 → ⊥) → (x ≡ 92) ⊎ (x ≡ 92 → ⊥) → (x < 32) ⊎ (32 ≤ x)
@@ -73,7 +73,7 @@ byte_in_text x more = go (cases_eq x 34) (cases_eq x 92) (cases_lt x 32)
         ap (λ l. past_text false (l ++ more)) (escape_byte_plain x q b l) ∙ plain_in_text x more q b
 
 pub escape_in_text : (s more : List ℕ) → past_text false (escape s ++ 34 ∷ more) ≡ Some more
-unfolding mark_of
+unfolding role_of
 escape_in_text [] more = refl
 escape_in_text (x ∷ s) more =
     ap (past_text false) (append_assoc (escape_byte x) (escape s) (34 ∷ more))
@@ -86,18 +86,18 @@ abbrev pub IsPassed : List ℕ → Type 0
 IsPassed text = (depth : ℕ) (more : List ℕ) → past outside depth (text ++ more) ≡ past outside depth more
 
 pub quoted_passed : (s : List ℕ) → IsPassed (quoted s)
-unfolding mark_of
+unfolding role_of
 quoted_passed s depth more =
     steps depth ((escape s ++ 34 ∷ []) ++ more)
     ∙ ap (λ l. option_and_then (past outside depth) (past_text false l))
     (append_assoc (escape s) (34 ∷ []) more)
     ∙ ap (option_and_then (past outside depth)) (escape_in_text s more)
 
-digit_is_other : (d : ℕ) → d < 10 → mark_of (digit_glyph false d) ≡ Other
-unfolding mark_of
+digit_is_other : (d : ℕ) → d < 10 → role_of (digit_glyph false d) ≡ Other
+unfolding role_of
 digit_is_other d small = grind (arith, nat_tests)
 
-other_passed : (x depth : ℕ) (more : List ℕ) → mark_of x ≡ Other
+other_passed : (x depth : ℕ) (more : List ℕ) → role_of x ≡ Other
     → past outside depth (x ∷ more) ≡ past outside depth more
 other_passed x depth more is =
     ap (λ m. step outside m depth (x ∷ more) (λ p d. past p d more)) is
@@ -105,7 +105,7 @@ other_passed x depth more is =
 -- bytes that begin and end nothing
 abbrev pub AreOther : List ℕ → Type 0
 AreOther [] = Unit {0}
-AreOther (x ∷ xs) = (mark_of x ≡ Other) × AreOther xs
+AreOther (x ∷ xs) = (role_of x ≡ Other) × AreOther xs
 
 others_passed : (text : List ℕ) → AreOther text → IsPassed text
 others_passed [] all depth more = refl
@@ -129,12 +129,12 @@ unfolding digits
 decimal_other n = onto_other 64 n [] tt
 
 pub signed_other : (z : ℤ) → AreOther (signed_decimal z)
-unfolding mark_of
+unfolding role_of
 signed_other (pos n) = decimal_other n
 signed_other (negsuc n) = (refl, decimal_other (suc n))
 
 truth_passed : (b : Bool) → IsPassed (text_level (Tree-F.Truth b))
-unfolding mark_of
+unfolding role_of
 truth_passed true depth more = refl
 truth_passed false depth more = refl
 
@@ -146,10 +146,10 @@ ArePassed (t ∷ ts) = IsPassed t × ArePassed ts
 
 comma_passed : (depth : ℕ) (more : List ℕ)
     → past outside (suc depth) (comma ∷ more) ≡ past outside (suc depth) more
-unfolding mark_of
+unfolding role_of
 comma_passed depth more = rw (ne_eqb (suc depth) 0 (λ e. absurd (omega (arith, e)))) refl
 
-closing_passed : (bracket depth : ℕ) (more : List ℕ) → mark_of bracket ≡ Closing
+closing_passed : (bracket depth : ℕ) (more : List ℕ) → role_of bracket ≡ Closing
     → past outside (suc depth) (bracket ∷ more) ≡ past outside depth more
 closing_passed bracket depth more is =
     let less : suc depth - 1 ≡ depth = omega arith in
@@ -164,8 +164,8 @@ joined_passed (t ∷ u ∷ ts) all depth more =
     ap (past outside (suc depth)) (append_assoc t (comma ∷ join_with_byte comma (u ∷ ts)) more)
     ∙ all.0 (suc depth) _ ∙ comma_passed depth _ ∙ joined_passed (u ∷ ts) all.1 depth more
 
-brackets_passed : (first last : ℕ) (ts : List (List ℕ)) → mark_of first ≡ Opening
-    → mark_of last ≡ Closing → ArePassed ts → IsPassed (in_brackets first last ts)
+brackets_passed : (first last : ℕ) (ts : List (List ℕ)) → role_of first ≡ Opening
+    → role_of last ≡ Closing → ArePassed ts → IsPassed (in_brackets first last ts)
 brackets_passed first last ts opens closes all depth more =
     let inner = (join_with_byte comma ts ++ last ∷ []) ++ more in
     ap (λ m. step outside m depth (first ∷ inner) (λ p d. past p d inner)) opens
@@ -174,7 +174,7 @@ brackets_passed first last ts opens closes all depth more =
 
 pub member_passed : (name value : List ℕ) → IsPassed value
     → IsPassed (member_text (record { name = name; value = value }))
-unfolding mark_of
+unfolding role_of
 member_passed name value passed depth more =
     ap (past outside depth) (append_assoc (quoted name) (58 ∷ value) more)
     ∙ quoted_passed name depth (58 ∷ (value ++ more)) ∙ passed depth more
@@ -201,7 +201,7 @@ members_passed (m ∷ ms) = (member_passed m.name (canonical_text m.value.0) m.v
 
 level : (y : Tree-F Kept)
     → IsPassed (text_level (map-Tree Tree (List ℕ) canonical_text (map-Tree Kept Tree tree_of y)))
-unfolding mark_of
+unfolding role_of
 level Tree-F.Null = λ depth more. refl
 level (Tree-F.Truth b) = truth_passed b
 level (Tree-F.Number z) = others_passed (signed_decimal z) (signed_other z)

@@ -1,9 +1,9 @@
 -- A text that begins within a value is passed over.
 use Rattle.std.proofs.Common.{◌≡◌, ℕ, List, [], ◌∷◌, Bool, true, false, refl}
 use Rattle.std.specs.Option.{option_and_then}
-use Rattle.ax_skim.specs.declared.mark.Mark.{Mark}
-use Rattle.ax_skim.specs.declared.mark.Mark.TheVariants.{Quote, Backslash, Opening, Closing, Comma, Other}
-use Rattle.ax_skim.specs.Marks.{mark_of}
+use Rattle.ax_skim.specs.declared.role.ByteRole.{ByteRole}
+use Rattle.ax_skim.specs.declared.role.ByteRole.TheVariants.{Quote, Backslash, Opening, Closing, Comma, Other}
+use Rattle.ax_skim.specs.Roles.{role_of}
 use Rattle.ax_skim.specs.Skipping.{text_step, past_text, Place, outside, inside, escaped, step, past}
 
 abbrev place_in : Bool → Place
@@ -11,11 +11,11 @@ place_in false = inside
 place_in true = escaped
 
 -- one byte: what is so of the bytes behind it is so with it
-text_byte : (e : Bool) (mark : Mark) (depth : ℕ) (here after : List ℕ)
+text_byte : (e : Bool) (role : ByteRole) (depth : ℕ) (here after : List ℕ)
     → ((f : Bool) → past (place_in f) depth after ≡ option_and_then (past outside depth) (past_text f after))
-    → step (place_in e) mark depth here (λ p d. past p d after)
-    ≡ option_and_then (past outside depth) (text_step e mark after (λ f. past_text f after))
-text_byte true mark depth here after ih = ih false
+    → step (place_in e) role depth here (λ p d. past p d after)
+    ≡ option_and_then (past outside depth) (text_step e role after (λ f. past_text f after))
+text_byte true role depth here after ih = ih false
 text_byte false Quote depth here after ih = refl
 text_byte false Backslash depth here after ih = ih true
 text_byte false Opening depth here after ih = ih false
@@ -28,7 +28,7 @@ pub past_text_first : (e : Bool) (depth : ℕ) (after : List ℕ)
 past_text_first false depth [] = refl
 past_text_first true depth [] = refl
 past_text_first e depth (byte ∷ after) =
-    text_byte e (mark_of byte) depth (byte ∷ after) after (λ f. past_text_first f depth after)
+    text_byte e (role_of byte) depth (byte ∷ after) after (λ f. past_text_first f depth after)
 
 pub steps : (depth : ℕ) (after : List ℕ)
     → past inside depth after ≡ option_and_then (past outside depth) (past_text false after)

@@ -1,3 +1,3 @@
-pub mod Marks
 pub mod Members
+pub mod Roles
 pub mod Skipping

@@ -8,7 +8,7 @@ use Rattle.ax_tree.specs.declared.tree.Tree.{Tree}
 use Rattle.ax_tree.specs.CanonicalText.{comma, colon, member_text, canonical_text}
 use Rattle.ax_skim.specs.Skipping.{past_value}
 
--- JSON writes the name without an escape
+-- JSON writes the name, or the text, without an escape
 abbrev pub IsPlain : List ℕ → Type 0
 IsPlain name = quoted name ≡ 34 ∷ name ++ 34 ∷ []
 

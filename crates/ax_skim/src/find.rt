@@ -75,9 +75,13 @@ fn front_value(text: &[u8]) -> Option<&[u8]>
     Some(&text[..text.len() - after.len()])
 }
 
-/// The text of a JSON string that has no escape, without its quotes.
+/// The text of a JSON string that has no escape, without its quotes; `None` of one that has.
+#[tactic(auto, using(crate::proofs::Escapes::unescaped, crate::proofs::Escapes::no_backslash))]
 pub fn plain_text(value: &[u8]) -> Option<&[u8]>
-    ensures { (text : List ℕ) → value.now ≡ quoted text → IfSome result (λ plain. plain.now ≡ text) }
+    ensures found { (text : List ℕ) → value.now ≡ quoted text
+        → IfSome result (λ plain. plain.now ≡ text) }
+    ensures given { (text : List ℕ) → IsPlain text → value.now ≡ quoted text
+        → option_map (λ plain. plain.now) result ≡ Some text }
 {
     let inside = inside_quotes(value)?;
     if has_backslash(inside) {
@@ -86,8 +90,11 @@ pub fn plain_text(value: &[u8]) -> Option<&[u8]>
     Some(inside)
 }
 
+/// What stands between two quotes, at the ends.
 fn inside_quotes(value: &[u8]) -> Option<&[u8]>
-    ensures { IfSome result (λ inside. value.now ≡ 34 ∷ inside.now ++ 34 ∷ []) }
+    ensures found { IfSome result (λ inside. value.now ≡ 34 ∷ inside.now ++ 34 ∷ []) }
+    ensures given { (inside : List ℕ) → value.now ≡ 34 ∷ inside ++ 34 ∷ []
+        → option_map (λ inside. inside.now) result ≡ Some inside }
 {
     let (&first, rest) = value.split_first()?;
     let (&last, inside) = rest.split_last()?;
@@ -98,18 +105,21 @@ fn inside_quotes(value: &[u8]) -> Option<&[u8]>
     }
 }
 
-/// Is a byte of the text written as an escape?
-fn has_backslash(text: &[u8]) -> bool
-    ensures { result ≡ list_any (λ byte. byte == 92) text.now }
+/// Whether what stands between quotes has a backslash, with which each escape begins.
+fn has_backslash(inside: &[u8]) -> bool
+    ensures { result ≡ list_any (λ byte. byte == 92) inside.now }
 {
-    text.contains(&b'\\')
+    inside.contains(&b'\\')
 }
 
 /// The id in the canonical text of a document; `None` also where it is written with an escape.
 #[tactic(auto, unfolding(json::specs::Print::escape_byte))]
 pub fn find_id(text: &[u8]) -> Option<&[u8]>
-    ensures { (tree : Tree) → (id : List ℕ) → text.now ≡ canonical_text tree
+    ensures found { (tree : Tree) → (id : List ℕ) → text.now ≡ canonical_text tree
         → document_id tree ≡ Some id → IfSome result (λ found. found.now ≡ id) }
+    ensures given { (tree : Tree) → (id : List ℕ) → text.now ≡ canonical_text tree
+        → document_id tree ≡ Some id → IsPlain id
+        → option_map (λ found. found.now) result ≡ Some id }
 {
     plain_text(find_member(text, "id")?)
 }

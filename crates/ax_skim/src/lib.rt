@@ -3,12 +3,13 @@
 //!
 //! Stands on `ax_tree` for what a canonical text is, on the words of `json` for how it quotes, and on
 //! `memchr`, which passes over long texts fast. Its one contract: where bytes are the canonical text
-//! of a tree, `find_member` answers the canonical text of the member of a name, exactly. Of other
-//! bytes nothing is said.
+//! of a tree, `find_member` answers the canonical text of the member of a name, exactly, and
+//! `find_id` the id of a document, where JSON writes that without an escape. Of other bytes nothing
+//! is said.
 #![tactic(auto)]
 
 mod find;
-mod mark;
+mod role;
 mod skip;
 #[cfg(test)]
 mod tests;

@@ -4,7 +4,7 @@ ghost use Rattle.std.specs.Prelude.{◌≡◌, ◌<◌, ◌≤◌, length, None,
 ghost use Rattle.std.specs.Option.{option_map};
 ghost use Rattle.ax_skim.specs.Skipping.{past_text, past_value};
 
-use crate::mark::{Mark, mark_of};
+use crate::role::{ByteRole, role_of};
 use memchr::memchr2;
 
 /// What follows the quote that closes a text, from behind the one that opens it on.
@@ -13,11 +13,11 @@ pub(crate) fn after_text(text: &[u8]) -> Option<&[u8]>
     ensures shorter { IfSome result (λ after. length after.now < length text.now) }
 {
     let mut rest = text;
-    while let Some(marked) = from_mark(rest) {
-        let (&byte, after) = marked.split_first()?;
-        match mark_of(byte) {
-            Mark::Quote => return Some(after),
-            Mark::Backslash => {
+    while let Some(here) = from_quote_or_backslash(rest) {
+        let (&byte, after) = here.split_first()?;
+        match role_of(byte) {
+            ByteRole::Quote => return Some(after),
+            ByteRole::Backslash => {
                 let (_, behind) = after.split_first()?;
                 rest = behind;
             }
@@ -28,8 +28,8 @@ pub(crate) fn after_text(text: &[u8]) -> Option<&[u8]>
 }
 
 /// The rest of a text from its first quote or backslash on. The bytes before it do nothing.
-#[tactic(auto, using(crate::proofs::Marked::first_mark))]
-fn from_mark(text: &[u8]) -> Option<&[u8]>
+#[tactic(auto, using(crate::proofs::Fronts::first_found))]
+fn from_quote_or_backslash(text: &[u8]) -> Option<&[u8]>
     ensures same { MatchOption result (past_text false text.now ≡ None)
         (λ rest. past_text false rest.now ≡ past_text false text.now) }
     ensures within { IfSome result (λ rest. length rest.now ≤ length text.now) }
@@ -50,20 +50,20 @@ pub(crate) fn after_value(text: &[u8]) -> Option<&[u8]>
     let mut depth: usize = 0;
     let mut rest = text;
     while let Some((&byte, after)) = rest.split_first() {
-        match mark_of(byte) {
-            Mark::Quote => rest = after_text(after)?,
-            Mark::Opening => {
+        match role_of(byte) {
+            ByteRole::Quote => rest = after_text(after)?,
+            ByteRole::Opening => {
                 depth += 1;
                 rest = after;
             }
-            Mark::Closing => {
+            ByteRole::Closing => {
                 if depth == 0 {
                     return Some(rest);
                 }
                 depth -= 1;
                 rest = after;
             }
-            Mark::Comma => {
+            ByteRole::Comma => {
                 if depth == 0 {
                     return Some(rest);
                 }

@@ -1,11 +1,11 @@
 //! What a byte of a canonical text does.
 
 ghost use Rattle.std.specs.Prelude.{◌≡◌};
-ghost use Rattle.ax_skim.specs.Marks.{mark_of};
+ghost use Rattle.ax_skim.specs.Roles.{role_of};
 
 /// What a byte does, where it counts; inside a text only a quote and a backslash do.
 #[derive(Clone, Copy)]
-pub(crate) enum Mark {
+pub(crate) enum ByteRole {
     /// `"` begins a text, or ends the one that it stands in.
     Quote,
     /// `\`: the next byte of the text does nothing.
@@ -21,16 +21,16 @@ pub(crate) enum Mark {
 }
 
 #[inline]
-#[tactic(auto, unfolding(crate::specs::Marks::mark_of))]
-pub(crate) fn mark_of(byte: u8) -> Mark
-    ensures { result ≡ mark_of byte }
+#[tactic(auto, unfolding(crate::specs::Roles::role_of))]
+pub(crate) fn role_of(byte: u8) -> ByteRole
+    ensures { result ≡ role_of byte }
 {
     match byte {
-        b'"' => Mark::Quote,
-        b'\\' => Mark::Backslash,
-        b'{' | b'[' => Mark::Opening,
-        b'}' | b']' => Mark::Closing,
-        b',' => Mark::Comma,
-        _ => Mark::Other,
+        b'"' => ByteRole::Quote,
+        b'\\' => ByteRole::Backslash,
+        b'{' | b'[' => ByteRole::Opening,
+        b'}' | b']' => ByteRole::Closing,
+        b',' => ByteRole::Comma,
+        _ => ByteRole::Other,
     }
 }

@@ -18,12 +18,12 @@ skipped (x ∷ text) (suc k) within none =
     ∙ sym (plain_in_text x text (λ is. none 0 (omega arith) (omega arith) (ap does_something is))
     (λ is. none 0 (omega arith) (omega arith) (ap does_something is)))
 
-pub first_mark : (text : List ℕ) (at : Option ℕ) → IsFirstByte (is_byte2 34 92) text at
+pub first_found : (text : List ℕ) (at : Option ℕ) → IsFirstByte (is_byte2 34 92) text at
     → MatchOption at (past_text false text ≡ None)
     (λ k. past_text false (drop k text) ≡ past_text false text)
-first_mark text None none =
+first_found text None none =
     sym (skipped text (length text) (omega arith) none)
     ∙ ap (past_text false) (drop_all (length text) text (omega arith))
-first_mark text (Some k) first =
+first_found text (Some k) first =
     let high : k < length text = first.0.high in
     skipped text k (omega arith) first.0.before
