@@ -1,6 +1,6 @@
 -- The pass of a merge over rising pairs and rising changes, as a function on lists. Only clauses of
 -- private functions cite it: what a merge is, `IsMerge` says.
-use Rattle.std.specs.Prelude.{List, [], ◌∷◌, Bool, true, false, if◌then◌else◌}
+use Rattle.std.specs.Prelude.{List, [], ◌∷◌, Bool, true, false, Option, Some, None, if◌then◌else◌}
 use Rattle.std.specs.declared.cmp.Ordering.{Ordering}
 use Rattle.std.specs.declared.cmp.Ordering.TheVariants.{Less, Equal, Greater}
 use Rattle.ax_leaf.specs.declared.pair.Pair.{Pair}
@@ -29,6 +29,28 @@ put_among p others (change ∷ changes) =
     (put_where change.add change.pair (put_among p others changes))
     (put_where change.add p (others changes))
     (p ∷ others (change ∷ changes))
+
+-- is the first change one that adds
+abbrev pub adds_first : List Change → Bool
+adds_first [] = false
+adds_first (change ∷ changes) = change.add
+
+-- the pair that the first change adds
+abbrev pub added_first : List Change → List Pair
+added_first [] = []
+added_first (change ∷ changes) = put_where change.add change.pair []
+
+-- how the pair of the first change compares with a pair
+abbrev pub first_cmp : List Change → Pair → Option Ordering
+first_cmp [] p = None
+first_cmp (change ∷ changes) p = Some (pair_cmp change.pair p)
+
+-- is a change that is not before a pair one of it; nothing where it is before it
+abbrev pub met_by : Option Ordering → Option Bool
+met_by None = Some false
+met_by (Some Less) = None
+met_by (Some Equal) = Some true
+met_by (Some Greater) = Some false
 
 unfoldable pub merged : List Pair → List Change → List Pair
 merged [] changes = added_by changes

@@ -21,7 +21,7 @@ unfoldable pub delta : List TermChange → List ℕ
 delta changes = varint (length changes) ++ list_after [] changes
 
 -- no number is in both
-abbrev pub AreDisjoint : List ℕ → List ℕ → Type 0
+unfoldable pub AreDisjoint : List ℕ → List ℕ → Type 0
 AreDisjoint a b = (n : ℕ) → has_number n a ≡ true → has_number n b ≡ false
 
 -- what a term change can be: it has a number, its numbers rise, and none is both added and dropped

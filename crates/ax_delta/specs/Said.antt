@@ -7,13 +7,16 @@ use Rattle.ax_leaf.specs.declared.pair.Pair.{Pair}
 use Rattle.ax_delta.specs.declared.change.Change.{Change}
 use Rattle.ax_delta.specs.Changes.{TermChange}
 
+-- whether the number is in the list
 abbrev pub has_number : ℕ → List ℕ → Bool
 has_number n [] = false
 has_number n (m ∷ numbers) = if m == n then true else has_number n numbers
 
-abbrev pub is_same : Pair → Pair → Bool
+-- whether two pairs are the same
+unfoldable pub is_same : Pair → Pair → Bool
 is_same p q = bytes_eq p.term q.term && p.number == q.number
 
+-- whether the pair is in the list
 abbrev pub has : Pair → List Pair → Bool
 has p [] = false
 has p (q ∷ pairs) = if is_same q p then true else has p pairs

@@ -1,6 +1,6 @@
 -- How the fields of a delta, and of what a merge has still to take from one, stand for what callers
 -- see.
-use Rattle.std.specs.Prelude.{◌≡◌, ℕ, ◌<◌, ◌^◌, List, [], ◌∷◌, ◌++◌, Option, Some, None}
+use Rattle.std.specs.Prelude.{◌≡◌, ℕ, List, [], ◌∷◌, ◌++◌, Bool, true, false, Option, Some, None, nat_lt, if◌then◌else◌}
 use Rattle.ax_gap.specs.Remaining.{RemainingGaps}
 use Rattle.ax_leaf.specs.View.{numbers_left}
 use Rattle.ax_delta.specs.declared.change.Change.{Change}
@@ -35,3 +35,10 @@ changes_left c = changes_with c.term.items c.added c.dropped ++ changes_of (chan
 pub record IsReady (c : ChangesLeft) : Type 0 where
   pub spells : Spells c.term.items c.count c.rest.now
   pub reached : c.added ≡ [] → c.dropped ≡ [] → c.count ≡ 0
+
+-- the number that comes first, and whether it is one that is added
+abbrev pub first_number : List ℕ → List ℕ → Option (Bool × ℕ)
+first_number [] [] = None
+first_number [] (d ∷ dropped) = Some (false, d)
+first_number (n ∷ added) [] = Some (true, n)
+first_number (n ∷ added) (d ∷ dropped) = if nat_lt d n then Some (false, d) else Some (true, n)

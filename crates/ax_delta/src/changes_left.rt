@@ -1,10 +1,11 @@
 //! The changes of a delta, one after another.
 
-ghost use Rattle.std.specs.Prelude.{◌≡◌, [], ◌∷◌, ◌++◌, ◌×◌, OnOk, MatchOption, drop};
-ghost use Rattle.std.specs.Option.{option_map};
-ghost use Rattle.ax_leaf.specs.Pairs.{pair_cmp};
-ghost use Rattle.ax_delta.specs.View.{IsReady, changes_left};
+ghost use Rattle.std.specs.Prelude.{◌≡◌, ◌↔◌, [], ◌++◌, IsTrue, OnOk, IfOk, drop};
+ghost use Rattle.ax_delta.specs.ChangeList.{Spells};
+ghost use Rattle.ax_delta.specs.Pass.{adds_first, added_first, first_cmp};
+ghost use Rattle.ax_delta.specs.View.{IsReady, changes_left, first_number};
 
+use crate::change::cmp_pair;
 use crate::numbers_left::NumbersLeft;
 use crate::out_of_memory::Memory;
 use crate::short_change::{ShortChange, split_change};
@@ -27,9 +28,10 @@ pub(crate) struct ChangesLeft<'a> {
 }
 
 impl<'a> ChangesLeft<'a> {
-    /// The number of the first change, and whether it is added. `None` exactly where no change is
-    /// left.
+    /// The number that comes first of the term that was reached, and whether it is added. `None`
+    /// exactly where it has none.
     pub(crate) fn first(&self) -> Option<(bool, u32)>
+        ensures { result ≡ first_number self.now.added self.now.dropped }
     {
         let Some(number) = self.added.first() else {
             let number = self.dropped.first()?;
@@ -41,47 +43,89 @@ impl<'a> ChangesLeft<'a> {
         }
     }
 
+    /// Is no change left?
+    #[tactic(auto, using(crate::proofs::Taking::at_end, crate::proofs::Taking::not_end))]
+    pub(crate) fn is_end(&self) -> bool
+        requires { IsReady self.now }
+        ensures { IsTrue result ↔ (changes_left self.now ≡ []) }
+    {
+        self.first().is_none()
+    }
+
     /// How the pair of the first change compares with a pair. `None` exactly where no change is left.
     pub(crate) fn cmp_first(&self, pair: &Pair) -> Option<Ordering>
+        requires { IsReady self.now }
+        ensures { result ≡ first_cmp (changes_left self.now) pair.now }
     {
-        let (_, number) = self.first()?;
-        let term = self.term.as_slice();
-        Some(term.cmp(pair.term.as_slice()).then(number.cmp(&pair.number)))
+        let Some((_, number)) = self.first() else {
+            return None;
+        };
+        Some(cmp_pair(self.term.as_slice(), number, pair))
     }
 
     /// Takes the first change: is it one that adds?
     pub(crate) fn take(&mut self) -> Result<bool, Memory>
+        requires { IsReady self.old }
+        ensures ready { OnOk result (IsReady self.new) }
+        ensures rest { OnOk result (changes_left self.new ≡ drop 1 (changes_left self.old)) }
+        ensures add { IfOk result (λ add. add ≡ adds_first (changes_left self.old)) }
     {
-        let Some((add, _)) = self.first() else {
-            return Ok(false);
-        };
-        if add {
-            self.added.pass();
-        } else {
-            self.dropped.pass();
-        }
+        let add = self.take_number();
         self.reach()?;
         Ok(add)
     }
 
     /// Takes the first change, and puts its pair at the end where it is one that adds.
     pub(crate) fn put_first(&mut self, alloc: Global, out: &mut Vec<Pair>) -> Result<(), Memory>
+        requires { IsReady self.old }
+        ensures ready { OnOk result (IsReady self.new) }
+        ensures rest { OnOk result (changes_left self.new ≡ drop 1 (changes_left self.old)) }
+        ensures put { OnOk result (out.new.items ≡ out.old.items ++ added_first (changes_left self.old)) }
     {
-        let Some((add, number)) = self.first() else {
-            return Ok(());
-        };
-        if add {
-            let mut term = Vec::new(alloc);
-            term.extend_from_slice(self.term.as_slice())?;
-            let term = Bytes::from_vec(term);
-            out.push(Pair { term, number })?;
-        }
+        self.put_added(alloc, out)?;
         self.take()?;
         Ok(())
     }
 
+    /// Puts the pair of the first change at the end where it is one that adds.
+    fn put_added(&self, alloc: Global, out: &mut Vec<Pair>) -> Result<(), Memory>
+        requires { IsReady self.now }
+        ensures { OnOk result (out.new.items ≡ out.old.items ++ added_first (changes_left self.now)) }
+    {
+        let Some((add, number)) = self.first() else {
+            return Ok(());
+        };
+        if !add {
+            return Ok(());
+        }
+        let term = copied(alloc, self.term.as_slice())?;
+        out.push(Pair { term, number })?;
+        Ok(())
+    }
+
+    /// Takes the first number of the term that was reached: is it one that is added?
+    fn take_number(&mut self) -> bool
+        requires { IsReady self.old }
+        ensures spells { Spells self.new.term.items self.new.count self.new.rest.now }
+        ensures rest { changes_left self.new ≡ drop 1 (changes_left self.old) }
+        ensures add { result ≡ adds_first (changes_left self.old) }
+    {
+        let Some((add, _)) = self.first() else {
+            return false;
+        };
+        if add {
+            self.added.pass();
+        } else {
+            self.dropped.pass();
+        }
+        add
+    }
+
     /// Goes to the next term, where no number of the one that was reached is left.
     pub(crate) fn reach(&mut self) -> Result<(), Memory>
+        requires { Spells self.old.term.items self.old.count self.old.rest.now }
+        ensures ready { OnOk result (IsReady self.new) }
+        ensures same { OnOk result (changes_left self.new ≡ changes_left self.old) }
     {
         if self.first().is_some() {
             return Ok(());
@@ -105,4 +149,13 @@ impl<'a> ChangesLeft<'a> {
         self.rest = after;
         Ok(())
     }
+}
+
+/// A term of its own with these bytes.
+fn copied(alloc: Global, term: &[u8]) -> Result<Bytes, Memory>
+    ensures { IfOk result (λ copy. copy ≡ term.now) }
+{
+    let mut bytes = Vec::new(alloc);
+    bytes.extend_from_slice(term)?;
+    Ok(Bytes::from_vec(bytes))
 }

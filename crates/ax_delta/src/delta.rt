@@ -1,9 +1,10 @@
 //! A payload that was checked: what it says of a pair.
 
-ghost use Rattle.std.specs.Prelude.{◌≡◌, List, IfSome, IsSomeAnd};
-ghost use Rattle.ax_delta.specs.Changes.{TermChange};
-ghost use Rattle.ax_delta.specs.Payload.{IsDelta};
+ghost use Rattle.std.specs.Prelude.{◌≡◌, List, IfSome, IsSomeAnd, OnOk, IfOk};
+ghost use Rattle.ax_delta.specs.Changes.{TermChange, changes_of};
+ghost use Rattle.ax_delta.specs.Payload.{AreTermChanges, IsDelta};
 ghost use Rattle.ax_delta.specs.Said.{said_of};
+ghost use Rattle.ax_delta.specs.View.{IsReady, changes_left};
 
 use crate::changes_left::ChangesLeft;
 use crate::checking::is_change_list;
@@ -48,7 +49,11 @@ impl<'a> Delta<'a> {
     }
 
     /// Its changes, in order, none of them taken.
-    pub(crate) fn changes(&self, alloc: Global) -> Result<ChangesLeft<'_>, Memory> {
+    pub(crate) fn changes(&self, alloc: Global) -> Result<ChangesLeft<'_>, Memory>
+        ensures ready { IfOk result (λ changes. IsReady changes) }
+        ensures are { OnOk result (AreTermChanges self.now) }
+        ensures all { IfOk result (λ changes. changes_left changes ≡ changes_of self.now) }
+    {
         let mut changes = ChangesLeft {
             term: Vec::new(alloc),
             added: NumbersLeft::none(),

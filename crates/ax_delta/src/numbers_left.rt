@@ -70,6 +70,7 @@ impl<'a> NumbersLeft<'a> {
 }
 
 /// Is no number in both lists? Both rise.
+#[tactic(auto, using(crate::proofs::Numbers::left_end, crate::proofs::Numbers::left_other_end, crate::proofs::Numbers::left_shared))]
 pub(crate) fn are_disjoint(added: GapCursor<'_>, dropped: GapCursor<'_>) -> bool
     requires additions { IsRisingList added.numbers }
     requires removals { IsRisingList dropped.numbers }
@@ -94,6 +95,7 @@ pub(crate) fn are_disjoint(added: GapCursor<'_>, dropped: GapCursor<'_>) -> bool
 }
 
 /// Is the number in the list? The list rises.
+#[tactic(auto, using(ax_gap::proofs::Rising::rises, crate::proofs::Numbers::on_from, crate::proofs::Numbers::here, crate::proofs::Numbers::passed_one, crate::proofs::Numbers::none_there))]
 pub(crate) fn has_one(list: GapCursor<'_>, number: u32) -> bool
     requires { IsRisingList list.numbers }
     ensures { result ≡ has_number number list.entry.numbers }

@@ -1,16 +1,15 @@
 //! Writing the payload of a delta.
 
-ghost use Rattle.std.specs.Prelude.{◌≡◌, ◌↔◌, IsTrue, ℕ, ◌+◌, ◌++◌, ◌≤◌, ◌<◌, ◌^◌, List, [], length, OnOk, IfOk};
+ghost use Rattle.std.specs.Prelude.{◌≡◌, ◌↔◌, IsTrue, ◌++◌, ◌<◌, ◌^◌, [], length, OnOk, IfOk};
 ghost use Rattle.std.specs.List.Sorted.{IsStrictlyIncreasing};
 ghost use Rattle.ax_gap.specs.Gaps.{IsRisingList, gaps};
-ghost use Rattle.ax_gap.specs.Varint.{varint};
 ghost use Rattle.std.specs.Ordering.{is_lt};
 ghost use Rattle.ax_leaf.specs.Pairs.{Rise, pair_cmp};
 ghost use Rattle.ax_leaf.specs.Payload.{term_after};
 ghost use Rattle.ax_delta.specs.Changes.{changed_pairs, term_changes_of, with_added, with_dropped};
 ghost use Rattle.ax_delta.specs.Payload.{list_after, delta, IsDelta, AreGood};
 
-use crate::change::Change;
+use crate::change::{Change, cmp_pair};
 use crate::out_of_memory::Memory;
 use ax_gap::put_gaps;
 use ax_leaf::Pair;
@@ -32,7 +31,12 @@ pub fn encode(alloc: Global, changes: &[Change]) -> Result<Vec<u8>, Memory>
 }
 
 /// The payload, by its parts.
+#[tactic(auto, unfolding(crate::specs::Payload::delta))]
 fn spelled(alloc: Global, changes: &[Change]) -> Result<Vec<u8>, Memory>
+    requires { Rise (changed_pairs changes.now) }
+    ensures bytes { IfOk result (λ payload. payload.items ≡ delta (term_changes_of changes.now)) }
+    ensures count { OnOk result (length (term_changes_of changes.now) < 2 ^ 32) }
+    ensures good { OnOk result (AreGood (term_changes_of changes.now)) }
 {
     let mut list = Vec::new(alloc);
     let count = put_list(alloc, &mut list, changes)?;
@@ -46,13 +50,15 @@ fn spelled(alloc: Global, changes: &[Change]) -> Result<Vec<u8>, Memory>
 pub fn are_in_order(changes: &[Change]) -> bool
     ensures { IsTrue result ↔ ((0 < length changes.now) × Rise (changed_pairs changes.now)) }
 {
-    if changes.len() == 0 {
+    let Some((first, others)) = changes.split_first() else {
         return false;
-    }
-    for i in 1..changes.len() {
-        if !is_before(&changes[i - 1].pair, &changes[i].pair) {
+    };
+    let mut last = &first.pair;
+    for change in others {
+        if !is_before(last, &change.pair) {
             return false;
         }
+        last = &change.pair;
     }
     true
 }
@@ -61,13 +67,15 @@ pub fn are_in_order(changes: &[Change]) -> bool
 fn is_before(first: &Pair, second: &Pair) -> bool
     ensures { result ≡ is_lt (pair_cmp first.now second.now) }
 {
-    let term = first.term.as_slice();
-    let terms = term.cmp(second.term.as_slice());
-    terms.then(first.number.cmp(&second.number)).is_lt()
+    cmp_pair(first.term.as_slice(), first.number, second).is_lt()
 }
 
 /// Writes the term changes of the changes at the end, and answers how many they are.
 fn put_list(alloc: Global, out: &mut Vec<u8>, changes: &[Change]) -> Result<usize, Memory>
+    requires { Rise (changed_pairs changes.now) }
+    ensures count { IfOk result (λ count. count ≡ length (term_changes_of changes.now)) }
+    ensures written { OnOk result (out.new.items ≡ out.old.items ++ list_after [] (term_changes_of changes.now)) }
+    ensures good { OnOk result (AreGood (term_changes_of changes.now)) }
 {
     if changes.len() == 0 {
         return Ok(0);
@@ -112,6 +120,7 @@ fn put_number(added: &mut Vec<u32>, dropped: &mut Vec<u32>, change: &Change) -> 
 
 /// Writes a term after another, and the gap lists of its numbers, at the end. `Memory` also where
 /// the term has 2^32 bytes or more.
+#[tactic(auto, using(std::proofs::lemmas::List::append_assoc))]
 fn put_change(
     out: &mut Vec<u8>,
     last: &[u8],
@@ -119,6 +128,12 @@ fn put_change(
     added: &[u32],
     dropped: &[u32],
 ) -> Result<(), Memory>
+    requires additions { IsStrictlyIncreasing added.now }
+    requires removals { IsStrictlyIncreasing dropped.now }
+    ensures short { OnOk result (length term.now < 2 ^ 32) }
+    ensures additions { OnOk result (IsRisingList added.now) }
+    ensures removals { OnOk result (IsRisingList dropped.now) }
+    ensures written { OnOk result (out.new.items ≡ out.old.items ++ term_after last.now term.now ++ gaps added.now ++ gaps dropped.now) }
 {
     put_term(out, last, term)?;
     put_gaps(out, added)?;

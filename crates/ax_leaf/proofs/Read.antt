@@ -17,7 +17,7 @@ use Rattle.ax_leaf.proofs.ShortTerms.{short_parts}
 abbrev pub found : Posting → List ℕ → Option (Posting × List ℕ)
 found posting rest = Some (posting, rest)
 
-list_again : (ns rest : List ℕ) → IsRisingList ns → first_list (gaps ns ++ rest) ≡ given ns rest
+pub list_again : (ns rest : List ℕ) → IsRisingList ns → first_list (gaps ns ++ rest) ≡ given ns rest
 list_again ns rest h =
     let split : gaps ns ++ rest ≡ varint (length ns) ++ (gaps_from 0 ns ++ rest) =
     ap (λ (bs : List ℕ). bs ++ rest) (gaps-parts ns) ∙ append_assoc (varint (length ns)) (gaps_from 0 ns) rest
