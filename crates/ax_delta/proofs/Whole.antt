@@ -31,7 +31,7 @@ pub list_of : (bytes list : List ℕ) (count : ℕ) (changes : List TermChange) 
     → IsChangeList count list changes
 list_of bytes list count changes is e f = record { spelled = f; counted = sym e; are = is.are }
 
-pub whole_delta : (bytes list : List ℕ) (count : ℕ) (changes : List TermChange) → bytes ≡ varint count ++ list → (count ≡ 0 → ⊥) → count < 4294967296
+pub whole_delta : (bytes list : List ℕ) (count : ℕ) (changes : List TermChange) → bytes ≡ varint count ++ list → 0 < count → count < 4294967296
     → IsChangeList count list changes → IsDelta bytes changes
 unfolding delta
 whole_delta bytes list count changes e some few is = record {

@@ -1,6 +1,7 @@
 //! A payload that was checked: what it says of a pair.
 
-ghost use Rattle.std.specs.Prelude.{◌≡◌, List, IfSome, IsSomeAnd, OnOk, IfOk};
+ghost use Rattle.std.specs.Prelude.{◌≡◌, ℕ, ◌++◌, ◌<◌, ◌^◌, List, IfSome, IsSomeAnd, OnOk, IfOk};
+ghost use Rattle.ax_gap.specs.Varint.{varint};
 ghost use Rattle.ax_delta.specs.Changes.{TermChange, changes_of};
 ghost use Rattle.ax_delta.specs.Payload.{AreTermChanges, IsDelta};
 ghost use Rattle.ax_delta.specs.Said.{said_of};
@@ -71,13 +72,24 @@ pub fn check(payload: &[u8]) -> Option<Delta<'_>>
     ensures found { IfSome result (λ delta. IsDelta payload.now delta) }
     ensures only { (changes : List TermChange) → IsDelta payload.now changes → IsSomeAnd result (λ delta. delta ≡ changes) }
 {
-    let (count, list) = split_number(payload)?;
-    let count = count as usize;
-    if count == 0 {
-        return None;
-    }
+    let (count, list) = split_count(payload)?;
     if !is_change_list(list, count) {
         return None;
     }
     Some(Delta { count, list })
+}
+
+/// The number of terms with which a payload begins, and the bytes behind it. `None` exactly where it
+/// begins with none, or with 0.
+fn split_count(payload: &[u8]) -> Option<(usize, &[u8])>
+    ensures found { IfSome result (λ x. payload.now ≡ varint x.0 ++ x.1.now) }
+    ensures fits { IfSome result (λ x. (0 < x.0) × (x.0 < 2 ^ 32)) }
+    ensures only { (n : ℕ) (rest : List ℕ) → 0 < n → n < 2 ^ 32 → payload.now ≡ varint n ++ rest
+        → IsSomeAnd result (λ x. (x.0 ≡ n) × (x.1.now ≡ rest)) }
+{
+    let (count, list) = split_number(payload)?;
+    if count == 0 {
+        return None;
+    }
+    Some((count as usize, list))
 }

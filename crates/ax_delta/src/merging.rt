@@ -19,7 +19,6 @@ use std::cmp::Ordering;
 
 /// The pairs that a page has after the delta, of those that it had before, which rise. A pair that
 /// is added and was there stays, once; one that is dropped and was not there stays away.
-#[tactic(auto, using(crate::proofs::Ascending::merged_is))]
 pub fn merge(alloc: Global, pairs: Vec<Pair>, delta: &Delta<'_>) -> Result<Vec<Pair>, Memory>
     requires { Rise pairs.items }
     ensures { IfOk result (λ after. IsMerge pairs.items delta.now after.items) }
@@ -29,7 +28,6 @@ pub fn merge(alloc: Global, pairs: Vec<Pair>, delta: &Delta<'_>) -> Result<Vec<P
 }
 
 /// The same, by the pass.
-#[tactic(auto, using(crate::proofs::Stepping::merged_step, crate::proofs::Stepping::merged_end))]
 fn passed(alloc: Global, pairs: Vec<Pair>, delta: &Delta<'_>) -> Result<Vec<Pair>, Memory>
     ensures are { OnOk result (AreTermChanges delta.now) }
     ensures made { IfOk result (λ after. after.items ≡ merged pairs.items (changes_of delta.now)) }
