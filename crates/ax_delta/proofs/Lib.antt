@@ -1,0 +1,16 @@
+pub mod Numbers
+pub mod SamePair
+pub mod Passing
+pub mod Saying
+pub mod Read
+pub mod Listed
+pub mod Reaching
+pub mod Whole
+pub mod Searching
+pub mod Taking
+pub mod Stepping
+pub mod Ascending
+pub mod Grouping
+pub mod Steps
+pub mod SameChanges
+pub mod OneList

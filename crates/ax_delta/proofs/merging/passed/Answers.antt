@@ -1,0 +1,19 @@
+use Rattle.std.proofs.Common.{◌≡◌, ◌++◌, ◌∷◌, [], ap, sym, ◌∙◌}
+use Rattle.std.specs.Vec.Iter.{into_iter_items}
+use Rattle.ax_delta.proofs.Stepping.{merged_step, merged_end}
+use Rattle.ax_delta.proofs.merging.passed.Goals as goal
+
+pub loop-pair-preserved : goal.loop-pair-preserved
+loop-pair-preserved c =
+    let remaining : into_iter_items c.loop-pair.pair-iterator ≡ c.in-Some.pair ∷ into_iter_items c.next.new.self = c.in-Some.ensures.steps.0 in
+    record {
+      next = tt;
+      finite = tt;
+      ready = c.in_ok-put_pair.ensures.ready;
+      made = merged_step _ _ _ _ _ _ c.in-Some.pair (into_iter_items c.next.new.self) (into_iter_items c.loop-pair.pair-iterator) _ remaining
+          c.in_ok-met.ensures.put c.in_ok-put_pair.ensures.put c.loop-pair.invariant.made;
+    }
+
+pub returns-clause-made : goal.returns-clause-made
+returns-clause-made c =
+    merged_end _ _ _ (into_iter_items c.loop-pair.pair-iterator) _ (sym c.loop-pair.pair-iterator.rest.ok.0 ∙ c.in-None.ensures.steps.0) c.in_ok-put_others.ensures c.loop-pair.invariant.made
