@@ -64,22 +64,21 @@ abbrev pub is_taken : Pair → List TermPage → Bool
 is_taken low pages = list_any (λ page. is_same low (low_of page)) pages
 
 -- a base of a page that exists has the low pair of that page
-abbrev pub is_own : ℕ → Pair → Contents → Bool
-is_own key low contents = nat_lt key (length contents.terms) && is_same low (low_of (term_page key contents))
+abbrev pub is_own : ℕ → Pair → List TermPage → Bool
+is_own key low pages = nat_lt key (length pages) && is_same low (low_of (term_page key pages))
 
 -- The first base of a page gives it the next number, and a low pair that no page has.
-abbrev pub is_new : ℕ → Pair → Contents → Bool
-is_new key low contents =
-    (key == length contents.terms) && nat_lt key most_term_pages && not (is_taken low contents.terms)
+abbrev pub is_new : ℕ → Pair → List TermPage → Bool
+is_new key low pages = (key == length pages) && nat_lt key most_term_pages && not (is_taken low pages)
 
 -- a payload of a base: it begins with a low pair
-abbrev pub is_base : ℕ → List ℕ → Contents → Bool
-is_base key payload contents =
-    is_some (low_in payload) && (is_own key (low_at_front payload) contents || is_new key (low_at_front payload) contents)
+abbrev pub is_base : ℕ → List ℕ → List TermPage → Bool
+is_base key payload pages =
+    is_some (low_in payload) && (is_own key (low_at_front payload) pages || is_new key (low_at_front payload) pages)
 
 -- a delta is of a page that exists
-abbrev pub is_delta : ℕ → Contents → Bool
-is_delta key contents = nat_lt key (length contents.terms)
+abbrev pub is_delta : ℕ → List TermPage → Bool
+is_delta key pages = nat_lt key (length pages)
 
 abbrev pub with_base : List ℕ → TermPage
 with_base payload = record { base = Some payload; deltas = [] }
@@ -88,13 +87,12 @@ abbrev pub with_delta : List ℕ → TermPage → TermPage
 with_delta payload page = record page { deltas = page.deltas ++ payload ∷ [] }
 
 -- the term pages after a base: it takes the place of a page, or is the last one
-abbrev pub after_base : ℕ → List ℕ → Contents → List TermPage
-after_base key payload contents =
-    if nat_lt key (length contents.terms) then slice_set contents.terms key (with_base payload)
-    else contents.terms ++ with_base payload ∷ []
+abbrev pub after_base : ℕ → List ℕ → List TermPage → List TermPage
+after_base key payload pages =
+    if nat_lt key (length pages) then slice_set pages key (with_base payload) else pages ++ with_base payload ∷ []
 
-abbrev pub after_delta : ℕ → List ℕ → Contents → List TermPage
-after_delta key payload contents = slice_set contents.terms key (with_delta payload (term_page key contents))
+abbrev pub after_delta : ℕ → List ℕ → List TermPage → List TermPage
+after_delta key payload pages = slice_set pages key (with_delta payload (term_page key pages))
 
 -- the contents after a part of this kind, or none where it is outside the format
 abbrev pub after_kind : Option Kind → ℕ → List ℕ → Contents → Option Contents
@@ -107,9 +105,9 @@ after_kind (Some kind.Document) key payload contents =
 after_kind (Some kind.Gone) key payload contents =
     if is_gone key payload then Some (record contents { documents = map.remove contents.documents key }) else None
 after_kind (Some kind.Base) key payload contents =
-    if is_base key payload contents then Some (record contents { terms = after_base key payload contents }) else None
+    if is_base key payload contents.terms then Some (record contents { terms = after_base key payload contents.terms }) else None
 after_kind (Some kind.Delta) key payload contents =
-    if is_delta key contents then Some (record contents { terms = after_delta key payload contents }) else None
+    if is_delta key contents.terms then Some (record contents { terms = after_delta key payload contents.terms }) else None
 after_kind None key payload contents = None
 
 abbrev pub after_part : PartValue → Contents → Option Contents

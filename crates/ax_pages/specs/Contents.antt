@@ -39,8 +39,8 @@ abbrev pub no_contents : Contents
 no_contents = record { meta = None; policies = map.empty; documents = map.empty; terms = no_term_page ∷ [] }
 
 -- the term page of a number
-abbrev pub term_page : ℕ → Contents → TermPage
-term_page number contents = slice_index_or contents.terms number no_term_page
+abbrev pub term_page : ℕ → List TermPage → TermPage
+term_page number pages = slice_index_or pages number no_term_page
 
 -- the parts of a term page: its base, and the deltas behind it
 abbrev pub term_parts : TermPage → List (List ℕ)
@@ -56,7 +56,7 @@ abbrev pub parts_of : Page → Contents → List (List ℕ)
 parts_of Meta contents = option_to_list contents.meta
 parts_of (Policy number) contents = option_to_list (map.get contents.policies number)
 parts_of (Document number) contents = option_to_list (map.get contents.documents number)
-parts_of (Term number) contents = term_parts (term_page number contents)
+parts_of (Term number) contents = term_parts (term_page number contents.terms)
 
 -- the two numbers in a payload of the meta, low bytes first: the next number, and the policy now
 abbrev pub next_in : List ℕ → ℕ

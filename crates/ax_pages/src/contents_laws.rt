@@ -59,7 +59,7 @@ pub fn the_last_part_counts()
 /// The term pages of a store, as parts make them: there is one from the start, none is ever gone, and each keeps its low
 /// pair, which no other has.
 pub fn term_pages_are_told_apart()
-    ensures apart { (parts : List PartValue) (contents : Contents) → after_parts parts no_contents ≡ Some contents → AreApart contents }
+    ensures apart { (parts : List PartValue) (contents : Contents) → after_parts parts no_contents ≡ Some contents → AreApart contents.terms }
     ensures kept { (parts : List PartValue) (before after : Contents) (number : ℕ) → after_parts parts before ≡ Some after
-        → number < length before.terms → KeepsLow number before after }
+        → number < length before.terms → KeepsLow number before.terms after.terms }
 {}
