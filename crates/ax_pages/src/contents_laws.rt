@@ -6,7 +6,6 @@ ghost use Rattle.std.specs.List.{AllByRecursion};
 ghost use Rattle.ax_frame.specs.Part.{PartValue};
 ghost use Rattle.ax_pages.specs.Contents.{Contents, no_contents, parts_of};
 ghost use Rattle.ax_pages.specs.AfterPart.{after_parts, page_of, after_in_page};
-ghost use Rattle.ax_pages.specs.TermPages.{AreApart, KeepsLow};
 ghost use Rattle.ax_pages.specs.Leads.{Leads, IsSpoiled, LeadOn, AreSpoiled};
 ghost use Rattle.ax_pages.specs.HasContents.{HasContents, IsSpoiledImage};
 ghost use Rattle.ax_pages.specs.declared.page.Page.{Page};
@@ -40,26 +39,4 @@ pub fn one_outcome_of_an_image()
         → IsSpoiledImage image a i → IsSpoiledImage image b j → i ≡ j }
     ensures either { (image : Image) (contents : Contents) (area : Extent) (i : ℕ)
         → HasContents contents image → IsSpoiledImage image area i → ⊥ }
-{}
-
-/// A page has what its last part makes of what it had, whatever parts of other pages follow: of the meta, a policy and a
-/// document the last part counts, and of a term page the last base with the deltas behind it. A page of which there
-/// is no part is as it was.
-pub fn the_last_part_counts()
-    ensures last { (front back : List PartValue) (part : PartValue) (page : Page) (before after : Contents)
-        → after_parts (front ++ part ∷ back) before ≡ Some after
-        → page_of part ≡ Some page → AllByRecursion (λ other. page_of other ≢ Some page) back
-        → (between : Contents) × (after_parts front before ≡ Some between)
-        × (parts_of page after ≡ after_in_page part (parts_of page between)) }
-    ensures none { (parts : List PartValue) (page : Page) (before after : Contents)
-        → after_parts parts before ≡ Some after → AllByRecursion (λ other. page_of other ≢ Some page) parts
-        → parts_of page after ≡ parts_of page before }
-{}
-
-/// The term pages of a store, as parts make them: there is one from the start, none is ever gone, and each keeps its low
-/// pair, which no other has.
-pub fn term_pages_are_told_apart()
-    ensures apart { (parts : List PartValue) (contents : Contents) → after_parts parts no_contents ≡ Some contents → AreApart contents.terms }
-    ensures kept { (parts : List PartValue) (before after : Contents) (number : ℕ) → after_parts parts before ≡ Some after
-        → number < length before.terms → KeepsLow number before.terms after.terms }
 {}
