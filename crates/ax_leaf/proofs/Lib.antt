@@ -15,3 +15,4 @@ pub mod Searching
 pub mod Going
 pub mod FromLow
 pub mod Fronts
+pub mod Lows

@@ -1,7 +1,9 @@
 //! A term after another: writing one, and reading one as it is written.
 
 ghost use Rattle.std.specs.Prelude.{◌≡◌, ℕ, ◌++◌, ◌<◌, ◌≤◌, ◌^◌, List, length, IfSome, IsSomeAnd, OnOk};
+ghost use Rattle.std.specs.Option.{option_map};
 ghost use Rattle.ax_gap.specs.Varint.{varint};
+ghost use Rattle.ax_leaf.specs.Low.{first_number};
 ghost use Rattle.ax_leaf.specs.Payload.{common, term_after};
 ghost use Rattle.ax_leaf.specs.ShortTerm.{short_term};
 
@@ -24,6 +26,7 @@ pub fn split_number(bytes: &[u8]) -> Option<(u32, &[u8])>
     ensures fits { IfSome result (λ x. x.0 < 2 ^ 32) }
     ensures only { (n : ℕ) (rest : List ℕ) → n < 2 ^ 32 → bytes.now ≡ varint n ++ rest
         → IsSomeAnd result (λ x. (x.0 ≡ n) × (x.1.now ≡ rest)) }
+    ensures first { option_map (λ x. (x.0, x.1.now)) result ≡ first_number bytes.now }
 {
     let (number, used) = read_varint(bytes)?;
     let (_, rest) = bytes.split_at(used);

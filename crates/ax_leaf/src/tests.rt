@@ -1,4 +1,5 @@
 use crate::leaf::check;
+use crate::low::split_low;
 use crate::pair::{Bytes, Pair};
 use crate::writing::{encode, is_in_order};
 use std::test::Fail;
@@ -40,6 +41,20 @@ fn a_base_with_three_terms_is_written(rt: HostRuntime) -> Result<(), Fail> {
         2, 0x61, 0x62, 5, 3, 0, 2, 0x61, 0x62, 2, 5, 1, 2, 1, 0x63, 1, 1, 0, 1, 0x62, 1, 0xAC, 2,
     ];
     assert_eq!(rt; payload.as_slice(), expected);
+    Ok(())
+}
+
+// The low pair of the base above, before bytes that are no postings; and a term that is cut short.
+#[test]
+fn a_low_pair_is_split_off(rt: HostRuntime) -> Result<(), Fail> {
+    let bytes: &[u8] = &[2, 0x61, 0x62, 5, 0xFF, 0xFF];
+    let (term, number, rest) = split_low(bytes).unwrap_or((&[], 0, &[]));
+    let low_term: &[u8] = b"ab";
+    let behind: &[u8] = &[0xFF, 0xFF];
+    assert_eq!(rt; term, low_term);
+    assert_eq!(rt; number, 5);
+    assert_eq!(rt; rest, behind);
+    assert!(rt; split_low(&bytes[..2]).is_none());
     Ok(())
 }
 
