@@ -6,18 +6,7 @@ use Rattle.std.specs.Ordering.{nat_cmp, eq_by_cmp, is_eq}
 use Rattle.std.specs.declared.cmp.Ordering.TheVariants.{Less, Equal, Greater}
 use Rattle.std.specs.Cmp.{nat_cmp_total, tied_itself}
 use Rattle.std.specs.FinMap as map
-use Rattle.ax_frame.specs.Part.{PartValue}
-use Rattle.ax_pages.specs.declared.page.Page.{Page}
-use Rattle.ax_pages.specs.declared.page.Page.TheVariants.{Meta, Policy, Document, Term}
-use Rattle.ax_pages.specs.declared.page.Kind.{Kind}
-use Rattle.ax_pages.specs.declared.page.Kind.TheVariants as kind
-use Rattle.ax_pages.specs.Contents.{Contents, Numbered, payload_of}
-use Rattle.ax_pages.specs.AfterPart.{kind_of, after_kind, after_parts, page_of_kind, page_of, left_by_kind, left_by}
-use Rattle.ax_pages.proofs.OneContents.{same_some, first_step}
-
-passed : (test : Bool) (x y : Contents) → (if test then Some x else None) ≡ Some y → y ≡ x
-passed true x y e = sym (same_some x y e)
-passed false x y e = absurd cc
+use Rattle.ax_pages.proofs.OneContents.{same_some}
 
 pub same_number : (n : ℕ) → eq_by_cmp nat_cmp n n ≡ true
 same_number n = ap is_eq (tied_itself nat_cmp_total n)
