@@ -1,5 +1,5 @@
 -- Bases of term pages: which are within the format, and that one keeps the low pair of its page.
-use Rattle.std.proofs.Common.{◌≡◌, ℕ, ◌+◌, ◌<◌, ◌≤◌, List, [], ◌∷◌, ◌++◌, length, get_or, set, Bool, true, false, ◌&&◌, ◌||◌, not, ◌==◌, refl, sym, ap, subst, ◌∙◌, arith, ◌⊎◌, inl, inr, Option, Some, None, is_some, Ordering, Less, Equal, Greater, nat_lt}
+use Rattle.std.proofs.Common.{◌≡◌, ℕ, suc, ◌+◌, ◌<◌, ◌≤◌, List, [], ◌∷◌, ◌++◌, length, get_or, set, Bool, true, false, ◌&&◌, ◌||◌, not, ◌==◌, refl, sym, ap, subst, ◌∙◌, arith, ◌⊎◌, inl, inr, Option, Some, None, is_some, Ordering, Less, Equal, Greater, nat_lt}
 use Rattle.std.specs.Prelude.{if◌then◌else◌, unwrap_or}
 use Rattle.std.specs.Bool.{IsTrue}
 use Rattle.std.specs.List.{insert, list_any}
@@ -49,7 +49,7 @@ taken_at low (page ∷ pages) e = by_first (is_same low (low_of page)) (λ h. ta
     by_first : (b : Bool) → (is_taken low pages ≡ true → HasLow low pages) → is_same low (low_of page) ≡ b → (b || is_taken low pages) ≡ true
         → HasLow low (page ∷ pages)
     by_first true later is e = (0, omega arith, sym (same_is low (low_of page) is))
-    by_first false later is e = let at : HasLow low pages = later e in (at.0 + 1, omega (arith, at.1), at.2)
+    by_first false later is e = let at : HasLow low pages = later e in (suc at.0, omega (arith, at.1), at.2)
 
 -- a pair that is the low pair of a page is that of the page to which it belongs
 pub taken_where : (pair : Pair) (number : ℕ) (pages : List TermPage) → IsPageOf pair number pages → is_same pair (low_pair number pages) ≡ is_taken pair pages

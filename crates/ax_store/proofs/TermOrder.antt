@@ -1,19 +1,20 @@
 -- The order of term pages by their low pairs: what a search in it finds, and how it stays one.
-use Rattle.std.proofs.Common.{◌≡◌, ℕ, zero, suc, ◌+◌, ◌-◌, ◌<◌, ◌≤◌, List, [], ◌∷◌, ◌++◌, length, get_or, Bool, true, false, ◌||◌, Some, None, Ordering, Less, Equal, Greater, refl, sym, ap, subst, ◌∙◌, arith, ◌⊎◌, inl, inr, Option}
+use Rattle.std.proofs.Common.{◌≡◌, ℕ, ◌+◌, ◌-◌, ◌<◌, ◌≤◌, List, [], ◌∷◌, ◌++◌, length, get_or, Bool, true, false, ◌||◌, Some, None, Ordering, Less, Equal, Greater, refl, sym, ap, subst, ◌∙◌, arith, ◌⊎◌, inl, inr, Option, Bor, is_some, nat_lt}
+use Rattle.std.specs.Option.{option_copied}
 use Rattle.std.specs.Prelude.{slice_get, IfSome, IfNone}
 use Rattle.std.specs.List.{insert, list_any}
 use Rattle.std.specs.List.Sorted.{IsPartitionedBy, IsPartitionPoint}
-use Rattle.std.specs.Cmp.{IsTotalOrder}
+use Rattle.std.specs.Cmp.{nat_cmp_is}
 use Rattle.std.specs.Cmp.Lexicographic.{slice_cmp}
 use Rattle.std.specs.FinMap.{slice_cmp-IsAntisymmetric, nat_cmp-IsAntisymmetric}
 use Rattle.std.specs.Ordering.{nat_cmp, is_le, ordering_then, ordering_reverse}
 use Rattle.std.specs.Str.{bytes_eq}
-use Rattle.std.proofs.lemmas.Bool.{cases_lt, cases_order}
+use Rattle.std.proofs.lemmas.Bool.{cases_lt, cases_order, ltb-true, ltb-false}
 use Rattle.std.proofs.lemmas.Cmp.{tied_itself}
 use Rattle.std.proofs.lemmas.Grind.{get_or_default_zero}
 use Rattle.std.proofs.lemmas.List.{get_or_append_left, length-append}
 use Rattle.std.proofs.lemmas.List.Edits.{get_or-insert_at, get_or-insert_below, get_or-insert_above, length-insert}
-use Rattle.std.proofs.lemmas.Option.{slice_get-get_or, slice_get_within, get_or_from_slice_get}
+use Rattle.std.proofs.lemmas.Option.{slice_get-get_or, slice_get_past, slice_get_within, get_or_from_slice_get}
 use Rattle.std.proofs.Math.Seq.{get_or-append_seam}
 use Rattle.ax_leaf.specs.declared.pair.Pair.{Pair}
 use Rattle.ax_leaf.specs.Low.{first_pair}
@@ -77,8 +78,12 @@ le_before a b pair Equal less is le = ap (λ (p : Pair). is_le (pair_cmp a p)) (
 le_before a b pair Greater less is le = absurd (cc)
 
 zero_not_after : (number : ℕ) → nat_cmp 0 number ≡ Greater → ⊥
-zero_not_after zero e = cc
-zero_not_after (suc number) e = cc
+zero_not_after number e = by_place (cases_lt 0 number)
+  where
+    by_place : (0 < number) ⊎ (number ≤ 0) → ⊥
+    by_place (inl some) = not_both (nat_cmp 0 number) (sym (nat_cmp_is 0 number Less some)) e
+    by_place (inr none) =
+        let same : 0 ≡ number = omega (arith, none) in equal_not_greater (nat_cmp 0 number) (sym (nat_cmp_is 0 number Equal same)) e
 
 -- the first pair of all is after none
 first_not_after : (term : List ℕ) (number : ℕ) → pair_cmp first_pair (the_pair term number) ≡ Greater → ⊥
@@ -92,6 +97,7 @@ parted order pages pair is i j d le in_range up = by_place (cases_lt i j)
   where
     at_zero : (k : ℕ) → k < length order → get_or order k d ≡ get_or order k 0
     at_zero k h = get_or_default_zero order k d h
+
     by_place : (i < j) ⊎ (j ≤ i) → is_le (pair_cmp (low_pair (get_or order i d) pages) pair) ≡ true
     by_place (inl below) =
         let before : is_le (pair_cmp (low_pair (get_or order j 0) pages) pair) ≡ true =
@@ -155,6 +161,7 @@ module _ (order : List ℕ) (pages : List TermPage) (is : IsOrderOf order pages)
               (itself (low_pair other pages) (low_pair (get_or order (count - 1) 0) pages)
               (ap (λ (page : ℕ). low_pair page pages) (sym is_other ∙ ap (λ (k : ℕ). get_or order k 0) here)))
               greater
+
           by_count : (i < count) ⊎ (count ≤ i) → ⊥
           by_count (inl below) = by_last (cases_lt i (count - 1)) below
           by_count (inr behind) = not_after (ap (λ (page : ℕ). pair_cmp (low_pair page pages) pair) (sym is_other) ∙ at.behind i behind lt)
@@ -184,6 +191,7 @@ module _ (order : List ℕ) (pages : List TermPage) (is : IsOrderOf order pages)
         where
           from_count : count ≤ i
           from_count = later_behind page count other i at is_other later
+
           by_place : (count < i) ⊎ (i ≤ count) → ⊥
           by_place (inl beyond) =
               not_both (pair_cmp (low_pair other pages) (low_pair (get_or order count 0) pages)) before
@@ -377,3 +385,10 @@ module _ (order : List ℕ) (pages : List TermPage) (is : IsOrderOf order pages)
     rising = λ i j rise lt. by_second i j rise (omega (arith, lt, length_after)) (cases_order j at);
     all = λ number h. stands_now number (cases_lt number (length pages)) (omega (arith, h, one_more));
   }
+
+-- ---- what stands at a position
+
+pub copied_is : (found : Option (Bor ℕ)) (xs : List ℕ) (i : ℕ) → IfSome found (λ x. x.now ≡ get_or xs i x.now)
+    → (nat_lt i (length xs) ≡ is_some found) → option_copied found ≡ slice_get xs i
+copied_is None xs i same there = sym (slice_get_past xs i (ltb-false i (length xs) there))
+copied_is (Some x) xs i same there = sym (slice_get-get_or xs i x.now (ltb-true i (length xs) there) ∙ ap Some (sym same))

@@ -213,7 +213,6 @@ impl TermPages {
     }
 
     /// Whether a page has that low pair. It is the page to which the pair belongs then.
-    #[tactic(auto, using(crate::proofs::TermBases::taken_where))]
     fn is_low(&self, term: &[u8], number: u32) -> bool
         ensures { result ≡ is_taken (record { term = term.now; number = number }) self.now.pages }
     {
@@ -266,7 +265,6 @@ fn count_up_to(order: &[u32], rows: &[TermRow], term: &[u8], number: u32) -> usi
 }
 
 /// The page to which the pair of a term and a number belongs.
-#[tactic(auto, using(crate::proofs::TermOrder::page_found))]
 fn page_among(order: &[u32], rows: &[TermRow], term: &[u8], number: u32) -> u32
     requires { IsOrderOf order.now (map page_in rows.now) }
     ensures { IsPageOf (record { term = term.now; number = number }) result (map page_in rows.now) }
@@ -277,7 +275,6 @@ fn page_among(order: &[u32], rows: &[TermRow], term: &[u8], number: u32) -> u32
 }
 
 /// The page with the next greater low pair, where there is one.
-#[tactic(auto, using(crate::proofs::TermOrder::next_at, crate::proofs::TermOrder::last_at))]
 fn page_behind(order: &[u32], rows: &[TermRow], page: u32) -> Option<u32>
     requires order { IsOrderOf order.now (map page_in rows.now) }
     requires there { page < length rows.now }
