@@ -1,5 +1,6 @@
 pub mod Rows
 pub mod Listed
+pub mod TermRows
 pub mod Kept
 pub mod Taking
 pub mod Change

@@ -11,7 +11,7 @@ use Rattle.ax_store.specs.declared.fault.StoreFault.TheVariants.{Disk, Damaged, 
 use Rattle.ax_store.specs.Kept.{Kept, no_offsets, Takes}
 
 abbrev pub nothing_kept : Kept
-nothing_kept = record { contents = no_contents; offsets = no_offsets; spare = 0 }
+nothing_kept = record { contents = no_contents; offsets = no_offsets; spare = 0; rooms = 0 ∷ [] }
 
 -- The frames, the first of which stands at an offset, lead from the pages before to those after. In front of each stand its
 -- gate and its length.

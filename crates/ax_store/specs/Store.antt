@@ -16,20 +16,24 @@ use Rattle.ax_pool.specs.Frames.{Frames}
 use Rattle.ax_store.specs.declared.store.Store.{Store}
 use Rattle.ax_store.specs.declared.fault.StoreFault.{StoreFault}
 use Rattle.ax_store.specs.declared.fault.StoreFault.TheVariants.{Disk, Damaged, Newer, Memory}
-use Rattle.ax_store.specs.Kept.{PageOffsets}
+use Rattle.ax_store.specs.Kept.{PageOffsets, room_of}
 use Rattle.ax_store.specs.Loading.{nothing_kept, TakesOn}
 
 -- what the pages have
 abbrev pub store_contents : {C : Type 0} → Store C → Contents
 store_contents store = store.pages.contents
 
--- where the part of each page stands in the area
+-- where the parts of each page stand in the area
 abbrev pub store_offsets : {C : Type 0} → Store C → PageOffsets
 store_offsets store = store.pages.offsets
 
 -- how many parts may be committed without memory
 abbrev pub store_spare : {C : Type 0} → Store C → ℕ
 store_spare store = store.pages.spare
+
+-- how many deltas of a term page may be committed without memory
+abbrev pub store_room : {C : Type 0} → ℕ → Store C → ℕ
+store_room number store = room_of number store.pages
 
 -- the frames of the slots
 abbrev pub store_slots : {C : Type 0} → Store C → Frames

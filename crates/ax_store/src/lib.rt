@@ -29,6 +29,9 @@ mod slot_reads;
 mod slots;
 mod store;
 mod take_parts;
+mod term_pages;
+mod term_reads;
+mod term_row;
 mod window;
 
 pub use batch::Batch;

@@ -34,7 +34,9 @@ pub(crate) fn load<D: Disk>(alloc: Global, disk: &mut D, log: &Log) -> Result<Pa
     ensures attached { D.attached disk.new ≡ D.attached disk.old }
     ensures honest { D.is_honest disk.new ≡ D.is_honest disk.old }
 {
-    let mut pages = Pages::new(alloc);
+    let Ok(mut pages) = Pages::new(alloc) else {
+        return Err(StoreFault::Memory);
+    };
     let mut window = Window::new(alloc);
     let mut at = 0;
     while at < log.end() {

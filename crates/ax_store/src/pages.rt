@@ -1,16 +1,18 @@
 //! The pages of a store in memory, changed part by part.
 
-ghost use Rattle.std.specs.Prelude.{◌≡◌, ℕ, ◌+◌, ◌≤◌, ◌<◌, ◌==◌, length, IsTrue, OnOk, IfSome, IfNone, is_some, Some, None, option_map};
+ghost use Rattle.std.specs.Prelude.{◌≡◌, ℕ, ◌+◌, ◌≤◌, ◌<◌, ◌==◌, length, IsTrue, IfOk, OnOk, IfSome, IfNone, is_some, Some, None, option_map, slice_get, if◌then◌else◌};
 ghost use Rattle.ax_store.specs.Listed.{IsNextAfter};
 ghost use Rattle.std.specs.FinMap as map;
-ghost use Rattle.ax_pages.specs.Contents.{next_number, policy_now, is_given, next_in, now_in, payload_of};
+ghost use Rattle.std.specs.Option.{option_to_list};
+ghost use Rattle.ax_pages.specs.Contents.{next_number, policy_now, is_given, next_in, now_in, parts_of};
 ghost use Rattle.ax_pages.specs.AfterPart.{after_kind, is_meta, is_document, is_gone, has_room};
 ghost use Rattle.ax_store.specs.Rows.{payload_kept, offset_kept};
-ghost use Rattle.ax_store.specs.Kept.{IsNothing, offset_of, offsets_after};
+ghost use Rattle.ax_store.specs.Kept.{IsNothing, offsets_of, offsets_after, room_of, deltas_by_kind};
 
 use crate::directory::Directory;
 use crate::kept_part::KeptPart;
 use crate::out_of_memory::Memory;
+use crate::term_pages::TermPages;
 use ax_pages::{Kind, Page};
 use std::alloc::Global;
 use std::marker::Model;
@@ -37,6 +39,7 @@ pub(crate) struct Pages {
     numbers: Meta,
     policies: Directory,
     documents: Directory,
+    terms: TermPages,
 }
 
 impl Model for Pages {
@@ -54,13 +57,16 @@ impl Model for Pages {
         meta = option_map payload_kept p.meta;
         policies = p.policies.payloads;
         documents = p.documents.payloads;
+        terms = p.terms.pages;
       };
       offsets = record {
         meta = option_map offset_kept p.meta;
         policies = p.policies.offsets;
         documents = p.documents.offsets;
+        terms = p.terms.offsets;
       };
-      spare = min p.policies.spare p.documents.spare;
+      spare = min p.terms.spare (min p.policies.spare p.documents.spare);
+      rooms = p.terms.rooms;
     } };
 
     ghost invariant = { λ p. (p.numbers.next ≡ next_of (option_map payload_kept p.meta))
@@ -68,16 +74,18 @@ impl Model for Pages {
 }
 
 impl Pages {
-    /// No page has anything.
-    pub(crate) fn new(alloc: Global) -> Pages
-        ensures { IsNothing result }
+    /// No page has anything. `Memory` where there is none for the term page that exists from the start.
+    pub(crate) fn new(alloc: Global) -> Result<Pages, Memory>
+        ensures { IfOk result IsNothing }
     {
-        Pages {
+        let terms = TermPages::new(alloc)?;
+        Ok(Pages {
             meta: None,
             numbers: Meta { next: 1, now: 0 },
             policies: Directory::new(alloc),
             documents: Directory::new(alloc),
-        }
+            terms,
+        })
     }
 
     /// The numbers of the meta.
@@ -112,17 +120,36 @@ impl Pages {
         self.documents.get(number)
     }
 
-    /// The part of a page that counts.
-    pub(crate) fn part(&self, page: Page) -> Option<&KeptPart>
-        ensures payload { option_map (λ part. payload_kept part.now) result ≡ payload_of page self.now.contents }
-        ensures offset { option_map (λ part. offset_kept part.now) result ≡ offset_of page self.now.offsets }
+    /// The part of a position of a page. `None` exactly where the page has not so many.
+    pub(crate) fn part(&self, page: Page, i: usize) -> Option<&KeptPart>
+        ensures payload { option_map (λ part. payload_kept part.now) result ≡ slice_get (parts_of page self.now.contents) i }
+        ensures offset { option_map (λ part. offset_kept part.now) result ≡ slice_get (offsets_of page self.now.offsets) i }
     {
         match page {
-            Page::Meta => self.meta_part(),
-            Page::Policy(number) => self.policy(u32::from(number)),
-            Page::Document(number) => self.document(number),
-            Page::Term(_) => None,
+            Page::Meta => if_first(self.meta_part(), i),
+            Page::Policy(number) => if_first(self.policy(u32::from(number)), i),
+            Page::Document(number) => if_first(self.document(number), i),
+            Page::Term(number) => self.terms.part(number, i),
         }
+    }
+
+    /// How many parts a page has.
+    pub(crate) fn parts(&self, page: Page) -> usize
+        ensures { result ≡ length (parts_of page self.now.contents) }
+    {
+        match page {
+            Page::Meta => count(self.meta_part()),
+            Page::Policy(number) => count(self.policy(u32::from(number))),
+            Page::Document(number) => count(self.document(number)),
+            Page::Term(number) => self.terms.parts(number),
+        }
+    }
+
+    /// The term pages.
+    pub(crate) fn terms(&self) -> &TermPages
+        ensures pages { result.now.pages ≡ self.now.contents.terms }
+    {
+        &self.terms
     }
 
     /// How many documents are held.
@@ -145,19 +172,33 @@ impl Pages {
         ensures contents { self.new.contents ≡ self.old.contents }
         ensures offsets { self.new.offsets ≡ self.old.offsets }
         ensures never_less { self.old.spare ≤ self.new.spare }
+        ensures rooms { self.new.rooms ≡ self.old.rooms }
     {
         self.documents.drop_cleared();
     }
 
-    /// Makes room for so many parts.
+    /// Makes room for so many parts, but for deltas.
     pub(crate) fn reserve(&mut self, parts: usize) -> Result<(), Memory>
         ensures room { OnOk result (parts ≤ self.new.spare) }
         ensures contents { self.new.contents ≡ self.old.contents }
         ensures offsets { self.new.offsets ≡ self.old.offsets }
         ensures never_less { self.old.spare ≤ self.new.spare }
+        ensures rooms { self.new.rooms ≡ self.old.rooms }
     {
         self.policies.reserve(parts)?;
-        self.documents.reserve(parts)
+        self.documents.reserve(parts)?;
+        self.terms.reserve(parts)
+    }
+
+    /// Makes room for so many deltas of a term page; of one that is not there nothing is done.
+    pub(crate) fn reserve_deltas(&mut self, number: u32, deltas: usize) -> Result<(), Memory>
+        ensures room { OnOk result (number < length self.old.contents.terms → deltas ≤ room_of number self.new) }
+        ensures contents { self.new.contents ≡ self.old.contents }
+        ensures offsets { self.new.offsets ≡ self.old.offsets }
+        ensures never_less { self.old.spare ≤ self.new.spare }
+        ensures rooms { (page : ℕ) → room_of page self.old ≤ room_of page self.new }
+    {
+        self.terms.reserve_deltas(number, deltas)
     }
 
     /// Whether a part is within the format after those before it.
@@ -169,6 +210,8 @@ impl Pages {
             Kind::Policy => key <= LAST_POLICY,
             Kind::Document => self.admits_document(key, payload),
             Kind::Gone => key > 0 && payload.is_empty(),
+            Kind::Base => self.terms.admits_base(key, payload),
+            Kind::Delta => self.terms.admits_delta(key),
         }
     }
 
@@ -207,16 +250,20 @@ impl Pages {
     /// Changes the page of a part that is within the format, in the room that there is.
     pub(crate) fn put(&mut self, kind: Kind, key: u32, part: KeptPart)
         requires room { 0 < self.old.spare }
+        requires deltas { deltas_by_kind (Some kind) key key ≤ room_of key self.old }
         requires within { IsTrue (is_some (after_kind (Some kind) key (payload_kept part) self.old.contents)) }
         ensures contents { after_kind (Some kind) key (payload_kept part) self.old.contents ≡ Some self.new.contents }
         ensures offsets { self.new.offsets ≡ offsets_after (Some kind) key (offset_kept part) self.old.offsets }
         ensures room { self.old.spare ≤ self.new.spare + 1 }
+        ensures rooms { (page : ℕ) → room_of page self.old ≤ room_of page self.new + deltas_by_kind (Some kind) key page }
     {
         match kind {
             Kind::Meta => self.put_meta(part),
             Kind::Policy => self.policies.put(key, part),
             Kind::Document => self.documents.put(key, part),
             Kind::Gone => self.documents.clear(key),
+            Kind::Base => self.terms.put_base(key, part),
+            Kind::Delta => self.terms.put_delta(key, part),
         }
     }
 
@@ -226,6 +273,7 @@ impl Pages {
         ensures contents { self.new.contents ≡ record self.old.contents { meta = Some (payload_kept part) } }
         ensures offsets { self.new.offsets ≡ record self.old.offsets { meta = Some (offset_kept part) } }
         ensures room { self.old.spare ≡ self.new.spare }
+        ensures rooms { self.new.rooms ≡ self.old.rooms }
     {
         if let Some((next, now)) = numbers_in(&part.payload) {
             let now = now as u8;
@@ -248,4 +296,21 @@ fn numbers_in(payload: &[u8]) -> Option<(u32, u32)>
     let next = u32::from_le_bytes([n0, n1, n2, n3]);
     let now = u32::from_le_bytes([p0, p1, p2, p3]);
     Some((next, now))
+}
+
+/// A part, where the position is the first.
+fn if_first(part: Option<&KeptPart>, i: usize) -> Option<&KeptPart>
+    ensures { result ≡ (if i == 0 then part.entry else None) }
+{
+    if i == 0 { part } else { None }
+}
+
+/// How many parts that is: one or none.
+fn count(part: Option<&KeptPart>) -> usize
+    ensures { result ≡ length (option_to_list part.entry) }
+{
+    match part {
+        Some(_) => 1,
+        None => 0,
+    }
 }

@@ -1,6 +1,6 @@
 //! What a store answers of its pages.
 
-ghost use Rattle.std.specs.Prelude.{◌≡◌, ◌+◌, ◌<◌, ℕ, true, false, Err, IsTrue, Some, None, IfOk, IfSome, IfNone, option_map, length, drop, slice_index};
+ghost use Rattle.std.specs.Prelude.{◌≡◌, ◌+◌, ◌<◌, ℕ, true, false, Err, IsTrue, Some, None, IfOk, IfSome, IfNone, option_map, length, drop, slice_index, slice_get};
 ghost use Rattle.std.specs.FinMap as map;
 ghost use Rattle.ax_disk.specs.model.Calls.{Idles};
 ghost use Rattle.ax_pages.specs.Contents.{next_number, policy_now, parts_of};
@@ -8,7 +8,7 @@ ghost use Rattle.ax_store.specs.Faults.{HasDiskCause};
 ghost use Rattle.ax_store.specs.Listed.{IsNextAfter};
 ghost use Rattle.ax_pages.specs.Image.{extent_number};
 ghost use Rattle.ax_store.specs.Rows.{offset_kept};
-ghost use Rattle.ax_store.specs.Kept.{offset_of};
+ghost use Rattle.ax_store.specs.Kept.{offsets_of};
 ghost use Rattle.ax_store.specs.Store.{store_contents, store_offsets, store_area, store_failed};
 
 use crate::fault::{StoreFault, number_of};
@@ -39,26 +39,22 @@ impl<C> Store<C> {
         self.pages.numbers()
     }
 
-    /// How many parts a page has: one, where it has something.
+    /// How many parts a page has: of the meta, of a policy and of a document one, where it has
+    /// something; of a term page its base and the deltas behind that.
     pub fn parts(&self, page: Page) -> usize
         ensures { result ≡ length (parts_of page (store_contents self.now)) }
     {
-        match self.pages.part(page) {
-            Some(_) => 1,
-            None => 0,
-        }
+        self.pages.parts(page)
     }
 
     /// Where a part of a page stands: the extent as a number, and the offset of its head in it.
     pub fn place(&self, page: Page, i: usize) -> (u8, u64)
         requires { i < length (parts_of page (store_contents self.now)) }
         ensures extent { result.0 ≡ extent_number (store_area self.now) }
-        ensures offset { offset_of page (store_offsets self.now) ≡ Some result.1 }
+        ensures offset { slice_get (offsets_of page (store_offsets self.now)) i ≡ Some result.1 }
     {
-        // A page has one part.
-        let _ = i;
         let extent = number_of(self.log.area());
-        (extent, offset(self.pages.part(page)))
+        (extent, offset(self.pages.part(page, i)))
     }
 
     /// What the part of a document says in front of its text. `None` exactly where the number is not

@@ -1,6 +1,6 @@
 //! Reading parts and documents into slots.
 
-ghost use Rattle.std.specs.Prelude.{◌≡◌, ◌+◌, ◌<◌, ◌≤◌, true, false, Err, IsTrue, IfOk, IfErr, length};
+ghost use Rattle.std.specs.Prelude.{◌≡◌, ◌+◌, ◌<◌, ◌≤◌, true, false, Err, IsTrue, IfOk, IfErr, is_ok, length};
 ghost use Rattle.std.specs.FinMap as map;
 ghost use Rattle.ax_disk.specs.model.Calls.{Idles};
 ghost use Rattle.ax_pages.specs.Contents.{parts_of};
@@ -45,14 +45,61 @@ impl<C> Store<C> {
         ensures attached { D.attached disk.new ≡ D.attached disk.old }
         ensures honest { D.is_honest disk.new ≡ D.is_honest disk.old }
     {
-        // All payloads are in memory, and a page has one part.
-        let _ = disk;
-        let _ = i;
         count(page, steps);
+        self.read_any(disk, page, i, slot)
+    }
+
+    /// Reads a part of a term page as `read_part` does, and counts no step.
+    pub fn read_term<D: Disk>(
+        &mut self,
+        disk: &mut D,
+        page: u32,
+        i: usize,
+        slot: &mut Slot,
+    ) -> Result<usize, StoreFault>
+        requires part { i < length (parts_of (Page.Term page) (store_contents self.old)) }
+        requires slot { IsSlotOf self.old slot.old }
+        ensures read { IfOk result (IsRead (part_at (Page.Term page) i (store_contents self.old)) (store_slots self.new) slot.old.number) }
+        ensures others { AreOthersSame slot.old.number (store_slots self.old) (store_slots self.new) }
+        ensures same { SameButSlots self.old self.new }
+        ensures slot { slot.new ≡ slot.old }
+        ensures lists { IsTrue (D.is_honest disk.old)
+            → Idles (D.history disk.old (D.attached disk.old)) (D.history disk.new (D.attached disk.new)) }
+        ensures disk_alone { IfErr result (λ fault. fault ≡ StoreFault.Disk) }
+        ensures failed_before { store_failed self.old ≡ true → result ≡ Err StoreFault.Disk }
+        ensures cause { store_failed self.old ≡ false → HasDiskCause result (D.faults disk.old) (D.faults disk.new) }
+        ensures same_faults { D.faults disk.new ≡ D.faults disk.old }
+        ensures attached { D.attached disk.new ≡ D.attached disk.old }
+        ensures honest { D.is_honest disk.new ≡ D.is_honest disk.old }
+    {
+        self.read_any(disk, Page::Term(page), i, slot)
+    }
+
+    /// Reads a part of a page into the front of a slot.
+    fn read_any<D: Disk>(
+        &mut self,
+        disk: &mut D,
+        page: Page,
+        i: usize,
+        slot: &mut Slot,
+    ) -> Result<usize, StoreFault>
+        requires part { i < length (parts_of page (store_contents self.old)) }
+        requires slot { IsSlotOf self.old slot.old }
+        ensures read { IfOk result (IsRead (part_at page i (store_contents self.old)) (store_slots self.new) slot.old.number) }
+        ensures others { AreOthersSame slot.old.number (store_slots self.old) (store_slots self.new) }
+        ensures same { SameButSlots self.old self.new }
+        ensures slot { slot.new ≡ slot.old }
+        ensures disk { disk.new ≡ disk.old }
+        ensures disk_alone { IfErr result (λ fault. fault ≡ StoreFault.Disk) }
+        ensures failed_before { store_failed self.old ≡ true → result ≡ Err StoreFault.Disk }
+        ensures works { store_failed self.old ≡ false → IsTrue (is_ok result) }
+    {
+        // All payloads are in memory.
+        let _ = disk;
         if self.failed {
             return Err(StoreFault::Disk);
         }
-        match self.pages.part(page) {
+        match self.pages.part(page, i) {
             Some(part) => Ok(fill(&mut self.pool, slot, &part.payload)),
             None => unreachable!(),
         }

@@ -1,13 +1,15 @@
 //! The parts of a log frame are taken into the pages, one after another.
 
-ghost use Rattle.std.specs.Prelude.{◌≡◌, ◌+◌, ◌<◌, ◌≤◌, ◌^◌, length};
+ghost use Rattle.std.specs.Prelude.{◌≡◌, ◌+◌, ◌<◌, ◌≤◌, ◌^◌, length, OnOk, Some};
 ghost use Rattle.ax_frame.specs.Part.{part_value};
+ghost use Rattle.ax_store.specs.Kept.{deltas_by_kind, room_of};
 ghost use Rattle.ax_store.specs.Taking.{TellsPart, TellsParts};
 
 use crate::kept_part::KeptPart;
+use crate::out_of_memory::Memory;
 use crate::pages::Pages;
 use ax_frame::{Part, split_part};
-use ax_pages::kind_of_number;
+use ax_pages::{Kind, kind_of_number};
 use std::alloc::Global;
 
 /// Why the parts of a frame are not taken.
@@ -61,9 +63,23 @@ fn take_part(alloc: Global, pages: &mut Pages, part: Part<'_>, at: u64) -> Resul
     let Ok(payload) = Vec::from_slice(alloc, part.payload) else {
         return Err(TakeFault::Memory);
     };
-    let Ok(()) = pages.reserve(1) else {
+    let Ok(()) = make_room(pages, kind, part.key) else {
         return Err(TakeFault::Memory);
     };
     pages.put(kind, part.key, KeptPart { at, payload });
     Ok(())
+}
+
+/// Makes room for a part of that kind and key.
+fn make_room(pages: &mut Pages, kind: Kind, key: u32) -> Result<(), Memory>
+    ensures spare { OnOk result (0 < pages.new.spare) }
+    ensures deltas { OnOk result (key < length pages.old.contents.terms → deltas_by_kind (Some kind) key key ≤ room_of key pages.new) }
+    ensures contents { pages.new.contents ≡ pages.old.contents }
+    ensures offsets { pages.new.offsets ≡ pages.old.offsets }
+{
+    pages.reserve(1)?;
+    match kind {
+        Kind::Delta => pages.reserve_deltas(key, 1),
+        Kind::Meta | Kind::Policy | Kind::Document | Kind::Gone | Kind::Base => Ok(()),
+    }
 }
