@@ -206,7 +206,7 @@ module _ {C : Type 0} (store : Store C) (old : History) (agrees : Agrees store o
   pub turns : (history : History) (new : Contents) → after_parts parts (store_contents store) ≡ Some new
       → Turns old history (HasFrames agrees.frames) (HasFrames (agrees.frames ++ parts_bytes parts ∷ [])) → Turns old history (HasContents (store_contents store)) (HasContents new)
   turns history new lead turn =
-      let kept : Kept = record { contents = new; offsets = offsets_after_parts parts (log_end store.log + 9) store.pages.offsets; spare = 0 } in
+      let kept : Kept = record { contents = new; offsets = offsets_after_parts parts (log_end store.log + 9) store.pages.offsets; spare = 0; rooms = [] } in
       turns_weaken old history (HasFrames agrees.frames) (HasContents (store_contents store)) (HasFrames (agrees.frames ++ parts_bytes parts ∷ [])) (HasContents new)
       (contents_of agrees.frames store.pages agrees.takes)
       (contents_of (agrees.frames ++ parts_bytes parts ∷ []) kept (takes_more kept (record { lead = lead; offsets = refl })))

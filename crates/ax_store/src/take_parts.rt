@@ -2,7 +2,7 @@
 
 ghost use Rattle.std.specs.Prelude.{◌≡◌, ◌+◌, ◌<◌, ◌≤◌, ◌^◌, length, OnOk, Some};
 ghost use Rattle.ax_frame.specs.Part.{part_value};
-ghost use Rattle.ax_store.specs.Kept.{deltas_by_kind, room_of};
+ghost use Rattle.ax_store.specs.Kept.{room_of};
 ghost use Rattle.ax_store.specs.Taking.{TellsPart, TellsParts};
 
 use crate::kept_part::KeptPart;
@@ -73,7 +73,7 @@ fn take_part(alloc: Global, pages: &mut Pages, part: Part<'_>, at: u64) -> Resul
 /// Makes room for a part of that kind and key.
 fn make_room(pages: &mut Pages, kind: Kind, key: u32) -> Result<(), Memory>
     ensures spare { OnOk result (0 < pages.new.spare) }
-    ensures deltas { OnOk result (key < length pages.old.contents.terms → deltas_by_kind (Some kind) key key ≤ room_of key pages.new) }
+    ensures deltas { OnOk result (kind ≡ Kind.Delta → key < length pages.old.contents.terms → 1 ≤ room_of key pages.new) }
     ensures contents { pages.new.contents ≡ pages.old.contents }
     ensures offsets { pages.new.offsets ≡ pages.old.offsets }
 {

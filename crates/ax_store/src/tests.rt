@@ -1,6 +1,7 @@
 //! What a store does on a disk in memory.
 
 ghost use Rattle.std.specs.Prelude.{◌≡◌, ◌<◌, IsTrue};
+ghost use Rattle.ax_frame.specs.Part.{part_value};
 ghost use Rattle.ax_store.specs.Store.{Agrees};
 
 use crate::{Batch, Head, Store, StoreFault};
@@ -19,6 +20,16 @@ const META: [u8; 8] = [2, 0, 0, 0, 0, 0, 0, 0];
 
 /// A document's policy 0, and its text.
 const DOCUMENT: [u8; 3] = [0, b'{', b'}'];
+
+/// A base of page 0: of the first of all pairs, the empty term with number 0.
+const FIRST_BASE: [u8; 3] = [0, 0, 7];
+
+/// A base of page 1, from the term `b` and number 5 on.
+const SECOND_BASE: [u8; 4] = [1, b'b', 5, 8];
+
+/// A delta of page 0, and the one behind it.
+const FIRST_DELTA: [u8; 1] = [9];
+const SECOND_DELTA: [u8; 2] = [10, 11];
 
 /// The text alone.
 const TEXT: [u8; 2] = [b'{', b'}'];
@@ -65,11 +76,52 @@ fn a_document_is_there_again(rt: HostRuntime) -> Result<(), Fail> {
         })
     );
     // Behind gate, length, and the meta's part of 17 bytes.
-    assert_eq!(rt; place_of_first(&store), Some((1, 26)));
+    assert_eq!(rt; place_of(&store, Page::Document(1), 0), Some((1, 26)));
     let fetched = fetches::<Brand>(Blank::new(1), &mut disk, &mut store);
     assert!(rt; fetched);
     let whole = fetches_text::<Brand>(alloc, Blank::new(1), &mut disk, &mut store);
     assert!(rt; whole);
+    Ok(())
+}
+
+/// Term pages that were committed in one batch are there when the store is opened again: their parts,
+/// their low pairs and their order.
+#[test]
+fn term_pages_are_there_again(rt: HostRuntime) -> Result<(), Fail> {
+    let alloc = rt.alloc();
+    let mut disk = empty_disk(alloc)?;
+    let Ok(mut store) = Store::open_store(alloc, &mut disk, NoPages) else {
+        assert!(rt; false);
+        return Ok(());
+    };
+    assert_eq!(rt; store.pages(), 1);
+    assert!(rt; !store.has_base(0));
+    let committed = commit_term_pages(alloc, &mut disk, &mut store);
+    assert_eq!(rt; committed, Ok(()));
+    let Ok(mut store) = Store::open_store(alloc, &mut disk, NoPages) else {
+        assert!(rt; false);
+        return Ok(());
+    };
+    assert_eq!(rt; store.pages(), 2);
+    assert_eq!(rt; store.parts(Page::Term(0)), 3);
+    assert_eq!(rt; store.parts(Page::Term(1)), 1);
+    assert_eq!(rt; store.parts(Page::Term(2)), 0);
+    assert!(rt; store.has_base(0));
+    assert!(rt; store.has_base(1));
+    assert!(rt; low_is(&store, 0, &[], 0));
+    assert!(rt; low_is(&store, 1, &[b'b'], 5));
+    assert_eq!(rt; store.page_of(&[b'a'], 9), 0);
+    assert_eq!(rt; store.page_of(&[b'b'], 4), 0);
+    assert_eq!(rt; store.page_of(&[b'b'], 5), 1);
+    assert_eq!(rt; store.page_of(&[b'b', b'a'], 0), 1);
+    assert_eq!(rt; page_behind(&store, 0), Some(1));
+    assert_eq!(rt; page_behind(&store, 1), None);
+    // Behind gate, length, and parts of 12, 13 and 10 bytes.
+    assert_eq!(rt; place_of(&store, Page::Term(0), 2), Some((1, 44)));
+    assert!(rt; reads_term(&mut disk, &mut store, 0, 0, &FIRST_BASE));
+    assert!(rt; reads_term(&mut disk, &mut store, 0, 1, &FIRST_DELTA));
+    assert!(rt; reads_term(&mut disk, &mut store, 0, 2, &SECOND_DELTA));
+    assert!(rt; reads_term(&mut disk, &mut store, 1, 0, &SECOND_BASE));
     Ok(())
 }
 
@@ -131,12 +183,89 @@ fn commit_document<D: Disk>(
     store.commit(disk, batch)
 }
 
-fn place_of_first(store: &Store<NoPages>) -> Option<(u8, u64)> {
-    let page = Page::Document(1);
-    if store.parts(page) == 0 {
+/// Commits bases of two term pages, and two deltas of the first, to a store that has none.
+fn commit_term_pages<D: Disk>(
+    alloc: Global,
+    disk: &mut D,
+    store: &mut Store<NoPages>,
+) -> Result<(), StoreFault>
+    requires agrees { IsTrue (D.is_honest disk.old) → Agrees store.old (D.history disk.old (D.attached disk.old)) }
+{
+    let mut batch = Batch::begin(alloc);
+    let first_base = term_part(5, 0, &FIRST_BASE);
+    let second_base = term_part(5, 1, &SECOND_BASE);
+    let first_delta = term_part(6, 0, &FIRST_DELTA);
+    let second_delta = term_part(6, 0, &SECOND_DELTA);
+    let Ok(()) = batch.add(alloc, first_base) else {
+        return Err(StoreFault::Memory);
+    };
+    let Ok(()) = batch.add(alloc, second_base) else {
+        return Err(StoreFault::Memory);
+    };
+    let Ok(()) = batch.add(alloc, first_delta) else {
+        return Err(StoreFault::Memory);
+    };
+    let Ok(()) = batch.add(alloc, second_delta) else {
+        return Err(StoreFault::Memory);
+    };
+    let Ok(batch) = batch.seal(alloc) else {
+        return Err(StoreFault::Memory);
+    };
+    if store.pages() != 1 {
+        return Err(StoreFault::Memory);
+    }
+    if store.has_base(0) {
+        return Err(StoreFault::Memory);
+    }
+    let Ok(()) = store.reserve(4) else {
+        return Err(StoreFault::Memory);
+    };
+    let Ok(()) = store.reserve_deltas(0, 2) else {
+        return Err(StoreFault::Memory);
+    };
+    store.commit(disk, batch)
+}
+
+fn term_part(kind: u8, key: u32, payload: &[u8]) -> Part<'_>
+    ensures { part_value result ≡ record { kind = kind; key = key; payload = payload.now } }
+{
+    Part { kind, key, payload }
+}
+
+fn place_of(store: &Store<NoPages>, page: Page, i: usize) -> Option<(u8, u64)> {
+    if i >= store.parts(page) {
         return None;
     }
-    Some(store.place(page, 0))
+    Some(store.place(page, i))
+}
+
+fn low_is(store: &Store<NoPages>, page: u32, term: &[u8], number: u32) -> bool {
+    page < store.pages() && store.low(page) == (term, number)
+}
+
+fn page_behind(store: &Store<NoPages>, page: u32) -> Option<u32> {
+    if page >= store.pages() {
+        return None;
+    }
+    store.next_page(page)
+}
+
+/// Whether a part of a term page is read into a slot.
+fn reads_term(
+    disk: &mut MemDisk,
+    store: &mut Store<NoPages>,
+    page: u32,
+    i: usize,
+    payload: &[u8],
+) -> bool {
+    if i >= store.parts(Page::Term(page)) {
+        return false;
+    }
+    let Some(mut slot) = store.take_slot() else {
+        return false;
+    };
+    let read = store.read_term(disk, page, i, &mut slot);
+    read == Ok(payload.len()) && store.slot_bytes(&slot).starts_with(payload)
 }
 
 /// Whether the document's text is read into a slot.

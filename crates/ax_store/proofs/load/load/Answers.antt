@@ -8,7 +8,7 @@ use Rattle.ax_store.proofs.load.load.Goals as goal
 pub loop-at-preserved : goal.loop-at-preserved
 loop-at-preserved g c =
     let inv = c.loop-at.invariant in
-    let more = c.in-Ok.ensures in
+    let more = c.in-Ok-load_frame.ensures in
     record {
       loaded = λ honest frames agrees. more.tells (subst IsTrue (sym inv.honest) honest) frames (inv.agrees honest frames agrees) (inv.shows honest frames agrees) (inv.loaded honest frames agrees);
       shows = λ honest frames agrees. more.shows (subst IsTrue (sym inv.honest) honest) frames (inv.agrees honest frames agrees) (inv.shows honest frames agrees);

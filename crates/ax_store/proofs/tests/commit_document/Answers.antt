@@ -5,7 +5,7 @@ use Rattle.std.specs.FinMap as map
 use Rattle.ax_frame.specs.Part.{PartValue}
 use Rattle.ax_pages.specs.Contents.{Contents}
 use Rattle.ax_pages.specs.AfterPart.{after_parts}
-use Rattle.ax_store.specs.Putting.{AreWithin}
+use Rattle.ax_store.specs.Putting.{AreWithin, CanTake}
 use Rattle.ax_store.specs.Store.{store_contents}
 use Rattle.ax_store.proofs.StoreLemmas.{agrees_same}
 use Rattle.ax_store.proofs.tests.commit_document.Goals as goal
@@ -27,6 +27,12 @@ within contents few =
 
 pub commit-requires-clause-agrees : goal.commit-requires-clause-agrees
 commit-requires-clause-agrees g c = λ honest works. agrees_same c.args.store.now c.reserve.new.self _ c.reserve.ensures.same (c.requires.agrees honest)
+
+pub commit-requires-clause-deltas : goal.commit-requires-clause-deltas
+commit-requires-clause-deltas g c =
+    let first = c.in-Ok.ensures.ok ∙ ap (λ parts. parts ++ record { kind = 1; key = 0; payload = 2 ∷ 0 ∷ 0 ∷ 0 ∷ 0 ∷ 0 ∷ 0 ∷ 0 ∷ [] } ∷ []) c.begin-batch.ensures.parts in
+    let parts = c.in-Ok-seal.ensures.parts ∙ c.in-Ok-add.ensures.ok ∙ ap (λ parts. parts ++ record { kind = 3; key = 1; payload = 0 ∷ 123 ∷ 125 ∷ [] } ∷ []) first in
+    subst (λ parts. CanTake parts c.reserve.new.self.pages) (sym parts) (λ number. omega arith)
 
 pub commit-requires-clause-within : goal.commit-requires-clause-within
 commit-requires-clause-within g c =

@@ -1,7 +1,7 @@
 use Rattle.std.proofs.Common.{sym, subst, ◌+◌}
 use Rattle.ax_frame.specs.Part.{parts_bytes}
 use Rattle.ax_log.specs.Commit.{IsCommitSpelling}
-use Rattle.ax_store.specs.Putting.{AreWithin, Puts}
+use Rattle.ax_store.specs.Putting.{AreWithin, CanTake, Puts}
 use Rattle.ax_store.proofs.CanFrames.{can_from}
 use Rattle.ax_store.proofs.StoreLemmas.{text_of, turns, committed}
 use Rattle.ax_store.proofs.store.Store.commit.Goals as goal
@@ -16,6 +16,9 @@ returns-in_default-clause-any_moment g c = λ honest works new lead.
 
 pub put_changes-requires-clause-within : goal.put_changes-requires-clause-within
 put_changes-requires-clause-within g c = subst (λ parts. AreWithin parts c.args.self.now.pages.contents) c.args.batch.same c.requires.within
+
+pub put_changes-requires-clause-deltas : goal.put_changes-requires-clause-deltas
+put_changes-requires-clause-deltas g c = subst (λ parts. CanTake parts c.args.self.now.pages) c.args.batch.same c.requires.deltas
 
 pub returns-clause-agrees : goal.returns-clause-agrees
 returns-clause-agrees g c = λ honest.
