@@ -19,7 +19,7 @@ use Rattle.ax_pages.specs.declared.page.Page.TheVariants.{Meta, Policy, Document
 use Rattle.ax_pages.specs.declared.page.Kind.{Kind}
 use Rattle.ax_pages.specs.declared.page.Kind.TheVariants as kind
 use Rattle.ax_pages.specs.Area.{frames_bytes}
-use Rattle.ax_pages.specs.Contents.{Contents, TermPage, Numbered, no_contents, no_term_page, term_page, term_parts, low_of, parts_of, next_in, now_in, is_given}
+use Rattle.ax_pages.specs.Contents.{Contents, TermPage, Numbered, no_contents, no_term_page, term_page, low_of, parts_of, next_in, now_in, is_given}
 use Rattle.ax_pages.specs.AfterPart.{kind_of, after_kind, after_part, after_parts, after_base, after_delta, with_base, with_delta, is_meta, is_document, is_gone, is_base, is_delta, is_same, is_taken, low_at_front, most_term_pages, last_policy}
 use Rattle.ax_pages.proofs.LastPart.{tie}
 use Rattle.ax_store.specs.declared.store.Store.{Store}
@@ -27,7 +27,7 @@ use Rattle.ax_store.specs.Rows.{Offsets}
 use Rattle.ax_store.specs.Kept.{Kept, PageOffsets, no_offsets, offsets_of, offsets_after, offsets_after_parts, with_base_at, with_delta_at}
 use Rattle.ax_store.specs.Loading.{nothing_kept, TakesOn}
 use Rattle.ax_store.specs.Store.{Agrees, store_contents, store_offsets, store_area}
-use Rattle.ax_store.specs.Places.{part_of_page, kind_in, StandsAt}
+use Rattle.ax_store.specs.Places.{part_of_page, StandsAt}
 
 some_is : {A : Type 0} (x y : A) → Some x ≡ Some y → x ≡ y
 some_is x y e = cc
