@@ -1,17 +1,15 @@
 -- Bases of term pages: which are within the format, and that one keeps the low pair of its page.
-use Rattle.std.proofs.Common.{◌≡◌, ℕ, suc, ◌+◌, ◌<◌, ◌≤◌, List, [], ◌∷◌, ◌++◌, length, get_or, set, Bool, true, false, ◌&&◌, ◌||◌, not, ◌==◌, refl, sym, ap, subst, ◌∙◌, arith, ◌⊎◌, inl, inr, Option, Some, None, is_some, Ordering, Less, Equal, Greater, nat_lt}
-use Rattle.std.specs.Prelude.{if◌then◌else◌, unwrap_or}
-use Rattle.std.specs.Bool.{IsTrue}
-use Rattle.std.specs.List.{insert, list_any}
+use Rattle.std.proofs.Common.{◌≡◌, ℕ, suc, ◌<◌, ◌≤◌, List, [], ◌∷◌, ◌++◌, length, set, Bool, true, false, ◌&&◌, ◌||◌, not, ◌==◌, refl, sym, ap, ◌∙◌, arith, ◌⊎◌, inl, inr, is_some, Ordering, Less, Equal, Greater, nat_lt}
+use Rattle.std.specs.List.{insert}
 use Rattle.std.specs.Str.{bytes_eq}
-use Rattle.std.proofs.lemmas.Bool.{cases_eq, false_from_ne_true, eqb-true, eq-eqb, ltb-true, lt-ltb}
+use Rattle.std.proofs.lemmas.Bool.{cases_eq, eqb-true, eq-eqb, ltb-true}
 use Rattle.std.proofs.lemmas.List.{get_or-set_same, get_or-set_other, length-set}
 use Rattle.std.proofs.lemmas.List.Folds.{list_any_at}
 use Rattle.std.proofs.lemmas.Slice.Eq.{bytes_eq-Decides}
 use Rattle.ax_leaf.specs.declared.pair.Pair.{Pair}
-use Rattle.ax_leaf.specs.Low.{low_in, first_pair}
+use Rattle.ax_leaf.specs.Low.{low_in}
 use Rattle.ax_leaf.specs.Pairs.{pair_cmp}
-use Rattle.ax_pages.specs.AfterPart.{is_same, is_taken, is_own, is_new, is_base, low_at_front, with_base, with_delta, after_base, after_delta, most_term_pages}
+use Rattle.ax_pages.specs.AfterPart.{is_same, is_taken, is_own, is_new, is_base, low_at_front, with_base, with_delta, most_term_pages}
 use Rattle.ax_pages.specs.Contents.{TermPage, no_term_page, low_of, term_page}
 use Rattle.ax_pages.specs.TermPages.{IsPageOf, low_pair}
 use Rattle.ax_store.specs.TermRows.{IsOrderOf, IsCountUpTo}

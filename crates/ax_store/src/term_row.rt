@@ -1,6 +1,6 @@
 //! A term page as a store keeps it in memory.
 
-ghost use Rattle.std.specs.Prelude.{◌≡◌, ◌+◌, ◌<◌, ◌≤◌, [], ◌∷◌, ◌++◌, option_map, length, slice_get, OnOk, is_some};
+ghost use Rattle.std.specs.Prelude.{◌≡◌, ◌+◌, ◌<◌, ◌≤◌, [], ◌∷◌, ◌++◌, option_map, length, slice_get, OnOk};
 ghost use Rattle.ax_pages.specs.AfterPart.{with_base, with_delta};
 ghost use Rattle.ax_pages.specs.Contents.{low_of, no_term_page, term_parts};
 ghost use Rattle.ax_store.specs.Rows.{payload_kept, offset_kept};
