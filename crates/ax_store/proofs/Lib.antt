@@ -10,3 +10,6 @@ pub mod LoadLemmas
 pub mod StoreLemmas
 pub mod NextHeld
 pub mod PartPlaces
+pub mod TermOrder
+pub mod TermBases
+pub mod ChangedRows

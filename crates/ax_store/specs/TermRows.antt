@@ -1,12 +1,14 @@
 -- The term pages as a store keeps them in memory: a row for each, by number, and the numbers in the
 -- order of the pages' low pairs.
 -- It is this project's own; it comes from no public document.
-use Rattle.std.specs.Prelude.{◌≡◌, ℕ, ◌<◌, ◌-◌, List, ◌++◌, length, map, option_map, slice_index, refl, vec_len, vec_capacity}
+use Rattle.std.specs.Prelude.{◌≡◌, ℕ, ◌<◌, ◌≤◌, ◌-◌, List, ◌++◌, length, map, option_map, slice_index, refl, vec_len, vec_capacity}
 use Rattle.std.specs.Coded.{Coded, code_by, coded×, coded_list, coded_ℕ}
 use Rattle.std.specs.Option.{option_to_list}
-use Rattle.std.specs.declared.cmp.Ordering.TheVariants.{Less}
+use Rattle.std.specs.declared.cmp.Ordering.TheVariants.{Less, Greater}
+use Rattle.ax_leaf.specs.declared.pair.Pair.{Pair}
 use Rattle.ax_leaf.specs.Low.{first_pair}
 use Rattle.ax_leaf.specs.Pairs.{pair_cmp}
+use Rattle.ax_pages.specs.AfterPart.{most_term_pages}
 use Rattle.ax_pages.specs.Contents.{TermPage}
 use Rattle.ax_pages.specs.ContentsCode.{term_page_code}
 use Rattle.ax_pages.specs.TermPages.{low_pair}
@@ -27,12 +29,21 @@ room_in row = vec_capacity row.deltas - vec_len row.deltas
 -- each pair.
 pub record IsOrderOf (order : List ℕ) (pages : List TermPage) : Type 0 where
   pub some : 0 < length pages
+  pub few : length pages ≤ most_term_pages
   pub first : low_pair 0 pages ≡ first_pair
   pub count : length order ≡ length pages
   pub there : (i : ℕ) → i < length order → slice_index order i < length pages
   pub rising : (i j : ℕ) → i < j → j < length order
       → pair_cmp (low_pair (slice_index order i) pages) (low_pair (slice_index order j) pages) ≡ Less
   pub all : (number : ℕ) → number < length pages → (i : ℕ) × (i < length order) × (slice_index order i ≡ number)
+
+-- The pages whose low pairs are not after the pair stand before this position of the order, the others from
+-- it on.
+pub record IsCountUpTo (pair : Pair) (count : ℕ) (order : List ℕ) (pages : List TermPage) : Type 0 where
+  pub within : count ≤ length order
+  pub up_to : (i : ℕ) → i < count → pair_cmp (low_pair (slice_index order i) pages) pair ≡ Greater → ⊥
+  pub behind : (i : ℕ) → count ≤ i → i < length order
+      → pair_cmp (low_pair (slice_index order i) pages) pair ≡ Greater
 
 -- what is kept of the term pages: by number the pages, where their parts stand, and how many deltas each may
 -- still take; and how many pages may still be made without memory

@@ -1,13 +1,16 @@
 //! The term pages of a store in memory, by number and in the order of their low pairs.
 
-ghost use Rattle.std.specs.Prelude.{◌≡◌, ℕ, ◌+◌, ◌<◌, ◌≤◌, ◌==◌, [], ◌∷◌, ◌++◌, length, option_map, slice_get, slice_index_or, slice_set, if◌then◌else◌, IfOk, OnOk, IfSome, IfNone, IsTrue, is_some};
+ghost use Rattle.std.specs.Prelude.{◌≡◌, ℕ, ◌+◌, ◌<◌, ◌≤◌, ◌==◌, [], ◌∷◌, ◌++◌, length, map, vec_len, vec_capacity, option_map, slice_get, slice_index_or, if◌then◌else◌, IfOk, OnOk, IfSome, IfNone, IsTrue, is_some};
+ghost use Rattle.std.specs.List.{insert};
 ghost use Rattle.std.specs.Ordering.{is_le};
+ghost use Rattle.ax_leaf.specs.Low.{low_in};
 ghost use Rattle.ax_leaf.specs.Pairs.{pair_cmp};
-ghost use Rattle.ax_pages.specs.AfterPart.{is_base, is_delta, is_taken, after_base, after_delta, with_base};
+ghost use Rattle.ax_pages.specs.AfterPart.{is_base, is_delta, is_same, is_taken, low_at_front, after_base, after_delta, with_base};
 ghost use Rattle.ax_pages.specs.Contents.{no_term_page, term_page, term_parts};
 ghost use Rattle.ax_pages.specs.TermPages.{IsPageOf, IsNextPage, IsLastPage, low_pair};
 ghost use Rattle.ax_store.specs.Kept.{with_base_at, with_delta_at};
 ghost use Rattle.ax_store.specs.Rows.{payload_kept, offset_kept};
+ghost use Rattle.ax_store.specs.TermRows.{page_in, IsOrderOf, IsCountUpTo};
 
 use crate::kept_part::KeptPart;
 use crate::out_of_memory::Memory;
@@ -111,9 +114,7 @@ impl TermPages {
     pub(crate) fn page_of(&self, term: &[u8], number: u32) -> u32
         ensures { IsPageOf (record { term = term.now; number = number }) result self.now.pages }
     {
-        // Page 0 is not behind any pair, so the count is not 0.
-        let behind = self.count_up_to(term, number);
-        self.order[behind - 1]
+        page_among(&self.order, &self.rows, term, number)
     }
 
     /// The page with the next greater low pair. `None` exactly where no page has a greater one. It is
@@ -123,9 +124,7 @@ impl TermPages {
         ensures found { IfSome result (λ next. IsNextPage page next self.now.pages) }
         ensures none { IfNone result (IsLastPage page self.now.pages) }
     {
-        let (term, number) = self.low(page);
-        let behind = self.count_up_to(term, number);
-        self.order.get(behind).copied()
+        page_behind(&self.order, &self.rows, page)
     }
 
     /// Whether a base of that payload is within the format.
@@ -137,7 +136,7 @@ impl TermPages {
         };
         let at = key as usize;
         if at < self.rows.len() {
-            return self.low(key) == (term, number);
+            return self.has_low(key, term, number);
         }
         at == self.rows.len() && at < MOST_TERM_PAGES && !self.is_low(term, number)
     }
@@ -170,10 +169,10 @@ impl TermPages {
         ensures spare { self.new.spare ≡ self.old.spare }
         ensures never_less { (page : ℕ) → slice_index_or self.old.rooms page 0 ≤ slice_index_or self.new.rooms page 0 }
     {
-        match self.rows.get_mut(number as usize) {
-            Some(row) => row.reserve(deltas),
-            None => Ok(()),
+        if (number as usize) < self.rows.len() {
+            return self.rows[number as usize].reserve(deltas);
         }
+        Ok(())
     }
 
     /// Puts a base that is within the format, in the room that there is.
@@ -185,9 +184,10 @@ impl TermPages {
         ensures room { self.old.spare ≤ self.new.spare + 1 }
         ensures rooms { (page : ℕ) → slice_index_or self.old.rooms page 0 ≤ slice_index_or self.new.rooms page 0 }
     {
-        match self.rows.get_mut(key as usize) {
-            Some(row) => row.put_base(part),
-            None => self.put_page(part),
+        if (key as usize) < self.rows.len() {
+            self.rows[key as usize].put_base(part);
+        } else {
+            self.put_page(part);
         }
     }
 
@@ -204,17 +204,19 @@ impl TermPages {
         self.rows[key as usize].put_delta(part);
     }
 
-    /// How many pages have low pairs that are not after the pair of a term and a number.
-    fn count_up_to(&self, term: &[u8], number: u32) -> usize {
-        self.order
-            .partition_point(|page| is_up_to(self.low(*page), term, number))
+    /// Whether the page has that low pair.
+    fn has_low(&self, page: u32, term: &[u8], number: u32) -> bool
+        ensures { result ≡ is_same (record { term = term.now; number = number }) (low_pair page self.now.pages) }
+    {
+        let (low_term, low_number) = low_at(&self.rows, page);
+        term == low_term && number == low_number
     }
 
-    /// Whether a page has that low pair.
+    /// Whether a page has that low pair. It is the page to which the pair belongs then.
     fn is_low(&self, term: &[u8], number: u32) -> bool
         ensures { result ≡ is_taken (record { term = term.now; number = number }) self.now.pages }
     {
-        self.low(self.page_of(term, number)) == (term, number)
+        self.has_low(self.page_of(term, number), term, number)
     }
 
     /// Puts the first base of a new page.
@@ -227,22 +229,86 @@ impl TermPages {
         ensures rooms { (page : ℕ) → slice_index_or self.old.rooms page 0 ≤ slice_index_or self.new.rooms page 0 }
     {
         let page = self.len();
-        let at = match split_low(&part.payload) {
-            Some((term, number, _)) => self.count_up_to(term, number),
-            None => 0,
-        };
-        let put = self.order.insert(at, page);
-        prove!(put.is_ok());
+        let at = place_of(&self.order, &self.rows, &part.payload);
+        insert_within(&mut self.order, at, page);
         let mut row = TermRow::new(self.alloc);
         row.put_base(part);
         self.rows.push_reserved(row);
     }
 }
 
-/// Whether a low pair is not after the pair of a term and a number.
-fn is_up_to(low: (&[u8], u32), term: &[u8], number: u32) -> bool
-    ensures { result ≡ is_le (pair_cmp (record { term = low.0.now; number = low.1 }) (record { term = term.now; number = number })) }
+/// The low pair of a page, or the first of all where the page is not there.
+fn low_at(rows: &[TermRow], page: u32) -> (&[u8], u32)
+    ensures term { result.0.now ≡ (low_pair page (map page_in rows.now)).term }
+    ensures number { result.1 ≡ (low_pair page (map page_in rows.now)).number }
 {
-    let (low_term, low_number) = low;
+    match rows.get(page as usize) {
+        Some(row) => row.low(),
+        None => (&[], 0),
+    }
+}
+
+/// Whether the low pair of a page is not after the pair of a term and a number.
+fn is_up_to(rows: &[TermRow], page: u32, term: &[u8], number: u32) -> bool
+    ensures { result ≡ is_le (pair_cmp (low_pair page (map page_in rows.now)) (record { term = term.now; number = number })) }
+{
+    let (low_term, low_number) = low_at(rows, page);
     low_term.cmp(term).then(low_number.cmp(&number)).is_le()
 }
+
+/// How many pages have low pairs that are not after the pair of a term and a number.
+fn count_up_to(order: &[u32], rows: &[TermRow], term: &[u8], number: u32) -> usize
+    requires { IsOrderOf order.now (map page_in rows.now) }
+    ensures { IsCountUpTo (record { term = term.now; number = number }) result order.now (map page_in rows.now) }
+{
+    order.partition_point(|page| is_up_to(rows, *page, term, number))
+}
+
+/// The page to which the pair of a term and a number belongs.
+fn page_among(order: &[u32], rows: &[TermRow], term: &[u8], number: u32) -> u32
+    requires { IsOrderOf order.now (map page_in rows.now) }
+    ensures { IsPageOf (record { term = term.now; number = number }) result (map page_in rows.now) }
+{
+    // The low pair of page 0 is after no pair, so the count is not 0.
+    let behind = count_up_to(order, rows, term, number);
+    order[behind - 1]
+}
+
+/// The page with the next greater low pair, where there is one.
+fn page_behind(order: &[u32], rows: &[TermRow], page: u32) -> Option<u32>
+    requires order { IsOrderOf order.now (map page_in rows.now) }
+    requires there { page < length rows.now }
+    ensures found { IfSome result (λ next. IsNextPage page next (map page_in rows.now)) }
+    ensures none { IfNone result (IsLastPage page (map page_in rows.now)) }
+{
+    let (term, number) = low_at(rows, page);
+    let behind = count_up_to(order, rows, term, number);
+    order.get(behind).copied()
+}
+
+/// The position in the order at which a new page would stand that has a base of that payload.
+fn place_of(order: &[u32], rows: &[TermRow], payload: &[u8]) -> usize
+    requires order { IsOrderOf order.now (map page_in rows.now) }
+    requires low { IsTrue (is_some (low_in payload.now)) }
+    ensures { IsCountUpTo (low_at_front payload.now) result order.now (map page_in rows.now) }
+{
+    match split_low(payload) {
+        Some((term, number, _)) => count_up_to(order, rows, term, number),
+        None => 0,
+    }
+}
+
+/// Puts a page at a position of the order, in the room that there is.
+fn insert_within(order: &mut Vec<u32>, at: usize, page: u32)
+    requires position { at ≤ vec_len order.old }
+    requires room { vec_len order.old < vec_capacity order.old }
+    ensures items { order.new.items ≡ insert order.old.items at page }
+    ensures room { vec_capacity order.new ≡ vec_capacity order.old }
+    ensures len { vec_len order.new ≡ vec_len order.old + 1 }
+{
+    let put = order.insert(at, page);
+    prove!(put.is_ok());
+}
+
+#[cfg(test)]
+mod tests;
