@@ -29,6 +29,7 @@ const SECOND_BASE: [u8; 4] = [1, b'b', 5, 8];
 
 /// A delta of page 0, and the one behind it.
 const FIRST_DELTA: [u8; 1] = [9];
+
 const SECOND_DELTA: [u8; 2] = [10, 11];
 
 /// The text alone.
