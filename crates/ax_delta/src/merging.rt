@@ -95,7 +95,11 @@ fn put_pair(
 
 /// Puts the pairs that the changes left add at the end.
 #[tactic(auto, using(crate::proofs::Stepping::shorter, crate::proofs::Stepping::added_step, crate::proofs::Stepping::added_end))]
-fn put_others(alloc: Global, out: &mut Vec<Pair>, changes: &mut ChangesLeft<'_>) -> Result<(), Memory>
+fn put_others(
+    alloc: Global,
+    out: &mut Vec<Pair>,
+    changes: &mut ChangesLeft<'_>,
+) -> Result<(), Memory>
     requires { IsReady changes.old }
     ensures { OnOk result (out.new.items ≡ out.old.items ++ added_by (changes_left changes.old)) }
 {
