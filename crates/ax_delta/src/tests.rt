@@ -2,7 +2,7 @@ use crate::change::Change;
 use crate::delta::check;
 use crate::merging::merge;
 use crate::writing::{are_in_order, encode};
-use ax_leaf::{Bytes, Pair};
+use ax_leaf::{Bytes, Pair, is_in_order};
 use std::test::Fail;
 
 // ab with 5 is added and with 7 dropped; abc, which begins as ab does, is dropped with 1; b is added
@@ -107,6 +107,11 @@ fn a_page_is_merged(rt: HostRuntime) -> Result<(), Fail> {
         let term = Bytes::from_vec(bytes);
         pairs.push(Pair { term, number })?;
     }
+    let low = Pair {
+        term: Bytes::new(rt.alloc()),
+        number: 0,
+    };
+    assert!(rt; is_in_order(&low, pairs.as_slice()));
     let after = merge(rt.alloc(), pairs, &delta)?;
     let rows: [(&[u8], u32); 6] = [
         (b"ab", 5),
