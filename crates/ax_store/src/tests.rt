@@ -103,26 +103,10 @@ fn term_pages_are_there_again(rt: HostRuntime) -> Result<(), Fail> {
         assert!(rt; false);
         return Ok(());
     };
-    assert_eq!(rt; store.pages(), 2);
-    assert_eq!(rt; store.parts(Page::Term(0)), 3);
-    assert_eq!(rt; store.parts(Page::Term(1)), 1);
-    assert_eq!(rt; store.parts(Page::Term(2)), 0);
-    assert!(rt; store.has_base(0));
-    assert!(rt; store.has_base(1));
-    assert!(rt; low_is(&store, 0, &[], 0));
-    assert!(rt; low_is(&store, 1, &[b'b'], 5));
-    assert_eq!(rt; store.page_of(&[b'a'], 9), 0);
-    assert_eq!(rt; store.page_of(&[b'b'], 4), 0);
-    assert_eq!(rt; store.page_of(&[b'b'], 5), 1);
-    assert_eq!(rt; store.page_of(&[b'b', b'a'], 0), 1);
-    assert_eq!(rt; page_behind(&store, 0), Some(1));
-    assert_eq!(rt; page_behind(&store, 1), None);
-    // Behind gate, length, and parts of 12, 13 and 10 bytes.
-    assert_eq!(rt; place_of(&store, Page::Term(0), 2), Some((1, 44)));
-    assert!(rt; reads_term(&mut disk, &mut store, 0, 0, &FIRST_BASE));
-    assert!(rt; reads_term(&mut disk, &mut store, 0, 1, &FIRST_DELTA));
-    assert!(rt; reads_term(&mut disk, &mut store, 0, 2, &SECOND_DELTA));
-    assert!(rt; reads_term(&mut disk, &mut store, 1, 0, &SECOND_BASE));
+    assert!(rt; has_the_parts(&store));
+    assert!(rt; has_the_low_pairs(&store));
+    assert!(rt; finds_the_pages(&store));
+    assert!(rt; reads_the_parts(&mut disk, &mut store));
     Ok(())
 }
 
@@ -238,6 +222,40 @@ fn place_of(store: &Store<NoPages>, page: Page, i: usize) -> Option<(u8, u64)> {
         return None;
     }
     Some(store.place(page, i))
+}
+
+/// Whether page 0 has a base and two deltas, and page 1 a base alone.
+fn has_the_parts(store: &Store<NoPages>) -> bool {
+    // Behind gate, length, and parts of 12, 13 and 10 bytes.
+    let place = place_of(store, Page::Term(0), 2);
+    store.pages() == 2
+        && store.parts(Page::Term(0)) == 3
+        && store.parts(Page::Term(1)) == 1
+        && store.parts(Page::Term(2)) == 0
+        && store.has_base(0)
+        && store.has_base(1)
+        && place == Some((1, 44))
+}
+
+fn has_the_low_pairs(store: &Store<NoPages>) -> bool {
+    low_is(store, 0, &[], 0) && low_is(store, 1, &[b'b'], 5)
+}
+
+/// Whether pairs before (b, 5) belong to page 0 and others to page 1, which is behind page 0.
+fn finds_the_pages(store: &Store<NoPages>) -> bool {
+    store.page_of(&[b'a'], 9) == 0
+        && store.page_of(&[b'b'], 4) == 0
+        && store.page_of(&[b'b'], 5) == 1
+        && store.page_of(&[b'b', b'a'], 0) == 1
+        && page_behind(store, 0) == Some(1)
+        && page_behind(store, 1).is_none()
+}
+
+fn reads_the_parts(disk: &mut MemDisk, store: &mut Store<NoPages>) -> bool {
+    reads_term(disk, store, 0, 0, &FIRST_BASE)
+        && reads_term(disk, store, 0, 1, &FIRST_DELTA)
+        && reads_term(disk, store, 0, 2, &SECOND_DELTA)
+        && reads_term(disk, store, 1, 0, &SECOND_BASE)
 }
 
 fn low_is(store: &Store<NoPages>, page: u32, term: &[u8], number: u32) -> bool {
