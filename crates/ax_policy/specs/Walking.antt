@@ -11,15 +11,13 @@ use Rattle.ax_mean.specs.declared.query.Step.TheVariants.{Name, Item}
 use Rattle.ax_tree.specs.Names.{HaveRisingNames}
 use Rattle.ax_tree.specs.declared.members.Member.{Member}
 use Rattle.ax_policy.specs.declared.policy.Policy.{Policy}
-use Rattle.ax_policy.specs.declared.walk.Piece.{Piece}
-use Rattle.ax_policy.specs.declared.walk.Piece.TheVariants as pieces
 use Rattle.ax_policy.specs.declared.walk.RuleWalk.{RuleWalk}
 use Rattle.ax_policy.specs.declared.walk.Way.{Way}
 use Rattle.ax_policy.specs.declared.walk.Way.TheVariants as ways
 use Rattle.ax_policy.specs.Comparing.{against}
 use Rattle.ax_policy.specs.Covering.{indexes}
 use Rattle.ax_policy.specs.Deciding.{longest, begins_with}
-use Rattle.ax_policy.specs.Paths.{steps_text, step_text, name_text, plain_text}
+use Rattle.ax_policy.specs.Paths.{steps_text, step_text}
 
 -- the rules whose texts begin with that of the steps
 abbrev pub beginning_with : List Step → List (Member Bool) → List (Member Bool)
@@ -44,10 +42,8 @@ abbrev pub step_of : Way → Step
 step_of (ways.Name name) = Name name.now
 step_of ways.Item = Item
 
-abbrev pub piece_text : Piece → List ℕ
-piece_text (pieces.Name name) = name_text name.now
-piece_text (pieces.Plain name) = plain_text name.now
-piece_text pieces.Item = step_text Item
+abbrev pub way_text : Way → List ℕ
+way_text way = step_text (step_of way)
 
 -- rules that rise, and that have this front, and so many bytes in it
 pub record IsRun (rules : List (Member Bool)) (skip : ℕ) (front : List ℕ) : Type 0 where

@@ -1,11 +1,12 @@
 //! Texts compared with those of paths, which are not written out for it.
-ghost use Rattle.std.specs.Prelude.{◌≡◌, [], ◌∷◌, IfOk, IfErr, if◌then◌else◌};
+ghost use Rattle.std.specs.Prelude.{◌≡◌, [], ◌∷◌, IfOk, IfErr};
 ghost use Rattle.std.specs.Cmp.Lexicographic.{slice_cmp};
 ghost use Rattle.std.specs.Ordering.{nat_cmp};
 ghost use Rattle.ax_policy.specs.Comparing.{GoesOn, Ends};
 ghost use Rattle.ax_mean.specs.declared.query.Step.TheVariants.{Item};
 ghost use Rattle.ax_policy.specs.Paths as spec;
 
+use crate::path_text::mark;
 use crate::quoted::is_escaped;
 use ax_mean::Step;
 use std::cmp::Ordering;
@@ -15,34 +16,9 @@ pub(crate) fn compare(text: &[u8], steps: &[Step], all: bool) -> Ordering
     ensures { result ≡ slice_cmp nat_cmp text.now (spec.rule_text steps.now all) }
 {
     match after_steps(text, steps) {
-        Ok(rest) => against_mark(rest, all),
+        Ok(rest) => rest.cmp(mark(all).as_bytes()),
         Err(order) => order,
     }
-}
-
-/// How a text compares with what ends the path of a rule.
-#[tactic(auto, using(crate::proofs::Comparisons::mark_ends, crate::proofs::Comparisons::mark_goes))]
-pub(crate) fn against_mark(text: &[u8], all: bool) -> Ordering
-    ensures { result ≡ slice_cmp nat_cmp text.now (spec.mark_text all) }
-{
-    match after_mark(text, all) {
-        Ok(rest) => {
-            if rest.is_empty() {
-                Ordering::Equal
-            } else {
-                Ordering::Greater
-            }
-        }
-        Err(order) => order,
-    }
-}
-
-fn after_mark(text: &[u8], all: bool) -> Result<&[u8], Ordering>
-    ensures rest { IfOk result (λ rest. GoesOn text.now (spec.mark_text all) rest.now) }
-    ensures order { IfErr result (Ends text.now (spec.mark_text all)) }
-{
-    let rest = after_byte(text, b'/')?;
-    after_byte(rest, if all { b'*' } else { b'?' })
 }
 
 /// What follows the text of these steps in a text, or how the two compare whatever follows.
@@ -78,29 +54,6 @@ pub(crate) fn after_name<'a>(text: &'a [u8], name: &[u8]) -> Result<&'a [u8], Or
     let rest = after_byte(rest, b'"')?;
     let rest = after_escaped(rest, name)?;
     after_byte(rest, b'"')
-}
-
-/// The same for a name that stands between its quotes as it is.
-pub(crate) fn after_plain<'a>(text: &'a [u8], name: &[u8]) -> Result<&'a [u8], Ordering>
-    ensures rest { IfOk result (λ rest. GoesOn text.now (spec.plain_text name.now) rest.now) }
-    ensures order { IfErr result (Ends text.now (spec.plain_text name.now)) }
-{
-    let rest = after_byte(text, b'/')?;
-    let rest = after_byte(rest, b'"')?;
-    let rest = after_bytes(rest, name)?;
-    after_byte(rest, b'"')
-}
-
-#[tactic(auto, using(crate::proofs::Comparisons::bytes_ok, crate::proofs::Comparisons::bytes_err))]
-fn after_bytes<'a>(text: &'a [u8], piece: &[u8]) -> Result<&'a [u8], Ordering>
-    ensures rest { IfOk result (λ rest. GoesOn text.now piece.now rest.now) }
-    ensures order { IfErr result (Ends text.now piece.now) }
-{
-    let (front, rest) = text.split_at(text.len().min(piece.len()));
-    match front.cmp(piece) {
-        Ordering::Equal => Ok(rest),
-        order => Err(order),
-    }
 }
 
 pub(crate) fn after_item(text: &[u8]) -> Result<&[u8], Ordering>

@@ -21,8 +21,6 @@ mod path_text;
 mod policy;
 mod policy_fault;
 mod quoted;
-#[cfg(test)]
-mod random_tests;
 mod read;
 mod read_path;
 mod read_rules;
