@@ -1,0 +1,21 @@
+//! The index: a set of pairs of a term and a document's number, over the term pages of a store.
+//!
+//! Stands on `ax_store` for the pages and their parts, on `ax_leaf` and `ax_delta` for what the parts
+//! say, on `ax_term` for ranges of terms, and on `ax_pairs` for what the set is. Its one contract: where
+//! term pages hold a set (`IsIndex`), `has` and `pairs_in` answer what is in it, the parts of
+//! `plan_changes` make exactly the changes that were asked for, and those of `merge_some` change no
+//! pair.
+#![tactic(auto)]
+
+mod damage;
+mod folding;
+mod looking;
+mod numbers;
+mod wanted;
+
+pub use ax_delta::Change;
+pub use ax_leaf::Pair;
+pub use ax_store::StoreFault;
+pub use ax_term::TermRange;
+pub use looking::has;
+pub use numbers::pairs_in;

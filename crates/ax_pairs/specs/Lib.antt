@@ -1,0 +1,4 @@
+pub mod Index
+pub mod PagePairs
+pub mod PairSets
+pub mod TermParts
