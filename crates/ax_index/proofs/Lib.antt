@@ -1,0 +1,4 @@
+pub mod Lists
+pub mod DeltaRunLemmas
+pub mod RewritingLemmas
+pub mod PlanningLemmas

@@ -1,0 +1,276 @@
+-- A plan, page by page.
+use Rattle.std.proofs.Common.{◌≡◌, ◌≢◌, ℕ, ◌+◌, ◌<◌, ◌≤◌, List, [], ◌∷◌, ◌++◌, length, arith, refl, sym, ap, ◌∙◌, subst, Bool, true, false, cond, append_assoc, append-nil, ⊎_elim, ◌⊎◌, inl, inr, Option, Some, None}
+use Rattle.std.specs.Option.{unwrap_or}
+use Rattle.std.specs.declared.cmp.Ordering.TheVariants.{Less}
+use Rattle.std.proofs.lemmas.Bool.{cases_eq, cases_lt}
+use Rattle.ax_frame.specs.Part.{PartValue}
+use Rattle.ax_leaf.specs.declared.pair.Pair.{Pair}
+use Rattle.ax_leaf.specs.Pairs.{pair_cmp, Rise, RiseAfter}
+use Rattle.ax_leaf.proofs.FromLow.{pair_cmp_total}
+use Rattle.ax_delta.specs.declared.change.Change.{Change}
+use Rattle.ax_delta.specs.Changes.{changed_pairs}
+use Rattle.ax_delta.specs.Said.{has, said_by}
+use Rattle.ax_delta.proofs.SamePair.{less_apart}
+use Rattle.ax_pages.specs.Contents.{TermPage, term_page}
+use Rattle.ax_pages.specs.TermPages.{AreApart, IsLastPage, IsNextPage, IsPageOf, low_pair}
+use Rattle.ax_pairs.specs.Index.{AllBelong, IsIndex}
+use Rattle.ax_pairs.specs.PagePairs.{HasPairs}
+use Rattle.ax_pairs.specs.PairSets.{PairSet, with_changes}
+use Rattle.ax_pairs.specs.TermParts.{LeadTo, bases_below}
+use Rattle.ax_pairs.proofs.PairOrder.{NotAfter, order_cases, same_not_after, less_not_after, not_both, less_then, then_less, not_after_then}
+use Rattle.ax_pairs.proofs.Changed.{here_merged, others_same}
+use Rattle.ax_pairs.proofs.Leading.{lead_nothing, lead_then}
+use Rattle.ax_pairs.proofs.Sets.{changed_twice, same_set}
+use Rattle.ax_store.specs.Kept.{deltas_of}
+use Rattle.ax_index.specs.DeltaRuns.{CarryChanges}
+use Rattle.ax_index.specs.Planning.{AreBefore, StartsFrom, IsPartedAt, IsUpTo, IsPageDone, IsPagePlanned, IsFirstOf, IsPlannedTo}
+use Rattle.ax_index.specs.Plans.{IsPlan, most_merged}
+use Rattle.ax_index.specs.Rewriting.{Replaces, Rewrites}
+use Rattle.ax_index.proofs.Lists.{deltas_more, bases_more, first_least}
+use Rattle.ax_index.proofs.RewritingLemmas.{finished}
+
+-- ---- where a page ends
+
+-- a pair from the low pair of a page on that is before the next page is of the page
+pub within_page : (pages : List TermPage) (page next : ℕ) (p : Pair) → page < length pages → IsNextPage page next pages → NotAfter (low_pair page pages) p
+    → pair_cmp p (low_pair next pages) ≡ Less → IsPageOf p page pages
+within_page pages page next p there is from before = record {
+  there = there;
+  below = from;
+  greatest = λ other h not_after.
+      ⊎_elim
+      (λ (up : NotAfter (low_pair other pages) (low_pair page pages)). up)
+      (λ (behind : pair_cmp (low_pair page pages) (low_pair other pages) ≡ Less).
+      absurd (is.least other h behind (then_less (low_pair other pages) p (low_pair next pages) not_after before)))
+      (order_cases (low_pair other pages) (low_pair page pages));
+}
+
+pub within_last : (pages : List TermPage) (page : ℕ) (p : Pair) → page < length pages → IsLastPage page pages → NotAfter (low_pair page pages) p → IsPageOf p page pages
+within_last pages page p there last from = record {
+  there = there;
+  below = from;
+  greatest = λ other h not_after.
+      ⊎_elim
+      (λ (up : NotAfter (low_pair other pages) (low_pair page pages)). up)
+      (λ (behind : pair_cmp (low_pair page pages) (low_pair other pages) ≡ Less). absurd (last other h behind))
+      (order_cases (low_pair other pages) (low_pair page pages));
+}
+
+-- and a pair of the page is before the next one
+pub before_next : (pages : List TermPage) (page next : ℕ) (p : Pair) → IsNextPage page next pages → IsPageOf p page pages → pair_cmp p (low_pair next pages) ≡ Less
+before_next pages page next p is of =
+    ⊎_elim
+    (λ (not_after : NotAfter (low_pair next pages) p).
+    absurd (not_both (low_pair page pages) (low_pair next pages) is.after (of.greatest next is.there not_after)))
+    (λ (less : pair_cmp p (low_pair next pages) ≡ Less). less)
+    (order_cases (low_pair next pages) p)
+
+-- pairs between two of one page are of it
+pub between : (pages : List TermPage) (page : ℕ) (first p last : Pair) → IsPageOf first page pages → IsPageOf last page pages → NotAfter first p → NotAfter p last → IsPageOf p page pages
+between pages page first p last of_first of_last from to = record {
+  there = of_first.there;
+  below = not_after_then (low_pair page pages) first p of_first.below from;
+  greatest = λ other h not_after. of_last.greatest other h (not_after_then (low_pair other pages) p last not_after to);
+}
+
+-- the changes up to the end of the page of the first are of it
+pub run_belongs : (pages : List TermPage) (page : ℕ) (change : Change) (run behind : List Change) → IsPageOf change.pair page pages → RiseAfter change.pair (changed_pairs run)
+    → IsPartedAt page (change ∷ run) behind pages → AllBelong (changed_pairs (change ∷ run)) page pages
+run_belongs pages page change run behind of rise parted p h =
+    let from : NotAfter (low_pair page pages) p =
+    not_after_then (low_pair page pages) change.pair p of.below (first_least change.pair p (changed_pairs run) rise h)
+    in
+    by_end from parted
+  where
+    by_end : NotAfter (low_pair page pages) p → IsPartedAt page (change ∷ run) behind pages → IsPageOf p page pages
+    by_end from (inl (next, is, before, starts)) = within_page pages page next p of.there is from (before p h)
+    by_end from (inr (last, none)) = within_last pages page p of.there last from
+
+-- ---- the pages from a bound on
+
+pub of_now : (bound : Pair) (before now : List TermPage) (parts : List PartValue) (p : Pair) (page : ℕ) → IsUpTo bound before now parts
+    → NotAfter bound (low_pair page before) → IsPageOf p page before → IsPageOf p page now
+of_now bound before now parts p page is from of = record {
+  there = omega (arith, of.there, is.longer);
+  below = subst (λ (l : Pair). NotAfter l p) (sym (is.lows page of.there)) of.below;
+  greatest = λ other h not_after.
+      subst (λ (l : Pair). NotAfter (low_pair other now) l) (sym (is.lows page of.there))
+      (⊎_elim
+      (λ (old : other < length before).
+      subst (λ (l : Pair). NotAfter l (low_pair page before)) (sym (is.lows other old))
+      (of.greatest other old (subst (λ (l : Pair). NotAfter l p) (is.lows other old) not_after)))
+      (λ (new : length before ≤ other).
+      less_not_after (low_pair other now) (low_pair page before)
+      (less_then (low_pair other now) bound (low_pair page before) (is.fresh other new h) from))
+      (cases_lt other (length before)));
+}
+
+pub all_now : (before now : List TermPage) (parts : List PartValue) (pairs : List Pair) (page : ℕ) → IsUpTo (low_pair page before) before now parts
+    → AllBelong pairs page before → AllBelong pairs page now
+all_now before now parts pairs page is belong p h =
+    of_now (low_pair page before) before now parts p page is (same_not_after (low_pair page before) (low_pair page before) refl) (belong p h)
+
+-- ---- one page
+
+pub done_by_deltas : (page : ℕ) (changes : List Change) (before now after : List TermPage) (parts : List PartValue) → AllBelong (changed_pairs changes) page now
+    → CarryChanges page changes now parts after → IsPageDone page changes before now parts after false
+done_by_deltas page changes before now after parts belong carry = record {
+  lead = carry.lead;
+  longer = omega (arith, carry.lows.many);
+  lows = λ n h. carry.lows.low n;
+  fresh = λ n from below. absurd (omega (arith, carry.lows.many));
+  same = λ n h apart. carry.same n apart;
+  deltas = carry.deltas;
+  bases = carry.no_bases (length before);
+  holds = λ set is. carry.holds set is belong;
+}
+
+pub done_by_bases : (page : ℕ) (changes : List Change) (before now after : List TermPage) (parts earlier : List PartValue) (pairs list : List Pair)
+    → page < length before → IsUpTo (low_pair page before) before now earlier → Rise (changed_pairs changes) → AllBelong (changed_pairs changes) page now
+    → AllBelong list page before → ((some : List Pair) → HasPairs (term_page page before) some → (p : Pair) → has p pairs ≡ has p some)
+    → ((p : Pair) → has p list ≡ unwrap_or (said_by p changes) (has p pairs))
+    → Rewrites page list [] now parts after → IsPageDone page changes before now parts after true
+done_by_bases page changes before now after parts earlier pairs list there up rise belong of_page has_pairs made is = record {
+  lead = is.lead;
+  longer = is.longer;
+  lows = is.lows;
+  fresh = λ n from below next behind. before_next before page next (low_pair n after) behind (of_page (low_pair n after) (is.fresh n from below));
+  same = is.same;
+  deltas = λ n apart. is.no_deltas n;
+  bases = is.one_base (length before) there up.longer;
+  holds = λ set index.
+      let same : term_page page now ≡ term_page page before = up.same page there (λ less. less_apart (low_pair page before) (low_pair page before) less refl) in
+      let in_page : page < length now = omega (arith, up.longer) in
+      let mine : HasPairs (term_page page now) (index.pairs page) = index.have page in_page in
+      let was : HasPairs (term_page page before) (index.pairs page) = subst (λ (x : TermPage). HasPairs x (index.pairs page)) same mine in
+      let alike : (p : Pair) → has p list ≡ unwrap_or (said_by p changes) (has p (index.pairs page)) =
+      λ p. made p ∙ ap (unwrap_or (said_by p changes)) (has_pairs (index.pairs page) was p)
+      in
+      finished page list now parts after is set (with_changes changes set) index
+      (record {
+        here = here_merged now set page changes (index.pairs page) list index rise mine alike;
+        others = others_same now set page changes index.apart rise belong;
+      });
+}
+
+-- ---- all pages
+
+pub planned_none : (changes : List Change) (before : List TermPage) (room : ℕ → ℕ) (old : List PartValue) → IsPlannedTo changes changes before 0 (length before) room old old
+planned_none changes before room old = record {
+  parts = [];
+  added = sym (append-nil old);
+  done = [];
+  whole = refl;
+  now = before;
+  lead = lead_nothing before;
+  holds = λ set is. is;
+  merges = refl;
+  next_is = refl;
+  ready = λ page first. record {
+    longer = omega arith;
+    lows = λ n h. refl;
+    fresh = λ n from below. absurd (omega arith);
+    same = λ n h from. refl;
+    none = λ n h from. refl;
+  };
+  enough = λ number. omega arith;
+}
+
+abbrev pub as_number : Bool → ℕ
+as_number merged = cond merged 1 0
+
+module _ (changes run behind : List Change) (before : List TermPage) (merged next : ℕ) (room more : ℕ → ℕ) (old here new : List PartValue) (page : ℕ) (is_merged : Bool) (later : ℕ)
+    (is : IsPlannedTo changes (run ++ behind) before merged next room old here) (up : IsUpTo (low_pair page before) before is.now is.parts)
+    (there : page < length before)
+    (parted : IsPartedAt page run behind before) (planned : IsPagePlanned page run before is.now is_merged later more here new)
+    (never_less : (number : ℕ) → room number ≤ more number) where
+  -- the page of what is behind is behind
+  past : (other : ℕ) → IsFirstOf behind other before → (after : ℕ) × IsNextPage page after before × NotAfter (low_pair after before) (low_pair other before)
+  past other first = by_changes behind first parted
+    where
+      by_changes : (left : List Change) → IsFirstOf left other before → IsPartedAt page run left before
+          → (after : ℕ) × IsNextPage page after before × NotAfter (low_pair after before) (low_pair other before)
+      by_changes [] first parted = absurd first
+      by_changes (change ∷ left) first (inl (after, behind_it, run_before, starts)) = (
+        after,
+        behind_it,
+        first.greatest after behind_it.there
+            (λ greater.
+            ⊎_elim
+            (λ (not_after : NotAfter (low_pair after before) change.pair). not_after greater)
+            (λ (less : pair_cmp change.pair (low_pair after before) ≡ Less). starts less)
+            (order_cases (low_pair after before) change.pair)),
+      )
+      by_changes (change ∷ left) first (inr (last, none)) = absurd (cc)
+
+  ready_behind : (other : ℕ) → IsFirstOf behind other before → IsUpTo (low_pair other before) before planned.after (is.parts ++ planned.parts)
+  ready_behind other first = by_past (past other first)
+    where
+      by_past : (after : ℕ) × IsNextPage page after before × NotAfter (low_pair after before) (low_pair other before)
+          → IsUpTo (low_pair other before) before planned.after (is.parts ++ planned.parts)
+      by_past (after, behind_it, up_to) =
+          let less : pair_cmp (low_pair page before) (low_pair other before) ≡ Less =
+          less_then (low_pair page before) (low_pair after before) (low_pair other before) behind_it.after up_to
+          in
+          let lower : (n : ℕ) → (pair_cmp (low_pair n before) (low_pair other before) ≡ Less → ⊥) → pair_cmp (low_pair n before) (low_pair page before) ≡ Less → ⊥ =
+          λ n from before_page. from (pair_cmp_total.trans (low_pair n before) (low_pair page before) (low_pair other before) before_page less)
+          in
+          let apart : (n : ℕ) → (pair_cmp (low_pair n before) (low_pair other before) ≡ Less → ⊥) → n ≢ page =
+          λ n from e. from (subst (λ (k : ℕ). pair_cmp (low_pair k before) (low_pair other before) ≡ Less) (sym e) less)
+          in
+          record {
+            longer = omega (arith, up.longer, planned.done.longer);
+            lows = λ n h. planned.done.lows n (omega (arith, up.longer)) ∙ up.lows n h;
+            fresh = λ n from below.
+                ⊎_elim
+                (λ (was : n < length is.now).
+                subst (λ (l : Pair). pair_cmp l (low_pair other before) ≡ Less) (sym (planned.done.lows n was))
+                (pair_cmp_total.trans (low_pair n is.now) (low_pair page before) (low_pair other before) (up.fresh n from was) less))
+                (λ (new_one : length is.now ≤ n).
+                less_then (low_pair n planned.after) (low_pair after before) (low_pair other before) (planned.done.fresh n new_one below after behind_it) up_to)
+                (cases_lt n (length is.now));
+            same = λ n h from. planned.done.same n (omega (arith, up.longer)) (apart n from) ∙ up.same n h (lower n from);
+            none = λ n h from. omega (arith, deltas_more n is.parts planned.parts, up.none n h (lower n from), planned.done.deltas n (apart n from));
+          }
+
+  room_behind : (number : ℕ) → deltas_of number (is.parts ++ planned.parts) ≤ more number
+  room_behind number =
+      ⊎_elim
+      (λ (e : number ≡ page).
+      let none : deltas_of page is.parts ≡ 0 = up.none page there (λ less. less_apart (low_pair page before) (low_pair page before) less refl) in
+      subst (λ (n : ℕ). deltas_of n (is.parts ++ planned.parts) ≤ more n) (sym e)
+      (omega (arith, deltas_more page is.parts planned.parts, none, planned.enough)))
+      (λ (apart : number ≡ page → ⊥).
+      omega (arith, deltas_more number is.parts planned.parts, planned.done.deltas number apart, is.enough number, never_less number))
+      (cases_eq number page)
+
+  pub planned_more : IsPlannedTo changes behind before (merged + as_number is_merged) later more old new
+  planned_more = record {
+    parts = is.parts ++ planned.parts;
+    added = planned.added ∙ ap (λ (ps : List PartValue). ps ++ planned.parts) is.added ∙ append_assoc old is.parts planned.parts;
+    done = is.done ++ run;
+    whole = is.whole ∙ sym (append_assoc is.done run behind);
+    now = planned.after;
+    lead = lead_then is.parts planned.parts before is.now planned.after is.lead planned.done.lead;
+    holds = λ set index.
+        same_set planned.after (with_changes run (with_changes is.done set)) (with_changes (is.done ++ run) set)
+        (λ p. sym (changed_twice is.done run set p))
+        (planned.done.holds (with_changes is.done set) (is.holds set index));
+    merges = omega (arith, bases_more (length before) is.parts planned.parts, is.merges, planned.done.bases);
+    next_is = planned.next_is;
+    ready = ready_behind;
+    enough = room_behind;
+  }
+
+pub planned_all : (changes : List Change) (before : List TermPage) (merged next : ℕ) (room : ℕ → ℕ) (old new : List PartValue)
+    → IsPlannedTo changes [] before merged next room old new → merged ≤ most_merged → IsPlan changes merged old new before
+planned_all changes before merged next room old new is few = record {
+  parts = is.parts;
+  added = is.added;
+  after = is.now;
+  lead = is.lead;
+  holds = λ set index.
+      subst (λ (made : List Change). IsIndex is.now (with_changes made set)) (sym (is.whole ∙ append-nil is.done)) (is.holds set index);
+  merges = is.merges;
+  few = few;
+}
