@@ -83,7 +83,7 @@ run_belongs pages page change run behind of rise parted p h =
     by_end from parted
   where
     by_end : NotAfter (low_pair page pages) p → IsPartedAt page (change ∷ run) behind pages → IsPageOf p page pages
-    by_end from (inl (next, is, before, starts)) = within_page pages page next p of.there is from (before p h)
+    by_end from (inl (next, is, ends)) = within_page pages page next p of.there is from (ends.are_before p h)
     by_end from (inr (last, none)) = within_last pages page p of.there last from
 
 -- ---- the pages from a bound on
@@ -191,14 +191,14 @@ module _ (changes run behind : List Change) (before : List TermPage) (merged nex
       by_changes : (left : List Change) → IsFirstOf left other before → IsPartedAt page run left before
           → (after : ℕ) × IsNextPage page after before × NotAfter (low_pair after before) (low_pair other before)
       by_changes [] first parted = absurd first
-      by_changes (change ∷ left) first (inl (after, behind_it, run_before, starts)) = (
+      by_changes (change ∷ left) first (inl (after, behind_it, ends)) = (
         after,
         behind_it,
         first.greatest after behind_it.there
             (λ greater.
             ⊎_elim
             (λ (not_after : NotAfter (low_pair after before) change.pair). not_after greater)
-            (λ (less : pair_cmp change.pair (low_pair after before) ≡ Less). starts less)
+            (λ (less : pair_cmp change.pair (low_pair after before) ≡ Less). ends.starts less)
             (order_cases (low_pair after before) change.pair)),
       )
       by_changes (change ∷ left) first (inr (last, none)) = absurd (cc)

@@ -1,6 +1,6 @@
 -- Deltas of one page that carry changes: what they make of the pages. Only clauses of private functions cite it.
 -- It is this project's own; it comes from no public document.
-use Rattle.std.specs.Prelude.{◌≡◌, ◌≢◌, ℕ, ◌<◌, List, ◌++◌, length}
+use Rattle.std.specs.Prelude.{◌≡◌, ◌≢◌, ℕ, ◌<◌, ◌≤◌, List, ◌++◌, length}
 use Rattle.ax_delta.specs.declared.change.Change.{Change}
 use Rattle.ax_delta.specs.Changes.{changed_pairs}
 use Rattle.ax_frame.specs.Part.{PartValue}
@@ -33,3 +33,9 @@ pub record ArePut (page : ℕ) (changes : List Change) (now : List TermPage) (co
   pub after : List TermPage
   pub carry : CarryChanges page changes now parts after
   pub counted : deltas_of page parts ≡ count
+
+-- Behind the parts that a batch had deltas of the page were put that carry the changes, for which there is room.
+pub record AreCarried (page : ℕ) (changes : List Change) (now : List TermPage) (room : ℕ) (old new : List PartValue) : Type 0 where
+  pub count : ℕ
+  pub put : ArePut page changes now count old new
+  pub enough : count ≤ room

@@ -24,10 +24,15 @@ abbrev pub StartsFrom : List Change → Pair → Type 0
 StartsFrom [] bound = Unit {0}
 StartsFrom (change ∷ changes) bound = pair_cmp change.pair bound ≡ Less → ⊥
 
+-- changes parted at a pair
+pub record IsPartedBy (bound : Pair) (before behind : List Change) : Type 0 where
+  pub are_before : AreBefore (changed_pairs before) bound
+  pub starts : StartsFrom behind bound
+
 -- Changes parted at the end of a page: where the next page begins, or nowhere where no page is behind it.
 abbrev pub IsPartedAt : ℕ → List Change → List Change → List TermPage → Type 0
 IsPartedAt page run behind pages =
-    ((next : ℕ) × IsNextPage page next pages × AreBefore (changed_pairs run) (low_pair next pages) × StartsFrom behind (low_pair next pages))
+    ((next : ℕ) × IsNextPage page next pages × IsPartedBy (low_pair next pages) run behind)
     ⊎ (IsLastPage page pages × (behind ≡ []))
 
 -- Pages whose low pairs are not before the bound are as they were, and new pages have low pairs before it.

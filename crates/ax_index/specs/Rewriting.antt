@@ -48,9 +48,13 @@ pub record Rewrites (page : ℕ) (list rest : List Pair) (now : List TermPage) (
   pub holds : (set with_list : PairSet) → IsIndex now set → Replaces page list now set with_list → IsIndex after (without rest with_list)
 
 -- Behind the parts that a batch had such parts were put, after which the next new page has that number.
-pub record IsRewritten (page : ℕ) (list : List Pair) (now : List TermPage) (next : ℕ) (old new : List PartValue) : Type 0 where
+pub record IsRewrittenTo (page : ℕ) (list rest : List Pair) (now : List TermPage) (next : ℕ) (old new : List PartValue) : Type 0 where
   pub parts : List PartValue
   pub added : new ≡ old ++ parts
   pub after : List TermPage
-  pub rewrites : Rewrites page list [] now parts after
+  pub rewrites : Rewrites page list rest now parts after
   pub next_is : next ≡ length after
+
+-- nothing is left
+abbrev pub IsRewritten : ℕ → List Pair → List TermPage → ℕ → List PartValue → List PartValue → Type 0
+IsRewritten page list now next old new = IsRewrittenTo page list [] now next old new

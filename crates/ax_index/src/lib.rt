@@ -7,10 +7,17 @@
 //! pair.
 #![tactic(auto)]
 
+mod bases;
+mod choice;
 mod damage;
 mod folding;
 mod looking;
 mod numbers;
+mod out_of_memory;
+mod parts;
+mod plan;
+mod runs;
+mod sizes;
 mod wanted;
 
 pub use ax_delta::Change;
@@ -19,3 +26,4 @@ pub use ax_store::StoreFault;
 pub use ax_term::TermRange;
 pub use looking::has;
 pub use numbers::pairs_in;
+pub use plan::plan_changes;

@@ -1,0 +1,114 @@
+-- What calls of a plan answer, told of plans.
+use Rattle.std.proofs.Common.{◌≡◌, ℕ, ◌+◌, ◌<◌, ◌≤◌, List, [], ◌∷◌, ◌++◌, length, arith, refl, sym, ap, ◌∙◌, subst, Bool, true, false, Option}
+use Rattle.std.specs.Option.{unwrap_or}
+use Rattle.ax_frame.specs.Part.{PartValue}
+use Rattle.ax_leaf.specs.declared.pair.Pair.{Pair}
+use Rattle.ax_leaf.specs.Pairs.{Rise}
+use Rattle.ax_delta.specs.declared.change.Change.{Change}
+use Rattle.ax_delta.specs.Changes.{TermChange, changed_pairs, term_changes_of}
+use Rattle.ax_delta.specs.Merge.{IsMerge}
+use Rattle.ax_delta.specs.Payload.{IsDelta}
+use Rattle.ax_delta.specs.Said.{has, said_by, said_of}
+use Rattle.ax_delta.proofs.OneList.{one_delta}
+use Rattle.ax_delta.proofs.SameChanges.{said_alike}
+use Rattle.ax_pages.specs.Contents.{TermPage, term_page}
+use Rattle.ax_pages.specs.TermPages.{low_pair}
+use Rattle.ax_pairs.specs.Index.{AllBelong}
+use Rattle.ax_pairs.specs.PagePairs.{HasPairs}
+use Rattle.ax_store.specs.declared.store.Store.{Store}
+use Rattle.ax_store.specs.Kept.{deltas_of}
+use Rattle.ax_store.specs.Store.{SameButRoom, SameButSlots, store_contents, store_slots}
+use Rattle.ax_index.specs.DeltaRuns.{AreCarried}
+use Rattle.ax_index.specs.Planning.{IsUpTo, IsPagePlanned}
+use Rattle.ax_index.specs.Plans.{HasNoDeltas, SameButRoomAndBytes}
+use Rattle.ax_index.specs.Rewriting.{IsRewritten}
+use Rattle.ax_index.proofs.Lists.{deltas_more}
+use Rattle.ax_index.proofs.PlanningLemmas.{all_now, done_by_bases, done_by_deltas}
+
+-- ---- merging changes
+
+pub merged_said : (pairs after : List Pair) (changes : List Change) (delta : List TermChange) (bytes payload : List ℕ) → IsMerge pairs delta after → IsDelta bytes delta
+    → IsDelta payload (term_changes_of changes) → bytes ≡ payload → Rise (changed_pairs changes) → (p : Pair) → has p after ≡ unwrap_or (said_by p changes) (has p pairs)
+merged_said pairs after changes delta bytes payload is of_bytes of_changes same up p =
+    let one : delta ≡ term_changes_of changes = one_delta payload delta (term_changes_of changes) (subst (λ (bs : List ℕ). IsDelta bs delta) same of_bytes) of_changes in
+    is.holds p ∙ ap (λ (changed : List TermChange). unwrap_or (said_of p changed) (has p pairs)) one
+    ∙ ap (λ (said : Option Bool). unwrap_or said (has p pairs)) (said_alike changes p up)
+
+-- ---- one page
+
+pub planned_by_bases : (page : ℕ) (changes : List Change) (before now : List TermPage) (earlier old new : List PartValue) (next later : ℕ) (pairs list : List Pair) → page < length before
+    → IsUpTo (low_pair page before) before now earlier → next ≡ length now → Rise (changed_pairs changes) → AllBelong (changed_pairs changes) page before
+    → AllBelong list page before → ((some : List Pair) → HasPairs (term_page page before) some → (p : Pair) → has p pairs ≡ has p some)
+    → ((p : Pair) → has p list ≡ unwrap_or (said_by p changes) (has p pairs))
+    → (page < length now → low_pair page now ≡ low_pair page before → AllBelong list page now → IsRewritten page list now later old new)
+    → IsPagePlanned page changes before now true later (λ number. 0) old new
+planned_by_bases page changes before now earlier old new next later pairs list there up next_is rise belong of_page has_pairs made rewritten =
+    let is : IsRewritten page list now later old new = rewritten (omega (arith, up.longer)) (up.lows page there) (all_now before now earlier list page up of_page) in
+    record {
+      parts = is.parts;
+      added = is.added;
+      after = is.after;
+      done = done_by_bases page changes before now is.after is.parts earlier pairs list there up rise (all_now before now earlier (changed_pairs changes) page up belong) of_page has_pairs
+          made is.rewrites;
+      next_is = is.next_is;
+      enough = omega (arith, is.rewrites.no_deltas page);
+    }
+
+pub planned_by_deltas : (page : ℕ) (changes : List Change) (before now : List TermPage) (earlier old new : List PartValue) (next least : ℕ) (room : ℕ → ℕ) → page < length before
+    → IsUpTo (low_pair page before) before now earlier → next ≡ length now → AllBelong (changed_pairs changes) page before → least ≡ room page
+    → (page < length now → AreCarried page changes now least old new) → IsPagePlanned page changes before now false next room old new
+planned_by_deltas page changes before now earlier old new next least room there up next_is belong room_is carried =
+    let is : AreCarried page changes now least old new = carried (omega (arith, up.longer)) in
+    record {
+      parts = is.put.parts;
+      added = is.put.added;
+      after = is.put.after;
+      done = done_by_deltas page changes before now is.put.after is.put.parts (all_now before now earlier (changed_pairs changes) page up belong) is.put.carry;
+      next_is = next_is ∙ sym is.put.carry.lows.many;
+      enough = omega (arith, is.enough, is.put.counted, room_is);
+    }
+
+pub with_room : (page : ℕ) (changes : List Change) (before now : List TermPage) (merged : Bool) (next : ℕ) (old new : List PartValue) (room : ℕ → ℕ)
+    → IsPagePlanned page changes before now merged next (λ number. 0) old new → IsPagePlanned page changes before now merged next room old new
+with_room page changes before now merged next old new room is = record {
+  parts = is.parts;
+  added = is.added;
+  after = is.after;
+  done = is.done;
+  next_is = is.next_is;
+  enough = omega (arith, is.enough);
+}
+
+-- ---- stores
+
+pub same_from_slots : {C : Type 0} (old new : Store C) → SameButSlots old new → (store_slots new).taken ≡ (store_slots old).taken → SameButRoomAndBytes old new
+same_from_slots old new same taken = record {
+  logged = same.logged;
+  contents = ap (λ pages. pages.contents) same.pages;
+  offsets = ap (λ pages. pages.offsets) same.pages;
+  failed = same.failed;
+  taken = taken;
+}
+
+pub same_from_room : {C : Type 0} (old new : Store C) → SameButRoom old new → SameButRoomAndBytes old new
+same_from_room old new same = record {
+  logged = same.logged;
+  contents = same.contents;
+  offsets = same.offsets;
+  failed = same.failed;
+  taken = ap (λ slots. slots.taken) same.slots;
+}
+
+pub same_then : {C : Type 0} (old mid new : Store C) → SameButRoomAndBytes old mid → SameButRoomAndBytes mid new → SameButRoomAndBytes old new
+same_then old mid new one other = record {
+  logged = other.logged ∙ one.logged;
+  contents = other.contents ∙ one.contents;
+  offsets = other.offsets ∙ one.offsets;
+  failed = other.failed ∙ one.failed;
+  taken = other.taken ∙ one.taken;
+}
+
+-- the room that parts need that stand behind those with no deltas
+pub room_for_all : (old parts new : List PartValue) (room : ℕ → ℕ) → HasNoDeltas old → new ≡ old ++ parts → ((n : ℕ) → deltas_of n parts ≤ room n) → (n : ℕ) → deltas_of n new ≤ room n
+room_for_all old parts new room none added enough n =
+    subst (λ (all : List PartValue). deltas_of n all ≤ room n) (sym added) (omega (arith, deltas_more n old parts, none n, enough n))

@@ -1,0 +1,116 @@
+//! A page written anew: its base, and new pages for the pairs that it is not to have.
+
+ghost use Rattle.std.specs.Prelude.{◌≡◌, ◌<◌, ◌≤◌, ℕ, List, [], ◌∷◌, ◌++◌, length, true, false, ◌+◌, ◌⊎◌, IsTrue, OnOk, IfOk};
+ghost use Rattle.ax_leaf.specs.declared.pair.Pair.{Pair};
+ghost use Rattle.ax_leaf.specs.Pairs.{Rise, BeginsFrom};
+ghost use Rattle.ax_pages.specs.AfterPart.{most_term_pages};
+ghost use Rattle.ax_pages.specs.Contents.{TermPage};
+ghost use Rattle.ax_pages.specs.TermPages.{low_pair};
+ghost use Rattle.ax_pairs.specs.Index.{AllBelong};
+ghost use Rattle.ax_store.specs.Batch.{batch_parts};
+ghost use Rattle.ax_store.specs.Store.{store_contents};
+ghost use Rattle.ax_index.specs.Rewriting.{IsBasePut, IsRewritten};
+
+use crate::out_of_memory::Memory;
+use crate::parts::put_base;
+use crate::runs::all_belong;
+use crate::sizes::{base_len, new_pages};
+use ax_leaf::{Bytes, Pair};
+use ax_store::{Batch, Store};
+use std::alloc::Global;
+
+/// The most term pages that there may be.
+const MOST_PAGES: u32 = 2_147_483_648;
+
+/// Writes a page anew with these rising pairs, and new pages behind it where they are many; the next new
+/// page then has the number `next`. It answers whether it did: not where a pair is none of the page, which
+/// is so in no index, nor where there are no numbers for the new pages.
+pub(crate) fn rewrite<C>(
+    alloc: Global,
+    store: &Store<C>,
+    batch: &mut Batch,
+    next: &mut u32,
+    page: u32,
+    pairs: &[Pair],
+) -> Result<bool, Memory>
+    requires page { page < length (store_contents store.now).terms }
+    requires rise { Rise pairs.now }
+    ensures belong { IfOk result (λ done. done ≡ true → AllBelong pairs.now page (store_contents store.now).terms) }
+    ensures rewritten { (now : List TermPage) → next.old ≡ length now → page < length now
+        → low_pair page now ≡ low_pair page (store_contents store.now).terms
+        → AllBelong pairs.now page now
+        → IfOk result (λ done. done ≡ true → IsRewritten page pairs.now now next.new (batch_parts batch.old) (batch_parts batch.new)) }
+    ensures left { IfOk result (λ done. done ≡ false → (batch_parts batch.new ≡ batch_parts batch.old) × (next.new ≡ next.old)) }
+    ensures full { IfOk result (λ done. done ≡ false → AllBelong pairs.now page (store_contents store.now).terms
+        → most_term_pages < next.old + length pairs.now) }
+{
+    if !all_belong(store, page, pairs) || !has_numbers(*next, pairs) {
+        return Ok(false);
+    }
+    let low = low_of(alloc, store, page)?;
+    put_bases(alloc, batch, next, page, &low, pairs)?;
+    Ok(true)
+}
+
+/// Whether there are numbers for the new pages that the pairs need.
+fn has_numbers(next: u32, pairs: &[Pair]) -> bool
+    ensures { IsTrue result ⊎ (most_term_pages < next + length pairs.now) }
+{
+    next as usize + new_pages(pairs) <= MOST_PAGES as usize
+}
+
+/// The low pair of a page.
+fn low_of<C>(alloc: Global, store: &Store<C>, page: u32) -> Result<Pair, Memory>
+    requires { page < length (store_contents store.now).terms }
+    ensures { IfOk result (λ low. low ≡ low_pair page (store_contents store.now).terms) }
+{
+    let (term, number) = store.low(page);
+    let term = Bytes::from_vec(Vec::from_slice(alloc, term)?);
+    Ok(Pair { term, number })
+}
+
+/// Puts the base of a page, and first bases of new pages for the pairs that it is not to have.
+fn put_bases(
+    alloc: Global,
+    batch: &mut Batch,
+    next: &mut u32,
+    page: u32,
+    low: &Pair,
+    pairs: &[Pair],
+) -> Result<(), Memory>
+    requires rise { Rise pairs.now }
+    requires begins { BeginsFrom low.now pairs.now }
+    ensures { (now : List TermPage) → next.old ≡ length now → page < length now → low_pair page now ≡ low.now
+        → AllBelong pairs.now page now
+        → OnOk result (IsRewritten page pairs.now now next.new (batch_parts batch.old) (batch_parts batch.new)) }
+{
+    let (first, mut rest) = pairs.split_at(base_len(pairs));
+    put_base(alloc, batch, page, low, first)?;
+    while let Some((low, _)) = rest.split_first() {
+        let (piece, behind) = rest.split_at(base_len(rest));
+        put_new_page(alloc, batch, next, low, piece)?;
+        rest = behind;
+    }
+    Ok(())
+}
+
+/// Puts the first base of the next new page, whose low pair is its first.
+fn put_new_page(
+    alloc: Global,
+    batch: &mut Batch,
+    next: &mut u32,
+    low: &Pair,
+    pairs: &[Pair],
+) -> Result<(), Memory>
+    requires rise { Rise pairs.now }
+    requires begins { BeginsFrom low.now pairs.now }
+    ensures put { OnOk result (IsBasePut next.old low.now pairs.now (batch_parts batch.old) (batch_parts batch.new)) }
+    ensures next { OnOk result ((next.new ≡ next.old + 1) × (next.old < most_term_pages)) }
+{
+    if *next >= MOST_PAGES {
+        return Err(Memory);
+    }
+    put_base(alloc, batch, *next, low, pairs)?;
+    *next += 1;
+    Ok(())
+}

@@ -1,0 +1,97 @@
+//! Parts of term pages, put behind those of a batch.
+
+ghost use Rattle.std.specs.Prelude.{◌≡◌, ◌<◌, [], ◌∷◌, ◌++◌, ℕ, List, length, OnOk, IfOk};
+ghost use Rattle.ax_delta.specs.Changes.{changed_pairs};
+ghost use Rattle.ax_leaf.specs.Pairs.{Rise, BeginsFrom};
+ghost use Rattle.ax_pages.specs.Contents.{TermPage};
+ghost use Rattle.ax_store.specs.Batch.{batch_parts};
+ghost use Rattle.ax_index.specs.DeltaRuns.{ArePut, CarryChanges};
+ghost use Rattle.ax_index.specs.Rewriting.{IsBasePut};
+
+use crate::out_of_memory::Memory;
+use crate::sizes::delta_len;
+use ax_delta::Change;
+use ax_frame::Part;
+use ax_frame::MOST_PAYLOAD;
+use ax_leaf::Pair;
+use ax_store::Batch;
+use std::alloc::Global;
+
+/// The kinds of parts, as their bytes say them.
+const BASE: u8 = 5;
+const DELTA: u8 = 6;
+
+/// Puts deltas of a page that carry rising changes, and answers how many they are.
+pub(crate) fn put_deltas(
+    alloc: Global,
+    batch: &mut Batch,
+    page: u32,
+    changes: &[Change],
+) -> Result<usize, Memory>
+    requires { Rise (changed_pairs changes.now) }
+    ensures { (now : List TermPage) → page < length now
+        → IfOk result (λ count. ArePut page changes.now now count (batch_parts batch.old) (batch_parts batch.new)) }
+{
+    let mut rest = changes;
+    let mut count = 0;
+    while rest.len() > 0 {
+        let (first, behind) = rest.split_at(delta_len(rest));
+        put_delta(alloc, batch, page, first)?;
+        rest = behind;
+        count += 1;
+    }
+    Ok(count)
+}
+
+/// Puts one delta of a page.
+fn put_delta(
+    alloc: Global,
+    batch: &mut Batch,
+    page: u32,
+    changes: &[Change],
+) -> Result<(), Memory>
+    requires some { 0 < length changes.now }
+    requires rise { Rise (changed_pairs changes.now) }
+    ensures { (now : List TermPage) → page < length now
+        → OnOk result (ArePut page changes.now now 1 (batch_parts batch.old) (batch_parts batch.new)) }
+{
+    let payload = ax_delta::encode(alloc, changes)?;
+    put_part(alloc, batch, DELTA, page, payload.as_slice())?;
+    Ok(())
+}
+
+/// Puts a base of a page of this low pair.
+pub(crate) fn put_base(
+    alloc: Global,
+    batch: &mut Batch,
+    page: u32,
+    low: &Pair,
+    pairs: &[Pair],
+) -> Result<(), Memory>
+    requires rise { Rise pairs.now }
+    requires begins { BeginsFrom low.now pairs.now }
+    ensures { OnOk result (IsBasePut page low.now pairs.now (batch_parts batch.old) (batch_parts batch.new)) }
+{
+    let payload = ax_leaf::encode(alloc, low, pairs)?;
+    put_part(alloc, batch, BASE, page, payload.as_slice())?;
+    Ok(())
+}
+
+/// Puts a part. `Memory` also where the payload is longer than a part may be: bases and deltas are cut so
+/// that none is.
+fn put_part(
+    alloc: Global,
+    batch: &mut Batch,
+    kind: u8,
+    key: u32,
+    payload: &[u8],
+) -> Result<(), Memory>
+    ensures { OnOk result (batch_parts batch.new
+        ≡ batch_parts batch.old ++ record { kind = kind; key = key; payload = payload.now } ∷ []) }
+{
+    if payload.len() > MOST_PAYLOAD {
+        return Err(Memory);
+    }
+    batch.add(alloc, Part { kind, key, payload })?;
+    Ok(())
+}

@@ -1,0 +1,114 @@
+//! How large bases and deltas are to be, and how many bytes of them a pair and a change take.
+//!
+//! A document of 1 KB has some 30 terms on as many pages, so a write appends 30 deltas of some 40 bytes
+//! with their heads. A page that has `MOST_PARTS` is merged at its next change: so a look-up reads so many
+//! parts at most, and a write causes 30 / 17, about 2, merges. Each of them writes a base, whose size
+//! decides what a write costs: bases of `MOST_BASE_BYTES` at most, split to `SPLIT_BASE_BYTES`, have about
+//! three quarters of the most.
+
+ghost use Rattle.std.specs.Prelude.{◌<◌, ◌≤◌, length};
+
+use ax_delta::Change;
+use ax_leaf::Pair;
+use ax_leaf::short_term::in_common;
+
+/// The most parts that a page is to have: one that has them and is changed is merged.
+pub(crate) const MOST_PARTS: usize = 17;
+
+/// As many changes of one page count as one of its parts: so a long run of them is merged at once.
+pub(crate) const CHANGES_FOR_PART: usize = 8;
+
+/// The most pages that are merged in one batch.
+pub(crate) const MOST_MERGED: u32 = 16;
+
+/// How many bytes the pairs of a base are counted as, at most.
+const MOST_BASE_BYTES: usize = 4_096;
+
+/// As how many bytes the pairs of a base are counted, at most, that is split off one of more.
+const SPLIT_BASE_BYTES: usize = 2_048;
+
+/// How many bytes the changes of a delta are counted as, at most, but for one alone. A part has room for
+/// 65,536.
+const MOST_DELTA_BYTES: usize = 60_000;
+
+/// What a term and a number take beside the bytes of the term, at most: five numbers of five bytes.
+const BESIDE_TERM: usize = 25;
+
+/// How many of rising pairs a base is to have: all, where they are few enough.
+pub(crate) fn base_len(pairs: &[Pair]) -> usize
+    ensures within { result ≤ length pairs.now }
+    ensures some { 0 < length pairs.now → 0 < result }
+{
+    let mut bytes: usize = 0;
+    let mut front = 1;
+    for i in 0..pairs.len() {
+        bytes = bytes.saturating_add(bytes_of(pairs, i));
+        if bytes > MOST_BASE_BYTES {
+            return front;
+        }
+        if bytes <= SPLIT_BASE_BYTES {
+            front = i + 1;
+        }
+    }
+    pairs.len()
+}
+
+/// How many new pages the pairs of one take beside it.
+pub(crate) fn new_pages(pairs: &[Pair]) -> usize
+    ensures { result ≤ length pairs.now }
+{
+    let mut count = 0;
+    let (_, mut rest) = pairs.split_at(base_len(pairs));
+    while rest.len() > 0 {
+        let (_, behind) = rest.split_at(base_len(rest));
+        rest = behind;
+        count += 1;
+    }
+    count
+}
+
+/// How many bytes of a base a pair takes behind those before it, counted from above where they are of two
+/// terms, and about so many where they are of one.
+fn bytes_of(pairs: &[Pair], i: usize) -> usize
+    requires { i < length pairs.now }
+{
+    let term = pairs[i].term.as_slice();
+    if i == 0 {
+        return BESIDE_TERM + term.len();
+    }
+    let before = &pairs[i - 1];
+    let shared = in_common(before.term.as_slice(), term);
+    if shared == term.len() && shared == before.term.as_slice().len() {
+        return bytes_of_number(pairs[i].number.saturating_sub(before.number));
+    }
+    let number = bytes_of_number(pairs[i].number);
+    4 + number + (term.len() - shared)
+}
+
+/// How many bytes a number takes, seven bits a byte.
+fn bytes_of_number(number: u32) -> usize
+    ensures { result ≤ 5 }
+{
+    match number {
+        0..=0x7f => 1,
+        0x80..=0x3fff => 2,
+        0x4000..=0x1f_ffff => 3,
+        0x20_0000..=0xfff_ffff => 4,
+        _ => 5,
+    }
+}
+
+/// How many of rising changes a delta is to have: as many as fit a part, and at least one.
+pub(crate) fn delta_len(changes: &[Change]) -> usize
+    ensures within { result ≤ length changes.now }
+    ensures some { 0 < length changes.now → 0 < result }
+{
+    let mut bytes: usize = 0;
+    for (i, change) in changes.iter().enumerate() {
+        bytes = bytes.saturating_add(BESIDE_TERM).saturating_add(change.pair.term.as_slice().len());
+        if i > 0 && bytes > MOST_DELTA_BYTES {
+            return i;
+        }
+    }
+    changes.len()
+}
