@@ -1,2 +1,3 @@
 pub mod Damage
+pub mod Reading
 pub mod Wanted

@@ -10,7 +10,9 @@
 mod damage;
 mod folding;
 mod looking;
+mod number_lookup;
 mod numbers;
+mod payload;
 mod wanted;
 
 pub use ax_delta::Change;

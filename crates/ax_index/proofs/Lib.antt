@@ -1,0 +1,3 @@
+pub mod Unmoved
+pub mod Postings
+pub mod DeltaParts
