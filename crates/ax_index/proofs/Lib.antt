@@ -1,3 +1,7 @@
 pub mod Unmoved
 pub mod Postings
 pub mod DeltaParts
+pub mod FoldedPairs
+pub mod NumberLists
+pub mod PageWalk
+pub mod Gathering

@@ -11,9 +11,11 @@ use Rattle.ax_gap.specs.Gaps.{IsRisingList}
 use Rattle.ax_leaf.specs.declared.pair.Pair.{Pair}
 use Rattle.ax_leaf.specs.Lookup.{numbers_under}
 use Rattle.ax_leaf.specs.Pairs.{Posting, pairs_of, pairs_with}
-use Rattle.ax_leaf.specs.Payload.{AreAfter, ArePostings}
+use Rattle.ax_leaf.specs.Payload.{AreAfter, ArePostings, IsLeaf}
+use Rattle.ax_leaf.proofs.OneSpelling.{one_leaf}
 use Rattle.ax_delta.specs.Said.{has, has_number, is_same}
 use Rattle.ax_delta.proofs.SamePair.{the_pair, true_or_false, same_by_term, other_by_term}
+use Rattle.ax_pairs.specs.PagePairs.{IsBase}
 
 -- the number is among those that were found
 abbrev pub has_in : ℕ → Option (List ℕ) → Bool
@@ -100,3 +102,18 @@ rises_after term numbers last (x ∷ postings) h e = at_rises term numbers x pos
 pub under_rises : (term numbers : List ℕ) (postings : List Posting) → ArePostings postings → numbers_under term postings ≡ Some numbers → IsRisingList numbers
 under_rises term numbers [] h e = absurd (cc)
 under_rises term numbers (x ∷ postings) h e = at_rises term numbers x postings h.0.rising (rises_after term numbers x.term postings h.1) e
+
+-- ---- a base
+
+-- the pairs of a base that was read are those that it is the payload of
+pub base_pairs_are : (payload : List ℕ) (low : Pair) (postings : List Posting) (pairs : List Pair) → IsLeaf payload low postings → IsBase payload pairs → pairs ≡ pairs_of postings
+base_pairs_are payload low postings pairs is base =
+    base.have ∙ ap pairs_of (one_leaf payload base.low low base.postings postings base.is is).1
+
+pub base_has : (payload : List ℕ) (low : Pair) (postings : List Posting) (term sought : List ℕ) (n : ℕ) (found : Option (List ℕ)) (pairs : List Pair)
+    → IsLeaf payload low postings → sought ≡ term → found ≡ numbers_under sought postings → IsBase payload pairs
+    → has_in n found ≡ has (the_pair term n) pairs
+base_has payload low postings term sought n found pairs is same e base =
+    ap (has_in n) (e ∙ ap (λ (t : List ℕ). numbers_under t postings) same)
+    ∙ sym (has_under term n postings is.are)
+    ∙ ap (has (the_pair term n)) (sym (base_pairs_are payload low postings pairs is base))

@@ -1,6 +1,8 @@
 -- Calls that read: what they leave, one after another, and what their faults say.
 use Rattle.std.proofs.Common.{◌≡◌, ◌<◌, ℕ, Bool, true, false, List, [], length, refl, sym, ap, ◌∙◌, subst, slice_get, slice_set, zero, suc, ◌∷◌}
-use Rattle.std.specs.Prelude.{slice_index_or}
+use Rattle.std.specs.Prelude.{slice_index_or, is_some}
+use Rattle.ax_leaf.specs.declared.pair.Pair.{Pair}
+use Rattle.ax_pairs.specs.PagePairs.{IsBase}
 use Rattle.ax_pages.specs.Contents.{Contents, parts_of, term_page}
 use Rattle.ax_pages.specs.Image.{extent_number}
 use Rattle.ax_pages.specs.declared.page.Page.TheVariants.{Term}
@@ -14,6 +16,7 @@ use Rattle.ax_store.specs.declared.fault.StoreFault.TheVariants.{Disk, Damaged, 
 use Rattle.ax_store.specs.declared.store.Store.{Store}
 use Rattle.ax_index.specs.Damage.{IsPayload, IsPlacedAt, IsSpoiledPart, TellsPart, is_base_at}
 use Rattle.ax_index.specs.Reading.{SameButBytes}
+use Rattle.ax_index.proofs.DeltaParts.{base_at, base_there}
 
 module _ {C : Type 0} where
   pub unmoved : (store : Store C) → SameButBytes store store
@@ -98,3 +101,14 @@ pub given_back : (taken : List Bool) (n : ℕ) → slice_index_or taken n true �
 given_back [] n h = absurd (cc)
 given_back (x ∷ taken) zero h = ap (λ (b : Bool). b ∷ taken) (sym h)
 given_back (x ∷ taken) (suc n) h = ap (λ (bs : List Bool). x ∷ bs) (given_back taken n h)
+
+module _ {C : Type 0} where
+  -- the fault of a base that was read and is none
+  pub told_base : (old new : Store C) (page : ℕ) (fault : StoreFault) (payload : List ℕ) → SameButSlots old new
+      → is_some (term_page page (store_contents old).terms).base ≡ true → payload ≡ part_at (Term page) 0 (store_contents old)
+      → ((pairs : List Pair) × IsBase payload pairs → ⊥) → IsPlacedAt new page 0 fault → TellsPart old fault
+  told_base old new page fault payload same there is none placed =
+      told_read old new page 0 fault same (base_there (term_page page (store_contents old).terms) there)
+      (subst (λ (b : Bool). IsPayload b (part_at (Term page) 0 (store_contents old)) → ⊥) (sym (base_at (term_page page (store_contents old).terms) there))
+      (subst (λ (bytes : List ℕ). (pairs : List Pair) × IsBase bytes pairs → ⊥) is none))
+      placed

@@ -134,7 +134,7 @@ fn first_page<C>(store: &Store<C>, range: &TermRange) -> Option<u32>
     ensures there { IfSome result (λ page. page < length (store_contents store.now).terms) }
     ensures reaches { (p : Pair) → is_in_range range.now p.term ≡ true → IsAhead result p (store_contents store.now).terms }
 {
-    if range.below.as_slice() <= range.from.as_slice() {
+    if range.below.as_slice().cmp(range.from.as_slice()).is_le() {
         return None;
     }
     Some(store.page_of(range.from.as_slice(), 0))
@@ -153,7 +153,7 @@ fn page_behind<C>(store: &Store<C>, page: u32, range: &TermRange) -> Option<u32>
 {
     let next = store.next_page(page)?;
     let (term, _) = store.low(next);
-    if term < range.below.as_slice() {
+    if term.cmp(range.below.as_slice()).is_lt() {
         Some(next)
     } else {
         None

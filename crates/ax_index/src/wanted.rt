@@ -29,5 +29,5 @@ impl<'a> Wanted<'a> {
 pub(crate) fn is_within(range: &TermRange, term: &[u8]) -> bool
     ensures { result ≡ is_in_range range.now term.now }
 {
-    range.from.as_slice() <= term && term < range.below.as_slice()
+    range.from.as_slice().cmp(term).is_le() && term.cmp(range.below.as_slice()).is_lt()
 }
