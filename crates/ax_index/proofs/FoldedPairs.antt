@@ -70,14 +70,14 @@ or_else (Some x) said b = refl
 
 -- what the deltas from a position on make of the pairs so far is what all make of the base's
 pub record IsFolded (wanted : Wanted) (page : TermPage) (i : ℕ) (kept : List Pair) : Type 0 where
-  pub as : (base : List Pair) (deltas : List (List TermChange)) (p : Pair) → AreOfBase page.base base → AreDeltas page.deltas deltas
+  pub gives : (base : List Pair) (deltas : List (List TermChange)) (p : Pair) → AreOfBase page.base base → AreDeltas page.deltas deltas
       → is_wanted wanted p.term ≡ true
       → unwrap_or (last_said p (drop (i - first_delta page) deltas)) (has p kept) ≡ unwrap_or (last_said p deltas) (has p base)
 
 pub folded_start : (wanted : Wanted) (page : TermPage) (i : ℕ) (kept : List Pair) → i ≡ first_delta page
     → ((base : List Pair) → AreOfBase page.base base → kept ≡ wanted_of wanted base) → IsFolded wanted page i kept
 folded_start wanted page i kept e is = record {
-  as = λ base deltas p of are h.
+  gives = λ base deltas p of are h.
       let none : i - first_delta page ≡ 0 = omega arith in
       ap (λ (k : ℕ). unwrap_or (last_said p (drop k deltas)) (has p kept)) none
       ∙ ap (unwrap_or (last_said p deltas)) (ap (has p) (is base of) ∙ wanted_has wanted p base h);
@@ -87,12 +87,12 @@ pub folded_step : (wanted : Wanted) (page : TermPage) (i j : ℕ) (kept after : 
     → ((deltas : List (List TermChange)) → AreDeltas page.deltas deltas → IsMerge kept (get_or deltas (i - first_delta page) []) after)
     → IsFolded wanted page i kept → IsFolded wanted page j after
 folded_step wanted page i j kept after h l e merged was = record {
-  as = λ base deltas p of are w.
+  gives = λ base deltas p of are w.
       let changes : List TermChange = get_or deltas (i - first_delta page) [] in
       ap (unwrap_or (last_said p (drop (j - first_delta page) deltas))) ((merged deltas are).holds p)
       ∙ or_else (last_said p (drop (j - first_delta page) deltas)) (said_of p changes) (has p kept)
       ∙ ap (λ (o : Option Bool). unwrap_or o (has p kept)) (sym (says_from page deltas are p i j h l e))
-      ∙ was.as base deltas p of are w;
+      ∙ was.gives base deltas p of are w;
 }
 
 pub folded_end : (wanted : Wanted) (page : TermPage) (i : ℕ) (kept pairs : List Pair) → i ≡ length (term_parts page) → Rise kept
@@ -101,6 +101,6 @@ folded_end wanted page i kept pairs e rise is of = record {
   rise = rise;
   same = λ p h.
       ap (λ (o : Option Bool). unwrap_or o (has p kept)) (sym (quiet_end page of.deltas of.are_deltas p i e))
-      ∙ is.as of.base of.deltas p of.of_base of.are_deltas h
+      ∙ is.gives of.base of.deltas p of.of_base of.are_deltas h
       ∙ sym (newest_counts of.base pairs of.deltas p of.merged);
 }

@@ -3,11 +3,13 @@ use Rattle.std.proofs.Common.{◌≡◌, ℕ, zero, suc, ◌+◌, ◌<◌, List,
 use Rattle.std.proofs.lemmas.Bool.{eq-eqb, ne_eqb, cases_eq}
 use Rattle.ax_leaf.specs.declared.pair.Pair.{Pair}
 use Rattle.ax_delta.specs.Said.{has, has_number, is_same}
-use Rattle.ax_delta.proofs.Numbers.{has_more}
 use Rattle.ax_delta.proofs.SamePair.{the_pair, true_or_false, same_from, same_to}
 use Rattle.ax_term.specs.Ranges.{is_in_range}
 use Rattle.ax_term.specs.declared.range.TermRange.{TermRange}
 use Rattle.ax_index.specs.Reading.{Gathers, HasAmong, numbers_of}
+
+has_more : (n m : ℕ) (list : List ℕ) → has_number n list ≡ true → has_number n (m ∷ list) ≡ true
+has_more n m list h = ⊎_elim (λ (e : m ≡ n). rw (eq-eqb m n e) refl) (λ (e : m ≡ n → ⊥). rw (ne_eqb m n e) h) (cases_eq m n)
 
 has_from_contains : (xs : List ℕ) (n : ℕ) → Contains xs n → has_number n xs ≡ true
 has_from_contains [] n (k, l, e) = absurd (omega arith)

@@ -6,10 +6,11 @@ use Rattle.ax_pairs.specs.PagePairs.{IsBase}
 use Rattle.ax_pages.specs.Contents.{Contents, parts_of, term_page}
 use Rattle.ax_pages.specs.Image.{extent_number}
 use Rattle.ax_pages.specs.declared.page.Page.TheVariants.{Term}
+use Rattle.ax_pool.specs.Frames.{Frames}
 use Rattle.ax_pool.specs.declared.slot.Slot.{Slot}
 use Rattle.ax_log.specs.Log.{log_area}
 use Rattle.ax_store.specs.Kept.{Kept, PageOffsets, offsets_of}
-use Rattle.ax_store.specs.Slots.{IsSlotOf, part_at}
+use Rattle.ax_store.specs.Slots.{IsRead, IsSlotOf, part_at}
 use Rattle.ax_store.specs.Store.{SameButSlots, store_contents, store_offsets, store_area, store_slots}
 use Rattle.ax_store.specs.declared.fault.StoreFault.{StoreFault}
 use Rattle.ax_store.specs.declared.fault.StoreFault.TheVariants.{Disk, Damaged, Newer, Memory}
@@ -112,3 +113,13 @@ module _ {C : Type 0} where
       (subst (λ (b : Bool). IsPayload b (part_at (Term page) 0 (store_contents old)) → ⊥) (sym (base_at (term_page page (store_contents old).terms) there))
       (subst (λ (bytes : List ℕ). (pairs : List Pair) × IsBase bytes pairs → ⊥) is none))
       placed
+
+-- ---- slots
+
+pub slots_back : (old took left new : List Bool) (n m : ℕ) → slice_index_or old n true ≡ false → took ≡ slice_set old n true → left ≡ took → m ≡ n
+    → new ≡ slice_set left m false → new ≡ old
+slots_back old took left new n m free e f same g =
+    g ∙ ap (λ (k : ℕ). slice_set left k false) same ∙ ap (λ (taken : List Bool). slice_set taken n false) (f ∙ e) ∙ given_back old n free
+
+pub read_still : (payload : List ℕ) (frames : Frames) (old new : Slot) (len : ℕ) → new ≡ old → IsRead payload frames old.number len → IsRead payload frames new.number len
+read_still payload frames old new len same is = subst (λ (slot : Slot). IsRead payload frames slot.number len) (sym same) is
