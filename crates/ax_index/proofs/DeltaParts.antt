@@ -1,12 +1,12 @@
 -- The parts of a term page by their positions, and what its deltas say, from the newest back.
-use Rattle.std.proofs.Common.{◌≡◌, ℕ, zero, suc, ◌+◌, ◌-◌, ◌<◌, ◌≤◌, List, [], ◌∷◌, ◌++◌, length, get_or, drop, arith, refl, ap, ◌∙◌, sym, subst, Bool, true, false, cond, ⊎_elim, ◌&&◌, ◌==◌, Option, Some, None}
+use Rattle.std.proofs.Common.{◌≡◌, ℕ, zero, suc, ◌+◌, ◌-◌, ◌<◌, ◌≤◌, List, [], ◌∷◌, ◌++◌, length, get_or, drop, arith, refl, ap, ◌∙◌, sym, subst, Bool, true, false, ◌&&◌, ◌==◌, Option, Some, None}
 use Rattle.std.proofs.lemmas.Bool.{ne_eqb}
-use Rattle.std.specs.Option.{option_or, option_to_list, unwrap_or}
+use Rattle.std.specs.Option.{option_or, option_to_list}
 use Rattle.std.specs.Prelude.{is_some, if◌then◌else◌}
 use Rattle.ax_leaf.specs.declared.pair.Pair.{Pair}
 use Rattle.ax_delta.specs.Changes.{TermChange}
 use Rattle.ax_delta.specs.Payload.{IsDelta}
-use Rattle.ax_delta.specs.Said.{has, last_said, said_of}
+use Rattle.ax_delta.specs.Said.{last_said, said_of}
 use Rattle.ax_pages.specs.Contents.{Contents, TermPage, term_parts, term_page, parts_of}
 use Rattle.ax_pages.specs.declared.page.Page.TheVariants.{Term}
 use Rattle.ax_store.specs.Slots.{part_at}

@@ -1,5 +1,5 @@
 -- Pairs of the wanted terms, and what merges make of them.
-use Rattle.std.proofs.Common.{◌≡◌, ℕ, ◌+◌, ◌-◌, ◌<◌, ◌≤◌, List, [], ◌∷◌, ◌++◌, length, get_or, drop, arith, refl, ap, ◌∙◌, sym, subst, Bool, true, false, cond, ⊎_elim, Option, Some, None}
+use Rattle.std.proofs.Common.{◌≡◌, ℕ, ◌+◌, ◌-◌, ◌<◌, ◌≤◌, List, [], ◌∷◌, length, get_or, drop, arith, refl, ap, ◌∙◌, sym, subst, Bool, true, false, cond, ⊎_elim, Option, Some, None}
 use Rattle.std.specs.Option.{option_or, unwrap_or}
 use Rattle.ax_leaf.specs.declared.pair.Pair.{Pair}
 use Rattle.ax_leaf.specs.Pairs.{Rise, RiseAfter}
@@ -16,7 +16,6 @@ use Rattle.ax_index.specs.Wanted.{HaveWanted, is_wanted}
 use Rattle.ax_index.proofs.DeltaParts.{says_from, quiet_end}
 
 -- ---- the wanted ones of pairs
-
 
 wanted_after : (wanted : Wanted) (p : Pair) (pairs : List Pair) → RiseAfter p pairs → RiseAfter p (wanted_of wanted pairs)
 wanted_after wanted p [] h = tt

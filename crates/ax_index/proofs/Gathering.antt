@@ -1,5 +1,5 @@
 -- A walk over pages finds the numbers of a range: those that were found are of the set, and what was missed is ahead.
-use Rattle.std.proofs.Common.{◌≡◌, ◌↔◌, ℕ, ◌<◌, List, [], length, arith, refl, sym, ap, ◌∙◌, subst, true, ◌⊎◌, inl, inr, ⊎_elim, Option, Some, None}
+use Rattle.std.proofs.Common.{◌≡◌, ◌↔◌, ℕ, ◌<◌, List, [], length, sym, ◌∙◌, subst, true, ◌⊎◌, inl, inr, ⊎_elim, Option, Some, None}
 use Rattle.std.specs.declared.cmp.Ordering.TheVariants.{Less}
 use Rattle.ax_leaf.specs.declared.pair.Pair.{Pair}
 use Rattle.ax_leaf.specs.Pairs.{pair_cmp}
@@ -31,15 +31,16 @@ start range set pages next reaches = record {
 
 pub stop : (range : TermRange) (set : PairSet) (pages : List TermPage) (next : Option ℕ) (numbers : List ℕ) → next ≡ None → IsGathered range set pages next numbers
     → (n : ℕ) → (has_number n numbers ≡ true) ↔ HasIn range set n
-stop range set pages None numbers e is n =
-    (λ h. is.found n h,
-    λ h. ⊎_elim (λ (there : has_number n numbers ≡ true). there) (λ (ahead : ⊥). absurd ahead) (is.missed (the_pair h.0 n) h.1 h.2))
+stop range set pages None numbers e is n = (
+  λ h. is.found n h,
+  λ h. ⊎_elim (λ (there : has_number n numbers ≡ true). there) (λ (ahead : ⊥). absurd ahead) (is.missed (the_pair h.0 n) h.1 h.2),
+)
 stop range set pages (Some page) numbers e is n = absurd (cc)
 
 module _ (range : TermRange) (set : PairSet) (pages : List TermPage) (page : ℕ) (next : Option ℕ) (old new : List ℕ) (is : IsIndex pages set) (there : page < length pages)
     (was : IsGathered range set pages (Some page) old) (gathers : Gathers range (is.pairs page) old new)
     (reaches : (p : Pair) (other : ℕ) → is_in_range range p.term ≡ true → other < length pages
-        → pair_cmp (low_pair page pages) (low_pair other pages) ≡ Less → NotAfter (low_pair other pages) p → IsAhead next p pages) where
+    → pair_cmp (low_pair page pages) (low_pair other pages) ≡ Less → NotAfter (low_pair other pages) p → IsAhead next p pages) where
   here_found : (n : ℕ) → HasAmong range (is.pairs page) n → HasIn range set n
   here_found n (term, within, h) = (term, within, sym (is.all page (the_pair term n) (is.belong page there (the_pair term n) h)) ∙ h)
 
@@ -74,12 +75,12 @@ module _ (range : TermRange) (set : PairSet) (pages : List TermPage) (page : ℕ
 pub step_by : (range : TermRange) (set : PairSet) (pages now after : List TermPage) (page : ℕ) (next : Option ℕ) (old new : List ℕ) → now ≡ pages → after ≡ pages
     → ((pairs : List Pair) → HasPairs (term_page page now) pairs → Gathers range pairs old new)
     → ((p : Pair) (other : ℕ) → is_in_range range p.term ≡ true → other < length after
-        → pair_cmp (low_pair page after) (low_pair other after) ≡ Less → NotAfter (low_pair other after) p → IsAhead next p after)
+    → pair_cmp (low_pair page after) (low_pair other after) ≡ Less → NotAfter (low_pair other after) p → IsAhead next p after)
     → page < length pages → IsIndex pages set → IsGathered range set pages (Some page) old → IsGathered range set pages next new
 step_by range set pages now after page next old new e f gathers reaches there is was =
     step range set pages page next old new is there was
     (gathers (is.pairs page) (subst (λ (ts : List TermPage). HasPairs (term_page page ts) (is.pairs page)) (sym e) (is.have page there)))
     (subst
     (λ (ts : List TermPage). (p : Pair) (other : ℕ) → is_in_range range p.term ≡ true → other < length ts
-        → pair_cmp (low_pair page ts) (low_pair other ts) ≡ Less → NotAfter (low_pair other ts) p → IsAhead next p ts)
+    → pair_cmp (low_pair page ts) (low_pair other ts) ≡ Less → NotAfter (low_pair other ts) p → IsAhead next p ts)
     f reaches)

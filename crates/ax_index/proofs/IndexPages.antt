@@ -1,5 +1,5 @@
 -- What the set of an index says of a pair: what the newest delta of its page does, or else the base.
-use Rattle.std.proofs.Common.{◌≡◌, ℕ, List, refl, ap, ◌∙◌, sym, subst, Bool, Option, Some, None}
+use Rattle.std.proofs.Common.{◌≡◌, ℕ, List, ap, ◌∙◌, sym, subst, Bool, Option, Some, None}
 use Rattle.std.specs.Option.{unwrap_or}
 use Rattle.std.specs.Prelude.{IfOk, Result, Ok, Err}
 use Rattle.ax_leaf.specs.declared.pair.Pair.{Pair}

@@ -1,5 +1,5 @@
 -- Numbers that are sorted and of which repeats are dropped; and the numbers of pairs whose terms are in a range.
-use Rattle.std.proofs.Common.{◌≡◌, ℕ, zero, suc, ◌+◌, ◌<◌, List, [], ◌∷◌, ◌++◌, arith, refl, ap, ◌∙◌, sym, subst, Bool, true, false, cond, nat_eq, ◌⊎◌, inl, inr, ⊎_elim, Contains, append_assoc}
+use Rattle.std.proofs.Common.{◌≡◌, ℕ, zero, suc, List, [], ◌∷◌, ◌++◌, arith, refl, ap, ◌∙◌, sym, Bool, true, false, cond, ◌⊎◌, inl, inr, ⊎_elim, Contains}
 use Rattle.std.proofs.lemmas.Bool.{eq-eqb, ne_eqb, cases_eq}
 use Rattle.ax_leaf.specs.declared.pair.Pair.{Pair}
 use Rattle.ax_delta.specs.Said.{has, has_number, is_same}
@@ -41,12 +41,14 @@ same_numbers xs ys there back n =
 -- ---- numbers of pairs
 
 among_more : (range : TermRange) (q : Pair) (pairs : List Pair) (n : ℕ) → HasAmong range pairs n → HasAmong range (q ∷ pairs) n
-among_more range q pairs n (term, within, is) =
-    (term, within,
-    ⊎_elim
-    (λ (s : is_same q (the_pair term n) ≡ true). ap (λ (b : Bool). cond b true (has (the_pair term n) pairs)) s)
-    (λ (s : is_same q (the_pair term n) ≡ false). ap (λ (b : Bool). cond b true (has (the_pair term n) pairs)) s ∙ is)
-    (true_or_false (is_same q (the_pair term n))))
+among_more range q pairs n (term, within, is) = (
+  term,
+  within,
+  ⊎_elim
+      (λ (s : is_same q (the_pair term n) ≡ true). ap (λ (b : Bool). cond b true (has (the_pair term n) pairs)) s)
+      (λ (s : is_same q (the_pair term n) ≡ false). ap (λ (b : Bool). cond b true (has (the_pair term n) pairs)) s ∙ is)
+      (true_or_false (is_same q (the_pair term n))),
+)
 
 among_first : (range : TermRange) (q : Pair) (pairs : List Pair) (n : ℕ) → is_in_range range q.term ≡ true → q.number ≡ n → HasAmong range (q ∷ pairs) n
 among_first range q pairs n within e =
@@ -130,17 +132,18 @@ either (x ∷ xs) ys n h =
 -- the numbers of pairs that have the same pairs of the range as others
 pub gathers : (range : TermRange) (pairs kept : List Pair) (old new : List ℕ)
     → ((p : Pair) → is_in_range range p.term ≡ true → has p kept ≡ has p pairs) → new ≡ old ++ numbers_of range kept → Gathers range pairs old new
-gathers range pairs kept old new same e n =
-    (λ h.
-    ⊎_elim
-    (λ (there : has_number n old ≡ true). inl there)
-    (λ (there : has_number n (numbers_of range kept) ≡ true).
-    let (term, within, is) = among range kept n there in inr (term, within, sym (same (the_pair term n) within) ∙ is))
-    (either old (numbers_of range kept) n (ap (has_number n) (sym e) ∙ h)),
-    λ h.
-    ap (has_number n) e
-    ∙ ⊎_elim
-    (λ (there : has_number n old ≡ true). before old (numbers_of range kept) n there)
-    (λ (there : HasAmong range pairs n).
-    behind old (numbers_of range kept) n (from_among range kept there.0 n there.1 (same (the_pair there.0 n) there.1 ∙ there.2)))
-    h)
+gathers range pairs kept old new same e n = (
+  λ h.
+      ⊎_elim
+      (λ (there : has_number n old ≡ true). inl there)
+      (λ (there : has_number n (numbers_of range kept) ≡ true).
+      let (term, within, is) = among range kept n there in inr (term, within, sym (same (the_pair term n) within) ∙ is))
+      (either old (numbers_of range kept) n (ap (has_number n) (sym e) ∙ h)),
+  λ h.
+      ap (has_number n) e
+      ∙ ⊎_elim
+      (λ (there : has_number n old ≡ true). before old (numbers_of range kept) n there)
+      (λ (there : HasAmong range pairs n).
+      behind old (numbers_of range kept) n (from_among range kept there.0 n there.1 (same (the_pair there.0 n) there.1 ∙ there.2)))
+      h,
+)

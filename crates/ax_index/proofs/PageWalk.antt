@@ -1,6 +1,6 @@
 -- From page to page in the order of their low pairs: the first that may have a term of a range, the next one, and
 -- how many are left.
-use Rattle.std.proofs.Common.{◌≡◌, ℕ, zero, suc, ◌+◌, ◌<◌, ◌≤◌, List, [], ◌∷◌, length, arith, refl, sym, ap, ◌∙◌, subst, Bool, true, false, ◌&&◌, ◌⊎◌, inl, inr, ⊎_elim, Option, Some, None}
+use Rattle.std.proofs.Common.{◌≡◌, ℕ, zero, suc, ◌<◌, ◌≤◌, List, [], ◌∷◌, length, arith, refl, sym, ap, ◌∙◌, subst, Bool, true, false, ◌&&◌, ⊎_elim, Option, Some, None}
 use Rattle.std.proofs.lemmas.Bool.{cases_lt}
 use Rattle.std.proofs.lemmas.Cmp.{nat_list_cmp_total, tied_itself}
 use Rattle.std.specs.Prelude.{if◌then◌else◌}
@@ -87,10 +87,11 @@ from_first range p h =
 
 pub first_ahead : (range : TermRange) (from : List ℕ) (page : ℕ) (pages : List TermPage) → from ≡ range.from → IsPageOf (the_pair from 0) page pages
     → (p : Pair) → is_in_range range p.term ≡ true → IsAhead (Some page) p pages
-first_ahead range from page pages e is p h =
-    (is.there,
-    not_after_then (low_pair page pages) (the_pair from 0) p is.below
-    (subst (λ (term : List ℕ). NotAfter (the_pair term 0) p) (sym e) (from_first range p h)))
+first_ahead range from page pages e is p h = (
+  is.there,
+  not_after_then (low_pair page pages) (the_pair from 0) p is.below
+      (subst (λ (term : List ℕ). NotAfter (the_pair term 0) p) (sym e) (from_first range p h)),
+)
 
 -- ---- the next page
 

@@ -5,15 +5,14 @@ use Rattle.std.proofs.lemmas.Slice.Eq.{bytes_eq-Decides}
 use Rattle.std.specs.Cmp.Lexicographic.{slice_cmp}
 use Rattle.std.specs.Ordering.{nat_cmp}
 use Rattle.std.specs.Str.{bytes_eq}
-use Rattle.std.specs.declared.cmp.Ordering.{Ordering}
-use Rattle.std.specs.declared.cmp.Ordering.TheVariants.{Less, Equal, Greater}
+use Rattle.std.specs.declared.cmp.Ordering.TheVariants.{Less, Equal}
 use Rattle.ax_gap.specs.Gaps.{IsRisingList}
 use Rattle.ax_leaf.specs.declared.pair.Pair.{Pair}
 use Rattle.ax_leaf.specs.Lookup.{numbers_under}
 use Rattle.ax_leaf.specs.Pairs.{Posting, pairs_of, pairs_with}
 use Rattle.ax_leaf.specs.Payload.{AreAfter, ArePostings, IsLeaf}
 use Rattle.ax_leaf.proofs.OneSpelling.{one_leaf}
-use Rattle.ax_delta.specs.Said.{has, has_number, is_same}
+use Rattle.ax_delta.specs.Said.{has, has_number}
 use Rattle.ax_delta.proofs.SamePair.{the_pair, true_or_false, same_by_term, other_by_term}
 use Rattle.ax_pairs.specs.PagePairs.{IsBase}
 

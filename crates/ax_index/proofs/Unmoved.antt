@@ -11,11 +11,11 @@ use Rattle.ax_pool.specs.declared.slot.Slot.{Slot}
 use Rattle.ax_log.specs.Log.{log_area}
 use Rattle.ax_store.specs.Kept.{Kept, PageOffsets, offsets_of}
 use Rattle.ax_store.specs.Slots.{IsRead, IsSlotOf, part_at}
-use Rattle.ax_store.specs.Store.{SameButSlots, store_contents, store_offsets, store_area, store_slots}
+use Rattle.ax_store.specs.Store.{SameButSlots, store_contents, store_offsets, store_area}
 use Rattle.ax_store.specs.declared.fault.StoreFault.{StoreFault}
 use Rattle.ax_store.specs.declared.fault.StoreFault.TheVariants.{Disk, Damaged, Newer, Memory}
 use Rattle.ax_store.specs.declared.store.Store.{Store}
-use Rattle.ax_index.specs.Damage.{IsPayload, IsPlacedAt, IsSpoiledPart, TellsPart, is_base_at}
+use Rattle.ax_index.specs.Damage.{IsPayload, IsPlacedAt, TellsPart, is_base_at}
 use Rattle.ax_index.specs.Reading.{SameButBytes}
 use Rattle.ax_index.proofs.DeltaParts.{base_at, base_there}
 

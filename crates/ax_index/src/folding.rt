@@ -141,12 +141,7 @@ fn take_wanted(
 }
 
 /// Puts the pair of a term and a number at the end.
-fn put_pair(
-    alloc: Global,
-    pairs: &mut Vec<Pair>,
-    term: &[u8],
-    number: u32,
-) -> Result<(), Memory>
+fn put_pair(alloc: Global, pairs: &mut Vec<Pair>, term: &[u8], number: u32) -> Result<(), Memory>
     ensures { OnOk result (pairs.new.items ≡ pairs.old.items ++ (record { term = term.now; number = number }) ∷ []) }
 {
     let mut bytes = Vec::new(alloc);

@@ -1,4 +1,4 @@
-use Rattle.std.proofs.Common.{◌≡◌, ℕ, ◌≤◌, length, false}
+use Rattle.std.proofs.Common.{◌≡◌, ◌≤◌, length, false}
 use Rattle.std.specs.Prelude.{IsTrue}
 use Rattle.ax_disk.specs.model.Calls.{Idles}
 use Rattle.ax_leaf.specs.Pairs.{Rise}

@@ -1,4 +1,4 @@
-use Rattle.std.proofs.Common.{ap, sym, List}
+use Rattle.std.proofs.Common.{ap}
 use Rattle.ax_pages.specs.Contents.{Contents}
 use Rattle.ax_index.proofs.IndexPages.{by_base, by_delta, of_term}
 use Rattle.ax_index.proofs.Unmoved.{same_contents}

@@ -1,4 +1,4 @@
-use Rattle.std.proofs.Common.{ap, ◌∙◌, sym, Bool, Option, Some, None}
+use Rattle.std.proofs.Common.{ap, ◌∙◌, sym, Bool, Some, None}
 use Rattle.ax_index.proofs.Postings.{base_has, under_rises}
 use Rattle.ax_index.proofs.looking.leaf_has.Goals as goal
 

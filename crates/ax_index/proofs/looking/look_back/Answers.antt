@@ -1,7 +1,7 @@
-use Rattle.std.proofs.Common.{◌≡◌, ◌-◌, sym, subst, ◌∙◌, arith, rules}
+use Rattle.std.proofs.Common.{◌-◌, sym, subst, ◌∙◌, arith, rules}
 use Rattle.std.specs.Prelude.{IsTrue}
 use Rattle.ax_disk.specs.laws.StaysLaws.{idles_join, idles_start}
-use Rattle.ax_pages.specs.Contents.{term_page, parts_of}
+use Rattle.ax_pages.specs.Contents.{term_page}
 use Rattle.ax_store.specs.Store.{store_contents}
 use Rattle.ax_index.proofs.DeltaParts.{count_parts, delta_there, newest_says, quiet_before, quiet_end}
 use Rattle.ax_index.proofs.Unmoved.{same_contents, unmoved, unmoved_then}

@@ -1,6 +1,4 @@
 -- What a sort leaves rises once its repeats are dropped, and both keep the numbers.
-use Rattle.std.proofs.Common.{◌<◌, ℕ, arith, subst}
-use Rattle.std.proofs.lemmas.List.Elements.{All-from_get_or}
 use Rattle.std.proofs.lemmas.List.Filters.{dedup_is}
 use Rattle.std.proofs.lemmas.List.Kept.{Contains-dedup_nat, Contains-from_dedup}
 use Rattle.std.proofs.lemmas.List.Sorted.{Contains-permutation, IsPermutation-sym}
@@ -13,7 +11,7 @@ returns-clause-rising c =
     let is = dedup_is _ _ _ c.dedup.ensures.filtered in
     record {
       rising = rw is (IsStrictlyIncreasing-dedup _ c.sort_unstable.ensures.sorted);
-      numbers = let h = c.type_inv in ?;
+      numbers = c.type_inv.numbers;
     }
 
 pub returns-clause-same : goal.returns-clause-same
