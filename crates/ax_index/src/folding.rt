@@ -1,9 +1,27 @@
 //! The pairs of a term page: those of its base, merged with its deltas, the oldest first.
 
+ghost use Rattle.std.specs.Prelude.{◌≡◌, ◌<◌, List, [], ◌∷◌, ◌++◌, IsTrue, IfOk, IfErr, OnOk, MatchOption, false, length};
+ghost use Rattle.ax_disk.specs.model.Calls.{Idles};
+ghost use Rattle.ax_leaf.specs.declared.pair.Pair.{Pair};
+ghost use Rattle.ax_leaf.specs.Pairs.{Rise};
+ghost use Rattle.ax_delta.specs.Changes.{TermChange};
+ghost use Rattle.ax_delta.specs.Merge.{IsMerge};
+ghost use Rattle.ax_delta.specs.Payload.{IsDelta};
+ghost use Rattle.ax_pages.specs.Contents.{parts_of, term_page};
+ghost use Rattle.ax_pairs.specs.PagePairs.{AreOfBase, HasPairs, IsBase};
+ghost use Rattle.ax_store.specs.Faults.{HasDiskCause};
+ghost use Rattle.ax_store.specs.Slots.{IsSlotOf, part_at};
+ghost use Rattle.ax_store.specs.Store.{SameButSlots, store_contents, store_slots, store_failed};
+ghost use Rattle.ax_index.specs.Damage.{TellsPart, is_base_at};
+ghost use Rattle.ax_index.specs.Reading.{SameButBytes, wanted_of};
+ghost use Rattle.ax_index.specs.Wanted.{HaveWanted};
+
 use crate::damage::damaged_at;
+use crate::looking::oldest_delta;
+use crate::payload::payload_in;
 use crate::wanted::Wanted;
 use ax_disk::Disk;
-use ax_leaf::Pair;
+use ax_leaf::{Bytes, Memory, Pair, PairCursor};
 use ax_pages::Page;
 use ax_pool::Slot;
 use ax_store::{Store, StoreFault};
@@ -33,5 +51,160 @@ pub(crate) fn folded<D: Disk, C>(
     ensures attached { D.attached disk.new ≡ D.attached disk.old }
     ensures honest { D.is_honest disk.new ≡ D.is_honest disk.old }
 {
-    // TODO(helper): base (through its cursor, only wanted pairs), then ax_delta::merge for each delta
+    let first = oldest_delta(store, page);
+    let parts = store.parts(Page::Term(page));
+    let mut pairs = match base_pairs(alloc, store, disk, slot, page, wanted) {
+        Ok(pairs) => pairs,
+        Err(fault) => return Err(fault),
+    };
+    for i in first..parts {
+        pairs = match merge_at(alloc, store, disk, slot, page, i, pairs) {
+            Ok(after) => after,
+            Err(fault) => return Err(fault),
+        };
+    }
+    Ok(pairs)
+}
+
+/// The pairs of the wanted terms in a page's base.
+fn base_pairs<D: Disk, C>(
+    alloc: Global,
+    store: &mut Store<C>,
+    disk: &mut D,
+    slot: &mut Slot,
+    page: u32,
+    wanted: &Wanted<'_>,
+) -> Result<Vec<Pair>, StoreFault>
+    requires { IsSlotOf store.old slot.old }
+    ensures rise { IfOk result (λ kept. Rise kept.items) }
+    ensures has { (base : List Pair) → AreOfBase (term_page page (store_contents store.old).terms).base base
+        → IfOk result (λ kept. kept.items ≡ wanted_of wanted.now base) }
+    ensures told { IfErr result (TellsPart store.old) }
+    ensures same { SameButBytes store.old store.new }
+    ensures slot { slot.new ≡ slot.old }
+    ensures lists { IsTrue (D.is_honest disk.old)
+        → Idles (D.history disk.old (D.attached disk.old)) (D.history disk.new (D.attached disk.new)) }
+    ensures cause { store_failed store.old ≡ false → HasDiskCause result (D.faults disk.old) (D.faults disk.new) }
+    ensures attached { D.attached disk.new ≡ D.attached disk.old }
+    ensures honest { D.is_honest disk.new ≡ D.is_honest disk.old }
+{
+    if !store.has_base(page) {
+        return Ok(Vec::new(alloc));
+    }
+    let len = match store.read_term(disk, page, 0, slot) {
+        Ok(len) => len,
+        Err(fault) => return Err(fault),
+    };
+    match leaf_pairs(alloc, payload_in(store, slot, len), wanted) {
+        Ok(Some(pairs)) => Ok(pairs),
+        Ok(None) => Err(damaged_at(store, page, 0)),
+        Err(_) => Err(StoreFault::Memory),
+    }
+}
+
+/// The pairs of the wanted terms in the payload of a base. `None` exactly where it is the payload of
+/// none.
+fn leaf_pairs(
+    alloc: Global,
+    payload: &[u8],
+    wanted: &Wanted<'_>,
+) -> Result<Option<Vec<Pair>>, Memory>
+    ensures has { (base : List Pair) → IsBase payload.now base
+        → IfOk result (λ found. MatchOption found ⊥ (λ kept. kept.items ≡ wanted_of wanted.now base)) }
+    ensures rise { IfOk result (λ found. MatchOption found
+        ((base : List Pair) × IsBase payload.now base → ⊥)
+        (λ kept. Rise kept.items)) }
+{
+    let Some(leaf) = ax_leaf::check(payload) else {
+        return Ok(None);
+    };
+    let pairs = take_wanted(alloc, leaf.cursor(alloc), wanted)?;
+    Ok(Some(pairs))
+}
+
+/// The pairs of the wanted terms that a cursor has still to give.
+fn take_wanted(
+    alloc: Global,
+    mut cursor: PairCursor<'_>,
+    wanted: &Wanted<'_>,
+) -> Result<Vec<Pair>, Memory>
+    ensures { IfOk result (λ kept. kept.items ≡ wanted_of wanted.now cursor.entry) }
+{
+    let mut kept = Vec::new(alloc);
+    let mut term = Vec::new(alloc);
+    while let Some(number) = cursor.next(&mut term)? {
+        if wanted.has(term.as_slice()) {
+            put_pair(alloc, &mut kept, term.as_slice(), number)?;
+        }
+    }
+    Ok(kept)
+}
+
+/// Puts the pair of a term and a number at the end.
+fn put_pair(alloc: Global, pairs: &mut Vec<Pair>, term: &[u8], number: u32) -> Result<(), Memory>
+    ensures { OnOk result (pairs.new.items ≡ pairs.old.items ++ (record { term = term.now; number = number }) ∷ []) }
+{
+    let mut bytes = Vec::new(alloc);
+    bytes.extend_from_slice(term)?;
+    let term = Bytes::from_vec(bytes);
+    pairs.push(Pair { term, number })?;
+    Ok(())
+}
+
+/// The pairs after a delta of a page, of those before it.
+fn merge_at<D: Disk, C>(
+    alloc: Global,
+    store: &mut Store<C>,
+    disk: &mut D,
+    slot: &mut Slot,
+    page: u32,
+    i: usize,
+    pairs: Vec<Pair>,
+) -> Result<Vec<Pair>, StoreFault>
+    requires part { i < length (parts_of (Page.Term page) (store_contents store.old)) }
+    requires delta { is_base_at (term_page page (store_contents store.old).terms) i ≡ false }
+    requires slot { IsSlotOf store.old slot.old }
+    requires rise { Rise pairs.items }
+    ensures rise { IfOk result (λ after. Rise after.items) }
+    ensures merged { (changes : List TermChange) → IsDelta (part_at (Page.Term page) i (store_contents store.old)) changes
+        → IfOk result (λ after. IsMerge pairs.items changes after.items) }
+    ensures told { IfErr result (TellsPart store.old) }
+    ensures same { SameButBytes store.old store.new }
+    ensures slot { slot.new ≡ slot.old }
+    ensures lists { IsTrue (D.is_honest disk.old)
+        → Idles (D.history disk.old (D.attached disk.old)) (D.history disk.new (D.attached disk.new)) }
+    ensures cause { store_failed store.old ≡ false → HasDiskCause result (D.faults disk.old) (D.faults disk.new) }
+    ensures attached { D.attached disk.new ≡ D.attached disk.old }
+    ensures honest { D.is_honest disk.new ≡ D.is_honest disk.old }
+{
+    let len = match store.read_term(disk, page, i, slot) {
+        Ok(len) => len,
+        Err(fault) => return Err(fault),
+    };
+    match merge_payload(alloc, payload_in(store, slot, len), pairs) {
+        Ok(Some(after)) => Ok(after),
+        Ok(None) => Err(damaged_at(store, page, i)),
+        Err(_) => Err(StoreFault::Memory),
+    }
+}
+
+/// The pairs after the delta in a payload, of those before it. `None` exactly where it is the payload
+/// of none.
+fn merge_payload(
+    alloc: Global,
+    payload: &[u8],
+    pairs: Vec<Pair>,
+) -> Result<Option<Vec<Pair>>, ax_delta::Memory>
+    requires { Rise pairs.items }
+    ensures merged { (changes : List TermChange) → IsDelta payload.now changes
+        → IfOk result (λ found. MatchOption found ⊥ (λ after. IsMerge pairs.items changes after.items)) }
+    ensures rise { IfOk result (λ found. MatchOption found
+        ((changes : List TermChange) × IsDelta payload.now changes → ⊥)
+        (λ after. Rise after.items)) }
+{
+    let Some(delta) = ax_delta::check(payload) else {
+        return Ok(None);
+    };
+    let after = ax_delta::merge(alloc, pairs, &delta)?;
+    Ok(Some(after))
 }

@@ -1,22 +1,25 @@
 //! Whether a pair is in the set: the newest part of its page that says something of it tells.
 
-ghost use Rattle.std.specs.Prelude.{◌≡◌, ◌<◌, ◌≤◌, List, IsTrue, IfOk, IfErr, true, false, length};
+ghost use Rattle.std.specs.Prelude.{◌≡◌, ◌<◌, ◌≤◌, List, IsTrue, IfOk, IfErr, IfNone, Some, Err, true, false, length};
 ghost use Rattle.ax_disk.specs.model.Calls.{Idles};
 ghost use Rattle.ax_leaf.specs.declared.pair.Pair.{Pair};
 ghost use Rattle.ax_delta.specs.Changes.{TermChange};
 ghost use Rattle.ax_delta.specs.Payload.{IsDelta};
-ghost use Rattle.ax_delta.specs.Said.{said_of, has as has_pair};
+ghost use Rattle.ax_delta.specs.Said.{has as has_pair, last_said, said_of};
 ghost use Rattle.ax_pages.specs.Contents.{parts_of, term_page};
 ghost use Rattle.ax_pairs.specs.Index.{IsIndex};
-ghost use Rattle.ax_pairs.specs.PagePairs.{IsBase, HasPairs};
+ghost use Rattle.ax_pairs.specs.PagePairs.{AreDeltas, AreOfBase, IsBase};
 ghost use Rattle.ax_pairs.specs.PairSets.{PairSet};
 ghost use Rattle.ax_pool.specs.Frames.{free_count};
 ghost use Rattle.ax_store.specs.Faults.{HasDiskCause};
 ghost use Rattle.ax_store.specs.Slots.{IsSlotOf, part_at};
 ghost use Rattle.ax_store.specs.Store.{SameButSlots, store_contents, store_slots, store_failed};
 ghost use Rattle.ax_index.specs.Damage.{TellsPart, is_base_at};
+ghost use Rattle.ax_index.specs.Reading.{SameButBytes, first_delta};
 
 use crate::damage::damaged_at;
+use crate::number_lookup::has_one;
+use crate::payload::payload_in;
 use ax_disk::Disk;
 use ax_leaf::Pair;
 use ax_pages::Page;
@@ -47,4 +50,167 @@ pub fn has<D: Disk, C>(store: &mut Store<C>, disk: &mut D, pair: &Pair) -> Resul
     let found = has_by(store, disk, &mut slot, pair);
     store.give_slot(slot);
     found
+}
+
+/// Whether a pair is in the set, by a slot that was taken.
+fn has_by<D: Disk, C>(
+    store: &mut Store<C>,
+    disk: &mut D,
+    slot: &mut Slot,
+    pair: &Pair,
+) -> Result<bool, StoreFault>
+    requires { IsSlotOf store.old slot.old }
+    ensures has { (set : PairSet) → IsIndex (store_contents store.old).terms set → IfOk result (λ found. found ≡ set pair.now) }
+    ensures told { IfErr result (TellsPart store.old) }
+    ensures no_memory { result ≡ Err StoreFault.Memory → ⊥ }
+    ensures same { SameButBytes store.old store.new }
+    ensures slot { slot.new ≡ slot.old }
+    ensures lists { IsTrue (D.is_honest disk.old)
+        → Idles (D.history disk.old (D.attached disk.old)) (D.history disk.new (D.attached disk.new)) }
+    ensures cause { store_failed store.old ≡ false → HasDiskCause result (D.faults disk.old) (D.faults disk.new) }
+    ensures attached { D.attached disk.new ≡ D.attached disk.old }
+    ensures honest { D.is_honest disk.new ≡ D.is_honest disk.old }
+{
+    let page = store.page_of(pair.term.as_slice(), pair.number);
+    let said = match look_back(store, disk, slot, page, pair) {
+        Ok(said) => said,
+        Err(fault) => return Err(fault),
+    };
+    match said {
+        Some(added) => Ok(added),
+        None => base_has(store, disk, slot, page, pair),
+    }
+}
+
+/// What the deltas of a page say of a pair: the newest that says something of it counts.
+fn look_back<D: Disk, C>(
+    store: &mut Store<C>,
+    disk: &mut D,
+    slot: &mut Slot,
+    page: u32,
+    pair: &Pair,
+) -> Result<Option<bool>, StoreFault>
+    requires { IsSlotOf store.old slot.old }
+    ensures said { (deltas : List (List TermChange)) → AreDeltas (term_page page (store_contents store.old).terms).deltas deltas
+        → IfOk result (λ said. said ≡ last_said pair.now deltas) }
+    ensures told { IfErr result (TellsPart store.old) }
+    ensures no_memory { result ≡ Err StoreFault.Memory → ⊥ }
+    ensures same { SameButBytes store.old store.new }
+    ensures slot { slot.new ≡ slot.old }
+    ensures lists { IsTrue (D.is_honest disk.old)
+        → Idles (D.history disk.old (D.attached disk.old)) (D.history disk.new (D.attached disk.new)) }
+    ensures cause { store_failed store.old ≡ false → HasDiskCause result (D.faults disk.old) (D.faults disk.new) }
+    ensures attached { D.attached disk.new ≡ D.attached disk.old }
+    ensures honest { D.is_honest disk.new ≡ D.is_honest disk.old }
+{
+    let first = oldest_delta(store, page);
+    let mut i = store.parts(Page::Term(page));
+    while i > first {
+        i -= 1;
+        let said = match look_at(store, disk, slot, page, i, pair) {
+            Ok(said) => said,
+            Err(fault) => return Err(fault),
+        };
+        if said.is_some() {
+            return Ok(said);
+        }
+    }
+    Ok(None)
+}
+
+/// The position of a page's oldest delta among its parts.
+pub(crate) fn oldest_delta<C>(store: &Store<C>, page: u32) -> usize
+    ensures { result ≡ first_delta (term_page page (store_contents store.now).terms) }
+{
+    if store.has_base(page) { 1 } else { 0 }
+}
+
+/// What a delta of a page says of a pair.
+fn look_at<D: Disk, C>(
+    store: &mut Store<C>,
+    disk: &mut D,
+    slot: &mut Slot,
+    page: u32,
+    i: usize,
+    pair: &Pair,
+) -> Result<Option<bool>, StoreFault>
+    requires part { i < length (parts_of (Page.Term page) (store_contents store.old)) }
+    requires delta { is_base_at (term_page page (store_contents store.old).terms) i ≡ false }
+    requires slot { IsSlotOf store.old slot.old }
+    ensures said { (changes : List TermChange) → IsDelta (part_at (Page.Term page) i (store_contents store.old)) changes
+        → IfOk result (λ said. said ≡ said_of pair.now changes) }
+    ensures told { IfErr result (TellsPart store.old) }
+    ensures no_memory { result ≡ Err StoreFault.Memory → ⊥ }
+    ensures same { SameButBytes store.old store.new }
+    ensures slot { slot.new ≡ slot.old }
+    ensures lists { IsTrue (D.is_honest disk.old)
+        → Idles (D.history disk.old (D.attached disk.old)) (D.history disk.new (D.attached disk.new)) }
+    ensures cause { store_failed store.old ≡ false → HasDiskCause result (D.faults disk.old) (D.faults disk.new) }
+    ensures attached { D.attached disk.new ≡ D.attached disk.old }
+    ensures honest { D.is_honest disk.new ≡ D.is_honest disk.old }
+{
+    let len = match store.read_term(disk, page, i, slot) {
+        Ok(len) => len,
+        Err(fault) => return Err(fault),
+    };
+    match delta_says(payload_in(store, slot, len), pair) {
+        Some(said) => Ok(said),
+        None => Err(damaged_at(store, page, i)),
+    }
+}
+
+/// What the payload of a delta says of a pair. `None` exactly where it is the payload of none.
+fn delta_says(payload: &[u8], pair: &Pair) -> Option<Option<bool>>
+    ensures said { (changes : List TermChange) → IsDelta payload.now changes → result ≡ Some (said_of pair.now changes) }
+    ensures none { IfNone result ((changes : List TermChange) × IsDelta payload.now changes → ⊥) }
+{
+    let delta = ax_delta::check(payload)?;
+    Some(delta.look(pair))
+}
+
+/// Whether a pair is among those of a page's base.
+fn base_has<D: Disk, C>(
+    store: &mut Store<C>,
+    disk: &mut D,
+    slot: &mut Slot,
+    page: u32,
+    pair: &Pair,
+) -> Result<bool, StoreFault>
+    requires { IsSlotOf store.old slot.old }
+    ensures has { (base : List Pair) → AreOfBase (term_page page (store_contents store.old).terms).base base
+        → IfOk result (λ found. found ≡ has_pair pair.now base) }
+    ensures told { IfErr result (TellsPart store.old) }
+    ensures no_memory { result ≡ Err StoreFault.Memory → ⊥ }
+    ensures same { SameButBytes store.old store.new }
+    ensures slot { slot.new ≡ slot.old }
+    ensures lists { IsTrue (D.is_honest disk.old)
+        → Idles (D.history disk.old (D.attached disk.old)) (D.history disk.new (D.attached disk.new)) }
+    ensures cause { store_failed store.old ≡ false → HasDiskCause result (D.faults disk.old) (D.faults disk.new) }
+    ensures attached { D.attached disk.new ≡ D.attached disk.old }
+    ensures honest { D.is_honest disk.new ≡ D.is_honest disk.old }
+{
+    if !store.has_base(page) {
+        return Ok(false);
+    }
+    let len = match store.read_term(disk, page, 0, slot) {
+        Ok(len) => len,
+        Err(fault) => return Err(fault),
+    };
+    match leaf_has(payload_in(store, slot, len), pair) {
+        Some(found) => Ok(found),
+        None => Err(damaged_at(store, page, 0)),
+    }
+}
+
+/// Whether a pair is among those in the payload of a base. `None` exactly where it is the payload of
+/// none.
+fn leaf_has(payload: &[u8], pair: &Pair) -> Option<bool>
+    ensures found { (pairs : List Pair) → IsBase payload.now pairs → result ≡ Some (has_pair pair.now pairs) }
+    ensures none { IfNone result ((pairs : List Pair) × IsBase payload.now pairs → ⊥) }
+{
+    let leaf = ax_leaf::check(payload)?;
+    match leaf.find(pair.term.as_slice()) {
+        Some(numbers) => Some(has_one(numbers, pair.number)),
+        None => Some(false),
+    }
 }

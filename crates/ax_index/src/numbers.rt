@@ -1,5 +1,35 @@
 //! The numbers with a term in a range.
 
+ghost use Rattle.std.specs.Prelude.{◌≡◌, ◌↔◌, ◌<◌, ◌≤◌, ℕ, List, ◌++◌, IsTrue, IfOk, IfErr, IfSome, OnOk, true, false, length};
+ghost use Rattle.std.specs.declared.cmp.Ordering.TheVariants.{Less, Greater};
+ghost use Rattle.ax_disk.specs.model.Calls.{Idles};
+ghost use Rattle.ax_gap.specs.Gaps.{IsRisingList};
+ghost use Rattle.ax_leaf.specs.declared.pair.Pair.{Pair};
+ghost use Rattle.ax_leaf.specs.Pairs.{pair_cmp};
+ghost use Rattle.ax_delta.specs.Said.{has_number};
+ghost use Rattle.ax_pages.specs.Contents.{term_page};
+ghost use Rattle.ax_pages.specs.TermPages.{low_pair};
+ghost use Rattle.ax_pairs.specs.Index.{IsIndex};
+ghost use Rattle.ax_pairs.specs.PagePairs.{HasPairs};
+ghost use Rattle.ax_pairs.specs.PairSets.{PairSet};
+ghost use Rattle.ax_pool.specs.Frames.{free_count};
+ghost use Rattle.ax_store.specs.Faults.{HasDiskCause};
+ghost use Rattle.ax_store.specs.Slots.{IsSlotOf};
+ghost use Rattle.ax_store.specs.Store.{SameButSlots, store_contents, store_slots, store_failed};
+ghost use Rattle.ax_term.specs.Ranges.{is_in_range};
+ghost use Rattle.ax_index.specs.Damage.{TellsPart};
+ghost use Rattle.ax_index.specs.Reading.{Gathers, IsAhead, SameButBytes, numbers_of, pages_after};
+ghost use Rattle.ax_index.specs.Wanted.{AreNumbersIn, HasIn};
+
+use crate::folding::folded;
+use crate::wanted::{Wanted, is_within};
+use ax_disk::Disk;
+use ax_leaf::Pair;
+use ax_pool::Slot;
+use ax_store::{Store, StoreFault};
+use ax_term::TermRange;
+use std::alloc::{AllocError, Global};
+
 /// The rising numbers with a term in the range, of the set that the term pages hold. It reads the pages
 /// that may have a term of the range, each with its parts.
 ///
@@ -22,5 +52,156 @@ pub fn pairs_in<D: Disk, C>(
     ensures attached { D.attached disk.new ≡ D.attached disk.old }
     ensures honest { D.is_honest disk.new ≡ D.is_honest disk.old }
 {
-    // TODO(helper)
+    let Some(mut slot) = store.take_slot() else {
+        unreachable!()
+    };
+    let found = numbers_by(alloc, store, disk, &mut slot, range);
+    store.give_slot(slot);
+    found
+}
+
+/// The rising numbers with a term in the range, by a slot that was taken.
+fn numbers_by<D: Disk, C>(
+    alloc: Global,
+    store: &mut Store<C>,
+    disk: &mut D,
+    slot: &mut Slot,
+    range: &TermRange,
+) -> Result<Vec<u32>, StoreFault>
+    requires { IsSlotOf store.old slot.old }
+    ensures numbers { (set : PairSet) → IsIndex (store_contents store.old).terms set
+        → IfOk result (λ numbers. AreNumbersIn range.now set numbers.items) }
+    ensures told { IfErr result (TellsPart store.old) }
+    ensures same { SameButBytes store.old store.new }
+    ensures slot { slot.new ≡ slot.old }
+    ensures lists { IsTrue (D.is_honest disk.old)
+        → Idles (D.history disk.old (D.attached disk.old)) (D.history disk.new (D.attached disk.new)) }
+    ensures cause { store_failed store.old ≡ false → HasDiskCause result (D.faults disk.old) (D.faults disk.new) }
+    ensures attached { D.attached disk.new ≡ D.attached disk.old }
+    ensures honest { D.is_honest disk.new ≡ D.is_honest disk.old }
+{
+    let mut numbers = match gathered(alloc, store, disk, slot, range) {
+        Ok(numbers) => numbers,
+        Err(fault) => return Err(fault),
+    };
+    put_in_order(&mut numbers);
+    Ok(numbers)
+}
+
+/// Sorts numbers, and keeps one of those that are equal.
+fn put_in_order(numbers: &mut Vec<u32>)
+    ensures rising { IsRisingList numbers.new.items }
+    ensures same { (number : ℕ) → has_number number numbers.new.items ≡ has_number number numbers.old.items }
+{
+    numbers.sort_unstable();
+    numbers.dedup();
+}
+
+/// The numbers with a term in the range, in no order; one may be there more than once.
+fn gathered<D: Disk, C>(
+    alloc: Global,
+    store: &mut Store<C>,
+    disk: &mut D,
+    slot: &mut Slot,
+    range: &TermRange,
+) -> Result<Vec<u32>, StoreFault>
+    requires { IsSlotOf store.old slot.old }
+    ensures numbers { (set : PairSet) → IsIndex (store_contents store.old).terms set
+        → IfOk result (λ numbers. (number : ℕ) → (has_number number numbers.items ≡ true) ↔ HasIn range.now set number) }
+    ensures told { IfErr result (TellsPart store.old) }
+    ensures same { SameButBytes store.old store.new }
+    ensures slot { slot.new ≡ slot.old }
+    ensures lists { IsTrue (D.is_honest disk.old)
+        → Idles (D.history disk.old (D.attached disk.old)) (D.history disk.new (D.attached disk.new)) }
+    ensures cause { store_failed store.old ≡ false → HasDiskCause result (D.faults disk.old) (D.faults disk.new) }
+    ensures attached { D.attached disk.new ≡ D.attached disk.old }
+    ensures honest { D.is_honest disk.new ≡ D.is_honest disk.old }
+{
+    let mut numbers = Vec::new(alloc);
+    let mut next = first_page(store, range);
+    while let Some(page) = next {
+        match gather(alloc, store, disk, slot, page, range, &mut numbers) {
+            Ok(()) => {}
+            Err(fault) => return Err(fault),
+        }
+        next = page_behind(store, page, range);
+    }
+    Ok(numbers)
+}
+
+/// The first page that may have a term of the range. `None` only where the range has no term.
+fn first_page<C>(store: &Store<C>, range: &TermRange) -> Option<u32>
+    ensures there { IfSome result (λ page. page < length (store_contents store.now).terms) }
+    ensures reaches { (p : Pair) → is_in_range range.now p.term ≡ true → IsAhead result p (store_contents store.now).terms }
+{
+    if range.below.as_slice().cmp(range.from.as_slice()).is_le() {
+        return None;
+    }
+    Some(store.page_of(range.from.as_slice(), 0))
+}
+
+/// The page behind another, where it may have a term of the range.
+fn page_behind<C>(store: &Store<C>, page: u32, range: &TermRange) -> Option<u32>
+    requires { page < length (store_contents store.now).terms }
+    ensures there { IfSome result (λ next. next < length (store_contents store.now).terms) }
+    ensures fewer { IfSome result (λ next. pages_after (low_pair next (store_contents store.now).terms) (store_contents store.now).terms
+        < pages_after (low_pair page (store_contents store.now).terms) (store_contents store.now).terms) }
+    ensures reaches { (p : Pair) (other : ℕ) → is_in_range range.now p.term ≡ true → other < length (store_contents store.now).terms
+        → pair_cmp (low_pair page (store_contents store.now).terms) (low_pair other (store_contents store.now).terms) ≡ Less
+        → (pair_cmp (low_pair other (store_contents store.now).terms) p ≡ Greater → ⊥)
+        → IsAhead result p (store_contents store.now).terms }
+{
+    let next = store.next_page(page)?;
+    let (term, _) = store.low(next);
+    if term.cmp(range.below.as_slice()).is_lt() {
+        Some(next)
+    } else {
+        None
+    }
+}
+
+/// Puts the numbers of a page's pairs whose terms are in the range at the end.
+fn gather<D: Disk, C>(
+    alloc: Global,
+    store: &mut Store<C>,
+    disk: &mut D,
+    slot: &mut Slot,
+    page: u32,
+    range: &TermRange,
+    numbers: &mut Vec<u32>,
+) -> Result<(), StoreFault>
+    requires page { page < length (store_contents store.old).terms }
+    requires slot { IsSlotOf store.old slot.old }
+    ensures numbers { (pairs : List Pair) → HasPairs (term_page page (store_contents store.old).terms) pairs
+        → OnOk result (Gathers range.now pairs numbers.old.items numbers.new.items) }
+    ensures told { IfErr result (TellsPart store.old) }
+    ensures same { SameButBytes store.old store.new }
+    ensures slot { slot.new ≡ slot.old }
+    ensures lists { IsTrue (D.is_honest disk.old)
+        → Idles (D.history disk.old (D.attached disk.old)) (D.history disk.new (D.attached disk.new)) }
+    ensures cause { store_failed store.old ≡ false → HasDiskCause result (D.faults disk.old) (D.faults disk.new) }
+    ensures attached { D.attached disk.new ≡ D.attached disk.old }
+    ensures honest { D.is_honest disk.new ≡ D.is_honest disk.old }
+{
+    let wanted = Wanted::In(range);
+    let pairs = match folded(alloc, store, disk, slot, page, &wanted) {
+        Ok(pairs) => pairs,
+        Err(fault) => return Err(fault),
+    };
+    match put_numbers(numbers, pairs.as_slice(), range) {
+        Ok(()) => Ok(()),
+        Err(_) => Err(StoreFault::Memory),
+    }
+}
+
+/// Puts the numbers of the pairs whose terms are in the range at the end.
+fn put_numbers(numbers: &mut Vec<u32>, pairs: &[Pair], range: &TermRange) -> Result<(), AllocError>
+    ensures { OnOk result (numbers.new.items ≡ numbers.old.items ++ numbers_of range.now pairs.now) }
+{
+    for pair in pairs {
+        if is_within(range, pair.term.as_slice()) {
+            numbers.push(pair.number)?;
+        }
+    }
+    Ok(())
 }

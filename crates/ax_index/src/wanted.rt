@@ -1,6 +1,7 @@
 //! Which pairs of a page are wanted.
 
 ghost use Rattle.std.specs.Prelude.{◌≡◌};
+ghost use Rattle.ax_term.specs.Ranges.{is_in_range};
 ghost use Rattle.ax_index.specs.Wanted.{is_wanted};
 
 use ax_term::TermRange;
@@ -19,7 +20,14 @@ impl<'a> Wanted<'a> {
     {
         match self {
             Wanted::All => true,
-            Wanted::In(range) => range.from.as_slice() <= term && term < range.below.as_slice(),
+            Wanted::In(range) => is_within(range, term),
         }
     }
+}
+
+/// Whether a term is in a range.
+pub(crate) fn is_within(range: &TermRange, term: &[u8]) -> bool
+    ensures { result ≡ is_in_range range.now term.now }
+{
+    range.from.as_slice().cmp(term).is_le() && term.cmp(range.below.as_slice()).is_lt()
 }

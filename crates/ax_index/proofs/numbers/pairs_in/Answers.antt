@@ -1,0 +1,9 @@
+use Rattle.std.proofs.Common.{ap}
+use Rattle.ax_pool.specs.declared.slot.Slot.{Slot}
+use Rattle.ax_index.proofs.Unmoved.{slots_back}
+use Rattle.ax_index.proofs.numbers.pairs_in.Goals as goal
+
+pub returns-clause-slots : goal.returns-clause-slots
+returns-clause-slots g c =
+    slots_back _ _ _ _ _ _ c.in-Some.ensures.was_free c.in-Some.ensures.taken c.numbers_by-found.ensures.same.taken
+    (ap (λ (slot : Slot). slot.number) c.numbers_by-found.ensures.slot) c.give_slot.ensures.free

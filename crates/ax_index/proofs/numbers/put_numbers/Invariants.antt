@@ -1,0 +1,6 @@
+use Rattle.std.proofs.Common.{◌≡◌, ◌++◌, drop}
+use Rattle.ax_index.specs.Reading.{numbers_of}
+use Rattle.ax_index.proofs.numbers.put_numbers.Given as goal
+
+abbrev pub invariant-loop-pair : goal.invariant-loop-pair
+invariant-loop-pair l = l.numbers.items ++ numbers_of l.range (drop l.pair-index l.pairs) ≡ l.fn.numbers.items ++ numbers_of l.range l.pairs
