@@ -1,5 +1,5 @@
 -- What calls of a plan answer, told of plans.
-use Rattle.std.proofs.Common.{◌≡◌, ℕ, ◌+◌, ◌<◌, ◌≤◌, List, [], ◌∷◌, ◌++◌, length, arith, refl, sym, ap, ◌∙◌, subst, Bool, true, false, Option}
+use Rattle.std.proofs.Common.{◌≡◌, ℕ, ◌+◌, ◌<◌, ◌≤◌, List, [], ◌∷◌, ◌++◌, length, arith, refl, sym, ap, ◌∙◌, subst, Bool, true, false, Option, Result, Ok, Err}
 use Rattle.std.specs.Option.{unwrap_or}
 use Rattle.ax_frame.specs.Part.{PartValue}
 use Rattle.ax_leaf.specs.declared.pair.Pair.{Pair}
@@ -15,6 +15,10 @@ use Rattle.ax_pages.specs.Contents.{TermPage, term_page}
 use Rattle.ax_pages.specs.TermPages.{low_pair}
 use Rattle.ax_pairs.specs.Index.{AllBelong}
 use Rattle.ax_pairs.specs.PagePairs.{HasPairs}
+use Rattle.std.specs.Prelude.{IfErr, IfOk, OnOk}
+use Rattle.ax_store.specs.declared.fault.StoreFault.{StoreFault}
+use Rattle.ax_store.specs.declared.fault.StoreFault.TheVariants.{Memory}
+use Rattle.ax_store.specs.Faults.{IsDiskFault, FailsByDisk, HasDiskCause}
 use Rattle.ax_store.specs.declared.store.Store.{Store}
 use Rattle.ax_store.specs.Kept.{deltas_of}
 use Rattle.ax_store.specs.Store.{SameButRoom, SameButSlots, store_contents, store_slots}
@@ -78,6 +82,38 @@ with_room page changes before now merged next old new room is = record {
   next_is = is.next_is;
   enough = omega (arith, is.enough);
 }
+
+-- what is planned over the term pages of one store is so over the same pages of another
+pub planned_there : (page : ℕ) (changes : List Change) (now : List TermPage) (earlier old new : List PartValue) (next later : ℕ) (pairs : List Pair) (here there : List TermPage) → here ≡ there
+    → (IsUpTo (low_pair page here) here now earlier → next ≡ length now → AllBelong (changed_pairs changes) page here
+    → ((some : List Pair) → HasPairs (term_page page here) some → (p : Pair) → has p pairs ≡ has p some) → IsPagePlanned page changes here now true later (λ number. 0) old new)
+    → IsUpTo (low_pair page there) there now earlier → next ≡ length now → AllBelong (changed_pairs changes) page there
+    → ((some : List Pair) → HasPairs (term_page page there) some → (p : Pair) → has p pairs ≡ has p some) → IsPagePlanned page changes there now true later (λ number. 0) old new
+planned_there page changes now earlier old new next later pairs here there same planned =
+    subst
+    (λ (terms : List TermPage). IsUpTo (low_pair page terms) terms now earlier → next ≡ length now → AllBelong (changed_pairs changes) page terms
+    → ((some : List Pair) → HasPairs (term_page page terms) some → (p : Pair) → has p pairs ≡ has p some) → IsPagePlanned page changes terms now true later (λ number. 0) old new)
+    same planned
+
+pub deltas_planned : (result : Result Bool StoreFault) (page : ℕ) (changes : List Change) (before now : List TermPage) (earlier old here new : List PartValue) (next later least : ℕ) (room : ℕ → ℕ)
+    → page < length before → IsUpTo (low_pair page before) before now earlier → next ≡ length now → AllBelong (changed_pairs changes) page before → here ≡ old → later ≡ next
+    → least ≡ room page → (page < length now → OnOk result (AreCarried page changes now least here new)) → IfOk result (λ merged. merged ≡ false)
+    → IfOk result (λ merged. IsPagePlanned page changes before now merged later room old new)
+deltas_planned (Ok merged) page changes before now earlier old here new next later least room there up next_is belong same later_is room_is carried none =
+    subst (λ (m : Bool). IsPagePlanned page changes before now m later room old new) (sym none)
+    (subst (λ (n : ℕ). IsPagePlanned page changes before now false n room old new) (sym later_is)
+    (subst (λ (ps : List PartValue). IsPagePlanned page changes before now false next room ps new) same
+    (planned_by_deltas page changes before now earlier here new next least room there up next_is belong room_is carried)))
+deltas_planned (Err fault) page changes before now earlier old here new next later least room there up next_is belong same later_is room_is carried none = tt
+
+-- want of memory is no failure of the disk
+not_by_disk : {T : Type 0} (result : Result T StoreFault) → IfErr result (λ fault. fault ≡ Memory) → FailsByDisk result → ⊥
+not_by_disk (Ok value) is fails = fails
+not_by_disk (Err fault) is fails = subst IsDiskFault is fails
+
+pub no_disk_fault : {T U : Type 0} (result : Result T StoreFault) (earlier : Result U StoreFault) (before now : ℕ) → IfErr result (λ fault. fault ≡ Memory)
+    → HasDiskCause earlier before now → HasDiskCause result before now
+no_disk_fault result earlier before now memory cause = record { never_falls = cause.never_falls; failed = λ fails. absurd (not_by_disk result memory fails) }
 
 -- ---- stores
 

@@ -101,12 +101,11 @@ told_before pages page p low before same is so =
 pub told_next : (pages : List TermPage) (page next : ℕ) (p low end : Pair) (before ends : Bool) → page < length pages → low ≡ low_pair page pages → before ≡ is_lt (pair_cmp p low)
     → before ≡ false → IsNextPage page next pages → end ≡ low_pair next pages → ends ≡ is_lt (pair_cmp p end)
     → (IsTrue ends → IsPageOf p page pages) × (IsPageOf p page pages → IsTrue ends)
-told_next pages page next p low end before ends there same is not_so behind bound ends_is =
-    (
-      λ so. within_page pages page next p there behind (from_low pages page p low same (sym is ∙ not_so))
-          (subst (λ (l : Pair). pair_cmp p l ≡ Less) bound (is_less (pair_cmp p end) (sym ends_is ∙ so))),
-      λ of. ends_is ∙ ap (λ (l : Pair). is_lt (pair_cmp p l)) bound ∙ ap is_lt (before_next pages page next p behind of),
-    )
+told_next pages page next p low end before ends there same is not_so behind bound ends_is = (
+  λ so. within_page pages page next p there behind (from_low pages page p low same (sym is ∙ not_so))
+      (subst (λ (l : Pair). pair_cmp p l ≡ Less) bound (is_less (pair_cmp p end) (sym ends_is ∙ so))),
+  λ of. ends_is ∙ ap (λ (l : Pair). is_lt (pair_cmp p l)) bound ∙ ap is_lt (before_next pages page next p behind of),
+)
 
 pub told_last : (pages : List TermPage) (page : ℕ) (p low : Pair) (before : Bool) → page < length pages → low ≡ low_pair page pages → before ≡ is_lt (pair_cmp p low)
     → before ≡ false → IsLastPage page pages → (IsTrue true → IsPageOf p page pages) × (IsPageOf p page pages → IsTrue true)

@@ -11,14 +11,14 @@ ghost use Rattle.ax_index.specs.Rewriting.{IsBasePut};
 use crate::out_of_memory::Memory;
 use crate::sizes::delta_len;
 use ax_delta::Change;
-use ax_frame::Part;
-use ax_frame::MOST_PAYLOAD;
+use ax_frame::{MOST_PAYLOAD, Part};
 use ax_leaf::Pair;
 use ax_store::Batch;
 use std::alloc::Global;
 
 /// The kinds of parts, as their bytes say them.
 const BASE: u8 = 5;
+
 const DELTA: u8 = 6;
 
 /// Puts deltas of a page that carry rising changes, and answers how many they are.
@@ -44,12 +44,7 @@ pub(crate) fn put_deltas(
 }
 
 /// Puts one delta of a page.
-fn put_delta(
-    alloc: Global,
-    batch: &mut Batch,
-    page: u32,
-    changes: &[Change],
-) -> Result<(), Memory>
+fn put_delta(alloc: Global, batch: &mut Batch, page: u32, changes: &[Change]) -> Result<(), Memory>
     requires some { 0 < length changes.now }
     requires rise { Rise (changed_pairs changes.now) }
     ensures { (now : List TermPage) → page < length now

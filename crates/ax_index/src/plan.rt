@@ -176,7 +176,17 @@ fn plan_first<'a, D: Disk, C>(
     let run = first_run(store, changes);
     let (first, behind) = changes.split_at(run.len);
     let merge = plan.choice.takes(store, run) && plan.merged < MOST_MERGED;
-    let merged = match plan_page(alloc, store, disk, slot, &mut plan.next, run.page, first, merge, batch) {
+    let merged = match plan_page(
+        alloc,
+        store,
+        disk,
+        slot,
+        &mut plan.next,
+        run.page,
+        first,
+        merge,
+        batch,
+    ) {
         Ok(merged) => merged,
         Err(fault) => return Err(fault),
     };

@@ -105,7 +105,9 @@ pub(crate) fn delta_len(changes: &[Change]) -> usize
 {
     let mut bytes: usize = 0;
     for (i, change) in changes.iter().enumerate() {
-        bytes = bytes.saturating_add(BESIDE_TERM).saturating_add(change.pair.term.as_slice().len());
+        bytes = bytes
+            .saturating_add(BESIDE_TERM)
+            .saturating_add(change.pair.term.as_slice().len());
         if i > 0 && bytes > MOST_DELTA_BYTES {
             return i;
         }

@@ -22,8 +22,7 @@ loop-rest-preserved c =
       rise = (rise_parted c.loop-rest.rest.now _ _ whole c.loop-rest.invariant.rise).1;
       few = omega (arith, c.delta_len.ensures.some (omega arith), c.split_at.ensures.back_len, c.loop-rest.invariant.few);
       put = λ now there.
-          let before = c.loop-rest.invariant.put now there in
-          (
+          let before = c.loop-rest.invariant.put now there in (
             before.0 ++ c.split_at.result.0.now,
             before.1 ∙ ap (λ (rest : List Change). before.0 ++ rest) whole ∙ sym (append_assoc before.0 c.split_at.result.0.now c.split_at.result.1.now),
             more_put c.args.page before.0 c.split_at.result.0.now now c.loop-rest.count _ _ _ there before.2 c.in_ok-put_delta.ensures,

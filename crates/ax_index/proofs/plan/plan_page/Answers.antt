@@ -1,0 +1,22 @@
+use Rattle.std.proofs.Common.{refl}
+use Rattle.ax_index.proofs.CallLemmas.{deltas_planned, no_disk_fault, with_room}
+use Rattle.ax_index.proofs.plan.plan_page.Goals as goal
+
+pub returns-then-not-merge-clause-planned : goal.returns-then-not-merge-clause-planned
+returns-then-not-merge-clause-planned g c = λ now earlier up next belong.
+    deltas_planned c.plan_deltas.result c.args.page c.args.changes.now _ now earlier _ _ _ c.args.next.now _ _ _ c.requires.page up next belong refl refl refl
+    (c.plan_deltas.ensures.planned now) c.plan_deltas.ensures.deltas
+
+pub returns-in-Ok-true-clause-planned : goal.returns-in-Ok-true-clause-planned
+returns-in-Ok-true-clause-planned g c = λ now earlier up next belong.
+    with_room c.args.page c.args.changes.now _ now _ _ _ _ _ (c.in-Ok-true.ensures.merged now earlier up next belong c.in-Ok-true.field-0-test)
+
+pub returns-in-Ok-false-clause-planned : goal.returns-in-Ok-false-clause-planned
+returns-in-Ok-false-clause-planned g c = λ now earlier up next belong.
+    let left = c.in-Ok-false.ensures.left c.in-Ok-false.field-0-test in
+    deltas_planned c.plan_deltas-in-Ok-false.result c.args.page c.args.changes.now _ now earlier _ _ _ c.args.next.now _ _ _ c.requires.page up next belong left.0 left.1 refl
+    (c.plan_deltas-in-Ok-false.ensures.planned now) c.plan_deltas-in-Ok-false.ensures.deltas
+
+pub returns-in-Ok-false-clause-cause : goal.returns-in-Ok-false-clause-cause
+returns-in-Ok-false-clause-cause g c = λ works.
+    no_disk_fault c.plan_deltas-in-Ok-false.result _ _ _ c.plan_deltas-in-Ok-false.ensures.memory (c.in-Ok-false.ensures.cause works)
