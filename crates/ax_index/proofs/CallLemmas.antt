@@ -1,6 +1,7 @@
 -- What calls of a plan answer, told of plans.
-use Rattle.std.proofs.Common.{◌≡◌, ℕ, ◌+◌, ◌<◌, ◌≤◌, List, [], ◌∷◌, ◌++◌, length, arith, refl, sym, ap, ◌∙◌, subst, Bool, true, false, Option, Result, Ok, Err}
+use Rattle.std.proofs.Common.{◌≡◌, ℕ, ◌+◌, ◌<◌, ◌≤◌, List, [], ◌∷◌, ◌++◌, length, take, drop, arith, refl, sym, ap, ◌∙◌, subst, Bool, true, false, Option, Result, Ok, Err}
 use Rattle.std.specs.Option.{unwrap_or}
+use Rattle.ax_faults.specs.FaultLaws.{rose_since}
 use Rattle.ax_frame.specs.Part.{PartValue}
 use Rattle.ax_leaf.specs.declared.pair.Pair.{Pair}
 use Rattle.ax_leaf.specs.Pairs.{Rise}
@@ -23,11 +24,15 @@ use Rattle.ax_store.specs.declared.store.Store.{Store}
 use Rattle.ax_store.specs.Kept.{deltas_of}
 use Rattle.ax_store.specs.Store.{SameButRoom, SameButSlots, store_contents, store_slots}
 use Rattle.ax_index.specs.DeltaRuns.{AreCarried}
-use Rattle.ax_index.specs.Planning.{IsUpTo, IsPagePlanned}
+use Rattle.ax_index.specs.Planning.{IsFirstOf, IsPartedAt, IsPlannedTo, IsUpTo, IsPagePlanned}
 use Rattle.ax_index.specs.Plans.{HasNoDeltas, SameButRoomAndBytes}
 use Rattle.ax_index.specs.Rewriting.{IsRewritten}
+use Rattle.ax_index.specs.Damage.{TellsPart}
 use Rattle.ax_index.proofs.Lists.{deltas_more}
-use Rattle.ax_index.proofs.PlanningLemmas.{all_now, done_by_bases, done_by_deltas}
+use Rattle.ax_index.proofs.Unmoved.{same_contents, same_offsets, told_from}
+use Rattle.ax_log.specs.Log.{log_area}
+use Rattle.ax_index.proofs.PutLemmas.{rise_parted}
+use Rattle.ax_index.proofs.PlanningLemmas.{all_now, as_number, done_by_bases, done_by_deltas, planned_more, planned_none, run_belongs}
 
 -- ---- merging changes
 
@@ -115,6 +120,47 @@ pub no_disk_fault : {T U : Type 0} (result : Result T StoreFault) (earlier : Res
     → HasDiskCause earlier before now → HasDiskCause result before now
 no_disk_fault result earlier before now memory cause = record { never_falls = cause.never_falls; failed = λ fails. absurd (not_by_disk result memory fails) }
 
+-- the same fault, of a call that began earlier
+pub rose_later : {T U : Type 0} (fault : StoreFault) (before mid now : ℕ) → before ≤ mid → HasDiskCause {T = T} (Err fault) mid now → HasDiskCause {T = U} (Err fault) before now
+rose_later fault before mid now earlier cause = record {
+  never_falls = omega (arith, earlier, cause.never_falls);
+  failed = λ fails. rose_since before mid now now earlier (omega arith) (cause.failed fails);
+}
+
+-- ---- the first page of those that changes are of
+
+pub parted_there : (page n : ℕ) (changes run behind : List Change) (pages : List TermPage) → run ≡ take n changes → behind ≡ drop n changes
+    → IsPartedAt page (take n changes) (drop n changes) pages → IsPartedAt page run behind pages
+parted_there page n changes run behind pages front back parted =
+    subst (λ (r : List Change). IsPartedAt page r behind pages) (sym front)
+    (subst (λ (b : List Change). IsPartedAt page (take n changes) b pages) (sym back) parted)
+
+pub first_there : (changes : List Change) (page : ℕ) (pages : List TermPage) → IsFirstOf changes page pages → page < length pages
+first_there [] page pages first = absurd first
+first_there (change ∷ changes) page pages first = first.there
+
+run_all_belong : (pages : List TermPage) (page : ℕ) (changes run behind : List Change) → changes ≡ run ++ behind → 0 < length run → IsFirstOf changes page pages
+    → Rise (changed_pairs changes) → IsPartedAt page run behind pages → AllBelong (changed_pairs run) page pages
+run_all_belong pages page changes [] behind whole some first rise parted = absurd (omega arith)
+run_all_belong pages page changes (change ∷ run) behind whole some first rise parted =
+    run_belongs pages page change run behind (subst (λ (all : List Change). IsFirstOf all page pages) whole first)
+    (rise_parted changes (change ∷ run) behind whole rise).0 parted
+
+pub first_planned : (all changes run behind : List Change) (before : List TermPage) (merged next later extra : ℕ) (room more : ℕ → ℕ) (old here new : List PartValue) (page : ℕ) (is_merged : Bool)
+    → changes ≡ run ++ behind → 0 < length run → Rise (changed_pairs changes) → IsFirstOf changes page before → IsPartedAt page run behind before
+    → extra ≡ as_number is_merged → IsPlannedTo all changes before merged next room old here → ((number : ℕ) → room number ≤ more number)
+    → ((now : List TermPage) (earlier : List PartValue) → IsUpTo (low_pair page before) before now earlier → next ≡ length now → AllBelong (changed_pairs run) page before
+    → IsPagePlanned page run before now is_merged later more here new)
+    → IsPlannedTo all behind before (merged + extra) later more old new
+first_planned all changes run behind before merged next later extra room more old here new page is_merged whole some rise first parted extra_is is never_less planned =
+    let mine : IsPlannedTo all (run ++ behind) before merged next room old here =
+    subst (λ (left : List Change). IsPlannedTo all left before merged next room old here) whole is
+    in
+    let up : IsUpTo (low_pair page before) before mine.now mine.parts = mine.ready page (subst (λ (left : List Change). IsFirstOf left page before) whole first) in
+    subst (λ (n : ℕ). IsPlannedTo all behind before (merged + n) later more old new) (sym extra_is)
+    (planned_more all run behind before merged next room more old here new page is_merged later mine up (first_there changes page before first) parted
+    (planned mine.now mine.parts up mine.next_is (run_all_belong before page changes run behind whole some first rise parted)) never_less)
+
 -- ---- stores
 
 pub same_from_slots : {C : Type 0} (old new : Store C) → SameButSlots old new → (store_slots new).taken ≡ (store_slots old).taken → SameButRoomAndBytes old new
@@ -148,3 +194,40 @@ same_then old mid new one other = record {
 pub room_for_all : (old parts new : List PartValue) (room : ℕ → ℕ) → HasNoDeltas old → new ≡ old ++ parts → ((n : ℕ) → deltas_of n parts ≤ room n) → (n : ℕ) → deltas_of n new ≤ room n
 room_for_all old parts new room none added enough n =
     subst (λ (all : List PartValue). deltas_of n all ≤ room n) (sym added) (omega (arith, deltas_more n old parts, none n, enough n))
+
+pub same_itself : {C : Type 0} (store : Store C) → SameButRoomAndBytes store store
+same_itself store = record { logged = refl; contents = refl; offsets = refl; failed = refl; taken = refl }
+
+-- a slot is taken before and given back after
+pub same_around : {C : Type 0} (old took planned new : Store C) → SameButSlots old took → SameButRoomAndBytes took planned → SameButSlots planned new
+    → (store_slots new).taken ≡ (store_slots old).taken → SameButRoomAndBytes old new
+same_around old took planned new first same last taken = record {
+  logged = last.logged ∙ same.logged ∙ first.logged;
+  contents = same_contents planned new last ∙ same.contents ∙ same_contents old took first;
+  offsets = same_offsets planned new last ∙ same.offsets ∙ same_offsets old took first;
+  failed = last.failed ∙ same.failed ∙ first.failed;
+  taken = taken;
+}
+
+pub told_planned : {C : Type 0} (old new : Store C) (fault : StoreFault) → SameButRoomAndBytes old new → TellsPart new fault → TellsPart old fault
+told_planned old new fault same = told_from old new fault same.contents same.offsets (ap log_area same.logged)
+
+-- ---- the loop over pages
+
+pub planned_begin : (changes : List Change) (before : List TermPage) (next : ℕ) (room : ℕ → ℕ) (old : List PartValue) → next ≡ length before
+    → IsPlannedTo changes changes before 0 next room old old
+planned_begin changes before next room old next_is =
+    subst (λ (n : ℕ). IsPlannedTo changes changes before 0 n room old old) (sym next_is) (planned_none changes before room old)
+
+pub planned_on : (changes rest behind : List Change) (here there : List TermPage) (merged more next later : ℕ) (room grown : ℕ → ℕ) (old mid new : List PartValue) → here ≡ there
+    → (IsPlannedTo changes rest here merged next room old mid → IsPlannedTo changes behind here more later grown old new)
+    → IsPlannedTo changes rest there merged next room old mid → IsPlannedTo changes behind there more later grown old new
+planned_on changes rest behind here there merged more next later room grown old mid new same step =
+    subst
+    (λ (terms : List TermPage). IsPlannedTo changes rest terms merged next room old mid → IsPlannedTo changes behind terms more later grown old new)
+    same step
+
+pub planned_end : (changes rest : List Change) (before : List TermPage) (merged next : ℕ) (room : ℕ → ℕ) (old new : List PartValue) → IsPlannedTo changes rest before merged next room old new
+    → length rest ≤ 0 → IsPlannedTo changes [] before merged next room old new
+planned_end changes [] before merged next room old new is none = is
+planned_end changes (change ∷ rest) before merged next room old new is none = absurd (omega arith)

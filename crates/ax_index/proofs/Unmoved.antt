@@ -39,7 +39,7 @@ module _ {C : Type 0} where
   pub same_contents : (old new : Store C) → SameButSlots old new → store_contents new ≡ store_contents old
   same_contents old new same = ap (λ (kept : Kept). kept.contents) same.pages
 
-  same_offsets : (old new : Store C) → SameButSlots old new → store_offsets new ≡ store_offsets old
+  pub same_offsets : (old new : Store C) → SameButSlots old new → store_offsets new ≡ store_offsets old
   same_offsets old new same = ap (λ (kept : Kept). kept.offsets) same.pages
 
   same_area : (old new : Store C) → SameButSlots old new → store_area new ≡ store_area old
@@ -50,22 +50,25 @@ module _ {C : Type 0} where
 
   -- ---- faults
 
+  pub told_from : (old new : Store C) (fault : StoreFault) → store_contents new ≡ store_contents old → store_offsets new ≡ store_offsets old → store_area new ≡ store_area old
+      → TellsPart new fault → TellsPart old fault
+  told_from old new Disk contents offsets area h = tt
+  told_from old new (Damaged extent at) contents offsets area h = record {
+    page = h.page;
+    i = h.i;
+    there = subst (λ (k : Contents). h.i < length (parts_of (Term h.page) k)) contents h.there;
+    placed = (
+      h.placed.0 ∙ ap extent_number area,
+      ap (λ (o : PageOffsets). slice_get (offsets_of (Term h.page) o) h.i) (sym offsets) ∙ h.placed.1,
+    );
+    spoiled = subst (λ (k : Contents). IsPayload (is_base_at (term_page h.page k.terms) h.i) (part_at (Term h.page) h.i k) → ⊥) contents h.spoiled;
+  }
+  told_from old new (Newer version) contents offsets area h = h
+  told_from old new Memory contents offsets area h = tt
+
   pub told_back : (old new : Store C) (fault : StoreFault) → SameButSlots old new → TellsPart new fault → TellsPart old fault
-  told_back old new Disk same h = tt
-  told_back old new (Damaged extent at) same h =
-      let contents = same_contents old new same in
-      record {
-        page = h.page;
-        i = h.i;
-        there = subst (λ (k : Contents). h.i < length (parts_of (Term h.page) k)) contents h.there;
-        placed = (
-          h.placed.0 ∙ ap extent_number (same_area old new same),
-          ap (λ (o : PageOffsets). slice_get (offsets_of (Term h.page) o) h.i) (sym (same_offsets old new same)) ∙ h.placed.1,
-        );
-        spoiled = subst (λ (k : Contents). IsPayload (is_base_at (term_page h.page k.terms) h.i) (part_at (Term h.page) h.i k) → ⊥) contents h.spoiled;
-      }
-  told_back old new (Newer version) same h = h
-  told_back old new Memory same h = tt
+  told_back old new fault same =
+      told_from old new fault (same_contents old new same) (same_offsets old new same) (same_area old new same)
 
   pub told_disk : (store : Store C) (fault : StoreFault) → fault ≡ Disk → TellsPart store fault
   told_disk store fault e = let P : StoreFault → Type 0 = λ f. TellsPart store f in subst P (sym e) tt

@@ -1,4 +1,4 @@
-use Rattle.std.proofs.Common.{◌≡◌, ◌≤◌, length}
+use Rattle.std.proofs.Common.{◌≡◌, ◌≤◌, false, length}
 use Rattle.std.specs.Prelude.{IsTrue}
 use Rattle.ax_delta.specs.Changes.{changed_pairs}
 use Rattle.ax_disk.specs.model.Calls.{Idles}
@@ -18,7 +18,7 @@ invariant-loop-rest g l = record {
   same : SameButRoomAndBytes l.fn.store l.store;
   slot : l.slot ≡ l.fn.slot;
   lists : IsTrue (g.D.Disk.is_honest l.fn.disk) → Idles (g.D.Disk.history l.fn.disk (g.D.Disk.attached l.fn.disk)) (g.D.Disk.history l.disk (g.D.Disk.attached l.disk));
-  faults : g.D.Disk.faults l.fn.disk ≤ g.D.Disk.faults l.disk;
+  faults : store_failed l.fn.store ≡ false → g.D.Disk.faults l.fn.disk ≤ g.D.Disk.faults l.disk;
   attached : g.D.Disk.attached l.disk ≡ g.D.Disk.attached l.fn.disk;
   honest : g.D.Disk.is_honest l.disk ≡ g.D.Disk.is_honest l.fn.disk;
 }
