@@ -13,3 +13,4 @@ pub mod PutLemmas
 pub mod RewritingLemmas
 pub mod RunLemmas
 pub mod Unmoved
+pub mod MergingLemmas

@@ -122,6 +122,8 @@ done_by_deltas page changes before now after parts belong carry = record {
   same = λ n h apart. carry.same n apart;
   deltas = carry.deltas;
   bases = carry.no_bases (length before);
+  bare = λ merged. absurd (cc);
+  new_bare = λ n from below. absurd (omega (arith, carry.lows.many));
   holds = λ set is. carry.holds set is belong;
 }
 
@@ -138,6 +140,8 @@ done_by_bases page changes before now after parts earlier pairs list there up ri
   same = is.same;
   deltas = λ n apart. is.no_deltas n;
   bases = is.one_base (length before) there up.longer;
+  bare = λ merged. is.bare;
+  new_bare = is.new_bare;
   holds = λ set index.
       let same : term_page page now ≡ term_page page before = up.same page there (λ less. less_apart (low_pair page before) (low_pair page before) less refl) in
       let in_page : page < length now = omega (arith, up.longer) in
@@ -176,6 +180,35 @@ planned_none changes before room old = record {
   enough = λ number. omega arith;
 }
 
+-- from the page behind one that is done on, pages are as they were
+pub up_behind : (page after other : ℕ) (changes : List Change) (before now new : List TermPage) (parts more : List PartValue) (merged : Bool) → IsUpTo (low_pair page before) before now parts
+    → IsPageDone page changes before now more new merged → IsNextPage page after before → NotAfter (low_pair after before) (low_pair other before)
+    → IsUpTo (low_pair other before) before new (parts ++ more)
+up_behind page after other changes before now new parts more merged up done behind_it up_to =
+    let less : pair_cmp (low_pair page before) (low_pair other before) ≡ Less =
+    less_then (low_pair page before) (low_pair after before) (low_pair other before) behind_it.after up_to
+    in
+    let lower : (n : ℕ) → (pair_cmp (low_pair n before) (low_pair other before) ≡ Less → ⊥) → pair_cmp (low_pair n before) (low_pair page before) ≡ Less → ⊥ =
+    λ n from before_page. from (pair_cmp_total.trans (low_pair n before) (low_pair page before) (low_pair other before) before_page less)
+    in
+    let apart : (n : ℕ) → (pair_cmp (low_pair n before) (low_pair other before) ≡ Less → ⊥) → n ≢ page =
+    λ n from e. from (subst (λ (k : ℕ). pair_cmp (low_pair k before) (low_pair other before) ≡ Less) (sym e) less)
+    in
+    record {
+      longer = omega (arith, up.longer, done.longer);
+      lows = λ n h. done.lows n (omega (arith, up.longer)) ∙ up.lows n h;
+      fresh = λ n from below.
+          ⊎_elim
+          (λ (was : n < length now).
+          subst (λ (l : Pair). pair_cmp l (low_pair other before) ≡ Less) (sym (done.lows n was))
+          (pair_cmp_total.trans (low_pair n now) (low_pair page before) (low_pair other before) (up.fresh n from was) less))
+          (λ (new_one : length now ≤ n).
+          less_then (low_pair n new) (low_pair after before) (low_pair other before) (done.fresh n new_one below after behind_it) up_to)
+          (cases_lt n (length now));
+      same = λ n h from. done.same n (omega (arith, up.longer)) (apart n from) ∙ up.same n h (lower n from);
+      none = λ n h from. omega (arith, deltas_more n parts more, up.none n h (lower n from), done.deltas n (apart n from));
+    }
+
 abbrev pub as_number : Bool → ℕ
 as_number merged = cond merged 1 0
 
@@ -204,34 +237,9 @@ module _ (changes run behind : List Change) (before : List TermPage) (merged nex
       by_changes (change ∷ left) first (inr (last, none)) = absurd (cc)
 
   ready_behind : (other : ℕ) → IsFirstOf behind other before → IsUpTo (low_pair other before) before planned.after (is.parts ++ planned.parts)
-  ready_behind other first = by_past (past other first)
-    where
-      by_past : (after : ℕ) × IsNextPage page after before × NotAfter (low_pair after before) (low_pair other before)
-          → IsUpTo (low_pair other before) before planned.after (is.parts ++ planned.parts)
-      by_past (after, behind_it, up_to) =
-          let less : pair_cmp (low_pair page before) (low_pair other before) ≡ Less =
-          less_then (low_pair page before) (low_pair after before) (low_pair other before) behind_it.after up_to
-          in
-          let lower : (n : ℕ) → (pair_cmp (low_pair n before) (low_pair other before) ≡ Less → ⊥) → pair_cmp (low_pair n before) (low_pair page before) ≡ Less → ⊥ =
-          λ n from before_page. from (pair_cmp_total.trans (low_pair n before) (low_pair page before) (low_pair other before) before_page less)
-          in
-          let apart : (n : ℕ) → (pair_cmp (low_pair n before) (low_pair other before) ≡ Less → ⊥) → n ≢ page =
-          λ n from e. from (subst (λ (k : ℕ). pair_cmp (low_pair k before) (low_pair other before) ≡ Less) (sym e) less)
-          in
-          record {
-            longer = omega (arith, up.longer, planned.done.longer);
-            lows = λ n h. planned.done.lows n (omega (arith, up.longer)) ∙ up.lows n h;
-            fresh = λ n from below.
-                ⊎_elim
-                (λ (was : n < length is.now).
-                subst (λ (l : Pair). pair_cmp l (low_pair other before) ≡ Less) (sym (planned.done.lows n was))
-                (pair_cmp_total.trans (low_pair n is.now) (low_pair page before) (low_pair other before) (up.fresh n from was) less))
-                (λ (new_one : length is.now ≤ n).
-                less_then (low_pair n planned.after) (low_pair after before) (low_pair other before) (planned.done.fresh n new_one below after behind_it) up_to)
-                (cases_lt n (length is.now));
-            same = λ n h from. planned.done.same n (omega (arith, up.longer)) (apart n from) ∙ up.same n h (lower n from);
-            none = λ n h from. omega (arith, deltas_more n is.parts planned.parts, up.none n h (lower n from), planned.done.deltas n (apart n from));
-          }
+  ready_behind other first =
+      let (after, behind_it, up_to) = past other first in
+      up_behind page after other run before is.now planned.after is.parts planned.parts is_merged up planned.done behind_it up_to
 
   room_behind : (number : ℕ) → deltas_of number (is.parts ++ planned.parts) ≤ more number
   room_behind number =

@@ -2,7 +2,7 @@
 use Rattle.std.proofs.Common.{◌≡◌, ◌≢◌, ℕ, ◌+◌, ◌<◌, ◌≤◌, List, [], ◌∷◌, ◌++◌, length, nat_lt, arith, refl, sym, ap, ◌∙◌, subst, Bool, true, false, cond, append_assoc, append-nil, ⊎_elim, ◌⊎◌, inl, inr, Some, None}
 use Rattle.std.specs.declared.cmp.Ordering.TheVariants.{Less}
 use Rattle.std.proofs.lemmas.Bool.{lt-ltb, le-ltb, cases_lt}
-use Rattle.std.proofs.lemmas.List.{get_or_append_left, length-append}
+use Rattle.std.proofs.lemmas.List.{get_or_append_left, get_or-set_same, length-append}
 use Rattle.ax_frame.specs.Part.{PartValue}
 use Rattle.ax_leaf.specs.declared.pair.Pair.{Pair}
 use Rattle.ax_leaf.specs.Low.{low_in}
@@ -14,7 +14,7 @@ use Rattle.ax_delta.proofs.SamePair.{true_or_false, less_apart, rises_alone}
 use Rattle.ax_pages.specs.Contents.{TermPage, no_term_page, term_page, low_of}
 use Rattle.ax_pages.specs.AfterPart.{after_base, with_base, most_term_pages}
 use Rattle.ax_pages.specs.TermPages.{AreApart, IsPageOf, low_pair}
-use Rattle.ax_pages.proofs.TermLists.{put_within, set_other}
+use Rattle.ax_pages.proofs.TermLists.{at_behind, put_within, set_other}
 use Rattle.ax_pairs.specs.Index.{AllBelong, IsIndex}
 use Rattle.ax_pairs.specs.PairSets.{PairSet}
 use Rattle.ax_pairs.specs.TermParts.{LeadTo, bases_below}
@@ -27,6 +27,7 @@ use Rattle.ax_pairs.proofs.Rewritten.{base_low, rewritten}
 use Rattle.ax_pairs.proofs.Sets.{same_set}
 use Rattle.ax_pairs.proofs.SplitOff.{with_list, split_off}
 use Rattle.ax_store.specs.Kept.{deltas_of}
+use Rattle.ax_index.specs.Bare.{has_deltas}
 use Rattle.ax_index.specs.Rewriting.{without, Replaces, Rewrites}
 use Rattle.ax_index.proofs.Lists.{deltas_more, bases_more, has_more, in_first, in_second, not_in_first, first_of_list, behind_first, rises_front, rises_back, one_before, not_in_both, not_in_other, first_least}
 
@@ -75,6 +76,9 @@ module _ (page : ℕ) (first rest : List Pair) (now : List TermPage) (payload : 
     same = λ n h apart.
         ap (term_page n) (put_within page (with_base payload) now there) ∙ set_other page (with_base payload) now n apart;
     no_deltas = λ n. refl;
+    there = there;
+    bare = ap has_deltas (ap (term_page page) (put_within page (with_base payload) now there) ∙ get_or-set_same now page (with_base payload) no_term_page there);
+    new_bare = λ n from below. absurd (omega (arith, lows_first.many));
     one_base = λ count below within. ap (λ (b : Bool). cond b 1 0 + 0) (lt-ltb page count below);
     fresh = λ n from below. absurd (omega (arith, lows_first.many));
     front = first;
@@ -172,6 +176,13 @@ module _ (page : ℕ) (list : List Pair) (q : Pair) (piece rest : List Pair) (no
     lows = λ n h. low_before old new_page n (omega (arith, is.longer)) ∙ is.lows n h;
     same = λ n h apart. get_or_append_left old (new_page ∷ []) no_term_page n (omega (arith, is.longer)) ∙ is.same n h apart;
     no_deltas = λ n. omega (arith, deltas_more n parts (base_part (length old) payload ∷ []), is.no_deltas n);
+    there = is.there;
+    bare = ap has_deltas (get_or_append_left old (new_page ∷ []) no_term_page page (omega (arith, is.there, is.longer))) ∙ is.bare;
+    new_bare = λ n from below.
+        ⊎_elim
+        (λ (e : n ≡ length old). ap has_deltas (at_behind new_page old n e))
+        (λ (l : n < length old). ap has_deltas (get_or_append_left old (new_page ∷ []) no_term_page n l) ∙ is.new_bare n from l)
+        (last_or_before n below);
     one_base = λ count below within.
         let none : bases_below count (base_part (length old) payload ∷ []) ≡ 0 =
         ap (λ (b : Bool). cond b 1 0 + 0) (le-ltb (length old) count (omega (arith, is.longer)))

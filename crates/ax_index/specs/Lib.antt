@@ -1,5 +1,7 @@
+pub mod Bare
 pub mod Damage
 pub mod DeltaRuns
+pub mod Merging
 pub mod Planning
 pub mod Plans
 pub mod Reading

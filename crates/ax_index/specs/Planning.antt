@@ -1,6 +1,6 @@
 -- How far a plan has come. Only clauses of private functions cite it.
 -- It is this project's own; it comes from no public document.
-use Rattle.std.specs.Prelude.{◌≡◌, ◌≢◌, ℕ, ◌<◌, ◌≤◌, ◌⊎◌, Bool, true, if◌then◌else◌, List, [], ◌∷◌, ◌++◌, length}
+use Rattle.std.specs.Prelude.{◌≡◌, ◌≢◌, ℕ, ◌<◌, ◌≤◌, ◌⊎◌, Bool, true, false, if◌then◌else◌, List, [], ◌∷◌, ◌++◌, length}
 use Rattle.std.specs.declared.cmp.Ordering.TheVariants.{Less}
 use Rattle.ax_delta.specs.declared.change.Change.{Change}
 use Rattle.ax_delta.specs.Changes.{changed_pairs}
@@ -14,6 +14,7 @@ use Rattle.ax_pairs.specs.Index.{IsIndex}
 use Rattle.ax_pairs.specs.PairSets.{PairSet, with_changes}
 use Rattle.ax_pairs.specs.TermParts.{LeadTo, bases_below}
 use Rattle.ax_store.specs.Kept.{deltas_of}
+use Rattle.ax_index.specs.Bare.{has_deltas}
 
 -- each pair is before the bound
 abbrev pub AreBefore : List Pair → Pair → Type 0
@@ -54,6 +55,8 @@ pub record IsPageDone (page : ℕ) (changes : List Change) (before now : List Te
   pub same : (n : ℕ) → n < length now → n ≢ page → term_page n after ≡ term_page n now
   pub deltas : (n : ℕ) → n ≢ page → deltas_of n parts ≡ 0
   pub bases : bases_below (length before) parts ≡ (if merged then 1 else 0)
+  pub bare : merged ≡ true → has_deltas (term_page page after) ≡ false
+  pub new_bare : (n : ℕ) → length now ≤ n → n < length after → has_deltas (term_page n after) ≡ false
   pub holds : (set : PairSet) → IsIndex now set → IsIndex after (with_changes changes set)
 
 -- Behind the parts that a batch had such parts were put.

@@ -13,6 +13,7 @@ use Rattle.ax_pairs.specs.Index.{AllBelong, IsIndex}
 use Rattle.ax_pairs.specs.PairSets.{PairSet}
 use Rattle.ax_pairs.specs.TermParts.{LeadTo, bases_below}
 use Rattle.ax_store.specs.Kept.{deltas_of}
+use Rattle.ax_index.specs.Bare.{has_deltas}
 
 -- Behind the parts that a batch had, a base of these pairs was put.
 pub record IsBasePut (number : ℕ) (low : Pair) (pairs : List Pair) (old new : List PartValue) : Type 0 where
@@ -37,6 +38,9 @@ pub record Rewrites (page : ℕ) (list rest : List Pair) (now : List TermPage) (
   pub lows : (n : ℕ) → n < length now → low_pair n after ≡ low_pair n now
   pub same : (n : ℕ) → n < length now → n ≢ page → term_page n after ≡ term_page n now
   pub no_deltas : (n : ℕ) → deltas_of n parts ≡ 0
+  pub there : page < length now
+  pub bare : has_deltas (term_page page after) ≡ false
+  pub new_bare : (n : ℕ) → length now ≤ n → n < length after → has_deltas (term_page n after) ≡ false
   pub one_base : (count : ℕ) → page < count → count ≤ length now → bases_below count parts ≡ 1
   pub fresh : (n : ℕ) → length now ≤ n → n < length after → has (low_pair n after) list ≡ true
   pub front : List Pair

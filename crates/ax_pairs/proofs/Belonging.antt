@@ -31,7 +31,7 @@ record IsBest (pages : List TermPage) (p : Pair) (count number : ℕ) : Type 0 w
 not_greater : (o r : Ordering) → (r ≡ Greater → ⊥) → o ≡ r → o ≡ Greater → ⊥
 not_greater o r apart e greater = apart (sym e ∙ greater)
 
-first_not_after : (p : Pair) → NotAfter first_pair p
+pub first_not_after : (p : Pair) → NotAfter first_pair p
 first_not_after p = by_term p.term p.number
   where
     by_number : (n : ℕ) → nat_cmp 0 n ≡ Greater → ⊥

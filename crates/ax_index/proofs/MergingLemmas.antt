@@ -1,0 +1,282 @@
+-- Merging pages, one after another in their order: how many have deltas, and which are stuck.
+use Rattle.std.proofs.Common.{◌≡◌, ◌≢◌, ℕ, zero, suc, ◌+◌, ◌<◌, ◌≤◌, List, [], ◌∷◌, ◌++◌, length, take, get_or, arith, refl, sym, ap, ◌∙◌, subst, Bool, true, false, cond, append_assoc, append-nil, ⊎_elim, ◌⊎◌, inl, inr, Option, Some, None}
+use Rattle.std.specs.List.{count_by}
+use Rattle.std.proofs.lemmas.Bool.{cases_eq, cases_lt}
+use Rattle.std.proofs.lemmas.List.{take_all}
+use Rattle.std.proofs.lemmas.List.Sums.{count_by_more_no, count_by_more_yes}
+use Rattle.std.specs.declared.cmp.Ordering.TheVariants.{Less}
+use Rattle.ax_frame.specs.Part.{PartValue}
+use Rattle.ax_leaf.specs.declared.pair.Pair.{Pair}
+use Rattle.ax_leaf.specs.Low.{first_pair}
+use Rattle.ax_leaf.specs.Pairs.{pair_cmp}
+use Rattle.ax_delta.specs.Said.{has}
+use Rattle.ax_delta.proofs.SamePair.{true_or_false, less_apart}
+use Rattle.ax_delta.proofs.OneList.{one_list}
+use Rattle.ax_leaf.specs.Pairs.{Rise}
+use Rattle.ax_pages.specs.AfterPart.{most_term_pages}
+use Rattle.ax_pages.specs.Contents.{TermPage, no_term_page, term_page}
+use Rattle.ax_pages.specs.TermPages.{AreApart, IsPageOf, IsLastPage, IsNextPage, low_pair}
+use Rattle.ax_pairs.specs.Index.{AllBelong, IsIndex}
+use Rattle.ax_pairs.specs.PagePairs.{HasPairs}
+use Rattle.ax_pairs.specs.PairSets.{PairSet}
+use Rattle.ax_pairs.proofs.Belonging.{first_not_after}
+use Rattle.ax_pairs.proofs.PageLists.{list_rises, one_page_list}
+use Rattle.ax_pairs.proofs.PairOrder.{NotAfter, both_ways, not_after_then, not_both, order_cases, same_not_after}
+use Rattle.ax_pairs.proofs.Leading.{lead_nothing, lead_then}
+use Rattle.ax_store.specs.Kept.{deltas_of}
+use Rattle.ax_index.specs.Bare.{has_deltas, with_deltas}
+use Rattle.ax_index.specs.Merging.{IsStuck, IsMergePlan, IsPassed, IsReady, IsBehind, IsMergedTo}
+use Rattle.ax_index.specs.Planning.{IsUpTo, IsPageDone, IsPagePlanned}
+use Rattle.ax_index.proofs.DeltaRunLemmas.{carry_nothing}
+use Rattle.ax_index.proofs.Lists.{deltas_more}
+use Rattle.ax_index.proofs.PlanningLemmas.{as_number, done_by_deltas, up_behind}
+
+-- ---- how many
+
+count_below : ℕ → (ℕ → Bool) → ℕ
+unfolding count_below
+count_below zero f = 0
+count_below (suc n) f = count_below n f + cond (f n) 1 0
+
+same_below : (k : ℕ) (f g : ℕ → Bool) → ((n : ℕ) → n < k → f n ≡ g n) → count_below k f ≡ count_below k g
+unfolding count_below
+same_below zero f g same = refl
+same_below (suc k) f g same =
+    let rest : count_below k f ≡ count_below k g = same_below k f g (λ n h. same n (omega arith)) in
+    let last : cond (f k) 1 0 ≡ cond (g k) 1 0 = ap (λ (b : Bool). cond b 1 0) (same k (omega arith)) in
+    omega (arith, rest, last)
+
+one_less : (k p : ℕ) (f g : ℕ → Bool) → p < k → f p ≡ true → g p ≡ false → ((n : ℕ) → n < k → n ≢ p → f n ≡ g n) → count_below k g + 1 ≡ count_below k f
+unfolding count_below
+one_less zero p f g below was is others = absurd (omega arith)
+one_less (suc k) p f g below was is others =
+    ⊎_elim
+    (λ (e : k ≡ p).
+    let rest : count_below k f ≡ count_below k g = same_below k f g (λ n h. others n (omega arith) (λ same. omega (arith, same, e))) in
+    let mine : cond (f k) 1 0 ≡ 1 = ap (λ (b : Bool). cond b 1 0) (ap f e ∙ was) in
+    let now : cond (g k) 1 0 ≡ 0 = ap (λ (b : Bool). cond b 1 0) (ap g e ∙ is) in
+    omega (arith, rest, mine, now))
+    (λ (apart : k ≡ p → ⊥).
+    let less : p < k = ⊎_elim (λ (h : p < k). h) (λ (h : k ≤ p). absurd (apart (omega arith))) (cases_lt p k) in
+    let rest : count_below k g + 1 ≡ count_below k f = one_less k p f g less was is (λ n h. others n (omega arith)) in
+    let last : cond (f k) 1 0 ≡ cond (g k) 1 0 = ap (λ (b : Bool). cond b 1 0) (others k (omega arith) apart) in
+    omega (arith, rest, last))
+    (cases_eq k p)
+
+none_more : (k j : ℕ) (g : ℕ → Bool) → ((n : ℕ) → k ≤ n → n < k + j → g n ≡ false) → count_below (k + j) g ≡ count_below k g
+unfolding count_below
+none_more k zero g none = ap (λ (n : ℕ). count_below n g) (omega arith)
+none_more k (suc j) g none =
+    let rest : count_below (k + j) g ≡ count_below k g = none_more k j g (λ n from h. none n from (omega arith)) in
+    let last : cond (g (k + j)) 1 0 ≡ 0 = ap (λ (b : Bool). cond b 1 0) (none (k + j) (omega arith) (omega arith)) in
+    let step : k + suc j ≡ suc (k + j) = omega arith in
+    ap (λ (n : ℕ). count_below n g) step ∙ omega (arith, rest, last)
+
+counted_to : (pages : List TermPage) (k : ℕ) → k ≤ length pages → count_by has_deltas (take k pages) ≡ count_below k (λ n. has_deltas (term_page n pages))
+unfolding count_below
+counted_to pages zero h = refl
+counted_to pages (suc k) h =
+    let rest : count_by has_deltas (take k pages) ≡ count_below k (λ n. has_deltas (term_page n pages)) = counted_to pages k (omega arith) in
+    let step : suc k ≡ k + 1 = omega arith in
+    ap (λ (n : ℕ). count_by has_deltas (take n pages)) step
+    ∙ ⊎_elim
+    (λ (so : has_deltas (term_page k pages) ≡ true).
+    let one : cond (has_deltas (term_page k pages)) 1 0 ≡ 1 = ap (λ (b : Bool). cond b 1 0) so in
+    omega (arith, count_by_more_yes has_deltas pages k no_term_page (omega arith) so, rest, one))
+    (λ (not_so : has_deltas (term_page k pages) ≡ false).
+    let none : cond (has_deltas (term_page k pages)) 1 0 ≡ 0 = ap (λ (b : Bool). cond b 1 0) not_so in
+    omega (arith, count_by_more_no has_deltas pages k no_term_page (omega arith) not_so, rest, none))
+    (true_or_false (has_deltas (term_page k pages)))
+
+counted : (pages : List TermPage) → with_deltas pages ≡ count_below (length pages) (λ n. has_deltas (term_page n pages))
+counted pages = ap (count_by has_deltas) (sym (take_all (length pages) pages (omega arith))) ∙ counted_to pages (length pages) (omega arith)
+
+pub one_fewer : (page : ℕ) (now after : List TermPage) → page < length now → length now ≤ length after → has_deltas (term_page page now) ≡ true → has_deltas (term_page page after) ≡ false
+    → ((n : ℕ) → n < length now → n ≢ page → term_page n after ≡ term_page n now) → ((n : ℕ) → length now ≤ n → n < length after → has_deltas (term_page n after) ≡ false)
+    → with_deltas after + 1 ≡ with_deltas now
+one_fewer page now after there longer was is same none =
+    let f : ℕ → Bool = λ n. has_deltas (term_page n now) in
+    let g : ℕ → Bool = λ n. has_deltas (term_page n after) in
+    let more : (j : ℕ) × (length now + j ≡ length after) = (length after - length now, omega arith) in
+    let tail : count_below (length after) g ≡ count_below (length now) g =
+    ap (λ (n : ℕ). count_below n g) (sym more.1) ∙ none_more (length now) more.0 g (λ n from h. none n from (omega (arith, more.1)))
+    in
+    let less : count_below (length now) g + 1 ≡ count_below (length now) f = one_less (length now) page f g there was is (λ n h apart. sym (ap has_deltas (same n h apart))) in
+    omega (arith, counted after, counted now, tail, less)
+
+-- ---- which pages are passed
+
+passed_or_here : (page : ℕ) (at : Option ℕ) (pages : List TermPage) (n : ℕ) → IsBehind page at pages → n < length pages → IsPassed at n pages
+    → (pair_cmp (low_pair n pages) (low_pair page pages) ≡ Less) ⊎ (low_pair n pages ≡ low_pair page pages)
+passed_or_here page at pages n behind h passed =
+    ⊎_elim
+    (λ (up : NotAfter (low_pair page pages) (low_pair n pages)).
+    inr (both_ways (low_pair n pages) (low_pair page pages) (not_behind at behind passed) up))
+    (λ (less : pair_cmp (low_pair n pages) (low_pair page pages) ≡ Less). inl less)
+    (order_cases (low_pair page pages) (low_pair n pages))
+  where
+    not_behind : (at : Option ℕ) → IsBehind page at pages → IsPassed at n pages → NotAfter (low_pair n pages) (low_pair page pages)
+    not_behind None last passed =
+        ⊎_elim
+        (λ (up : NotAfter (low_pair n pages) (low_pair page pages)). up)
+        (λ (less : pair_cmp (low_pair page pages) (low_pair n pages) ≡ Less). absurd (last n h less))
+        (order_cases (low_pair n pages) (low_pair page pages))
+    not_behind (Some next) is passed =
+        ⊎_elim
+        (λ (up : NotAfter (low_pair n pages) (low_pair page pages)). up)
+        (λ (less : pair_cmp (low_pair page pages) (low_pair n pages) ≡ Less). absurd (is.least n h less passed))
+        (order_cases (low_pair n pages) (low_pair page pages))
+
+stuck_still : (n : ℕ) (before now after : List TermPage) → term_page n after ≡ term_page n now → length now ≤ length after → IsStuck n before now → IsStuck n before after
+stuck_still n before now after same longer stuck set index deltas pairs has_pairs =
+    let room : most_term_pages < length now + length pairs = stuck set index (ap has_deltas (sym same) ∙ deltas) pairs has_pairs in
+    omega (arith, room)
+
+stuck_by_number : (n page : ℕ) (before after : List TermPage) → n < length before → page < length before → low_pair n before ≡ low_pair page before → IsStuck page before after → IsStuck n before after
+stuck_by_number n page before after h there same stuck set index =
+    let one : n ≡ page = index.apart.apart n page h there same in
+    subst
+    (λ (k : ℕ). has_deltas (term_page k after) ≡ true → (pairs : List Pair) → HasPairs (term_page k before) pairs → most_term_pages < length after + length pairs)
+    (sym one) (stuck set index)
+
+-- ---- a page is merged, or left
+
+ready_by : (page : ℕ) (at : Option ℕ) (before now after : List TermPage) (parts more : List PartValue) (merged : Bool) → IsBehind page at before → IsUpTo (low_pair page before) before now parts
+    → IsPageDone page [] before now more after merged → IsReady at before after (parts ++ more)
+ready_by page None before now after parts more merged behind up done = tt
+ready_by page (Some next) before now after parts more merged behind up done = (
+  behind.there,
+  up_behind page next next [] before now after parts more merged up done behind (same_not_after (low_pair next before) (low_pair next before) refl),
+)
+
+pub merged_one : (page : ℕ) (at : Option ℕ) (before : List TermPage) (merged next later : ℕ) (old here new : List PartValue) → IsBehind page at before → IsMergedTo (Some page) before merged next old here
+    → has_deltas (term_page page before) ≡ true
+    → ((now : List TermPage) (earlier : List PartValue) → IsUpTo (low_pair page before) before now earlier → next ≡ length now → IsPagePlanned page [] before now true later (λ number. 0) here new)
+    → IsMergedTo at before (merged + 1) later old new
+merged_one page at before merged next later old here new behind is deltas planned_by =
+    let up : IsUpTo (low_pair page before) before is.now is.parts = is.ready.1 in
+    let there : page < length before = is.ready.0 in
+    let planned : IsPagePlanned page [] before is.now true later (λ number. 0) here new = planned_by is.now is.parts up is.next_is in
+    let same : term_page page is.now ≡ term_page page before = up.same page there (λ less. less_apart (low_pair page before) (low_pair page before) less refl) in
+    record {
+      parts = is.parts ++ planned.parts;
+      added = planned.added ∙ ap (λ (ps : List PartValue). ps ++ planned.parts) is.added ∙ append_assoc old is.parts planned.parts;
+      now = planned.after;
+      lead = lead_then is.parts planned.parts before is.now planned.after is.lead planned.done.lead;
+      longer = omega (arith, is.longer, planned.done.longer);
+      holds = λ set index. planned.done.holds set (is.holds set index);
+      no_deltas = λ number. omega (arith, deltas_more number is.parts planned.parts, is.no_deltas number, none_of planned number);
+      fewer = omega (arith, is.fewer, one_fewer page is.now planned.after (omega (arith, is.longer, there)) planned.done.longer (ap has_deltas same ∙ deltas)
+          (planned.done.bare refl) planned.done.same planned.done.new_bare);
+      next_is = planned.next_is;
+      ready = ready_by page at before is.now planned.after is.parts planned.parts true behind up planned.done;
+      stuck = λ n h passed.
+          ⊎_elim
+          (λ (less : pair_cmp (low_pair n before) (low_pair page before) ≡ Less).
+          stuck_still n before is.now planned.after
+          (planned.done.same n (omega (arith, is.longer)) (λ e. less_apart (low_pair n before) (low_pair page before) less (ap (λ (k : ℕ). low_pair k before) (sym e))))
+          planned.done.longer (is.stuck n h less))
+          (λ (low : low_pair n before ≡ low_pair page before).
+          stuck_by_number n page before planned.after h there low (λ set index still. absurd (not_still (planned.done.bare refl) still)))
+          (passed_or_here page at before n behind h passed);
+    }
+  where
+    none_of : (planned : IsPagePlanned page [] before is.now true later (λ number. 0) here new) → (number : ℕ) → deltas_of number planned.parts ≡ 0
+    none_of planned number =
+        ⊎_elim
+        (λ (e : number ≡ page). subst (λ (n : ℕ). deltas_of n planned.parts ≡ 0) (sym e) (omega (arith, planned.enough)))
+        (λ (apart : number ≡ page → ⊥). planned.done.deltas number apart)
+        (cases_eq number page)
+
+    not_still : {b : Bool} → b ≡ false → b ≡ true → ⊥
+    not_still no so = absurd (cc)
+
+pub left_one : (page : ℕ) (at : Option ℕ) (before : List TermPage) (merged next : ℕ) (old here : List PartValue) → IsBehind page at before → IsMergedTo (Some page) before merged next old here
+    → ((now : List TermPage) → next ≡ length now → has_deltas (term_page page now) ≡ has_deltas (term_page page before) → IsStuck page before now) → IsMergedTo at before merged next old here
+left_one page at before merged next old here behind is stuck_here =
+    let up : IsUpTo (low_pair page before) before is.now is.parts = is.ready.1 in
+    let there : page < length before = is.ready.0 in
+    let same : term_page page is.now ≡ term_page page before = up.same page there (λ less. less_apart (low_pair page before) (low_pair page before) less refl) in
+    record {
+      parts = is.parts;
+      added = is.added;
+      now = is.now;
+      lead = is.lead;
+      longer = is.longer;
+      holds = is.holds;
+      no_deltas = is.no_deltas;
+      fewer = is.fewer;
+      next_is = is.next_is;
+      ready = subst (λ (ps : List PartValue). IsReady at before is.now ps) (append-nil is.parts)
+          (ready_by page at before is.now is.now is.parts [] false behind up
+          (done_by_deltas page [] before is.now is.now [] (λ p h. absurd (cc)) (carry_nothing page is.now)));
+      stuck = λ n h passed.
+          ⊎_elim
+          (λ (less : pair_cmp (low_pair n before) (low_pair page before) ≡ Less). is.stuck n h less)
+          (λ (low : low_pair n before ≡ low_pair page before).
+          stuck_by_number n page before is.now h there low (stuck_here is.now is.next_is (ap has_deltas same)))
+          (passed_or_here page at before n behind h passed);
+    }
+
+-- ---- at the beginning and at the end
+
+pub merged_none : (page : ℕ) (before : List TermPage) (next : ℕ) (old : List PartValue) → IsPageOf first_pair page before → next ≡ length before → IsMergedTo (Some page) before 0 next old old
+merged_none page before next old of next_is = record {
+  parts = [];
+  added = sym (append-nil old);
+  now = before;
+  lead = lead_nothing before;
+  longer = omega arith;
+  holds = λ set is. is;
+  no_deltas = λ number. refl;
+  fewer = omega arith;
+  next_is = next_is;
+  ready = (of.there, record {
+    longer = omega arith;
+    lows = λ n h. refl;
+    fresh = λ n from below. absurd (omega arith);
+    same = λ n h from. refl;
+    none = λ n h from. refl;
+  });
+  stuck = λ n h passed.
+      absurd (not_both (low_pair n before) (low_pair page before) passed
+      (not_after_then (low_pair page before) first_pair (low_pair n before) of.below (first_not_after (low_pair n before))));
+}
+
+pub merged_enough : (at : Option ℕ) (before : List TermPage) (asked merged next : ℕ) (old new : List PartValue) → IsMergedTo at before merged next old new → merged ≤ asked → asked ≤ merged
+    → IsMergePlan asked merged old new before
+merged_enough at before asked merged next old new is most least = record {
+  parts = is.parts;
+  added = is.added;
+  after = is.now;
+  lead = is.lead;
+  holds = is.holds;
+  no_deltas = is.no_deltas;
+  fewer = is.fewer;
+  at_most = most;
+  finished = λ less. absurd (omega arith);
+}
+
+pub merged_all : (before : List TermPage) (asked merged next : ℕ) (old new : List PartValue) → IsMergedTo None before merged next old new → merged ≤ asked → IsMergePlan asked merged old new before
+merged_all before asked merged next old new is most = record {
+  parts = is.parts;
+  added = is.added;
+  after = is.now;
+  lead = is.lead;
+  holds = is.holds;
+  no_deltas = is.no_deltas;
+  fewer = is.fewer;
+  at_most = most;
+  finished = λ less number h. is.stuck number h tt;
+}
+
+-- ---- a page that can't be merged
+
+-- its pairs, as they were read, are as many as it has
+pub as_many : (page : TermPage) (pairs some : List Pair) → Rise pairs → HasPairs page some → ((p : Pair) → has p pairs ≡ has p some) → length pairs ≡ length some
+as_many page pairs some rise has_some same = ap length (one_list pairs some rise (list_rises page some has_some) same)
+
+pub all_of_page : (pages : List TermPage) (set : PairSet) (page : ℕ) (pairs : List Pair) → IsIndex pages set → page < length pages
+    → ((some : List Pair) → HasPairs (term_page page pages) some → (p : Pair) → has p pairs ≡ has p some) → AllBelong pairs page pages
+all_of_page pages set page pairs index there same p h =
+    index.belong page there p (sym (same (index.pairs page) (index.have page there) p) ∙ h)
