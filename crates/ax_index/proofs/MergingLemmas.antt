@@ -1,10 +1,15 @@
 -- Merging pages, one after another in their order: how many have deltas, and which are stuck.
-use Rattle.std.proofs.Common.{◌≡◌, ◌≢◌, ℕ, zero, suc, ◌+◌, ◌<◌, ◌≤◌, List, [], ◌∷◌, ◌++◌, length, take, get_or, arith, refl, sym, ap, ◌∙◌, subst, Bool, true, false, cond, append_assoc, append-nil, ⊎_elim, ◌⊎◌, inl, inr, Option, Some, None}
+use Rattle.std.proofs.Common.{◌≡◌, ◌≢◌, ℕ, zero, suc, ◌+◌, ◌-◌, ◌<◌, ◌≤◌, List, [], ◌∷◌, ◌++◌, length, take, get_or, arith, refl, sym, ap, ◌∙◌, subst, Bool, true, false, cond, append_assoc, append-nil, ⊎_elim, ◌⊎◌, inl, inr, Option, Some, None, Result, Ok, Err}
 use Rattle.std.specs.List.{count_by}
 use Rattle.std.proofs.lemmas.Bool.{cases_eq, cases_lt}
 use Rattle.std.proofs.lemmas.List.{take_all}
 use Rattle.std.proofs.lemmas.List.Sums.{count_by_more_no, count_by_more_yes}
 use Rattle.std.specs.declared.cmp.Ordering.TheVariants.{Less}
+use Rattle.std.specs.Prelude.{IfOk, IfSome, IfNone}
+use Rattle.ax_store.specs.declared.fault.StoreFault.{StoreFault}
+use Rattle.ax_index.specs.Rewriting.{IsRewritten}
+use Rattle.ax_index.proofs.CallLemmas.{planned_by_bases}
+use Rattle.ax_index.proofs.PageWalk.{fewer_behind, steps_left}
 use Rattle.ax_frame.specs.Part.{PartValue}
 use Rattle.ax_leaf.specs.declared.pair.Pair.{Pair}
 use Rattle.ax_leaf.specs.Low.{first_pair}
@@ -33,47 +38,42 @@ use Rattle.ax_index.proofs.PlanningLemmas.{as_number, done_by_deltas, up_behind}
 
 -- ---- how many
 
-count_below : ℕ → (ℕ → Bool) → ℕ
-unfolding count_below
+abbrev count_below : ℕ → (ℕ → Bool) → ℕ
 count_below zero f = 0
-count_below (suc n) f = count_below n f + cond (f n) 1 0
+count_below (suc n) f = count_below n f + as_number (f n)
 
 same_below : (k : ℕ) (f g : ℕ → Bool) → ((n : ℕ) → n < k → f n ≡ g n) → count_below k f ≡ count_below k g
-unfolding count_below
 same_below zero f g same = refl
 same_below (suc k) f g same =
     let rest : count_below k f ≡ count_below k g = same_below k f g (λ n h. same n (omega arith)) in
-    let last : cond (f k) 1 0 ≡ cond (g k) 1 0 = ap (λ (b : Bool). cond b 1 0) (same k (omega arith)) in
+    let last : as_number (f k) ≡ as_number (g k) = ap as_number (same k (omega arith)) in
     omega (arith, rest, last)
 
 one_less : (k p : ℕ) (f g : ℕ → Bool) → p < k → f p ≡ true → g p ≡ false → ((n : ℕ) → n < k → n ≢ p → f n ≡ g n) → count_below k g + 1 ≡ count_below k f
-unfolding count_below
 one_less zero p f g below was is others = absurd (omega arith)
 one_less (suc k) p f g below was is others =
     ⊎_elim
     (λ (e : k ≡ p).
     let rest : count_below k f ≡ count_below k g = same_below k f g (λ n h. others n (omega arith) (λ same. omega (arith, same, e))) in
-    let mine : cond (f k) 1 0 ≡ 1 = ap (λ (b : Bool). cond b 1 0) (ap f e ∙ was) in
-    let now : cond (g k) 1 0 ≡ 0 = ap (λ (b : Bool). cond b 1 0) (ap g e ∙ is) in
+    let mine : as_number (f k) ≡ 1 = ap as_number (ap f e ∙ was) in
+    let now : as_number (g k) ≡ 0 = ap as_number (ap g e ∙ is) in
     omega (arith, rest, mine, now))
     (λ (apart : k ≡ p → ⊥).
     let less : p < k = ⊎_elim (λ (h : p < k). h) (λ (h : k ≤ p). absurd (apart (omega arith))) (cases_lt p k) in
     let rest : count_below k g + 1 ≡ count_below k f = one_less k p f g less was is (λ n h. others n (omega arith)) in
-    let last : cond (f k) 1 0 ≡ cond (g k) 1 0 = ap (λ (b : Bool). cond b 1 0) (others k (omega arith) apart) in
+    let last : as_number (f k) ≡ as_number (g k) = ap as_number (others k (omega arith) apart) in
     omega (arith, rest, last))
     (cases_eq k p)
 
 none_more : (k j : ℕ) (g : ℕ → Bool) → ((n : ℕ) → k ≤ n → n < k + j → g n ≡ false) → count_below (k + j) g ≡ count_below k g
-unfolding count_below
 none_more k zero g none = ap (λ (n : ℕ). count_below n g) (omega arith)
 none_more k (suc j) g none =
     let rest : count_below (k + j) g ≡ count_below k g = none_more k j g (λ n from h. none n from (omega arith)) in
-    let last : cond (g (k + j)) 1 0 ≡ 0 = ap (λ (b : Bool). cond b 1 0) (none (k + j) (omega arith) (omega arith)) in
+    let last : as_number (g (k + j)) ≡ 0 = ap as_number (none (k + j) (omega arith) (omega arith)) in
     let step : k + suc j ≡ suc (k + j) = omega arith in
     ap (λ (n : ℕ). count_below n g) step ∙ omega (arith, rest, last)
 
 counted_to : (pages : List TermPage) (k : ℕ) → k ≤ length pages → count_by has_deltas (take k pages) ≡ count_below k (λ n. has_deltas (term_page n pages))
-unfolding count_below
 counted_to pages zero h = refl
 counted_to pages (suc k) h =
     let rest : count_by has_deltas (take k pages) ≡ count_below k (λ n. has_deltas (term_page n pages)) = counted_to pages k (omega arith) in
@@ -81,10 +81,10 @@ counted_to pages (suc k) h =
     ap (λ (n : ℕ). count_by has_deltas (take n pages)) step
     ∙ ⊎_elim
     (λ (so : has_deltas (term_page k pages) ≡ true).
-    let one : cond (has_deltas (term_page k pages)) 1 0 ≡ 1 = ap (λ (b : Bool). cond b 1 0) so in
+    let one : as_number (has_deltas (term_page k pages)) ≡ 1 = ap as_number so in
     omega (arith, count_by_more_yes has_deltas pages k no_term_page (omega arith) so, rest, one))
     (λ (not_so : has_deltas (term_page k pages) ≡ false).
-    let none : cond (has_deltas (term_page k pages)) 1 0 ≡ 0 = ap (λ (b : Bool). cond b 1 0) not_so in
+    let none : as_number (has_deltas (term_page k pages)) ≡ 0 = ap as_number not_so in
     omega (arith, count_by_more_no has_deltas pages k no_term_page (omega arith) not_so, rest, none))
     (true_or_false (has_deltas (term_page k pages)))
 
@@ -189,7 +189,7 @@ merged_one page at before merged next later old here new behind is deltas planne
         (cases_eq number page)
 
     not_still : {b : Bool} → b ≡ false → b ≡ true → ⊥
-    not_still no so = absurd (cc)
+    not_still none so = absurd (cc)
 
 pub left_one : (page : ℕ) (at : Option ℕ) (before : List TermPage) (merged next : ℕ) (old here : List PartValue) → IsBehind page at before → IsMergedTo (Some page) before merged next old here
     → ((now : List TermPage) → next ≡ length now → has_deltas (term_page page now) ≡ has_deltas (term_page page before) → IsStuck page before now) → IsMergedTo at before merged next old here
@@ -280,3 +280,114 @@ pub all_of_page : (pages : List TermPage) (set : PairSet) (page : ℕ) (pairs : 
     → ((some : List Pair) → HasPairs (term_page page pages) some → (p : Pair) → has p pairs ≡ has p some) → AllBelong pairs page pages
 all_of_page pages set page pairs index there same p h =
     index.belong page there p (sym (same (index.pairs page) (index.have page there) p) ∙ h)
+
+-- ---- steps of the walk
+
+pub behind_by : (page : ℕ) (at : Option ℕ) (pages : List TermPage) → IfSome at (λ next. IsNextPage page next pages) → IfNone at (IsLastPage page pages) → IsBehind page at pages
+behind_by page None pages found none = none
+behind_by page (Some next) pages found none = found
+
+pub page_there : (page : ℕ) (at : Option ℕ) (before : List TermPage) (merged next : ℕ) (old here : List PartValue) → at ≡ Some page → IsMergedTo at before merged next old here → page < length before
+page_there page at before merged next old here is merging =
+    (subst (λ (o : Option ℕ). IsMergedTo o before merged next old here) is merging).ready.0
+
+pub merge_step : (page : ℕ) (here at : Option ℕ) (before loop after : List TermPage) (merged next later extra : ℕ) (done : Bool) (old mid new : List PartValue) → here ≡ Some page → loop ≡ before → after ≡ before
+    → extra ≡ as_number done
+    → ((count : ℕ) (first : List PartValue) (to : Option ℕ) → IsBehind page to loop → IsMergedTo (Some page) loop count next first mid → IsMergedTo to loop (count + as_number done) later first new)
+    → IfSome at (λ behind. IsNextPage page behind after) → IfNone at (IsLastPage page after) → IsMergedTo here before merged next old mid → IsMergedTo at before (merged + extra) later old new
+merge_step page here at before loop after merged next later extra done old mid new here_is same again extra_is step found none is =
+    let behind : IsBehind page at loop = subst (IsBehind page at) (again ∙ sym same) (behind_by page at after found none) in
+    let mine : IsMergedTo (Some page) loop merged next old mid =
+    subst (λ (ts : List TermPage). IsMergedTo (Some page) ts merged next old mid) (sym same)
+    (subst (λ (o : Option ℕ). IsMergedTo o before merged next old mid) here_is is)
+    in
+    subst (λ (n : ℕ). IsMergedTo at before (merged + n) later old new) (sym extra_is)
+    (subst (λ (ts : List TermPage). IsMergedTo at ts (merged + as_number done) later old new) same (step merged old at behind mine))
+
+pub merged_end : (at : Option ℕ) (before : List TermPage) (asked merged next : ℕ) (old new : List PartValue) → at ≡ None → IsMergedTo at before merged next old new → merged ≤ asked
+    → IsMergePlan asked merged old new before
+merged_end at before asked merged next old new none is most =
+    merged_all before asked merged next old new (subst (λ (o : Option ℕ). IsMergedTo o before merged next old new) none is) most
+
+-- what a page's merging answers, as a step
+pub step_done : (page : ℕ) (at : Option ℕ) (before : List TermPage) (merged next later : ℕ) (old here new : List PartValue) (done : Bool) → IsBehind page at before
+    → IsMergedTo (Some page) before merged next old here → has_deltas (term_page page before) ≡ true
+    → ((now : List TermPage) (earlier : List PartValue) → IsUpTo (low_pair page before) before now earlier → next ≡ length now
+    → done ≡ true → IsPagePlanned page [] before now true later (λ number. 0) here new)
+    → (done ≡ false → (new ≡ here) × (later ≡ next))
+    → ((set : PairSet) → IsIndex before set → done ≡ false → (pairs : List Pair) → HasPairs (term_page page before) pairs → most_term_pages < next + length pairs)
+    → IsMergedTo at before (merged + as_number done) later old new
+step_done page at before merged next later old here new true behind is deltas planned left stuck =
+    merged_one page at before merged next later old here new behind is deltas (λ now earlier up next_is. planned now earlier up next_is refl)
+step_done page at before merged next later old here new false behind is deltas planned left stuck =
+    let same = left refl in
+    let kept : IsMergedTo at before merged next old here =
+    left_one page at before merged next old here behind is
+    (λ now next_is alike set index still pairs has_pairs. omega (arith, stuck set index refl pairs has_pairs, next_is))
+    in
+    subst (λ (n : ℕ). IsMergedTo at before n later old new) (omega arith)
+    (subst (λ (n : ℕ). IsMergedTo at before merged n old new) (sym same.1)
+    (subst (λ (ps : List PartValue). IsMergedTo at before merged next old ps) (sym same.0) kept))
+
+pub step_none : (page : ℕ) (at : Option ℕ) (before : List TermPage) (merged next : ℕ) (old here : List PartValue) → IsBehind page at before
+    → IsMergedTo (Some page) before merged next old here → has_deltas (term_page page before) ≡ false → IsMergedTo at before (merged + as_number false) next old here
+step_none page at before merged next old here behind is none =
+    subst (λ (n : ℕ). IsMergedTo at before n next old here) (omega arith)
+    (left_one page at before merged next old here behind is
+    (λ now next_is alike set index still pairs has_pairs. absurd (not_still none (sym alike ∙ still))))
+  where
+    not_still : {b : Bool} → b ≡ false → b ≡ true → ⊥
+    not_still first so = absurd (cc)
+
+-- ---- a whole page
+
+pub whole_planned : (page : ℕ) (before here now : List TermPage) (earlier old new : List PartValue) (next later : ℕ) (pairs list : List Pair) → page < length before
+    → IsUpTo (low_pair page before) before now earlier → next ≡ length now → here ≡ before → list ≡ pairs
+    → ((some : List Pair) → HasPairs (term_page page before) some → (p : Pair) → has p pairs ≡ has p some) → AllBelong list page here
+    → (page < length now → low_pair page now ≡ low_pair page here → AllBelong list page now → IsRewritten page list now later old new)
+    → IsPagePlanned page [] before now true later (λ number. 0) old new
+whole_planned page before here now earlier old new next later pairs list there up next_is same list_is has_pairs belong rewritten =
+    planned_by_bases page [] before now earlier old new next later pairs list there up next_is tt (λ p h. absurd (cc))
+    (subst (λ (ts : List TermPage). AllBelong list page ts) same belong) has_pairs (λ p. ap (has p) list_is)
+    (subst (λ (ts : List TermPage). page < length now → low_pair page now ≡ low_pair page ts → AllBelong list page now → IsRewritten page list now later old new) same rewritten)
+
+pub stuck_whole : (before here : List TermPage) (set : PairSet) (page next : ℕ) (pairs list some : List Pair) → IsIndex before set → page < length before → here ≡ before → list ≡ pairs → Rise pairs
+    → ((any : List Pair) → HasPairs (term_page page before) any → (p : Pair) → has p pairs ≡ has p any) → HasPairs (term_page page before) some
+    → (AllBelong list page here → most_term_pages < next + length list) → most_term_pages < next + length some
+stuck_whole before here set page next pairs list some index there same list_is rise has_pairs has_some full =
+    let all : AllBelong list page before =
+    subst (λ (ps : List Pair). AllBelong ps page before) (sym list_is) (all_of_page before set page pairs index there has_pairs)
+    in
+    let many : length pairs ≡ length some = as_many (term_page page before) pairs some rise has_some (has_pairs some has_some) in
+    let least : most_term_pages < next + length list = full (subst (λ (ts : List TermPage). AllBelong list page ts) (sym same) all) in
+    omega (arith, least, ap length list_is, many)
+
+-- ---- a step, by what merging answers
+
+pub step_by : (result : Result Bool StoreFault) (page : ℕ) (at : Option ℕ) (before : List TermPage) (merged next later : ℕ) (old here new : List PartValue) → IsBehind page at before
+    → IsMergedTo (Some page) before merged next old here → has_deltas (term_page page before) ≡ true
+    → ((now : List TermPage) (earlier : List PartValue) → IsUpTo (low_pair page before) before now earlier → next ≡ length now
+    → IfOk result (λ done. done ≡ true → IsPagePlanned page [] before now true later (λ number. 0) here new))
+    → IfOk result (λ done. done ≡ false → (new ≡ here) × (later ≡ next))
+    → ((set : PairSet) → IsIndex before set
+    → IfOk result (λ done. done ≡ false → (pairs : List Pair) → HasPairs (term_page page before) pairs → most_term_pages < next + length pairs))
+    → IfOk result (λ done. IsMergedTo at before (merged + as_number done) later old new)
+step_by (Ok done) page at before merged next later old here new behind is deltas planned left stuck =
+    step_done page at before merged next later old here new done behind is deltas planned left stuck
+step_by (Err fault) page at before merged next later old here new behind is deltas planned left stuck = tt
+
+-- ---- the walk ends
+
+pub walk_shorter : (at : Option ℕ) (next : Option ℕ) (page : ℕ) (before after : List TermPage) → at ≡ Some page → after ≡ before → IfSome next (λ behind. IsNextPage page behind after)
+    → steps_left next before < steps_left at before
+walk_shorter at next page before after is same found =
+    subst (λ (o : Option ℕ). steps_left next before < steps_left o before) (sym is)
+    (by_next next (subst (λ (ts : List TermPage). IfSome next (λ behind. IsNextPage page behind ts)) same found))
+  where
+    by_next : (o : Option ℕ) → IfSome o (λ behind. IsNextPage page behind before) → steps_left o before < steps_left (Some page) before
+    by_next None found = omega arith
+    by_next (Some behind) found = omega (arith, fewer_behind page behind before found)
+
+pub number_small : (done : Bool) → as_number done ≤ 1
+number_small true = omega arith
+number_small false = omega arith

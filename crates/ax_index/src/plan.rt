@@ -134,7 +134,7 @@ fn plan_by<D: Disk, C>(
 }
 
 /// Makes room for the parts of a batch.
-fn reserve<C>(store: &mut Store<C>, batch: &Batch) -> Result<(), Memory>
+pub(crate) fn reserve<C>(store: &mut Store<C>, batch: &Batch) -> Result<(), Memory>
     ensures room { OnOk result (length (batch_parts batch.now) ≤ store_spare store.new) }
     ensures deltas { (number : ℕ) → store_room number store.new ≡ store_room number store.old }
     ensures same { SameButRoomAndBytes store.old store.new }
@@ -195,7 +195,7 @@ fn plan_first<'a, D: Disk, C>(
 }
 
 /// 1 where it is so, else 0.
-fn as_number(merged: bool) -> u32
+pub(crate) fn as_number(merged: bool) -> u32
     ensures { result ≡ (if merged then 1 else 0) }
 {
     if merged { 1 } else { 0 }

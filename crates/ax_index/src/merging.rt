@@ -1,0 +1,211 @@
+//! Merging term pages: bases in the place of all parts of pages that have deltas.
+
+ghost use Rattle.std.specs.Prelude.{◌≡◌, ◌<◌, ◌≤◌, ◌+◌, ℕ, List, Option, Some, None, [], IsTrue, IfOk, IfErr, IfSome, IfNone, OnOk, if◌then◌else◌, true, false, length};
+ghost use Rattle.ax_disk.specs.model.Calls.{Idles};
+ghost use Rattle.ax_frame.specs.Part.{PartValue};
+ghost use Rattle.ax_leaf.specs.declared.pair.Pair.{Pair};
+ghost use Rattle.ax_pages.specs.AfterPart.{most_term_pages};
+ghost use Rattle.ax_pages.specs.Contents.{TermPage, term_page};
+ghost use Rattle.ax_pages.specs.TermPages.{low_pair};
+ghost use Rattle.ax_pairs.specs.Index.{IsIndex};
+ghost use Rattle.ax_pairs.specs.PagePairs.{HasPairs};
+ghost use Rattle.ax_pairs.specs.PairSets.{PairSet};
+ghost use Rattle.ax_pool.specs.Frames.{free_count};
+ghost use Rattle.ax_store.specs.Batch.{batch_parts};
+ghost use Rattle.ax_store.specs.Faults.{HasDiskCause};
+ghost use Rattle.ax_store.specs.Slots.{IsSlotOf};
+ghost use Rattle.ax_store.specs.Store.{SameButSlots, store_contents, store_failed, store_room, store_slots, store_spare};
+ghost use Rattle.ax_index.specs.Bare.{has_deltas as does_have_deltas};
+ghost use Rattle.ax_index.specs.Damage.{TellsPart};
+ghost use Rattle.ax_index.specs.Merging.{IsBehind, IsMergePlan, IsMergedTo};
+ghost use Rattle.ax_index.specs.Planning.{IsUpTo, IsPagePlanned};
+ghost use Rattle.ax_index.specs.Plans.{HasNoDeltas, SameButRoomAndBytes};
+ghost use Rattle.ax_index.specs.Reading.{SameButBytes};
+
+use crate::bases::rewrite;
+use crate::folding::folded;
+use crate::looking::oldest_delta;
+use crate::plan::{as_number, reserve};
+use crate::wanted::Wanted;
+use ax_disk::Disk;
+use ax_pages::Page;
+use ax_pool::Slot;
+use ax_store::{Batch, Store, StoreFault};
+use std::alloc::Global;
+
+/// Puts parts behind those of a batch that merge `n` term pages with deltas, from the least low pair on, and
+/// answers how many they are: fewer only where no page is left that has deltas, but for those whose pairs
+/// might need a new page with a number from 2^31 on. No pair is changed. It makes the room that a commit of
+/// the batch needs.
+///
+/// `Disk`, `Damaged`: as `has`. `Memory` where there is no room; the store is then as before but for room,
+/// and the batch may hold further parts.
+pub fn merge_some<D: Disk, C>(
+    alloc: Global,
+    store: &mut Store<C>,
+    disk: &mut D,
+    n: u32,
+    batch: &mut Batch,
+) -> Result<u32, StoreFault>
+    requires slots { 2 ≤ free_count (store_slots store.old) }
+    requires none { HasNoDeltas (batch_parts batch.old) }
+    ensures merged { IfOk result (λ merged. IsMergePlan n merged (batch_parts batch.old) (batch_parts batch.new) (store_contents store.old).terms) }
+    ensures room { OnOk result (length (batch_parts batch.new) ≤ store_spare store.new) }
+    ensures told { IfErr result (TellsPart store.old) }
+    ensures same { SameButRoomAndBytes store.old store.new }
+    ensures lists { IsTrue (D.is_honest disk.old)
+        → Idles (D.history disk.old (D.attached disk.old)) (D.history disk.new (D.attached disk.new)) }
+    ensures cause { store_failed store.old ≡ false → HasDiskCause result (D.faults disk.old) (D.faults disk.new) }
+    ensures attached { D.attached disk.new ≡ D.attached disk.old }
+    ensures honest { D.is_honest disk.new ≡ D.is_honest disk.old }
+{
+    let Some(mut slot) = store.take_slot() else {
+        unreachable!()
+    };
+    let merged = merge_by(alloc, store, disk, &mut slot, n, batch);
+    store.give_slot(slot);
+    merged
+}
+
+/// The same with a slot.
+fn merge_by<D: Disk, C>(
+    alloc: Global,
+    store: &mut Store<C>,
+    disk: &mut D,
+    slot: &mut Slot,
+    n: u32,
+    batch: &mut Batch,
+) -> Result<u32, StoreFault>
+    requires { IsSlotOf store.old slot.old }
+    ensures merged { IfOk result (λ merged. IsMergePlan n merged (batch_parts batch.old) (batch_parts batch.new) (store_contents store.old).terms) }
+    ensures room { OnOk result (length (batch_parts batch.new) ≤ store_spare store.new) }
+    ensures told { IfErr result (TellsPart store.old) }
+    ensures same { SameButRoomAndBytes store.old store.new }
+    ensures slot { slot.new ≡ slot.old }
+    ensures lists { IsTrue (D.is_honest disk.old)
+        → Idles (D.history disk.old (D.attached disk.old)) (D.history disk.new (D.attached disk.new)) }
+    ensures cause { store_failed store.old ≡ false → HasDiskCause result (D.faults disk.old) (D.faults disk.new) }
+    ensures attached { D.attached disk.new ≡ D.attached disk.old }
+    ensures honest { D.is_honest disk.new ≡ D.is_honest disk.old }
+{
+    let merged = match merge_pages(alloc, store, disk, slot, n, batch) {
+        Ok(merged) => merged,
+        Err(fault) => return Err(fault),
+    };
+    match reserve(store, batch) {
+        Ok(()) => Ok(merged),
+        Err(_) => Err(StoreFault::Memory),
+    }
+}
+
+/// Merges pages in the order of their low pairs.
+fn merge_pages<D: Disk, C>(
+    alloc: Global,
+    store: &mut Store<C>,
+    disk: &mut D,
+    slot: &mut Slot,
+    n: u32,
+    batch: &mut Batch,
+) -> Result<u32, StoreFault>
+    requires { IsSlotOf store.old slot.old }
+    ensures merged { IfOk result (λ merged. IsMergePlan n merged (batch_parts batch.old) (batch_parts batch.new) (store_contents store.old).terms) }
+    ensures told { IfErr result (TellsPart store.old) }
+    ensures same { SameButBytes store.old store.new }
+    ensures slot { slot.new ≡ slot.old }
+    ensures lists { IsTrue (D.is_honest disk.old)
+        → Idles (D.history disk.old (D.attached disk.old)) (D.history disk.new (D.attached disk.new)) }
+    ensures cause { store_failed store.old ≡ false → HasDiskCause result (D.faults disk.old) (D.faults disk.new) }
+    ensures attached { D.attached disk.new ≡ D.attached disk.old }
+    ensures honest { D.is_honest disk.new ≡ D.is_honest disk.old }
+{
+    let mut next = store.pages();
+    let mut merged = 0;
+    let mut at = Some(store.page_of(&[], 0));
+    while let Some(page) = at {
+        if merged >= n {
+            return Ok(merged);
+        }
+        match merge_one(alloc, store, disk, slot, &mut next, page, batch) {
+            Ok(done) => merged += as_number(done),
+            Err(fault) => return Err(fault),
+        }
+        at = store.next_page(page);
+    }
+    Ok(merged)
+}
+
+/// Merges a page where it has deltas, and answers whether it did.
+fn merge_one<D: Disk, C>(
+    alloc: Global,
+    store: &mut Store<C>,
+    disk: &mut D,
+    slot: &mut Slot,
+    next: &mut u32,
+    page: u32,
+    batch: &mut Batch,
+) -> Result<bool, StoreFault>
+    requires page { page < length (store_contents store.old).terms }
+    requires slot { IsSlotOf store.old slot.old }
+    ensures step { (merged : ℕ) (old : List PartValue) (at : Option ℕ) → IsBehind page at (store_contents store.old).terms
+        → IsMergedTo (Some page) (store_contents store.old).terms merged next.old old (batch_parts batch.old)
+        → IfOk result (λ done. IsMergedTo at (store_contents store.old).terms (merged + (if done then 1 else 0)) next.new old (batch_parts batch.new)) }
+    ensures told { IfErr result (TellsPart store.old) }
+    ensures same { SameButBytes store.old store.new }
+    ensures slot { slot.new ≡ slot.old }
+    ensures lists { IsTrue (D.is_honest disk.old)
+        → Idles (D.history disk.old (D.attached disk.old)) (D.history disk.new (D.attached disk.new)) }
+    ensures cause { store_failed store.old ≡ false → HasDiskCause result (D.faults disk.old) (D.faults disk.new) }
+    ensures attached { D.attached disk.new ≡ D.attached disk.old }
+    ensures honest { D.is_honest disk.new ≡ D.is_honest disk.old }
+{
+    if !has_deltas(store, page) {
+        return Ok(false);
+    }
+    merge_whole(alloc, store, disk, slot, next, page, batch)
+}
+
+/// Whether a page has deltas.
+fn has_deltas<C>(store: &Store<C>, page: u32) -> bool
+    ensures { result ≡ does_have_deltas (term_page page (store_contents store.now).terms) }
+{
+    store.parts(Page::Term(page)) > oldest_delta(store, page)
+}
+
+/// Writes a page anew with its pairs, and answers whether it did (`rewrite`).
+fn merge_whole<D: Disk, C>(
+    alloc: Global,
+    store: &mut Store<C>,
+    disk: &mut D,
+    slot: &mut Slot,
+    next: &mut u32,
+    page: u32,
+    batch: &mut Batch,
+) -> Result<bool, StoreFault>
+    requires page { page < length (store_contents store.old).terms }
+    requires slot { IsSlotOf store.old slot.old }
+    ensures merged { (now : List TermPage) (earlier : List PartValue)
+        → IsUpTo (low_pair page (store_contents store.old).terms) (store_contents store.old).terms now earlier
+        → next.old ≡ length now
+        → IfOk result (λ done. done ≡ true → IsPagePlanned page [] (store_contents store.old).terms now true next.new (λ number. 0) (batch_parts batch.old) (batch_parts batch.new)) }
+    ensures left { IfOk result (λ done. done ≡ false → (batch_parts batch.new ≡ batch_parts batch.old) × (next.new ≡ next.old)) }
+    ensures stuck { (set : PairSet) → IsIndex (store_contents store.old).terms set
+        → IfOk result (λ done. done ≡ false → (pairs : List Pair) → HasPairs (term_page page (store_contents store.old).terms) pairs
+        → most_term_pages < next.old + length pairs) }
+    ensures told { IfErr result (TellsPart store.old) }
+    ensures same { SameButBytes store.old store.new }
+    ensures slot { slot.new ≡ slot.old }
+    ensures lists { IsTrue (D.is_honest disk.old)
+        → Idles (D.history disk.old (D.attached disk.old)) (D.history disk.new (D.attached disk.new)) }
+    ensures cause { store_failed store.old ≡ false → HasDiskCause result (D.faults disk.old) (D.faults disk.new) }
+    ensures attached { D.attached disk.new ≡ D.attached disk.old }
+    ensures honest { D.is_honest disk.new ≡ D.is_honest disk.old }
+{
+    let pairs = match folded(alloc, store, disk, slot, page, &Wanted::All) {
+        Ok(pairs) => pairs,
+        Err(fault) => return Err(fault),
+    };
+    match rewrite(alloc, store, batch, next, page, pairs.as_slice()) {
+        Ok(done) => Ok(done),
+        Err(_) => Err(StoreFault::Memory),
+    }
+}
