@@ -166,8 +166,12 @@ merged_one page at before merged next later old here new behind is deltas planne
       longer = omega (arith, is.longer, planned.done.longer);
       holds = λ set index. planned.done.holds set (is.holds set index);
       no_deltas = λ number. omega (arith, deltas_more number is.parts planned.parts, is.no_deltas number, none_of planned number);
-      fewer = omega (arith, is.fewer, one_fewer page is.now planned.after (omega (arith, is.longer, there)) planned.done.longer (ap has_deltas same ∙ deltas)
-          (planned.done.bare refl) planned.done.same planned.done.new_bare);
+      fewer = omega (
+        arith,
+        is.fewer,
+        one_fewer page is.now planned.after (omega (arith, is.longer, there)) planned.done.longer (ap has_deltas same ∙ deltas)
+            (planned.done.bare refl) planned.done.same planned.done.new_bare,
+      );
       next_is = planned.next_is;
       ready = ready_by page at before is.now planned.after is.parts planned.parts true behind up planned.done;
       stuck = λ n h passed.
@@ -231,13 +235,16 @@ merged_none page before next old of next_is = record {
   no_deltas = λ number. refl;
   fewer = omega arith;
   next_is = next_is;
-  ready = (of.there, record {
-    longer = omega arith;
-    lows = λ n h. refl;
-    fresh = λ n from below. absurd (omega arith);
-    same = λ n h from. refl;
-    none = λ n h from. refl;
-  });
+  ready = (
+    of.there,
+    record {
+      longer = omega arith;
+      lows = λ n h. refl;
+      fresh = λ n from below. absurd (omega arith);
+      same = λ n h from. refl;
+      none = λ n h from. refl;
+    },
+  );
   stuck = λ n h passed.
       absurd (not_both (low_pair n before) (low_pair page before) passed
       (not_after_then (low_pair page before) first_pair (low_pair n before) of.below (first_not_after (low_pair n before))));

@@ -87,11 +87,14 @@ next_best pages p count number is =
     }
 
 best_of : (pages : List TermPage) (p : Pair) → AreApart pages → (k : ℕ) → (number : ℕ) × IsBest pages p (suc k) number
-best_of pages p are zero = (0, record {
-  within = omega arith;
-  below = subst (λ (l : Pair). NotAfter l p) (sym are.first) (first_not_after p);
-  greatest = λ other h not_after. same_not_after (low_pair other pages) (low_pair 0 pages) (ap (λ (n : ℕ). low_pair n pages) (omega arith));
-})
+best_of pages p are zero = (
+  0,
+  record {
+    within = omega arith;
+    below = subst (λ (l : Pair). NotAfter l p) (sym are.first) (first_not_after p);
+    greatest = λ other h not_after. same_not_after (low_pair other pages) (low_pair 0 pages) (ap (λ (n : ℕ). low_pair n pages) (omega arith));
+  },
+)
 best_of pages p are (suc k) = let (number, is) = best_of pages p are k in next_best pages p (suc k) number is
 
 pub somewhere : (pages : List TermPage) (p : Pair) → AreApart pages → (number : ℕ) × IsPageOf p number pages
@@ -100,12 +103,14 @@ somewhere pages p are = by_count (length pages) refl
     by_count : (count : ℕ) → length pages ≡ count → (number : ℕ) × IsPageOf p number pages
     by_count zero e = absurd (omega (arith, are.some))
     by_count (suc k) e =
-        let (number, is) = best_of pages p are k in
-        (number, record {
-          there = omega (arith, is.within);
-          below = is.below;
-          greatest = λ other h not_after. is.greatest other (omega arith) not_after;
-        })
+        let (number, is) = best_of pages p are k in (
+          number,
+          record {
+            there = omega (arith, is.within);
+            below = is.below;
+            greatest = λ other h not_after. is.greatest other (omega arith) not_after;
+          },
+        )
 
 -- ---- pages that keep their low pairs
 
