@@ -22,7 +22,7 @@ use Rattle.ax_store.specs.declared.fault.StoreFault.TheVariants.{Memory}
 use Rattle.ax_store.specs.Faults.{IsDiskFault, FailsByDisk, HasDiskCause}
 use Rattle.ax_store.specs.declared.store.Store.{Store}
 use Rattle.ax_store.specs.Kept.{deltas_of}
-use Rattle.ax_store.specs.Store.{SameButRoom, SameButSlots, store_contents, store_slots}
+use Rattle.ax_store.specs.Store.{SameButRoom, SameButSlots, store_slots}
 use Rattle.ax_index.specs.DeltaRuns.{AreCarried}
 use Rattle.ax_index.specs.Planning.{IsFirstOf, IsPartedAt, IsPlannedTo, IsUpTo, IsPagePlanned}
 use Rattle.ax_index.specs.Plans.{HasNoDeltas, SameButRoomAndBytes}

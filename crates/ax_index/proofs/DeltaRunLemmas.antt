@@ -1,8 +1,7 @@
 -- Deltas of one page, one after another.
-use Rattle.std.proofs.Common.{◌≡◌, ◌≢◌, ℕ, ◌+◌, ◌<◌, List, [], ◌∷◌, ◌++◌, length, slice_set, arith, refl, sym, ap, ◌∙◌, subst, Bool, true, false, cond, nat_eq}
+use Rattle.std.proofs.Common.{◌≡◌, ◌≢◌, ℕ, ◌+◌, ◌<◌, List, [], ◌∷◌, ◌++◌, length, arith, refl, sym, ap, ◌∙◌, Bool, cond}
 use Rattle.std.proofs.lemmas.Bool.{eq-eqb, ne_eqb}
 use Rattle.ax_frame.specs.Part.{PartValue}
-use Rattle.ax_leaf.specs.declared.pair.Pair.{Pair}
 use Rattle.ax_leaf.specs.Pairs.{Rise}
 use Rattle.ax_delta.specs.declared.change.Change.{Change}
 use Rattle.ax_delta.specs.Changes.{changed_pairs, term_changes_of}
@@ -10,17 +9,15 @@ use Rattle.ax_delta.specs.Payload.{IsDelta}
 use Rattle.ax_delta.specs.Said.{has}
 use Rattle.ax_pages.specs.Contents.{TermPage, term_page}
 use Rattle.ax_pages.specs.AfterPart.{after_delta, with_delta}
-use Rattle.ax_pages.specs.TermPages.{IsPageOf}
 use Rattle.ax_pages.proofs.TermLists.{set_other}
-use Rattle.ax_pairs.specs.Index.{AllBelong, IsIndex}
-use Rattle.ax_pairs.specs.PairSets.{PairSet, with_changes}
-use Rattle.ax_pairs.specs.TermParts.{LeadTo, bases_below}
+use Rattle.ax_pairs.specs.Index.{AllBelong}
+use Rattle.ax_pairs.specs.PairSets.{with_changes}
 use Rattle.ax_pairs.proofs.Belonging.{HaveSameLows, belongs_still}
 use Rattle.ax_pairs.proofs.Changed.{set_lows, delta_set}
 use Rattle.ax_pairs.proofs.Leading.{lead_nothing, lead_then, lead_delta, delta_part}
 use Rattle.ax_pairs.proofs.Sets.{changed_twice, same_set}
 use Rattle.ax_store.specs.Kept.{deltas_of}
-use Rattle.ax_index.specs.DeltaRuns.{KeepLows, CarryChanges, ArePut}
+use Rattle.ax_index.specs.DeltaRuns.{KeepLows, CarryChanges}
 use Rattle.ax_index.proofs.Lists.{deltas_more, bases_more, changed_more, in_first, in_second}
 
 pub as_same_lows : (before after : List TermPage) → KeepLows before after → HaveSameLows before after

@@ -1,11 +1,10 @@
 -- Lists of pairs, of changes and of parts, one behind another.
-use Rattle.std.proofs.Common.{◌≡◌, ℕ, ◌+◌, List, [], ◌∷◌, ◌++◌, arith, refl, sym, ap, ◌∙◌, subst, Bool, true, false, cond, ⊎_elim, Some, None}
+use Rattle.std.proofs.Common.{◌≡◌, ℕ, ◌+◌, List, [], ◌∷◌, ◌++◌, arith, refl, sym, ap, ◌∙◌, Bool, true, false, cond, ⊎_elim, Some}
 use Rattle.std.specs.declared.cmp.Ordering.TheVariants.{Less}
 use Rattle.ax_frame.specs.Part.{PartValue}
 use Rattle.ax_pages.specs.AfterPart.{kind_of}
 use Rattle.ax_leaf.specs.declared.pair.Pair.{Pair}
-use Rattle.ax_leaf.specs.Pairs.{pair_cmp, Rise, RiseAfter, BeginsFrom}
-use Rattle.ax_leaf.proofs.FromLow.{pair_cmp_total}
+use Rattle.ax_leaf.specs.Pairs.{pair_cmp, Rise, RiseAfter}
 use Rattle.ax_delta.specs.declared.change.Change.{Change}
 use Rattle.ax_delta.specs.Changes.{changed_pairs}
 use Rattle.ax_delta.specs.Said.{is_same, has}

@@ -1,5 +1,5 @@
 -- Merging pages, one after another in their order: how many have deltas, and which are stuck.
-use Rattle.std.proofs.Common.{◌≡◌, ◌≢◌, ℕ, zero, suc, ◌+◌, ◌-◌, ◌<◌, ◌≤◌, List, [], ◌∷◌, ◌++◌, length, take, get_or, arith, refl, sym, ap, ◌∙◌, subst, Bool, true, false, cond, append_assoc, append-nil, ⊎_elim, ◌⊎◌, inl, inr, Option, Some, None, Result, Ok, Err}
+use Rattle.std.proofs.Common.{◌≡◌, ◌≢◌, ℕ, zero, suc, ◌+◌, ◌-◌, ◌<◌, ◌≤◌, List, [], ◌++◌, length, take, arith, refl, sym, ap, ◌∙◌, subst, Bool, true, false, append_assoc, append-nil, ⊎_elim, ◌⊎◌, inl, inr, Option, Some, None, Result, Ok, Err}
 use Rattle.std.specs.List.{count_by}
 use Rattle.std.proofs.lemmas.Bool.{cases_eq, cases_lt}
 use Rattle.std.proofs.lemmas.List.{take_all}
@@ -20,12 +20,12 @@ use Rattle.ax_delta.proofs.OneList.{one_list}
 use Rattle.ax_leaf.specs.Pairs.{Rise}
 use Rattle.ax_pages.specs.AfterPart.{most_term_pages}
 use Rattle.ax_pages.specs.Contents.{TermPage, no_term_page, term_page}
-use Rattle.ax_pages.specs.TermPages.{AreApart, IsPageOf, IsLastPage, IsNextPage, low_pair}
+use Rattle.ax_pages.specs.TermPages.{IsPageOf, IsLastPage, IsNextPage, low_pair}
 use Rattle.ax_pairs.specs.Index.{AllBelong, IsIndex}
 use Rattle.ax_pairs.specs.PagePairs.{HasPairs}
 use Rattle.ax_pairs.specs.PairSets.{PairSet}
 use Rattle.ax_pairs.proofs.Belonging.{first_not_after}
-use Rattle.ax_pairs.proofs.PageLists.{list_rises, one_page_list}
+use Rattle.ax_pairs.proofs.PageLists.{list_rises}
 use Rattle.ax_pairs.proofs.PairOrder.{NotAfter, both_ways, not_after_then, not_both, order_cases, same_not_after}
 use Rattle.ax_pairs.proofs.Leading.{lead_nothing, lead_then}
 use Rattle.ax_store.specs.Kept.{deltas_of}

@@ -1,5 +1,5 @@
 -- A plan, page by page.
-use Rattle.std.proofs.Common.{◌≡◌, ◌≢◌, ℕ, ◌+◌, ◌<◌, ◌≤◌, List, [], ◌∷◌, ◌++◌, length, arith, refl, sym, ap, ◌∙◌, subst, Bool, true, false, cond, append_assoc, append-nil, ⊎_elim, ◌⊎◌, inl, inr, Option, Some, None}
+use Rattle.std.proofs.Common.{◌≡◌, ◌≢◌, ℕ, ◌+◌, ◌<◌, ◌≤◌, List, [], ◌∷◌, ◌++◌, length, arith, refl, sym, ap, ◌∙◌, subst, Bool, true, false, cond, append_assoc, append-nil, ⊎_elim, inl, inr}
 use Rattle.std.specs.Option.{unwrap_or}
 use Rattle.std.specs.declared.cmp.Ordering.TheVariants.{Less}
 use Rattle.std.proofs.lemmas.Bool.{cases_eq, cases_lt}
@@ -12,20 +12,19 @@ use Rattle.ax_delta.specs.Changes.{changed_pairs}
 use Rattle.ax_delta.specs.Said.{has, said_by}
 use Rattle.ax_delta.proofs.SamePair.{less_apart}
 use Rattle.ax_pages.specs.Contents.{TermPage, term_page}
-use Rattle.ax_pages.specs.TermPages.{AreApart, IsLastPage, IsNextPage, IsPageOf, low_pair}
+use Rattle.ax_pages.specs.TermPages.{IsLastPage, IsNextPage, IsPageOf, low_pair}
 use Rattle.ax_pairs.specs.Index.{AllBelong, IsIndex}
 use Rattle.ax_pairs.specs.PagePairs.{HasPairs}
-use Rattle.ax_pairs.specs.PairSets.{PairSet, with_changes}
-use Rattle.ax_pairs.specs.TermParts.{LeadTo, bases_below}
+use Rattle.ax_pairs.specs.PairSets.{with_changes}
 use Rattle.ax_pairs.proofs.PairOrder.{NotAfter, order_cases, same_not_after, less_not_after, not_both, less_then, then_less, not_after_then}
 use Rattle.ax_pairs.proofs.Changed.{here_merged, others_same}
 use Rattle.ax_pairs.proofs.Leading.{lead_nothing, lead_then}
 use Rattle.ax_pairs.proofs.Sets.{changed_twice, same_set}
 use Rattle.ax_store.specs.Kept.{deltas_of}
 use Rattle.ax_index.specs.DeltaRuns.{CarryChanges}
-use Rattle.ax_index.specs.Planning.{AreBefore, StartsFrom, IsPartedAt, IsUpTo, IsPageDone, IsPagePlanned, IsFirstOf, IsPlannedTo}
+use Rattle.ax_index.specs.Planning.{IsPartedAt, IsUpTo, IsPageDone, IsPagePlanned, IsFirstOf, IsPlannedTo}
 use Rattle.ax_index.specs.Plans.{IsPlan, most_merged}
-use Rattle.ax_index.specs.Rewriting.{Replaces, Rewrites}
+use Rattle.ax_index.specs.Rewriting.{Rewrites}
 use Rattle.ax_index.proofs.Lists.{deltas_more, bases_more, first_least}
 use Rattle.ax_index.proofs.RewritingLemmas.{finished}
 

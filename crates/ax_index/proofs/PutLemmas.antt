@@ -1,9 +1,9 @@
 -- Parts that were put one after another: deltas, and bases.
-use Rattle.std.proofs.Common.{◌≡◌, ◌≢◌, ℕ, ◌+◌, ◌<◌, ◌≤◌, List, [], ◌∷◌, ◌++◌, length, take, drop, arith, refl, sym, ap, ◌∙◌, subst, append_assoc, append-nil, Bool, true, false, ⊎_elim}
+use Rattle.std.proofs.Common.{◌≡◌, ℕ, ◌+◌, ◌<◌, List, [], ◌∷◌, ◌++◌, length, take, drop, arith, refl, sym, ap, ◌∙◌, subst, append_assoc, append-nil, true, ⊎_elim}
 use Rattle.std.specs.declared.cmp.Ordering.TheVariants.{Less}
 use Rattle.ax_frame.specs.Part.{PartValue}
 use Rattle.ax_leaf.specs.declared.pair.Pair.{Pair}
-use Rattle.ax_leaf.specs.Pairs.{pair_cmp, Rise, RiseAfter, BeginsFrom, postings_of}
+use Rattle.ax_leaf.specs.Pairs.{pair_cmp, Rise, BeginsFrom, postings_of}
 use Rattle.ax_leaf.specs.Payload.{IsLeaf}
 use Rattle.ax_delta.specs.declared.change.Change.{Change}
 use Rattle.ax_delta.specs.Changes.{changed_pairs, term_changes_of}
@@ -19,10 +19,9 @@ use Rattle.ax_pairs.specs.Index.{AllBelong}
 use Rattle.ax_pairs.proofs.Leading.{delta_part, base_part}
 use Rattle.ax_pairs.proofs.PairOrder.{NotAfter, not_both, order_cases, then_less}
 use Rattle.ax_pairs.proofs.Belonging.{longer, one_more}
-use Rattle.ax_store.specs.Kept.{deltas_of}
-use Rattle.ax_index.specs.DeltaRuns.{CarryChanges, ArePut}
+use Rattle.ax_index.specs.DeltaRuns.{ArePut}
 use Rattle.ax_index.specs.Rewriting.{IsBasePut, Rewrites, IsRewrittenTo}
-use Rattle.ax_index.proofs.Lists.{changed_more, rises_front, rises_back, deltas_more, one_before, first_of_list, first_least}
+use Rattle.ax_index.proofs.Lists.{changed_more, rises_front, rises_back, deltas_more, one_before, first_of_list}
 use Rattle.ax_index.proofs.DeltaRunLemmas.{carry_nothing, carry_one, carry_then, one_delta_of}
 use Rattle.ax_index.proofs.RewritingLemmas.{first_base, next_base}
 

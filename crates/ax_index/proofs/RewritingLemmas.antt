@@ -1,24 +1,23 @@
 -- A page written anew: its own base first, and then one new page after another.
-use Rattle.std.proofs.Common.{◌≡◌, ◌≢◌, ℕ, ◌+◌, ◌<◌, ◌≤◌, List, [], ◌∷◌, ◌++◌, length, nat_lt, arith, refl, sym, ap, ◌∙◌, subst, Bool, true, false, cond, append_assoc, append-nil, ⊎_elim, ◌⊎◌, inl, inr, Some, None}
+use Rattle.std.proofs.Common.{◌≡◌, ◌≢◌, ℕ, ◌+◌, ◌<◌, ◌≤◌, List, [], ◌∷◌, ◌++◌, length, arith, refl, sym, ap, ◌∙◌, subst, Bool, true, false, cond, append_assoc, ⊎_elim, ◌⊎◌, inl, inr}
 use Rattle.std.specs.declared.cmp.Ordering.TheVariants.{Less}
 use Rattle.std.proofs.lemmas.Bool.{lt-ltb, le-ltb, cases_lt}
-use Rattle.std.proofs.lemmas.List.{get_or_append_left, get_or-set_same, length-append}
+use Rattle.std.proofs.lemmas.List.{get_or_append_left, get_or-set_same}
 use Rattle.ax_frame.specs.Part.{PartValue}
 use Rattle.ax_leaf.specs.declared.pair.Pair.{Pair}
-use Rattle.ax_leaf.specs.Low.{low_in}
-use Rattle.ax_leaf.specs.Pairs.{pair_cmp, Rise, RiseAfter, postings_of}
+use Rattle.ax_leaf.specs.Pairs.{pair_cmp, Rise, postings_of}
 use Rattle.ax_leaf.specs.Payload.{IsLeaf}
 use Rattle.ax_leaf.proofs.Lows.{leaf_low}
 use Rattle.ax_delta.specs.Said.{has}
-use Rattle.ax_delta.proofs.SamePair.{true_or_false, less_apart, rises_alone}
+use Rattle.ax_delta.proofs.SamePair.{true_or_false}
 use Rattle.ax_pages.specs.Contents.{TermPage, no_term_page, term_page, low_of}
 use Rattle.ax_pages.specs.AfterPart.{after_base, with_base, most_term_pages}
 use Rattle.ax_pages.specs.TermPages.{AreApart, IsPageOf, low_pair}
 use Rattle.ax_pages.proofs.TermLists.{at_behind, put_within, set_other}
 use Rattle.ax_pairs.specs.Index.{AllBelong, IsIndex}
 use Rattle.ax_pairs.specs.PairSets.{PairSet}
-use Rattle.ax_pairs.specs.TermParts.{LeadTo, bases_below}
-use Rattle.ax_pairs.proofs.PairOrder.{NotAfter, same_not_after, less_not_after, not_both, less_then, then_less, not_after_then, order_cases}
+use Rattle.ax_pairs.specs.TermParts.{bases_below}
+use Rattle.ax_pairs.proofs.PairOrder.{NotAfter, same_not_after, not_both}
 use Rattle.ax_pairs.proofs.Belonging.{HaveSameLows, same_lows_back, belongs_still, one_page, longer, low_before, low_behind, one_more, goes, came}
 use Rattle.ax_pairs.proofs.Changed.{set_lows}
 use Rattle.ax_pairs.proofs.Leading.{lead_then, lead_base, lead_new, base_part}
@@ -26,10 +25,9 @@ use Rattle.ax_pairs.proofs.PageLists.{of_payload}
 use Rattle.ax_pairs.proofs.Rewritten.{base_low, rewritten}
 use Rattle.ax_pairs.proofs.Sets.{same_set}
 use Rattle.ax_pairs.proofs.SplitOff.{with_list, split_off}
-use Rattle.ax_store.specs.Kept.{deltas_of}
 use Rattle.ax_index.specs.Bare.{has_deltas}
 use Rattle.ax_index.specs.Rewriting.{without, Replaces, Rewrites}
-use Rattle.ax_index.proofs.Lists.{deltas_more, bases_more, has_more, in_first, in_second, not_in_first, first_of_list, behind_first, rises_front, rises_back, one_before, not_in_both, not_in_other, first_least}
+use Rattle.ax_index.proofs.Lists.{deltas_more, bases_more, has_more, in_first, in_second, not_in_first, first_of_list, rises_back, one_before, not_in_both, not_in_other, first_least}
 
 -- ---- the base of the page itself
 

@@ -1,5 +1,5 @@
 -- Runs of changes of one page, and pairs of one page.
-use Rattle.std.proofs.Common.{◌≡◌, ℕ, suc, ◌+◌, ◌<◌, ◌≤◌, List, [], ◌∷◌, ◌++◌, length, take, drop, get_or, arith, refl, sym, ap, ◌∙◌, subst, Bool, true, false, cond, ⊎_elim, ◌⊎◌, inl, inr}
+use Rattle.std.proofs.Common.{◌≡◌, ℕ, suc, ◌+◌, ◌<◌, ◌≤◌, List, [], ◌∷◌, ◌++◌, length, take, drop, get_or, arith, refl, sym, ap, ◌∙◌, subst, Bool, true, false, cond, ⊎_elim, inl, inr}
 use Rattle.std.proofs.lemmas.Bool.{cases_lt}
 use Rattle.std.proofs.lemmas.List.{take_more}
 use Rattle.std.proofs.Math.Seq.{drop-cons}
@@ -9,7 +9,7 @@ use Rattle.std.specs.declared.cmp.Ordering.TheVariants.{Less, Equal, Greater}
 use Rattle.std.specs.Prelude.{IsTrue}
 use Rattle.ax_leaf.proofs.OneSpelling.{same_pair}
 use Rattle.ax_leaf.specs.declared.pair.Pair.{Pair}
-use Rattle.ax_leaf.specs.Pairs.{pair_cmp, Rise, RiseAfter}
+use Rattle.ax_leaf.specs.Pairs.{pair_cmp, Rise}
 use Rattle.ax_delta.specs.declared.change.Change.{Change}
 use Rattle.ax_delta.specs.Changes.{changed_pairs}
 use Rattle.ax_delta.specs.Said.{is_same, has}
@@ -18,8 +18,8 @@ use Rattle.ax_pages.specs.Contents.{TermPage}
 use Rattle.ax_pages.specs.TermPages.{IsLastPage, IsNextPage, IsPageOf, low_pair}
 use Rattle.ax_pairs.specs.Index.{AllBelong}
 use Rattle.ax_pairs.proofs.PairOrder.{NotAfter, flipped, order_cases, same_not_after, less_not_after}
-use Rattle.ax_index.specs.Planning.{IsFirstOf, AreBefore, StartsFrom, IsPartedAt, IsPartedBy}
-use Rattle.ax_index.proofs.Lists.{changed_more, has_more, not_in_first, in_first, in_second, first_of_list, first_least, one_before}
+use Rattle.ax_index.specs.Planning.{IsFirstOf, AreBefore, StartsFrom, IsPartedAt}
+use Rattle.ax_index.proofs.Lists.{changed_more, not_in_first, in_second, first_of_list, first_least, one_before}
 use Rattle.ax_index.proofs.PlanningLemmas.{within_page, within_last, before_next, between}
 
 pub is_less : (o : Ordering) → is_lt o ≡ true → o ≡ Less

@@ -1,6 +1,6 @@
 //! A page written anew: its base, and new pages for the pairs that it is not to have.
 
-ghost use Rattle.std.specs.Prelude.{◌≡◌, ◌<◌, ◌≤◌, ℕ, List, [], ◌∷◌, ◌++◌, length, true, false, ◌+◌, ◌⊎◌, IsTrue, OnOk, IfOk};
+ghost use Rattle.std.specs.Prelude.{◌≡◌, ◌<◌, List, length, true, false, ◌+◌, ◌⊎◌, IsTrue, OnOk, IfOk};
 ghost use Rattle.ax_leaf.specs.declared.pair.Pair.{Pair};
 ghost use Rattle.ax_leaf.specs.Pairs.{Rise, BeginsFrom};
 ghost use Rattle.ax_pages.specs.AfterPart.{most_term_pages};

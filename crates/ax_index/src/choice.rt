@@ -1,8 +1,6 @@
 //! Which of the pages that changes touch are merged: those with the most parts.
 
-ghost use Rattle.std.specs.Prelude.{◌<◌, ◌≤◌, length};
-ghost use Rattle.ax_delta.specs.Changes.{changed_pairs};
-ghost use Rattle.ax_leaf.specs.Pairs.{Rise};
+ghost use Rattle.std.specs.Prelude.{◌<◌};
 
 use crate::out_of_memory::Memory;
 use crate::runs::{Run, first_run};

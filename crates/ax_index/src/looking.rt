@@ -1,6 +1,6 @@
 //! Whether a pair is in the set: the newest part of its page that says something of it tells.
 
-ghost use Rattle.std.specs.Prelude.{◌≡◌, ◌<◌, ◌≤◌, List, IsTrue, IfOk, IfErr, IfNone, Some, Err, true, false, length};
+ghost use Rattle.std.specs.Prelude.{◌≡◌, ◌<◌, ◌≤◌, List, IsTrue, IfOk, IfErr, IfNone, Some, Err, false, length};
 ghost use Rattle.ax_disk.specs.model.Calls.{Idles};
 ghost use Rattle.ax_leaf.specs.declared.pair.Pair.{Pair};
 ghost use Rattle.ax_delta.specs.Changes.{TermChange};

@@ -1,6 +1,6 @@
 //! Merging term pages: bases in the place of all parts of pages that have deltas.
 
-ghost use Rattle.std.specs.Prelude.{◌≡◌, ◌<◌, ◌≤◌, ◌+◌, ℕ, List, Option, Some, None, [], IsTrue, IfOk, IfErr, IfSome, IfNone, OnOk, if◌then◌else◌, true, false, length};
+ghost use Rattle.std.specs.Prelude.{◌≡◌, ◌<◌, ◌≤◌, ◌+◌, ℕ, List, Option, Some, [], IsTrue, IfOk, IfErr, OnOk, if◌then◌else◌, true, false, length};
 ghost use Rattle.ax_disk.specs.model.Calls.{Idles};
 ghost use Rattle.ax_frame.specs.Part.{PartValue};
 ghost use Rattle.ax_leaf.specs.declared.pair.Pair.{Pair};
@@ -14,7 +14,7 @@ ghost use Rattle.ax_pool.specs.Frames.{free_count};
 ghost use Rattle.ax_store.specs.Batch.{batch_parts};
 ghost use Rattle.ax_store.specs.Faults.{HasDiskCause};
 ghost use Rattle.ax_store.specs.Slots.{IsSlotOf};
-ghost use Rattle.ax_store.specs.Store.{SameButSlots, store_contents, store_failed, store_room, store_slots, store_spare};
+ghost use Rattle.ax_store.specs.Store.{store_contents, store_failed, store_slots, store_spare};
 ghost use Rattle.ax_index.specs.Bare.{has_deltas as does_have_deltas};
 ghost use Rattle.ax_index.specs.Damage.{TellsPart};
 ghost use Rattle.ax_index.specs.Merging.{IsBehind, IsMergePlan, IsMergedTo};

@@ -1,11 +1,11 @@
 //! Parts of term pages, put behind those of a batch.
 
-ghost use Rattle.std.specs.Prelude.{◌≡◌, ◌<◌, [], ◌∷◌, ◌++◌, ℕ, List, length, OnOk, IfOk};
+ghost use Rattle.std.specs.Prelude.{◌≡◌, ◌<◌, [], ◌∷◌, ◌++◌, List, length, OnOk, IfOk};
 ghost use Rattle.ax_delta.specs.Changes.{changed_pairs};
 ghost use Rattle.ax_leaf.specs.Pairs.{Rise, BeginsFrom};
 ghost use Rattle.ax_pages.specs.Contents.{TermPage};
 ghost use Rattle.ax_store.specs.Batch.{batch_parts};
-ghost use Rattle.ax_index.specs.DeltaRuns.{ArePut, CarryChanges};
+ghost use Rattle.ax_index.specs.DeltaRuns.{ArePut};
 ghost use Rattle.ax_index.specs.Rewriting.{IsBasePut};
 
 use crate::out_of_memory::Memory;

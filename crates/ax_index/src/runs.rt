@@ -1,6 +1,6 @@
 //! Which of rising changes and pairs are of a page.
 
-ghost use Rattle.std.specs.Prelude.{◌≡◌, ◌↔◌, ◌<◌, ◌≤◌, ℕ, List, ◌∷◌, IsTrue, length, take, drop};
+ghost use Rattle.std.specs.Prelude.{◌≡◌, ◌↔◌, ◌<◌, ◌≤◌, IsTrue, length, take, drop};
 ghost use Rattle.std.specs.Ordering.{is_lt};
 ghost use Rattle.ax_delta.specs.declared.change.Change.{Change};
 ghost use Rattle.ax_leaf.specs.declared.pair.Pair.{Pair};

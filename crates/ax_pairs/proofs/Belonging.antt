@@ -13,7 +13,7 @@ use Rattle.ax_leaf.specs.Pairs.{pair_cmp}
 use Rattle.ax_pages.specs.Contents.{TermPage, no_term_page, low_of}
 use Rattle.ax_pages.specs.TermPages.{AreApart, IsPageOf, low_pair}
 use Rattle.ax_pages.proofs.TermLists.{at_behind}
-use Rattle.ax_pairs.proofs.PairOrder.{NotAfter, order_cases, same_not_after, less_not_after, not_both, less_then, then_less, not_after_then, both_ways}
+use Rattle.ax_pairs.proofs.PairOrder.{NotAfter, order_cases, same_not_after, less_not_after, not_both, not_after_then, both_ways}
 
 -- ---- one page
 

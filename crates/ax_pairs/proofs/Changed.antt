@@ -1,5 +1,5 @@
 -- One page put in the place of another of the same low pair: what the set is then. A delta makes its changes.
-use Rattle.std.proofs.Common.{◌≡◌, ◌≢◌, ℕ, ◌<◌, List, [], ◌∷◌, ◌++◌, length, slice_set, arith, refl, sym, ap, ◌∙◌, subst, Bool, true, false, cond, nat_eq, Option, Some, None, ⊎_elim}
+use Rattle.std.proofs.Common.{◌≡◌, ◌≢◌, ℕ, ◌<◌, List, [], ◌∷◌, length, slice_set, arith, refl, sym, ap, ◌∙◌, subst, Bool, true, false, cond, nat_eq, Option, Some, None, ⊎_elim}
 use Rattle.std.specs.Option.{unwrap_or}
 use Rattle.std.proofs.lemmas.Bool.{cases_eq, eq-eqb, ne_eqb}
 use Rattle.std.proofs.lemmas.List.{get_or-set_same, length-set}

@@ -1,17 +1,15 @@
 -- What parts of term pages make of the pages: one after another, a delta, a base of a page that is there, the
 -- first base of the next page.
-use Rattle.std.proofs.Common.{◌≡◌, ◌≢◌, ℕ, ◌+◌, ◌<◌, ◌==◌, nat_lt, nat_eq, not, ◌&&◌, ◌||◌, List, [], ◌∷◌, ◌++◌, length, arith, refl, sym, ap, ◌∙◌, subst, Bool, true, false, cond, Option, Some, None, ⊎_elim, zero, suc, get_or}
+use Rattle.std.proofs.Common.{◌≡◌, ℕ, ◌<◌, nat_lt, nat_eq, not, ◌&&◌, ◌||◌, List, [], ◌∷◌, ◌++◌, length, arith, refl, sym, ap, ◌∙◌, subst, Bool, true, false, cond, Option, Some, None, suc}
 use Rattle.std.specs.Prelude.{is_some}
 use Rattle.std.specs.Option.{option_and_then, unwrap_or}
-use Rattle.std.specs.List.{list_any}
-use Rattle.std.proofs.lemmas.Bool.{lt-ltb, le-ltb, eq-eqb, false_from_ne_true}
+use Rattle.std.proofs.lemmas.Bool.{lt-ltb, eq-eqb}
 use Rattle.std.proofs.lemmas.Slice.Eq.{bytes_eq-Decides}
 use Rattle.std.specs.Str.{bytes_eq}
 use Rattle.ax_frame.specs.Part.{PartValue}
 use Rattle.ax_leaf.specs.declared.pair.Pair.{Pair}
 use Rattle.ax_leaf.specs.Low.{low_in, first_pair}
-use Rattle.ax_delta.proofs.SamePair.{true_or_false}
-use Rattle.ax_pages.specs.Contents.{Contents, TermPage, no_term_page, low_of, term_page}
+use Rattle.ax_pages.specs.Contents.{Contents, TermPage, low_of, term_page}
 use Rattle.ax_pages.specs.AfterPart.{after_part, after_parts, after_base, after_delta, with_base, is_base, is_own, is_new, is_same, is_taken, low_at_front, most_term_pages}
 use Rattle.ax_pages.specs.TermPages.{low_pair}
 use Rattle.ax_pages.proofs.TermLists.{are_same, put_behind}

@@ -1,7 +1,7 @@
 -- A term page has one list of pairs, and it rises.
 use Rattle.std.proofs.Common.{◌≡◌, ℕ, List, [], ◌∷◌, ◌++◌, refl, sym, ap, ◌∙◌, subst, Option, Some, None, Bool}
 use Rattle.ax_leaf.specs.declared.pair.Pair.{Pair}
-use Rattle.ax_leaf.specs.Pairs.{Posting, pairs_of, Rise, postings_of}
+use Rattle.ax_leaf.specs.Pairs.{pairs_of, Rise, postings_of}
 use Rattle.ax_leaf.specs.Payload.{IsLeaf}
 use Rattle.ax_leaf.proofs.FromLow.{pairs_rise}
 use Rattle.ax_leaf.proofs.OneSpelling.{one_leaf}
@@ -11,14 +11,14 @@ use Rattle.ax_delta.specs.Changes.{TermChange, changed_pairs, term_changes_of}
 use Rattle.ax_delta.specs.Merge.{IsMerge, AreMerged}
 use Rattle.ax_delta.specs.Pass.{merged}
 use Rattle.ax_delta.specs.Payload.{IsDelta}
-use Rattle.ax_delta.specs.Said.{has, said_of, said_by}
+use Rattle.ax_delta.specs.Said.{has}
 use Rattle.ax_delta.proofs.OneList.{one_delta, one_list, all_rise}
 use Rattle.ax_delta.proofs.Passing.{merged_rises, merged_has}
 use Rattle.ax_delta.proofs.SameChanges.{said_alike}
 use Rattle.std.specs.Option.{unwrap_or}
 use Rattle.ax_pages.specs.Contents.{TermPage}
 use Rattle.ax_pages.specs.AfterPart.{with_base, with_delta}
-use Rattle.ax_pairs.specs.PagePairs.{IsBase, AreOfBase, AreDeltas, HasPairs}
+use Rattle.ax_pairs.specs.PagePairs.{AreOfBase, AreDeltas, HasPairs}
 
 -- ---- they rise
 

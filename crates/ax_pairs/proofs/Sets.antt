@@ -1,5 +1,5 @@
 -- What rising changes make of a set; sets that have the same pairs.
-use Rattle.std.proofs.Common.{◌≡◌, ℕ, zero, suc, List, [], ◌∷◌, ◌++◌, refl, sym, ap, ◌∙◌, subst, Bool, true, false, cond, arith, Option, Some, None, ⊎_elim}
+use Rattle.std.proofs.Common.{◌≡◌, ℕ, zero, suc, List, [], ◌∷◌, ◌++◌, refl, sym, ap, ◌∙◌, Bool, true, false, cond, arith, Option, Some, None, ⊎_elim}
 use Rattle.std.specs.Option.{unwrap_or}
 use Rattle.ax_leaf.specs.declared.pair.Pair.{Pair}
 use Rattle.ax_leaf.specs.Pairs.{Rise}

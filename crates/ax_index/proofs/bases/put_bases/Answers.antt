@@ -1,4 +1,4 @@
-use Rattle.std.proofs.Common.{◌≡◌, ◌<◌, ◌∷◌, ◌++◌, length, arith, rules, sym, ap, ◌∙◌}
+use Rattle.std.proofs.Common.{◌≡◌, ◌<◌, ◌∷◌, length, arith, rules, ap}
 use Rattle.ax_index.proofs.PutLemmas.{put_together, list_parted, piece_begins_itself, first_of_pairs, next_of_pairs}
 use Rattle.ax_index.proofs.bases.put_bases.Goals as goal
 

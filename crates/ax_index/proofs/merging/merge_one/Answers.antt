@@ -1,4 +1,4 @@
-use Rattle.std.proofs.Common.{◌∙◌, rules, sym}
+use Rattle.std.proofs.Common.{◌∙◌, sym}
 use Rattle.ax_store.specs.Store.{store_contents}
 use Rattle.ax_index.proofs.MergingLemmas.{step_by, step_none}
 use Rattle.ax_index.proofs.merging.merge_one.Goals as goal

@@ -4,7 +4,7 @@ use Rattle.ax_disk.specs.laws.StaysLaws.{idles_join}
 use Rattle.ax_pages.specs.Contents.{Contents}
 use Rattle.ax_store.specs.Store.{store_contents}
 use Rattle.ax_index.proofs.CallLemmas.{rose_later}
-use Rattle.ax_index.proofs.MergingLemmas.{merge_step, merged_end, merged_enough, merged_none, number_small, page_there, walk_shorter}
+use Rattle.ax_index.proofs.MergingLemmas.{merge_step, merged_end, merged_none, number_small, walk_shorter}
 use Rattle.ax_index.proofs.Unmoved.{same_contents, told_back, unmoved, unmoved_then}
 use Rattle.ax_index.proofs.merging.merge_pages.Goals as goal
 

@@ -1,6 +1,5 @@
-use Rattle.std.proofs.Common.{◌≡◌, ◌∙◌, ℕ, List, ap, arith, refl, subst}
-use Rattle.ax_delta.specs.Said.{has}
-use Rattle.ax_pages.specs.Contents.{Contents, TermPage}
+use Rattle.std.proofs.Common.{◌≡◌, ap, refl}
+use Rattle.ax_pages.specs.Contents.{Contents}
 use Rattle.ax_store.specs.Store.{store_contents}
 use Rattle.ax_index.proofs.MergingLemmas.{stuck_whole, whole_planned}
 use Rattle.ax_index.proofs.Unmoved.{same_contents}

@@ -1,4 +1,4 @@
-use Rattle.std.proofs.Common.{◌≡◌, ◌∷◌, ◌++◌, [], Bool, true, false, rules, sym, ◌∙◌}
+use Rattle.std.proofs.Common.{◌≡◌, ◌∷◌, ◌++◌, [], rules}
 use Rattle.ax_store.specs.Store.{store_contents}
 use Rattle.ax_index.proofs.RunLemmas.{ends_tell, first_told, last_told}
 use Rattle.ax_index.proofs.runs.all_belong.Goals as goal

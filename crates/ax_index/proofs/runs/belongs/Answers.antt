@@ -1,4 +1,3 @@
-use Rattle.std.proofs.Common.{ℕ}
 use Rattle.ax_pages.specs.TermPages.{low_pair}
 use Rattle.ax_store.specs.Store.{store_contents}
 use Rattle.ax_index.proofs.RunLemmas.{as_pair, told_before, told_next, told_last}

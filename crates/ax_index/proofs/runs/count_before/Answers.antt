@@ -1,4 +1,4 @@
-use Rattle.std.proofs.Common.{sym, ◌∙◌, rules}
+use Rattle.std.proofs.Common.{sym, ◌∙◌}
 use Rattle.ax_index.proofs.RunLemmas.{before_more, is_less, not_less, starts_here}
 use Rattle.ax_index.proofs.runs.count_before.Goals as goal
 
