@@ -1,0 +1,6 @@
+mod changing;
+mod crashes;
+mod few;
+mod largest;
+mod many;
+mod random;

@@ -1,0 +1,116 @@
+//! Pairs on several pages, changed by many lists.
+
+ghost use Rattle.ax_index_tests.specs.Ready.{IsReady};
+
+use crate::tests::changing::{change, fresh_disk, numbers, opened, put};
+use ax_cache::NoPages;
+use ax_disk::MemDisk;
+use ax_index::Change;
+use ax_pages::Page;
+use ax_store::Store;
+use std::alloc::Global;
+use std::test::Fail;
+
+/// How many change lists there are.
+const LISTS: u32 = 40;
+
+/// How many numbers each list has, each in two pairs.
+const NUMBERS: u32 = 38;
+
+/// The term that all numbers share, and what begins the term of one number alone.
+const SHARED: &[u8] = &[2, 3, b'a', 0, 1, 1, 5];
+
+const OWN: &[u8] = &[2, 3, b'a', 0, 1, 1, 0x14];
+
+/// What is behind all terms.
+const END: &[u8] = &[3];
+
+/// The most that was seen.
+#[derive(Clone, Copy, Debug)]
+struct Most {
+    merged: u32,
+    parts: usize,
+}
+
+/// A list of changes, over all terms: every so many-th number from one on.
+fn list_of(alloc: Global, add: bool, list: u32) -> Result<Vec<Change>, Fail> {
+    let mut changes = Vec::new(alloc);
+    for i in 0..NUMBERS {
+        put(alloc, &mut changes, add, SHARED, i * LISTS + list)?;
+    }
+    for i in 0..NUMBERS {
+        put_own(alloc, &mut changes, add, i * LISTS + list)?;
+    }
+    Ok(changes)
+}
+
+/// Puts a change of a term that one number alone has.
+fn put_own(alloc: Global, changes: &mut Vec<Change>, add: bool, number: u32) -> Result<(), Fail> {
+    let mut term = Vec::from_slice(alloc, OWN)?;
+    term.extend_from_slice(&u64::from(number).to_be_bytes())?;
+    put(alloc, changes, add, term.as_slice(), number)
+}
+
+/// Makes all changes, list by list.
+fn change_all(
+    alloc: Global,
+    disk: &mut MemDisk,
+    store: &mut Store<NoPages>,
+    add: bool,
+) -> Result<Most, Fail> {
+    let mut most = Most {
+        merged: 0,
+        parts: 0,
+    };
+    for list in 0..LISTS {
+        let changes = list_of(alloc, add, list)?;
+        let merged = change(alloc, disk, store, changes.as_slice())?;
+        most = Most {
+            merged: most.merged.max(merged),
+            parts: most.parts.max(most_parts(store)),
+        };
+    }
+    Ok(most)
+}
+
+/// How many parts the page has that has the most.
+fn most_parts(store: &Store<NoPages>) -> usize {
+    let mut most = 0;
+    for page in 0..store.pages() {
+        most = most.max(store.parts(Page::Term(page)));
+    }
+    most
+}
+
+/// Whether these are the numbers from 0 on, as many as all lists have.
+fn are_all(numbers: &[u32]) -> bool {
+    for (i, number) in numbers.iter().enumerate() {
+        if i != *number as usize {
+            return false;
+        }
+    }
+    numbers.len() == (LISTS * NUMBERS) as usize
+}
+
+#[test]
+fn many_pairs_are_split_and_merged(rt: HostRuntime) -> Result<(), Fail> {
+    let alloc = rt.alloc();
+    let mut disk = fresh_disk(alloc, 1 << 22)?;
+    let mut store = opened(alloc, &mut disk)?;
+    let most = change_all(alloc, &mut disk, &mut store, true)?;
+    assert!(rt; most.merged > 0 && most.merged <= 16, "{}", most.merged);
+    assert!(rt; most.parts > 8 && most.parts <= 17, "{}", most.parts);
+
+    drop(store);
+    let mut store = opened(alloc, &mut disk)?;
+    assert!(rt; store.pages() > 1, "{}", store.pages());
+    assert!(rt; are_all(numbers(alloc, &mut disk, &mut store, b"", END)?.as_slice()));
+    assert!(rt; are_all(numbers(alloc, &mut disk, &mut store, SHARED, OWN)?.as_slice()));
+    assert!(rt; are_all(numbers(alloc, &mut disk, &mut store, OWN, END)?.as_slice()));
+
+    let most = change_all(alloc, &mut disk, &mut store, false)?;
+    assert!(rt; most.merged > 0 && most.merged <= 16, "{}", most.merged);
+    assert!(rt; most.parts <= 17, "{}", most.parts);
+    assert!(rt; numbers(alloc, &mut disk, &mut store, b"", END)?.is_empty());
+    Ok(())
+}

@@ -1,0 +1,158 @@
+//! Random changes, against a set.
+
+ghost use Rattle.ax_index_tests.specs.Ready.{IsReady};
+
+use crate::tests::changing::{change, fresh_disk, has_pair, numbers, opened, put};
+use ax_cache::NoPages;
+use ax_disk::MemDisk;
+use ax_index::Change;
+use ax_store::Store;
+use std::alloc::Global;
+use std::collections::{BTreeMap, BTreeSet};
+use std::test::Fail;
+
+/// How many change lists there are, and of how many changes at most.
+const LISTS: u32 = 300;
+
+const MOST: u32 = 8;
+
+/// How many terms there are, and of how many numbers each.
+const TERMS: u32 = 60;
+
+const NUMBERS: u32 = 20;
+
+/// A generator of numbers, by multiplying and adding.
+#[derive(Drop)]
+struct Draws {
+    state: u32,
+}
+
+impl Draws {
+    /// The next number below a bound, which is not 0.
+    fn below(&mut self, bound: u32) -> u32 {
+        self.state = self
+            .state
+            .wrapping_mul(1_664_525)
+            .wrapping_add(1_013_904_223);
+        (self.state >> 8) % bound.max(1)
+    }
+}
+
+/// The bytes of a term: its place in the order, and up to 190 bytes.
+fn term_of(alloc: Global, term: u32) -> Result<Vec<u8>, Fail> {
+    let mut bytes = Vec::from_slice(alloc, &term.to_be_bytes())?;
+    bytes.resize((4 + term * 37 % 190) as usize, b'x')?;
+    Ok(bytes)
+}
+
+/// Random changes in order: whether each pair is added, by its code.
+fn drawn(alloc: Global, draws: &mut Draws) -> Result<BTreeMap<u32, bool>, Fail> {
+    let mut list = BTreeMap::new(alloc);
+    for _ in 0..draws.below(MOST) + 1 {
+        let code = draws.below(TERMS * NUMBERS);
+        list.insert(code, draws.below(3) > 0)?;
+    }
+    Ok(list)
+}
+
+/// The changes of a list.
+fn changes_of(alloc: Global, list: &BTreeMap<u32, bool>) -> Result<Vec<Change>, Fail> {
+    let mut changes = Vec::new(alloc);
+    for (code, add) in list.iter() {
+        let term = term_of(alloc, *code / NUMBERS)?;
+        put(alloc, &mut changes, *add, term.as_slice(), *code % NUMBERS)?;
+    }
+    Ok(changes)
+}
+
+/// Makes the changes of a list in a set.
+fn change_set(set: &mut BTreeSet<u32>, list: &BTreeMap<u32, bool>) -> Result<(), Fail> {
+    for (code, add) in list.iter() {
+        if *add {
+            set.insert(*code)?;
+        } else {
+            set.remove(code);
+        }
+    }
+    Ok(())
+}
+
+/// The numbers in a set with a term from one on and before another.
+fn numbers_of(alloc: Global, set: &BTreeSet<u32>, from: u32, below: u32) -> Result<Vec<u32>, Fail> {
+    let mut found = Vec::new(alloc);
+    for number in 0..NUMBERS {
+        if has_number(set, from, below, number) {
+            found.push(number)?;
+        }
+    }
+    Ok(found)
+}
+
+/// Whether a set has a number with a term from one on and before another.
+fn has_number(set: &BTreeSet<u32>, from: u32, below: u32, number: u32) -> bool {
+    for term in from.min(TERMS)..below.min(TERMS) {
+        if set.contains(&(term * NUMBERS + number.min(NUMBERS))) {
+            return true;
+        }
+    }
+    false
+}
+
+/// Whether the index answers of a random pair what a set does.
+fn agree_on_a_pair(
+    alloc: Global,
+    disk: &mut MemDisk,
+    store: &mut Store<NoPages>,
+    set: &BTreeSet<u32>,
+    draws: &mut Draws,
+) -> Result<bool, Fail> {
+    let code = draws.below(TERMS * NUMBERS);
+    let term = term_of(alloc, code / NUMBERS)?;
+    let found = has_pair(alloc, disk, store, term.as_slice(), code % NUMBERS)?;
+    Ok(found == set.contains(&code))
+}
+
+/// Whether the index answers of a random range what a set does.
+fn agree_on_a_range(
+    alloc: Global,
+    disk: &mut MemDisk,
+    store: &mut Store<NoPages>,
+    set: &BTreeSet<u32>,
+    draws: &mut Draws,
+) -> Result<bool, Fail> {
+    let from = draws.below(TERMS);
+    let below = from + draws.below(4);
+    let first = term_of(alloc, from)?;
+    let behind = term_of(alloc, below)?;
+    let found = numbers(alloc, disk, store, first.as_slice(), behind.as_slice())?;
+    Ok(found.as_slice() == numbers_of(alloc, set, from, below)?.as_slice())
+}
+
+/// The first of random change lists after which the index and a set differ.
+fn first_difference(alloc: Global, seed: u32) -> Result<Option<u32>, Fail> {
+    let mut disk = fresh_disk(alloc, 1 << 22)?;
+    let mut store = opened(alloc, &mut disk)?;
+    let mut set = BTreeSet::new(alloc);
+    let mut draws = Draws { state: seed };
+    for list in 0..LISTS {
+        let drawn = drawn(alloc, &mut draws)?;
+        let changes = changes_of(alloc, &drawn)?;
+        change(alloc, &mut disk, &mut store, changes.as_slice())?;
+        change_set(&mut set, &drawn)?;
+        if !agree_on_a_pair(alloc, &mut disk, &mut store, &set, &mut draws)? {
+            return Ok(Some(list));
+        }
+        if list % 25 == 24 && !agree_on_a_range(alloc, &mut disk, &mut store, &set, &mut draws)? {
+            return Ok(Some(list));
+        }
+    }
+    Ok(None)
+}
+
+#[test]
+fn random_changes_are_as_in_a_set(rt: HostRuntime) -> Result<(), Fail> {
+    for seed in [1, 2] {
+        assert_eq!(rt; first_difference(rt.alloc(), seed)?, None, "seed {seed}");
+    }
+    Ok(())
+}
