@@ -70,7 +70,19 @@ pub fn has_pair<D: Disk>(
     ensures { IsReady store.new (D.is_honest disk.new) (D.history disk.new (D.attached disk.new)) }
 {
     let pair = pair_of(alloc, term, number)?;
-    Ok(has(store, disk, &pair)?)
+    Ok(ask(disk, store, &pair)?)
+}
+
+#[tactic(auto, using(crate::proofs::ReadyLemmas::ready_slots))]
+fn ask<D: Disk>(
+    disk: &mut D,
+    store: &mut Store<NoPages>,
+    pair: &Pair,
+) -> Result<bool, StoreFault>
+    requires { IsReady store.old (D.is_honest disk.old) (D.history disk.old (D.attached disk.old)) }
+    ensures { IsReady store.new (D.is_honest disk.new) (D.history disk.new (D.attached disk.new)) }
+{
+    has(store, disk, pair)
 }
 
 /// The numbers with a term from one on and before another.
@@ -85,7 +97,20 @@ pub fn numbers<D: Disk>(
     ensures { IsReady store.new (D.is_honest disk.new) (D.history disk.new (D.attached disk.new)) }
 {
     let range = range_of(alloc, from, below)?;
-    Ok(pairs_in(alloc, store, disk, &range)?)
+    Ok(look(alloc, disk, store, &range)?)
+}
+
+#[tactic(auto, using(crate::proofs::ReadyLemmas::ready_slots))]
+fn look<D: Disk>(
+    alloc: Global,
+    disk: &mut D,
+    store: &mut Store<NoPages>,
+    range: &TermRange,
+) -> Result<Vec<u32>, StoreFault>
+    requires { IsReady store.old (D.is_honest disk.old) (D.history disk.old (D.attached disk.old)) }
+    ensures { IsReady store.new (D.is_honest disk.new) (D.history disk.new (D.attached disk.new)) }
+{
+    pairs_in(alloc, store, disk, range)
 }
 
 /// Puts a change behind others.

@@ -1,0 +1,46 @@
+-- A store stays ready: where nothing of it changed but slots or room, and at a commit.
+use Rattle.std.proofs.Common.{◌≡◌, ◌≤◌, Bool, true, false, not, List, refl, sym, ap, subst, ◌∙◌, arith}
+use Rattle.std.specs.Prelude.{IsTrue, count_by, replicate}
+use Rattle.ax_disk.specs.model.Moments.{History}
+use Rattle.ax_disk.specs.model.Calls.{Idles}
+use Rattle.ax_pool.specs.Frames.{Frames, free_count}
+use Rattle.ax_index.specs.Plans.{SameButRoomAndBytes}
+use Rattle.ax_log.specs.Agreement as log
+use Rattle.ax_store.specs.declared.store.Store.{Store}
+use Rattle.ax_store.specs.Loading.{nothing_kept}
+use Rattle.ax_store.specs.Slots.{HasAllFree}
+use Rattle.ax_store.specs.Store.{Agrees, SameButSlots, store_failed, store_slots}
+use Rattle.ax_store.proofs.LoadLemmas.{last_same}
+use Rattle.ax_store.proofs.StoreLemmas.{agrees_still, agrees_slots}
+use Rattle.ax_index_tests.specs.Ready.{IsReady}
+
+pub all_free : {C : Type 0} (store : Store C) → HasAllFree store → 2 ≤ free_count (store_slots store)
+all_free store free = subst (λ (taken : List Bool). 2 ≤ count_by not taken) (sym free) (omega arith)
+
+pub ready_slots : {C : Type 0} (old new : Store C) (honest after : Bool) (before history : History)
+    → IsReady old honest before → SameButSlots old new → (store_slots new).taken ≡ (store_slots old).taken
+    → after ≡ honest → (IsTrue honest → Idles before history) → IsReady new after history
+ready_slots old new honest after before history ready same taken alike idles = record {
+  agrees = λ is works.
+      let was : IsTrue honest = subst IsTrue alike is in
+      agrees_still new before history (agrees_slots old new before same (ready.agrees was (sym same.failed ∙ works))) (idles was);
+  free = subst (λ (t : List Bool). 2 ≤ count_by not t) (sym taken) ready.free;
+}
+
+agrees_planned : {C : Type 0} (old new : Store C) (history : History) → SameButRoomAndBytes old new → Agrees old history → Agrees new history
+agrees_planned old new history same agrees = record {
+  frames = agrees.frames;
+  logged = subst (λ l. log.Agrees l agrees.frames history) (sym same.logged) agrees.logged;
+  takes = last_same agrees.frames 0 nothing_kept old.pages new.pages agrees.takes same.contents same.offsets;
+}
+
+-- nothing of the store changed but its room
+pub ready_planned : {C : Type 0} (old new : Store C) (honest after : Bool) (before history : History)
+    → IsReady old honest before → SameButRoomAndBytes old new
+    → after ≡ honest → (IsTrue honest → Idles before history) → IsReady new after history
+ready_planned old new honest after before history ready same alike idles = record {
+  agrees = λ is works.
+      let was : IsTrue honest = subst IsTrue alike is in
+      agrees_still new before history (agrees_planned old new before same (ready.agrees was (sym same.failed ∙ works))) (idles was);
+  free = subst (λ (t : List Bool). 2 ≤ count_by not t) (sym same.taken) ready.free;
+}
