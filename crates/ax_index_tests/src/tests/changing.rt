@@ -6,7 +6,7 @@ ghost use Rattle.ax_index_tests.specs.Ready.{IsReady};
 use ax_cache::NoPages;
 use ax_delta::are_in_order;
 use ax_disk::{Disk, MemDisk};
-use ax_index::{Change, Pair, StoreFault, TermRange, has, pairs_in, plan_changes};
+use ax_index::{Change, Pair, StoreFault, TermRange, has, merge_some, pairs_in, plan_changes};
 use ax_leaf::Bytes;
 use ax_store::{Batch, Store};
 use std::alloc::{AllocError, Global};
@@ -58,6 +58,33 @@ pub fn change<D: Disk>(
     }
 }
 
+/// Merges so many pages at most and commits that, and answers how many were merged.
+pub fn merge<D: Disk>(
+    alloc: Global,
+    disk: &mut D,
+    store: &mut Store<NoPages>,
+    most: u32,
+) -> Result<u32, StoreFault>
+    requires { IsReady store.old (D.is_honest disk.old) (D.history disk.old (D.attached disk.old)) }
+    ensures { IsReady store.new (D.is_honest disk.new) (D.history disk.new (D.attached disk.new)) }
+{
+    let mut batch = Batch::begin(alloc);
+    let merged = match merge_some(alloc, store, disk, most, &mut batch) {
+        Ok(merged) => merged,
+        Err(fault) => return Err(fault),
+    };
+    if batch.parts() == 0 {
+        return Ok(merged);
+    }
+    let Ok(batch) = batch.seal(alloc) else {
+        return Err(StoreFault::Memory);
+    };
+    match store.commit(disk, batch) {
+        Ok(()) => Ok(merged),
+        Err(fault) => Err(fault),
+    }
+}
+
 /// Whether the pair of a term and a number is in the index.
 pub fn has_pair<D: Disk>(
     alloc: Global,
@@ -74,11 +101,7 @@ pub fn has_pair<D: Disk>(
 }
 
 #[tactic(auto, using(crate::proofs::ReadyLemmas::ready_slots))]
-fn ask<D: Disk>(
-    disk: &mut D,
-    store: &mut Store<NoPages>,
-    pair: &Pair,
-) -> Result<bool, StoreFault>
+fn ask<D: Disk>(disk: &mut D, store: &mut Store<NoPages>, pair: &Pair) -> Result<bool, StoreFault>
     requires { IsReady store.old (D.is_honest disk.old) (D.history disk.old (D.attached disk.old)) }
     ensures { IsReady store.new (D.is_honest disk.new) (D.history disk.new (D.attached disk.new)) }
 {

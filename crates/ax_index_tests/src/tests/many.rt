@@ -2,7 +2,7 @@
 
 ghost use Rattle.ax_index_tests.specs.Ready.{IsReady};
 
-use crate::tests::changing::{change, fresh_disk, numbers, opened, put};
+use crate::tests::changing::{change, fresh_disk, merge, numbers, opened, put};
 use ax_cache::NoPages;
 use ax_disk::MemDisk;
 use ax_index::Change;
@@ -73,6 +73,15 @@ fn change_all(
     Ok(most)
 }
 
+/// Merges four pages at a time, as often as there are lists, and answers how many were merged last.
+fn merge_all(alloc: Global, disk: &mut MemDisk, store: &mut Store<NoPages>) -> Result<u32, Fail> {
+    let mut last = 0;
+    for _ in 0..LISTS {
+        last = merge(alloc, disk, store, 4)?;
+    }
+    Ok(last)
+}
+
 /// How many parts the page has that has the most.
 fn most_parts(store: &Store<NoPages>) -> usize {
     let mut most = 0;
@@ -106,6 +115,12 @@ fn many_pairs_are_split_and_merged(rt: HostRuntime) -> Result<(), Fail> {
     assert!(rt; store.pages() > 1, "{}", store.pages());
     assert!(rt; are_all(numbers(alloc, &mut disk, &mut store, b"", END)?.as_slice()));
     assert!(rt; are_all(numbers(alloc, &mut disk, &mut store, SHARED, OWN)?.as_slice()));
+    assert!(rt; are_all(numbers(alloc, &mut disk, &mut store, OWN, END)?.as_slice()));
+
+    assert!(rt; most_parts(&store) > 1);
+    assert_eq!(rt; merge(alloc, &mut disk, &mut store, 2)?, 2);
+    assert_eq!(rt; merge_all(alloc, &mut disk, &mut store)?, 0);
+    assert_eq!(rt; most_parts(&store), 1);
     assert!(rt; are_all(numbers(alloc, &mut disk, &mut store, OWN, END)?.as_slice()));
 
     let most = change_all(alloc, &mut disk, &mut store, false)?;
