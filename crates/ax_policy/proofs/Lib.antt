@@ -1,3 +1,4 @@
+mod Ahead
 mod Apart
 mod Below
 mod Comparisons

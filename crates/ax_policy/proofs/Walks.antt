@@ -1,12 +1,12 @@
 -- Texts of rules against the piece of a step: the rules that go on with it are a run of neighbours
 -- among rules that rise and have one front.
-use Rattle.std.proofs.Common.{◌≡◌, ℕ, ◌+◌, ◌-◌, ◌<◌, ◌≤◌, zero, suc, List, [], ◌∷◌, ◌++◌, length, take, drop, get_or, Bool, true, false, cond, ◌&&◌, not, Option, Some, Ordering, Less, Equal, Greater, refl, sym, ap, subst, ◌∙◌, arith, ◌⊎◌, inl, inr}
+use Rattle.std.proofs.Common.{◌≡◌, ℕ, ◌+◌, ◌-◌, ◌<◌, ◌≤◌, zero, suc, List, [], ◌∷◌, ◌++◌, length, take, drop, get_or, Bool, true, false, cond, ◌&&◌, ◌||◌, if◌then◌else◌, not, Option, Some, Ordering, Less, Equal, Greater, refl, sym, ap, subst, ◌∙◌, append-nil, arith, ◌⊎◌, inl, inr}
 use Rattle.std.specs.Prelude.{Err, slice_get}
 use Rattle.std.specs.Option.{unwrap_or}
 use Rattle.std.specs.Cmp.Lexicographic.{slice_cmp}
-use Rattle.std.specs.List.{filter}
+use Rattle.std.specs.List.{filter, list_any}
 use Rattle.std.specs.List.Sorted.{IsBinarySearchResult, IsNonDecreasingBy, IsPartitionedBy, IsPartitionPoint}
-use Rattle.std.specs.Ordering.{nat_cmp, is_lt, is_le, is_eq, ordering_index, ordering_then}
+use Rattle.std.specs.Ordering.{nat_cmp, is_lt, is_le, is_gt, is_eq, ordering_index, ordering_then}
 use Rattle.std.proofs.Math.Seq.{take-append_seam}
 use Rattle.std.proofs.lemmas.Bool.{cases_lt}
 use Rattle.std.proofs.lemmas.List.{length-append, length-drop, take-append-drop}
@@ -15,8 +15,9 @@ use Rattle.std.proofs.lemmas.Map.Text.{is_eq-slice_cmp}
 use Rattle.ax_tree.specs.Names.{HaveRisingNames}
 use Rattle.ax_tree.specs.declared.members.Member.{Member}
 use Rattle.ax_policy.specs.Comparing.{GoesOn, Ends, against}
+use Rattle.ax_policy.specs.Paths.{escaped, is_escaped, name_text, plain_text, slash, quote, backslash}
 use Rattle.ax_policy.specs.Rules.{under}
-use Rattle.ax_policy.specs.Walking.{IsRun, GoOn, goes_on, bytes_of}
+use Rattle.ax_policy.specs.Walking.{IsRun, GoOn, before, within, goes_on, bytes_of}
 use Rattle.ax_policy.proofs.Comparisons.{bytes_before}
 use Rattle.ax_policy.proofs.Searching.{both, both_true, cmp_same, same_bytes, same_from_Equal, skipped, later, rises, no_later, no_fall, searched_ok, searched_err, no_flag}
 
@@ -75,6 +76,22 @@ goes_so piece bytes e =
     ∙ ap (λ l. l ++ drop (length piece) bytes)
     (same_bytes (take (length piece) bytes) piece
     (sym (is_eq-slice_cmp (take (length piece) bytes) piece) ∙ e))
+
+-- ---- a name with nothing to be escaped
+
+first_plain : (a b : Bool) → false ≡ (a || b) → (false ≡ a) × (false ≡ b)
+first_plain false b e = (refl, e)
+first_plain true b e = absurd (cc)
+
+stands : (name : List ℕ) → false ≡ list_any is_escaped name → name ≡ escaped name
+stands [] e = refl
+stands (byte ∷ name) e =
+    let parts = first_plain (is_escaped byte) (list_any is_escaped name) e in
+    ap (λ l. byte ∷ l) (stands name parts.1)
+    ∙ ap (λ (b : Bool). (if b then backslash ∷ byte ∷ [] else byte ∷ []) ++ escaped name) parts.0
+
+pub plain_is : (name : List ℕ) → false ≡ list_any is_escaped name → plain_text name ≡ name_text name
+plain_is name e = ap (λ l. slash ∷ quote ∷ l ++ quote ∷ []) (stands name e)
 
 -- ---- rules that rise
 
@@ -226,13 +243,7 @@ as_low Greater Less h e = absurd (omega arith)
 as_low Greater Equal h e = absurd (omega arith)
 as_low Greater Greater h e = absurd (cc)
 
-abbrev pub before : List ℕ → ℕ → Member Bool → Bool
-before piece skip rule = is_lt (against piece (drop skip rule.name))
-
-abbrev pub within : List ℕ → ℕ → Member Bool → Bool
-within piece skip rule = is_le (against piece (drop skip rule.name))
-
-before_parted : (rules : List (Member Bool)) (skip : ℕ) (front piece : List ℕ)
+pub before_parted : (rules : List (Member Bool)) (skip : ℕ) (front piece : List ℕ)
     → IsRun rules skip front → IsPartitionedBy (before piece skip) rules
 before_parted rules skip front piece r i j d h k e =
     lower (against piece (drop skip (get_or rules i d).name))
@@ -297,6 +308,53 @@ pub up_to_is : (rules : List (Member Bool)) (skip : ℕ) (front piece : List ℕ
     → take i rules ≡ filter (within piece skip) rules
 up_to_is rules skip front piece i r h e =
     kept_front (within piece skip) rules i h (e (within_parted rules skip front piece r))
+
+-- from the first rule on that does not pass, none does
+none_pass : (p : Member Bool → Bool) (first : Member Bool) (rules : List (Member Bool))
+    → IsPartitionedBy p (first ∷ rules) → p first ≡ false → filter p rules ≡ []
+none_pass p first [] parts e = refl
+none_pass p first (next ∷ rest) parts e =
+    by_test (p next) refl
+    (none_pass p first rest (λ i j d h k f. skip_next i j d h k f) e)
+  where
+    skip_next : (i j : ℕ) (d : Member Bool) → i ≤ j → j < length (first ∷ rest)
+        → p (get_or (first ∷ rest) j d) ≡ true → p (get_or (first ∷ rest) i d) ≡ true
+    skip_next zero zero d h k f = f
+    skip_next zero (suc j) d h k f = parts 0 (suc (suc j)) d (omega arith) (omega arith) f
+    skip_next (suc i) zero d h k f = absurd (omega arith)
+    skip_next (suc i) (suc j) d h k f =
+        parts (suc (suc i)) (suc (suc j)) d (omega arith) (omega arith) f
+
+    by_test : (b : Bool) → p next ≡ b → filter p rest ≡ []
+        → cond b (next ∷ filter p rest) (filter p rest) ≡ []
+    by_test true t less = absurd (cc (parts 0 1 next (omega arith) (omega arith) t))
+    by_test false t less = less
+
+stops_at : (p : Member Bool → Bool) (rules : List (Member Bool)) (count : ℕ) (d : Member Bool)
+    → IsPartitionedBy p rules → count < length rules → p (get_or rules count d) ≡ false
+    → filter p (drop count rules) ≡ []
+stops_at p [] count d parts h e = absurd (omega arith)
+stops_at p (first ∷ rest) zero d parts h e = rw e (none_pass p first rest parts e)
+stops_at p (first ∷ rest) (suc count) d parts h e =
+    stops_at p rest count d
+    (λ i j d h k f. parts (suc i) (suc j) d (omega arith) (omega arith) f) (omega arith) e
+
+is_behind : (o : Ordering) → true ≡ is_gt o → is_le o ≡ false
+is_behind Less e = absurd (cc)
+is_behind Equal e = absurd (cc)
+is_behind Greater e = refl
+
+-- the rule there comes behind those that go on, so it ends them
+pub few_are : (rules : List (Member Bool)) (skip : ℕ) (front piece : List ℕ) (count index : ℕ) (rule : Member Bool)
+    → IsRun rules skip front → count ≡ index → index < length rules → rule ≡ get_or rules index rule
+    → true ≡ is_gt (against piece (drop skip rule.name))
+    → take count rules ++ filter (within piece skip) (drop index rules) ≡ filter (within piece skip) rules
+    → take count rules ≡ filter (within piece skip) rules
+few_are rules skip front piece count index rule r same h e t passed =
+    let none : filter (within piece skip) (drop index rules) ≡ [] =
+    stops_at (within piece skip) rules index rule (within_parted rules skip front piece r) h
+    (ap (within piece skip) (sym e) ∙ is_behind (against piece (drop skip rule.name)) t) in
+    sym (append-nil (take count rules)) ∙ ap (λ l. take count rules ++ l) (sym none) ∙ passed
 
 -- two tests one after another
 pub filter_both : (p q : Member Bool → Bool) (rules : List (Member Bool))

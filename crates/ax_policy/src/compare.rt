@@ -56,6 +56,29 @@ pub(crate) fn after_name<'a>(text: &'a [u8], name: &[u8]) -> Result<&'a [u8], Or
     after_byte(rest, b'"')
 }
 
+/// The same for a name that stands between its quotes as it is.
+pub(crate) fn after_plain<'a>(text: &'a [u8], name: &[u8]) -> Result<&'a [u8], Ordering>
+    ensures rest { IfOk result (λ rest. GoesOn text.now (spec.plain_text name.now) rest.now) }
+    ensures order { IfErr result (Ends text.now (spec.plain_text name.now)) }
+{
+    let rest = after_byte(text, b'/')?;
+    let rest = after_byte(rest, b'"')?;
+    let rest = after_bytes(rest, name)?;
+    after_byte(rest, b'"')
+}
+
+#[tactic(auto, using(crate::proofs::Comparisons::bytes_ok, crate::proofs::Comparisons::bytes_err))]
+fn after_bytes<'a>(text: &'a [u8], piece: &[u8]) -> Result<&'a [u8], Ordering>
+    ensures rest { IfOk result (λ rest. GoesOn text.now piece.now rest.now) }
+    ensures order { IfErr result (Ends text.now piece.now) }
+{
+    let (front, rest) = text.split_at(text.len().min(piece.len()));
+    match front.cmp(piece) {
+        Ordering::Equal => Ok(rest),
+        order => Err(order),
+    }
+}
+
 pub(crate) fn after_item(text: &[u8]) -> Result<&[u8], Ordering>
     ensures rest { IfOk result (λ rest. GoesOn text.now (spec.step_text Item) rest.now) }
     ensures order { IfErr result (Ends text.now (spec.step_text Item)) }

@@ -1,14 +1,7 @@
--- The closure tells what does not come behind the step.
-use Rattle.std.proofs.Common.{rules, ◌∙◌}
-use Rattle.std.proofs.lemmas.Fn.{always_returns_same}
-use Rattle.ax_policy.specs.Walking.{way_text}
-use Rattle.ax_policy.proofs.Walks.{within, up_to_is}
+-- Few are found one after another.
+use Rattle.std.proofs.Common.{◌∙◌}
 use Rattle.ax_policy.proofs.walk.up_to.Goals as goal
 
-pub returns : goal.returns
-returns c front r =
-    c.split_at.ensures.front
-    ∙ up_to_is c.args.rules.now c.args.skip front (way_text c.args.way) c.partition_point-count.result r
-    c.partition_point-count.ensures.bound
-    (c.partition_point-count.ensures.partitioned (within (way_text c.args.way) c.args.skip)
-    (always_returns_same _ _ _ (λ a r f k. search rules)))
+pub returns-then-count-lt-FEW : goal.returns-then-count-lt-FEW
+returns-then-count-lt-FEW c front r =
+    c.split_at.ensures.front ∙ c.first_few-count.ensures.few front r c.if-count-lt-FEW.true
