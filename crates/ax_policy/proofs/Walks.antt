@@ -250,7 +250,7 @@ before_parted rules skip front piece r i j d h k e =
     (against piece (drop skip (get_or rules j d).name))
     (piece_no_fall rules skip front piece r i j d h k) e
 
-within_parted : (rules : List (Member Bool)) (skip : ℕ) (front piece : List ℕ)
+pub within_parted : (rules : List (Member Bool)) (skip : ℕ) (front piece : List ℕ)
     → IsRun rules skip front → IsPartitionedBy (within piece skip) rules
 within_parted rules skip front piece r i j d h k e =
     as_low (against piece (drop skip (get_or rules i d).name))
@@ -308,53 +308,6 @@ pub up_to_is : (rules : List (Member Bool)) (skip : ℕ) (front piece : List ℕ
     → take i rules ≡ filter (within piece skip) rules
 up_to_is rules skip front piece i r h e =
     kept_front (within piece skip) rules i h (e (within_parted rules skip front piece r))
-
--- from the first rule on that does not pass, none does
-none_pass : (p : Member Bool → Bool) (first : Member Bool) (rules : List (Member Bool))
-    → IsPartitionedBy p (first ∷ rules) → p first ≡ false → filter p rules ≡ []
-none_pass p first [] parts e = refl
-none_pass p first (next ∷ rest) parts e =
-    by_test (p next) refl
-    (none_pass p first rest (λ i j d h k f. skip_next i j d h k f) e)
-  where
-    skip_next : (i j : ℕ) (d : Member Bool) → i ≤ j → j < length (first ∷ rest)
-        → p (get_or (first ∷ rest) j d) ≡ true → p (get_or (first ∷ rest) i d) ≡ true
-    skip_next zero zero d h k f = f
-    skip_next zero (suc j) d h k f = parts 0 (suc (suc j)) d (omega arith) (omega arith) f
-    skip_next (suc i) zero d h k f = absurd (omega arith)
-    skip_next (suc i) (suc j) d h k f =
-        parts (suc (suc i)) (suc (suc j)) d (omega arith) (omega arith) f
-
-    by_test : (b : Bool) → p next ≡ b → filter p rest ≡ []
-        → cond b (next ∷ filter p rest) (filter p rest) ≡ []
-    by_test true t less = absurd (cc (parts 0 1 next (omega arith) (omega arith) t))
-    by_test false t less = less
-
-stops_at : (p : Member Bool → Bool) (rules : List (Member Bool)) (count : ℕ) (d : Member Bool)
-    → IsPartitionedBy p rules → count < length rules → p (get_or rules count d) ≡ false
-    → filter p (drop count rules) ≡ []
-stops_at p [] count d parts h e = absurd (omega arith)
-stops_at p (first ∷ rest) zero d parts h e = rw e (none_pass p first rest parts e)
-stops_at p (first ∷ rest) (suc count) d parts h e =
-    stops_at p rest count d
-    (λ i j d h k f. parts (suc i) (suc j) d (omega arith) (omega arith) f) (omega arith) e
-
-is_behind : (o : Ordering) → true ≡ is_gt o → is_le o ≡ false
-is_behind Less e = absurd (cc)
-is_behind Equal e = absurd (cc)
-is_behind Greater e = refl
-
--- the rule there comes behind those that go on, so it ends them
-pub few_are : (rules : List (Member Bool)) (skip : ℕ) (front piece : List ℕ) (count index : ℕ) (rule : Member Bool)
-    → IsRun rules skip front → count ≡ index → index < length rules → rule ≡ get_or rules index rule
-    → true ≡ is_gt (against piece (drop skip rule.name))
-    → take count rules ++ filter (within piece skip) (drop index rules) ≡ filter (within piece skip) rules
-    → take count rules ≡ filter (within piece skip) rules
-few_are rules skip front piece count index rule r same h e t passed =
-    let none : filter (within piece skip) (drop index rules) ≡ [] =
-    stops_at (within piece skip) rules index rule (within_parted rules skip front piece r) h
-    (ap (within piece skip) (sym e) ∙ is_behind (against piece (drop skip rule.name)) t) in
-    sym (append-nil (take count rules)) ∙ ap (λ l. take count rules ++ l) (sym none) ∙ passed
 
 -- two tests one after another
 pub filter_both : (p q : Member Bool → Bool) (rules : List (Member Bool))

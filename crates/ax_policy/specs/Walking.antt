@@ -76,3 +76,8 @@ rules_from piece skip rules = filter (λ rule. not (before piece skip rule)) rul
 -- without the rules that come behind
 abbrev pub rules_up_to : List ℕ → ℕ → List (Member Bool) → List (Member Bool)
 rules_up_to piece skip rules = filter (within piece skip) rules
+
+-- the first rule comes before
+abbrev pub BeginBefore : List ℕ → ℕ → List (Member Bool) → Type 0
+BeginBefore piece skip [] = ⊥
+BeginBefore piece skip (rule ∷ rules) = before piece skip rule ≡ true

@@ -1,6 +1,6 @@
 //! A walk down a document beside the rules of a policy: at each step the rules that go on are found
 //! among those that were left, so that what is decided on a leaf costs what its last step costs.
-ghost use Rattle.std.specs.Prelude.{◌≡◌, ◌↔◌, ◌<◌, ◌≤◌, ℕ, [], ◌∷◌, ◌++◌, ◌-◌, Bool, List, IsTrue, slice_get, IfOk, IfErr, true, drop, length, take};
+ghost use Rattle.std.specs.Prelude.{◌≡◌, ◌↔◌, ◌<◌, ◌≤◌, ℕ, [], ◌∷◌, ◌++◌, ◌-◌, Bool, List, IsTrue, slice_get, IfOk, IfErr, IfSome, true, drop, length, take};
 ghost use Rattle.std.specs.List.{All, filter};
 ghost use Rattle.ax_mean.specs.declared.query.Step.{Step};
 ghost use Rattle.ax_mean.specs.declared.query.Step.TheVariants.{Name, Item};
@@ -11,7 +11,7 @@ ghost use Rattle.ax_policy.specs.Covering.{Covers};
 ghost use Rattle.ax_policy.specs.Deciding as spec;
 ghost use Rattle.ax_policy.specs.Paths.{either as either_of, mark_text, step_text};
 ghost use Rattle.ax_policy.specs.Rules.{under};
-ghost use Rattle.ax_policy.specs.Walking.{IsAt, IsRun, GoOn, bytes_of, before, goes_on as does_go_on, piece_text, rules_from, rules_up_to, step_of};
+ghost use Rattle.ax_policy.specs.Walking.{IsAt, IsRun, GoOn, bytes_of, before, goes_on as does_go_on, piece_text, rules_from, rules_up_to, step_of, BeginBefore};
 
 use crate::compare::{after_item, after_name, after_plain};
 use crate::covering::search;
@@ -218,8 +218,8 @@ fn piece_of(way: Way<'_>) -> Piece<'_>
     }
 }
 
-/// The rules that go on with the step behind so many bytes, looked for from a place on, which is
-/// then set behind them.
+/// The rules that go on with the step behind so many bytes. They are looked for from a place on,
+/// which is then set behind them, and by halves among all where they are not just there.
 fn narrowed<'a>(
     rules: &'a [Member<bool>],
     skip: usize,
@@ -229,33 +229,26 @@ fn narrowed<'a>(
     ensures { (front : List ℕ) → IsRun rules.now skip front
         → result.now ≡ filter (does_go_on (piece_text piece.entry) skip) rules.now }
 {
-    let rest = from(rules, skip, piece, *near);
-    let run = up_to(rest, skip, piece);
-    let passed = rules.len().saturating_sub(rest.len());
-    *near = passed.saturating_add(run.len());
+    let (behind, ahead) = rules.split_at((*near).min(rules.len()));
+    if let Some((passed, run)) = run_of_few(ahead, skip, piece) {
+        *near = place_behind(behind.len(), passed, run);
+        if passed > 0 {
+            return run;
+        }
+        if are_before(behind, skip, piece) {
+            return run;
+        }
+    }
+    let rest = from_by_halves(rules, skip, piece);
+    let run = run_at_front(rest, skip, piece);
+    *near = place_behind(rules.len().saturating_sub(rest.len()), 0, run);
     run
 }
 
-/// Without the rules that come before the step. They are looked for from a place on, and by halves
-/// where they end before it.
-fn from<'a>(
-    rules: &'a [Member<bool>],
-    skip: usize,
-    piece: Piece<'_>,
-    near: usize,
-) -> &'a [Member<bool>]
-    ensures { (front : List ℕ) → IsRun rules.now skip front
-        → result.now ≡ rules_from (piece_text piece.entry) skip rules.now }
-{
-    let (passed, ahead) = rules.split_at(near.min(rules.len()));
-    let rest = from_ahead(ahead, skip, piece);
-    if rest.len() < ahead.len() {
-        return rest;
-    }
-    if are_before(passed, skip, piece) {
-        return rest;
-    }
-    from_by_halves(rules, skip, piece)
+/// The place behind a run that begins so many rules behind a place. It only tells where to look
+/// first, so that nothing is proved of it.
+fn place_behind(place: usize, passed: usize, run: &[Member<bool>]) -> usize {
+    place.saturating_add(passed).saturating_add(run.len())
 }
 
 /// Whether all these rules come before the step, which the last one tells.
@@ -269,39 +262,57 @@ fn are_before(rules: &[Member<bool>], skip: usize, piece: Piece<'_>) -> bool
     }
 }
 
-/// Without the rules that come before the step, of which there are mostly few or none.
-fn from_ahead<'a>(rules: &'a [Member<bool>], skip: usize, piece: Piece<'_>) -> &'a [Member<bool>]
-    ensures { (front : List ℕ) → IsRun rules.now skip front
-        → result.now ≡ rules_from (piece_text piece.entry) skip rules.now }
+/// How many rules come before the step, and the rules that go on with it; `None` where a look at
+/// `FEW` rules does not tell.
+fn run_of_few<'a>(
+    rules: &'a [Member<bool>],
+    skip: usize,
+    piece: Piece<'_>,
+) -> Option<(usize, &'a [Member<bool>])>
+    ensures run { (front : List ℕ) → IsRun rules.now skip front
+        → IfSome result (λ found. found.1.now ≡ filter (does_go_on (piece_text piece.entry) skip) rules.now) }
+    ensures passed { (front : List ℕ) → IsRun rules.now skip front
+        → IfSome result (λ found. 0 < found.0 → BeginBefore (piece_text piece.entry) skip rules.now) }
 {
-    let count = few_before(rules, skip, piece);
-    let (_, rest) = rules.split_at(count);
-    if count < FEW {
-        return rest;
-    }
-    from_by_halves(rest, skip, piece)
-}
-
-/// How many of the rules come before the step, where these are fewer than `FEW`; otherwise `FEW`.
-fn few_before(rules: &[Member<bool>], skip: usize, piece: Piece<'_>) -> usize
-    ensures bound { result ≤ length rules.now }
-    ensures same { rules_from (piece_text piece.entry) skip (drop result rules.now)
-        ≡ rules_from (piece_text piece.entry) skip rules.now }
-    ensures few { (front : List ℕ) → IsRun rules.now skip front → result < FEW
-        → drop result rules.now
-        ≡ rules_from (piece_text piece.entry) skip rules.now }
-{
+    let mut passed = 0;
     let mut count = 0;
     for rule in rules {
         if count == FEW {
-            return count;
+            return None;
         }
-        if against(rule, skip, piece).is_ge() {
-            return count;
+        let order = against(rule, skip, piece);
+        if order.is_gt() {
+            return Some((passed, between(rules, passed, count)));
         }
         count += 1;
+        if order.is_eq() {
+            continue;
+        }
+        passed = count;
     }
-    count
+    Some((passed, between(rules, passed, count)))
+}
+
+fn between(rules: &[Member<bool>], from: usize, to: usize) -> &[Member<bool>]
+    requires order { from ≤ to }
+    requires bound { to ≤ length rules.now }
+    ensures { result.now ≡ drop from (take to rules.now) }
+{
+    let (front, _) = rules.split_at(to);
+    let (_, part) = front.split_at(from);
+    part
+}
+
+/// The rules that go on with the step, of rules of which none comes before it.
+fn run_at_front<'a>(rules: &'a [Member<bool>], skip: usize, piece: Piece<'_>) -> &'a [Member<bool>]
+    ensures { (front : List ℕ) → IsRun rules.now skip front
+        → rules_from (piece_text piece.entry) skip rules.now ≡ rules.now
+        → result.now ≡ filter (does_go_on (piece_text piece.entry) skip) rules.now }
+{
+    match run_of_few(rules, skip, piece) {
+        Some((_passed, run)) => run,
+        None => up_to_by_halves(rules, skip, piece),
+    }
 }
 
 fn from_by_halves<'a>(
@@ -315,41 +326,6 @@ fn from_by_halves<'a>(
     let count = rules.partition_point(|rule| against(rule, skip, piece).is_lt());
     let (_, rest) = rules.split_at(count);
     rest
-}
-
-/// Without the rules that come behind those that go on with the step, of which there are mostly few
-/// or none.
-fn up_to<'a>(rules: &'a [Member<bool>], skip: usize, piece: Piece<'_>) -> &'a [Member<bool>]
-    ensures { (front : List ℕ) → IsRun rules.now skip front
-        → result.now ≡ rules_up_to (piece_text piece.entry) skip rules.now }
-{
-    let count = first_few(rules, skip, piece);
-    if count < FEW {
-        let (front, _) = rules.split_at(count);
-        return front;
-    }
-    up_to_by_halves(rules, skip, piece)
-}
-
-/// How many of the rules do not come behind those that go on with the step, where these are fewer
-/// than `FEW`; otherwise `FEW`.
-fn first_few(rules: &[Member<bool>], skip: usize, piece: Piece<'_>) -> usize
-    ensures bound { result ≤ length rules.now }
-    ensures few { (front : List ℕ) → IsRun rules.now skip front → result < FEW
-        → take result rules.now
-        ≡ rules_up_to (piece_text piece.entry) skip rules.now }
-{
-    let mut count = 0;
-    for rule in rules {
-        if count == FEW {
-            return count;
-        }
-        if against(rule, skip, piece).is_gt() {
-            return count;
-        }
-        count += 1;
-    }
-    count
 }
 
 fn up_to_by_halves<'a>(
