@@ -13,6 +13,7 @@ mod NumberLaws
 mod Orders
 mod PathReading
 mod PathTexts
+mod PlainNames
 mod PolicyAgain
 mod Rooms
 mod RuleLaws

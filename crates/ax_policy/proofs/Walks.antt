@@ -68,6 +68,18 @@ pub against_err : (text whole piece : List ℕ) (order : Ordering) → Ends text
 against_err text whole piece order e w =
     sym (ap (against piece) (sym w) ∙ ends_take piece text order e.0 e.1)
 
+-- behind a byte of the piece the rest decides, or the byte does
+pub byte_goes : (byte : ℕ) (piece text rest : List ℕ) → GoesOn text (byte ∷ []) rest
+    → against (byte ∷ piece) text ≡ against piece rest
+byte_goes byte piece text rest g =
+    ap (against (byte ∷ piece)) (bytes_before text (byte ∷ []) rest g)
+    ∙ ap (λ o. ordering_then o (against piece rest)) (nat_same byte)
+
+pub byte_ends : (byte : ℕ) (piece text : List ℕ) (order : Ordering) → Ends text (byte ∷ []) order
+    → against (byte ∷ piece) text ≡ order
+byte_ends byte piece text order e =
+    ends_take (byte ∷ piece) text order (λ f. e.0 (piece ++ f)) e.1
+
 -- bytes that go on with a piece are the piece and what follows
 pub goes_so : (piece bytes : List ℕ) → is_eq (against piece bytes) ≡ true
     → bytes ≡ piece ++ drop (length piece) bytes
@@ -362,6 +374,17 @@ before_follows name whole text front skip piece rest g t w b =
       length-append front (drop skip name),
       length-append front piece,
     )
+
+pub plain_bytes : (name front rest rule : List ℕ) (skip : ℕ) → rule ≡ front ++ drop skip rule
+    → drop skip rule ≡ plain_text name ++ rest
+    → (length (front ++ plain_text name) ≡ skip + length name + 3) × (skip + length name + 3 ≤ length rule)
+plain_bytes name front rest rule skip begin goes =
+    let whole : length rule ≡ length front + (length rule - skip) =
+    omega (arith, ap length begin, length-append front (drop skip rule), length-drop skip rule) in
+    let piece : length (plain_text name) ≡ length name + 3 = omega (arith, length-append name (quote ∷ [])) in
+    let behind : length rule - skip ≡ length name + 3 + length rest =
+    omega (arith, ap length goes, length-append (plain_text name) rest, length-drop skip rule) in
+    (omega (arith, length-append front (plain_text name)), omega arith)
 
 pub not_ends : (text piece rest : List ℕ) (order : Ordering) → Ends text piece order
     → text ≡ piece ++ rest → ⊥

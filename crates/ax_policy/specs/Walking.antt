@@ -19,7 +19,7 @@ use Rattle.ax_policy.specs.declared.walk.Way.TheVariants as ways
 use Rattle.ax_policy.specs.Comparing.{against}
 use Rattle.ax_policy.specs.Covering.{indexes}
 use Rattle.ax_policy.specs.Deciding.{longest, begins_with}
-use Rattle.ax_policy.specs.Paths.{steps_text, step_text, name_text, plain_text}
+use Rattle.ax_policy.specs.Paths.{steps_text, step_text, plain_text}
 
 -- the rules whose texts begin with that of the steps
 abbrev pub beginning_with : List Step → List (Member Bool) → List (Member Bool)
@@ -44,10 +44,12 @@ abbrev pub step_of : Way → Step
 step_of (ways.Name name) = Name name.now
 step_of ways.Item = Item
 
+abbrev pub way_text : Way → List ℕ
+way_text way = step_text (step_of way)
+
 abbrev pub piece_text : Piece → List ℕ
-piece_text (pieces.Name name) = name_text name.now
 piece_text (pieces.Plain name) = plain_text name.now
-piece_text pieces.Item = step_text Item
+piece_text (pieces.Other way) = way_text way
 
 -- rules that rise, and that have this front, and so many bytes in it
 pub record IsRun (rules : List (Member Bool)) (skip : ℕ) (front : List ℕ) : Type 0 where

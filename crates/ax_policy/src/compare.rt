@@ -1,8 +1,8 @@
 //! Texts compared with those of paths, which are not written out for it.
-ghost use Rattle.std.specs.Prelude.{◌≡◌, [], ◌∷◌, IfOk, IfErr};
+ghost use Rattle.std.specs.Prelude.{◌≡◌, [], ◌∷◌, ◌++◌, IfOk, IfErr};
 ghost use Rattle.std.specs.Cmp.Lexicographic.{slice_cmp};
 ghost use Rattle.std.specs.Ordering.{nat_cmp};
-ghost use Rattle.ax_policy.specs.Comparing.{GoesOn, Ends};
+ghost use Rattle.ax_policy.specs.Comparing.{against as how_against, GoesOn, Ends};
 ghost use Rattle.ax_mean.specs.declared.query.Step.TheVariants.{Item};
 ghost use Rattle.ax_policy.specs.Paths as spec;
 
@@ -56,26 +56,39 @@ pub(crate) fn after_name<'a>(text: &'a [u8], name: &[u8]) -> Result<&'a [u8], Or
     after_byte(rest, b'"')
 }
 
-/// The same for a name that stands between its quotes as it is.
-pub(crate) fn after_plain<'a>(text: &'a [u8], name: &[u8]) -> Result<&'a [u8], Ordering>
-    ensures rest { IfOk result (λ rest. GoesOn text.now (spec.plain_text name.now) rest.now) }
-    ensures order { IfErr result (Ends text.now (spec.plain_text name.now)) }
+/// How a text compares with that of a name that stands between its quotes as it is; equal where it
+/// begins with it.
+pub(crate) fn against_plain(text: &[u8], name: &[u8]) -> Ordering
+    ensures { result ≡ how_against (spec.plain_text name.now) text.now }
 {
-    let rest = after_byte(text, b'/')?;
-    let rest = after_byte(rest, b'"')?;
-    let rest = after_bytes(rest, name)?;
-    after_byte(rest, b'"')
+    match after_byte(text, b'/') {
+        Ok(rest) => against_opened(rest, name),
+        Err(order) => order,
+    }
 }
 
-#[tactic(auto, using(crate::proofs::Comparisons::bytes_ok, crate::proofs::Comparisons::bytes_err))]
-fn after_bytes<'a>(text: &'a [u8], piece: &[u8]) -> Result<&'a [u8], Ordering>
-    ensures rest { IfOk result (λ rest. GoesOn text.now piece.now rest.now) }
-    ensures order { IfErr result (Ends text.now piece.now) }
+fn against_opened(text: &[u8], name: &[u8]) -> Ordering
+    ensures { result ≡ how_against (spec.quote ∷ name.now ++ spec.quote ∷ []) text.now }
 {
-    let (front, rest) = text.split_at(text.len().min(piece.len()));
-    match front.cmp(piece) {
-        Ordering::Equal => Ok(rest),
-        order => Err(order),
+    match after_byte(text, b'"') {
+        Ok(rest) => against_closed(rest, name),
+        Err(order) => order,
+    }
+}
+
+fn against_closed(text: &[u8], name: &[u8]) -> Ordering
+    ensures { result ≡ how_against (name.now ++ spec.quote ∷ []) text.now }
+{
+    let mut rest = text;
+    for byte in name {
+        match after_byte(rest, *byte) {
+            Ok(after) => rest = after,
+            Err(order) => return order,
+        }
+    }
+    match after_byte(rest, b'"') {
+        Ok(_after) => Ordering::Equal,
+        Err(order) => order,
     }
 }
 

@@ -9,11 +9,11 @@ ghost use Rattle.ax_policy.specs.declared.policy.Policy.{Policy};
 ghost use Rattle.ax_policy.specs.Comparing.{against as how_against, GoesOn, Ends};
 ghost use Rattle.ax_policy.specs.Covering.{Covers};
 ghost use Rattle.ax_policy.specs.Deciding as spec;
-ghost use Rattle.ax_policy.specs.Paths.{either as either_of, mark_text, step_text};
+ghost use Rattle.ax_policy.specs.Paths.{either as either_of, mark_text, plain_text};
 ghost use Rattle.ax_policy.specs.Rules.{under};
-ghost use Rattle.ax_policy.specs.Walking.{IsAt, IsRun, GoOn, bytes_of, before, goes_on as does_go_on, piece_text, rules_from, rules_up_to, step_of, BeginBefore};
+ghost use Rattle.ax_policy.specs.Walking.{IsAt, IsRun, GoOn, bytes_of, before, goes_on as does_go_on, piece_text, rules_from, rules_up_to, step_of, way_text, BeginBefore};
 
-use crate::compare::{after_item, after_name, after_plain};
+use crate::compare::{after_item, after_name, against_plain};
 use crate::covering::search;
 use crate::path_text::mark;
 use crate::policy::Policy;
@@ -47,10 +47,9 @@ pub(crate) enum Way<'a> {
 /// The text of a step, with which those of rules are compared.
 #[derive(Clone, Copy)]
 pub(crate) enum Piece<'a> {
-    Name(&'a str),
     /// A name that stands between its quotes as it is.
     Plain(&'a str),
-    Item,
+    Other(Way<'a>),
 }
 
 impl Policy {
@@ -204,18 +203,14 @@ fn marked_by_halves(rules: &[Member<bool>], skip: usize, all: bool) -> Option<bo
 /// The text of a step, in which a name is looked through for what is escaped.
 #[tactic(auto, using(crate::proofs::Walks::plain_is))]
 fn piece_of(way: Way<'_>) -> Piece<'_>
-    ensures { piece_text result ≡ step_text (step_of way.entry) }
+    ensures { piece_text result ≡ way_text way.entry }
 {
-    match way {
-        Way::Name(name) => {
-            if has_escape(name.as_bytes()) {
-                Piece::Name(name)
-            } else {
-                Piece::Plain(name)
-            }
+    if let Way::Name(name) = way {
+        if !has_escape(name.as_bytes()) {
+            return Piece::Plain(name);
         }
-        Way::Item => Piece::Item,
     }
+    Piece::Other(way)
 }
 
 /// The rules that go on with the step behind so many bytes. They are looked for from a place on,
@@ -309,9 +304,21 @@ fn run_at_front<'a>(rules: &'a [Member<bool>], skip: usize, piece: Piece<'_>) ->
         → rules_from (piece_text piece.entry) skip rules.now ≡ rules.now
         → result.now ≡ filter (does_go_on (piece_text piece.entry) skip) rules.now }
 {
+    if are_many(rules, skip, piece) {
+        return up_to_by_halves(rules, skip, piece);
+    }
     match run_of_few(rules, skip, piece) {
         Some((_passed, run)) => run,
         None => up_to_by_halves(rules, skip, piece),
+    }
+}
+
+/// Whether a rule goes on with the step that lies so far behind that a look at each costs more than
+/// a search by halves. It only tells which of the two is tried, so that nothing is proved of it.
+fn are_many(rules: &[Member<bool>], skip: usize, piece: Piece<'_>) -> bool {
+    match rules.get(FEW) {
+        Some(rule) => against(rule, skip, piece).is_eq(),
+        None => false,
     }
 }
 
@@ -345,7 +352,16 @@ fn up_to_by_halves<'a>(
 fn against(rule: &Member<bool>, skip: usize, piece: Piece<'_>) -> Ordering
     ensures { result ≡ how_against (piece_text piece.entry) (drop skip rule.now.name) }
 {
-    match after_piece(rest_of(rule, skip), piece) {
+    match piece {
+        Piece::Plain(name) => against_plain(rest_of(rule, skip), name.as_bytes()),
+        Piece::Other(way) => against_way(rule, skip, way),
+    }
+}
+
+fn against_way(rule: &Member<bool>, skip: usize, way: Way<'_>) -> Ordering
+    ensures { result ≡ how_against (way_text way.entry) (drop skip rule.now.name) }
+{
+    match after_way(rest_of(rule, skip), way) {
         Ok(_rest) => Ordering::Equal,
         Err(order) => order,
     }
@@ -368,21 +384,41 @@ fn bytes_before_rest(rule: &Member<bool>, skip: usize, piece: Piece<'_>) -> usiz
         → drop skip rule.now.name ≡ piece_text piece.entry ++ rest
         → result ≡ length (front ++ piece_text piece.entry) }
 {
-    match after_piece(rest_of(rule, skip), piece) {
+    match piece {
+        Piece::Plain(name) => bytes_before_plain(rule, skip, name),
+        Piece::Other(way) => bytes_before_way(rule, skip, way),
+    }
+}
+
+/// The same for a name that stands between its quotes as it is, with a slash before them.
+fn bytes_before_plain(rule: &Member<bool>, skip: usize, name: &str) -> usize
+    ensures { (front rest : List ℕ) → rule.now.name ≡ front ++ drop skip rule.now.name
+        → drop skip rule.now.name ≡ plain_text name.now ++ rest
+        → result ≡ length (front ++ plain_text name.now) }
+{
+    let bytes = skip.saturating_add(name.len()).saturating_add(3);
+    bytes.min(rule.name.as_str().len())
+}
+
+fn bytes_before_way(rule: &Member<bool>, skip: usize, way: Way<'_>) -> usize
+    ensures { (front rest : List ℕ) → rule.now.name ≡ front ++ drop skip rule.now.name
+        → drop skip rule.now.name ≡ way_text way.entry ++ rest
+        → result ≡ length (front ++ way_text way.entry) }
+{
+    match after_way(rest_of(rule, skip), way) {
         Ok(rest) => rule.name.as_str().len() - rest.len(),
         Err(_order) => 0,
     }
 }
 
 /// What follows the step in a text, or how the two compare whatever follows.
-fn after_piece<'a>(text: &'a [u8], piece: Piece<'_>) -> Result<&'a [u8], Ordering>
-    ensures rest { IfOk result (λ rest. GoesOn text.now (piece_text piece.entry) rest.now) }
-    ensures order { IfErr result (Ends text.now (piece_text piece.entry)) }
+fn after_way<'a>(text: &'a [u8], way: Way<'_>) -> Result<&'a [u8], Ordering>
+    ensures rest { IfOk result (λ rest. GoesOn text.now (way_text way.entry) rest.now) }
+    ensures order { IfErr result (Ends text.now (way_text way.entry)) }
 {
-    match piece {
-        Piece::Name(name) => after_name(text, name.as_bytes()),
-        Piece::Plain(name) => after_plain(text, name.as_bytes()),
-        Piece::Item => after_item(text),
+    match way {
+        Way::Name(name) => after_name(text, name.as_bytes()),
+        Way::Item => after_item(text),
     }
 }
 
