@@ -91,7 +91,12 @@ fn written(word: usize) -> &'static str {
     }
 }
 
-fn push_rules(text: &mut String, rules: &[Rule], seed: usize, included: bool) -> Result<(), Memory> {
+fn push_rules(
+    text: &mut String,
+    rules: &[Rule],
+    seed: usize,
+    included: bool,
+) -> Result<(), Memory> {
     for rule in rules {
         if rule.is_included(seed) == included {
             push_rule(text, *rule)?;
@@ -152,7 +157,11 @@ fn random_paths_are_covered_as_the_manual_says(rt: HostRuntime) -> Result<(), Fa
         for _ in 0..6 {
             let steps = drawn_steps(&mut state);
             let near = drawn(&mut state, 20);
-            let walk = walk_on(walk_on(policy.walk(), steps.first, near), steps.second, near);
+            let walk = walk_on(
+                walk_on(policy.walk(), steps.first, near),
+                steps.second,
+                near,
+            );
             let covered = is_covered(rules.as_slice(), seed, steps);
             assert_eq!(rt; walk.covers(), covered, "{seed}");
         }

@@ -78,9 +78,9 @@ impl<'a> RuleWalk<'a> {
         self.step(Way::Name(name), &mut near)
     }
 
-    /// The same, looked for from that place among the rules on, which is then set behind those that
-    /// go on. So with one place for all members, from 0 on, in the order of their names, each takes
-    /// about as long as rules are passed to the next; but any place will do.
+    /// The same, looked for first at a place among the rules, which is then set behind those that go
+    /// on. With one place for all members, 0 before the first, a member in the order of names takes
+    /// about as long as there are rules between it and the one before. Any place will do.
     pub fn name_near(self, name: &str, near: &mut usize) -> RuleWalk<'a>
         ensures { (policy : Policy) (path : List Step) → IsAt self.entry policy path
             → IsAt result policy (path ++ Name name.now ∷ []) }
