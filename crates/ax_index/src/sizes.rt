@@ -21,7 +21,7 @@ pub(crate) const CHANGES_FOR_PART: usize = 8;
 /// The most pages that are merged in one batch.
 pub(crate) const MOST_MERGED: u32 = 16;
 
-/// How many bytes the pairs of a base are counted as, at most.
+/// How many bytes the pairs of a base are counted as, at most, without the term of the first.
 const MOST_BASE_BYTES: usize = 4_096;
 
 /// As how many bytes the pairs of a base are counted, at most, that is split off one of more.
@@ -68,14 +68,15 @@ pub(crate) fn new_pages(pairs: &[Pair]) -> usize
 }
 
 /// How many bytes of a base a pair takes behind those before it, counted from above where they are of two
-/// terms, and about so many where they are of one.
+/// terms, and about so many where they are of one. The term of the first is not counted: it names the page
+/// too, whatever the page holds, and a long one must not leave it alone there.
 fn bytes_of(pairs: &[Pair], i: usize) -> usize
     requires { i < length pairs.now }
 {
-    let term = pairs[i].term.as_slice();
     if i == 0 {
-        return BESIDE_TERM + term.len();
+        return BESIDE_TERM;
     }
+    let term = pairs[i].term.as_slice();
     let before = &pairs[i - 1];
     let shared = in_common(before.term.as_slice(), term);
     if shared == term.len() && shared == before.term.as_slice().len() {

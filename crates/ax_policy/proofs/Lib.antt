@@ -1,3 +1,4 @@
+mod Ahead
 mod Apart
 mod Below
 mod Comparisons
@@ -12,6 +13,7 @@ mod NumberLaws
 mod Orders
 mod PathReading
 mod PathTexts
+mod PlainNames
 mod PolicyAgain
 mod Rooms
 mod RuleLaws

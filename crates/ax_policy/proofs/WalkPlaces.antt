@@ -1,5 +1,5 @@
 -- Where a walk stands: the rules that begin with a path, and what a step makes of them.
-use Rattle.std.proofs.Common.{◌≡◌, ℕ, ◌+◌, ◌≤◌, zero, suc, List, [], ◌∷◌, ◌++◌, length, take, drop, Bool, true, false, cond, ◌&&◌, Option, Some, refl, sym, ap, subst, ◌∙◌, arith, append-nil}
+use Rattle.std.proofs.Common.{◌≡◌, ℕ, ◌≤◌, zero, suc, List, [], ◌∷◌, ◌++◌, length, take, drop, Bool, true, false, cond, ◌&&◌, Option, Some, refl, sym, ap, subst, ◌∙◌, arith, append-nil}
 use Rattle.std.specs.Prelude.{nat_eq}
 use Rattle.std.specs.List.{All, filter}
 use Rattle.std.specs.Str.{bytes_eq}
@@ -165,21 +165,24 @@ longest_further rules path step =
 
 -- ---- the whole step
 
--- what a step finds, as the functions of the walk say it
-pub record Steps (walk next : RuleWalk) (policy : Policy) (path : List Step) (step : Step) : Type 0 where
+-- what a step of that text finds, as the functions of the walk say it
+pub record Steps (walk next : RuleWalk) (policy : Policy) (path : List Step) (step : Step) (piece : List ℕ) : Type 0 where
   pub same_on : next.on ≡ walk.on
-  pub left : next.rules.now ≡ filter (goes_on (step_text step) walk.skip) walk.rules.now
-  pub behind : next.skip ≡ bytes_of (steps_text path ++ step_text step) next.rules.now
+  pub left : next.rules.now ≡ filter (goes_on piece walk.skip) walk.rules.now
+  pub behind : next.skip ≡ bytes_of (steps_text path ++ piece) next.rules.now
   pub decided : IsRun next.rules.now next.skip (steps_text (path ++ step ∷ []))
       → next.decided ≡ either (under (steps_text (path ++ step ∷ []) ++ mark_text true) next.rules.now) walk.decided
 
-pub stepped : (walk next : RuleWalk) (policy : Policy) (path : List Step) (step : Step)
-    → IsAt walk policy path → Steps walk next policy path step → IsAt next policy (path ++ step ∷ [])
-stepped walk next policy path step a s =
+pub stepped : (walk next : RuleWalk) (policy : Policy) (path : List Step) (step : Step) (piece : List ℕ)
+    → piece ≡ step_text step → IsAt walk policy path → Steps walk next policy path step piece
+    → IsAt next policy (path ++ step ∷ [])
+stepped walk next policy path step piece same a s =
     let left : next.rules.now ≡ beginning_with (path ++ step ∷ []) policy.rules =
-    s.left ∙ left_further walk policy path step a in
+    s.left ∙ ap (λ l. filter (goes_on l walk.skip) walk.rules.now) same
+    ∙ left_further walk policy path step a in
     let behind : next.skip ≡ bytes_of (steps_text (path ++ step ∷ [])) next.rules.now =
-    s.behind ∙ ap (λ l. bytes_of l next.rules.now) (sym (text_further path step)) in
+    s.behind ∙ ap (λ l. bytes_of (steps_text path ++ l) next.rules.now) same
+    ∙ ap (λ l. bytes_of l next.rules.now) (sym (text_further path step)) in
     let run : IsRun next.rules.now next.skip (steps_text (path ++ step ∷ [])) =
     is_run (path ++ step ∷ []) policy.rules next.rules.now next.skip a.rising left behind in
     let here : under (steps_text (path ++ step ∷ []) ++ mark_text true) next.rules.now
@@ -210,7 +213,7 @@ none_left walk path piece (first ∷ rest) e s = absurd (cc)
 pub stays : (walk : RuleWalk) (policy : Policy) (path : List Step) (step : Step)
     → IsAt walk policy path → walk.rules.now ≡ [] → IsAt walk policy (path ++ step ∷ [])
 stays walk policy path step a e =
-    stepped walk walk policy path step a
+    stepped walk walk policy path step (step_text step) refl a
     (record {
       same_on = refl;
       left = e ∙ sym (ap (filter (goes_on (step_text step) walk.skip)) e);

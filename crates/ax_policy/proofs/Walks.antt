@@ -1,10 +1,10 @@
 -- Texts of rules against the piece of a step: the rules that go on with it are a run of neighbours
 -- among rules that rise and have one front.
-use Rattle.std.proofs.Common.{◌≡◌, ℕ, ◌+◌, ◌-◌, ◌<◌, ◌≤◌, zero, suc, List, [], ◌∷◌, ◌++◌, length, take, drop, get_or, Bool, true, false, cond, ◌&&◌, not, Option, Some, Ordering, Less, Equal, Greater, refl, sym, ap, subst, ◌∙◌, arith, ◌⊎◌, inl, inr}
+use Rattle.std.proofs.Common.{◌≡◌, ℕ, ◌+◌, ◌-◌, ◌<◌, ◌≤◌, zero, suc, List, [], ◌∷◌, ◌++◌, length, take, drop, get_or, Bool, true, false, cond, ◌&&◌, ◌||◌, if◌then◌else◌, not, Option, Some, Ordering, Less, Equal, Greater, refl, sym, ap, subst, ◌∙◌, arith, ◌⊎◌, inl, inr}
 use Rattle.std.specs.Prelude.{Err, slice_get}
 use Rattle.std.specs.Option.{unwrap_or}
 use Rattle.std.specs.Cmp.Lexicographic.{slice_cmp}
-use Rattle.std.specs.List.{filter}
+use Rattle.std.specs.List.{filter, list_any}
 use Rattle.std.specs.List.Sorted.{IsBinarySearchResult, IsNonDecreasingBy, IsPartitionedBy, IsPartitionPoint}
 use Rattle.std.specs.Ordering.{nat_cmp, is_lt, is_le, is_eq, ordering_index, ordering_then}
 use Rattle.std.proofs.Math.Seq.{take-append_seam}
@@ -15,8 +15,9 @@ use Rattle.std.proofs.lemmas.Map.Text.{is_eq-slice_cmp}
 use Rattle.ax_tree.specs.Names.{HaveRisingNames}
 use Rattle.ax_tree.specs.declared.members.Member.{Member}
 use Rattle.ax_policy.specs.Comparing.{GoesOn, Ends, against}
+use Rattle.ax_policy.specs.Paths.{escaped, is_escaped, name_text, plain_text, slash, quote, backslash}
 use Rattle.ax_policy.specs.Rules.{under}
-use Rattle.ax_policy.specs.Walking.{IsRun, GoOn, goes_on, bytes_of}
+use Rattle.ax_policy.specs.Walking.{IsRun, GoOn, before, within, goes_on, bytes_of}
 use Rattle.ax_policy.proofs.Comparisons.{bytes_before}
 use Rattle.ax_policy.proofs.Searching.{both, both_true, cmp_same, same_bytes, same_from_Equal, skipped, later, rises, no_later, no_fall, searched_ok, searched_err, no_flag}
 
@@ -67,6 +68,18 @@ pub against_err : (text whole piece : List ℕ) (order : Ordering) → Ends text
 against_err text whole piece order e w =
     sym (ap (against piece) (sym w) ∙ ends_take piece text order e.0 e.1)
 
+-- behind a byte of the piece the rest decides, or the byte does
+pub byte_goes : (byte : ℕ) (piece text rest : List ℕ) → GoesOn text (byte ∷ []) rest
+    → against (byte ∷ piece) text ≡ against piece rest
+byte_goes byte piece text rest g =
+    ap (against (byte ∷ piece)) (bytes_before text (byte ∷ []) rest g)
+    ∙ ap (λ o. ordering_then o (against piece rest)) (nat_same byte)
+
+pub byte_ends : (byte : ℕ) (piece text : List ℕ) (order : Ordering) → Ends text (byte ∷ []) order
+    → against (byte ∷ piece) text ≡ order
+byte_ends byte piece text order e =
+    ends_take (byte ∷ piece) text order (λ f. e.0 (piece ++ f)) e.1
+
 -- bytes that go on with a piece are the piece and what follows
 pub goes_so : (piece bytes : List ℕ) → is_eq (against piece bytes) ≡ true
     → bytes ≡ piece ++ drop (length piece) bytes
@@ -75,6 +88,22 @@ goes_so piece bytes e =
     ∙ ap (λ l. l ++ drop (length piece) bytes)
     (same_bytes (take (length piece) bytes) piece
     (sym (is_eq-slice_cmp (take (length piece) bytes) piece) ∙ e))
+
+-- ---- a name with nothing to be escaped
+
+first_plain : (a b : Bool) → false ≡ (a || b) → (false ≡ a) × (false ≡ b)
+first_plain false b e = (refl, e)
+first_plain true b e = absurd (cc)
+
+stands : (name : List ℕ) → false ≡ list_any is_escaped name → name ≡ escaped name
+stands [] e = refl
+stands (byte ∷ name) e =
+    let parts = first_plain (is_escaped byte) (list_any is_escaped name) e in
+    ap (λ l. byte ∷ l) (stands name parts.1)
+    ∙ ap (λ (b : Bool). (if b then backslash ∷ byte ∷ [] else byte ∷ []) ++ escaped name) parts.0
+
+pub plain_is : (name : List ℕ) → false ≡ list_any is_escaped name → plain_text name ≡ name_text name
+plain_is name e = ap (λ l. slash ∷ quote ∷ l ++ quote ∷ []) (stands name e)
 
 -- ---- rules that rise
 
@@ -226,20 +255,14 @@ as_low Greater Less h e = absurd (omega arith)
 as_low Greater Equal h e = absurd (omega arith)
 as_low Greater Greater h e = absurd (cc)
 
-abbrev pub before : List ℕ → ℕ → Member Bool → Bool
-before piece skip rule = is_lt (against piece (drop skip rule.name))
-
-abbrev pub within : List ℕ → ℕ → Member Bool → Bool
-within piece skip rule = is_le (against piece (drop skip rule.name))
-
-before_parted : (rules : List (Member Bool)) (skip : ℕ) (front piece : List ℕ)
+pub before_parted : (rules : List (Member Bool)) (skip : ℕ) (front piece : List ℕ)
     → IsRun rules skip front → IsPartitionedBy (before piece skip) rules
 before_parted rules skip front piece r i j d h k e =
     lower (against piece (drop skip (get_or rules i d).name))
     (against piece (drop skip (get_or rules j d).name))
     (piece_no_fall rules skip front piece r i j d h k) e
 
-within_parted : (rules : List (Member Bool)) (skip : ℕ) (front piece : List ℕ)
+pub within_parted : (rules : List (Member Bool)) (skip : ℕ) (front piece : List ℕ)
     → IsRun rules skip front → IsPartitionedBy (within piece skip) rules
 within_parted rules skip front piece r i j d h k e =
     as_low (against piece (drop skip (get_or rules i d).name))
@@ -351,6 +374,17 @@ before_follows name whole text front skip piece rest g t w b =
       length-append front (drop skip name),
       length-append front piece,
     )
+
+pub plain_bytes : (name front rest rule : List ℕ) (skip : ℕ) → rule ≡ front ++ drop skip rule
+    → drop skip rule ≡ plain_text name ++ rest
+    → (length (front ++ plain_text name) ≡ skip + length name + 3) × (skip + length name + 3 ≤ length rule)
+plain_bytes name front rest rule skip begin goes =
+    let whole : length rule ≡ length front + (length rule - skip) =
+    omega (arith, ap length begin, length-append front (drop skip rule), length-drop skip rule) in
+    let piece : length (plain_text name) ≡ length name + 3 = omega (arith, length-append name (quote ∷ [])) in
+    let behind : length rule - skip ≡ length name + 3 + length rest =
+    omega (arith, ap length goes, length-append (plain_text name) rest, length-drop skip rule) in
+    (omega (arith, length-append front (plain_text name)), omega arith)
 
 pub not_ends : (text piece rest : List ℕ) (order : Ordering) → Ends text piece order
     → text ≡ piece ++ rest → ⊥

@@ -3,21 +3,23 @@
 -- most steps decides, and of equal steps the one with `/?`. So a walk keeps what the longest rule
 -- with `/*` on its way says, and the rules that begin with its path: those for the leaf there, and
 -- those that go deeper.
-use Rattle.std.specs.Prelude.{◌≡◌, ℕ, List, [], ◌∷◌, ◌++◌, length, drop, Bool, true}
+use Rattle.std.specs.Prelude.{◌≡◌, ℕ, List, [], ◌∷◌, ◌++◌, length, drop, Bool, true, not}
 use Rattle.std.specs.List.{All, filter}
-use Rattle.std.specs.Ordering.{is_eq}
+use Rattle.std.specs.Ordering.{is_eq, is_lt, is_le}
 use Rattle.ax_mean.specs.declared.query.Step.{Step}
 use Rattle.ax_mean.specs.declared.query.Step.TheVariants.{Name, Item}
 use Rattle.ax_tree.specs.Names.{HaveRisingNames}
 use Rattle.ax_tree.specs.declared.members.Member.{Member}
 use Rattle.ax_policy.specs.declared.policy.Policy.{Policy}
+use Rattle.ax_policy.specs.declared.walk.Piece.{Piece}
+use Rattle.ax_policy.specs.declared.walk.Piece.TheVariants as pieces
 use Rattle.ax_policy.specs.declared.walk.RuleWalk.{RuleWalk}
 use Rattle.ax_policy.specs.declared.walk.Way.{Way}
 use Rattle.ax_policy.specs.declared.walk.Way.TheVariants as ways
 use Rattle.ax_policy.specs.Comparing.{against}
 use Rattle.ax_policy.specs.Covering.{indexes}
 use Rattle.ax_policy.specs.Deciding.{longest, begins_with}
-use Rattle.ax_policy.specs.Paths.{steps_text, step_text}
+use Rattle.ax_policy.specs.Paths.{steps_text, step_text, plain_text}
 
 -- the rules whose texts begin with that of the steps
 abbrev pub beginning_with : List Step → List (Member Bool) → List (Member Bool)
@@ -45,6 +47,10 @@ step_of ways.Item = Item
 abbrev pub way_text : Way → List ℕ
 way_text way = step_text (step_of way)
 
+abbrev pub piece_text : Piece → List ℕ
+piece_text (pieces.Plain name) = plain_text name.now
+piece_text (pieces.Other way) = way_text way
+
 -- rules that rise, and that have this front, and so many bytes in it
 pub record IsRun (rules : List (Member Bool)) (skip : ℕ) (front : List ℕ) : Type 0 where
   pub rising : HaveRisingNames rules
@@ -56,3 +62,24 @@ goes_on piece skip rule = is_eq (against piece (drop skip rule.name))
 
 abbrev pub GoOn : List ℕ → ℕ → List (Member Bool) → Type 0
 GoOn piece skip rules = All (λ rule. goes_on piece skip rule ≡ true) rules
+
+-- the rule comes before the piece behind so many bytes
+abbrev pub before : List ℕ → ℕ → Member Bool → Bool
+before piece skip rule = is_lt (against piece (drop skip rule.name))
+
+-- the rule does not come behind it
+abbrev pub within : List ℕ → ℕ → Member Bool → Bool
+within piece skip rule = is_le (against piece (drop skip rule.name))
+
+-- without the rules that come before
+abbrev pub rules_from : List ℕ → ℕ → List (Member Bool) → List (Member Bool)
+rules_from piece skip rules = filter (λ rule. not (before piece skip rule)) rules
+
+-- without the rules that come behind
+abbrev pub rules_up_to : List ℕ → ℕ → List (Member Bool) → List (Member Bool)
+rules_up_to piece skip rules = filter (within piece skip) rules
+
+-- the first rule comes before
+abbrev pub BeginBefore : List ℕ → ℕ → List (Member Bool) → Type 0
+BeginBefore piece skip [] = ⊥
+BeginBefore piece skip (rule ∷ rules) = before piece skip rule ≡ true

@@ -1,8 +1,8 @@
 //! Texts compared with those of paths, which are not written out for it.
-ghost use Rattle.std.specs.Prelude.{◌≡◌, [], ◌∷◌, IfOk, IfErr};
+ghost use Rattle.std.specs.Prelude.{◌≡◌, [], ◌∷◌, ◌++◌, IfOk, IfErr};
 ghost use Rattle.std.specs.Cmp.Lexicographic.{slice_cmp};
 ghost use Rattle.std.specs.Ordering.{nat_cmp};
-ghost use Rattle.ax_policy.specs.Comparing.{GoesOn, Ends};
+ghost use Rattle.ax_policy.specs.Comparing.{against as how_against, GoesOn, Ends};
 ghost use Rattle.ax_mean.specs.declared.query.Step.TheVariants.{Item};
 ghost use Rattle.ax_policy.specs.Paths as spec;
 
@@ -54,6 +54,42 @@ pub(crate) fn after_name<'a>(text: &'a [u8], name: &[u8]) -> Result<&'a [u8], Or
     let rest = after_byte(rest, b'"')?;
     let rest = after_escaped(rest, name)?;
     after_byte(rest, b'"')
+}
+
+/// How a text compares with that of a name that stands between its quotes as it is; equal where it
+/// begins with it.
+pub(crate) fn against_plain(text: &[u8], name: &[u8]) -> Ordering
+    ensures { result ≡ how_against (spec.plain_text name.now) text.now }
+{
+    match after_byte(text, b'/') {
+        Ok(rest) => against_opened(rest, name),
+        Err(order) => order,
+    }
+}
+
+fn against_opened(text: &[u8], name: &[u8]) -> Ordering
+    ensures { result ≡ how_against (spec.quote ∷ name.now ++ spec.quote ∷ []) text.now }
+{
+    match after_byte(text, b'"') {
+        Ok(rest) => against_closed(rest, name),
+        Err(order) => order,
+    }
+}
+
+fn against_closed(text: &[u8], name: &[u8]) -> Ordering
+    ensures { result ≡ how_against (name.now ++ spec.quote ∷ []) text.now }
+{
+    let mut rest = text;
+    for byte in name {
+        match after_byte(rest, *byte) {
+            Ok(after) => rest = after,
+            Err(order) => return order,
+        }
+    }
+    match after_byte(rest, b'"') {
+        Ok(_after) => Ordering::Equal,
+        Err(order) => order,
+    }
 }
 
 pub(crate) fn after_item(text: &[u8]) -> Result<&[u8], Ordering>

@@ -21,6 +21,8 @@ mod path_text;
 mod policy;
 mod policy_fault;
 mod quoted;
+#[cfg(test)]
+mod random_tests;
 mod read;
 mod read_path;
 mod read_rules;

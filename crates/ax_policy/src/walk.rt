@@ -1,24 +1,28 @@
 //! A walk down a document beside the rules of a policy: at each step the rules that go on are found
 //! among those that were left, so that what is decided on a leaf costs what its last step costs.
-ghost use Rattle.std.specs.Prelude.{◌≡◌, ◌↔◌, ℕ, [], ◌∷◌, ◌++◌, List, IsTrue, IfOk, IfErr, true, not, drop, length};
+ghost use Rattle.std.specs.Prelude.{◌≡◌, ◌↔◌, ◌<◌, ◌≤◌, ℕ, [], ◌∷◌, ◌++◌, ◌-◌, Bool, List, IsTrue, slice_get, IfOk, IfErr, IfSome, true, drop, length, take};
 ghost use Rattle.std.specs.List.{All, filter};
-ghost use Rattle.std.specs.Ordering.{is_lt, is_le};
 ghost use Rattle.ax_mean.specs.declared.query.Step.{Step};
 ghost use Rattle.ax_mean.specs.declared.query.Step.TheVariants.{Name, Item};
+ghost use Rattle.ax_tree.specs.declared.members.Member.{Member};
 ghost use Rattle.ax_policy.specs.declared.policy.Policy.{Policy};
 ghost use Rattle.ax_policy.specs.Comparing.{against as how_against, GoesOn, Ends};
 ghost use Rattle.ax_policy.specs.Covering.{Covers};
 ghost use Rattle.ax_policy.specs.Deciding as spec;
-ghost use Rattle.ax_policy.specs.Paths.{either as either_of, mark_text};
+ghost use Rattle.ax_policy.specs.Paths.{either as either_of, mark_text, plain_text};
 ghost use Rattle.ax_policy.specs.Rules.{under};
-ghost use Rattle.ax_policy.specs.Walking.{IsAt, IsRun, GoOn, bytes_of, goes_on as does_go_on, step_of, way_text};
+ghost use Rattle.ax_policy.specs.Walking.{IsAt, IsRun, GoOn, bytes_of, before, goes_on as does_go_on, piece_text, rules_from, rules_up_to, step_of, way_text, BeginBefore};
 
-use crate::compare::{after_item, after_name};
+use crate::compare::{after_item, after_name, against_plain};
 use crate::covering::search;
 use crate::path_text::mark;
 use crate::policy::Policy;
+use crate::quoted::has_escape;
 use ax_mean::Member;
 use std::cmp::Ordering;
+
+/// So many rules are looked at one after another before a search by halves.
+const FEW: usize = 8;
 
 /// Where a walk down a document stands among the rules of a policy.
 #[derive(Clone, Copy)]
@@ -38,6 +42,14 @@ pub struct RuleWalk<'a> {
 pub(crate) enum Way<'a> {
     Name(&'a str),
     Item,
+}
+
+/// The text of a step, with which those of rules are compared.
+#[derive(Clone, Copy)]
+pub(crate) enum Piece<'a> {
+    /// A name that stands between its quotes as it is.
+    Plain(&'a str),
+    Other(Way<'a>),
 }
 
 impl Policy {
@@ -62,7 +74,18 @@ impl<'a> RuleWalk<'a> {
         ensures { (policy : Policy) (path : List Step) → IsAt self.entry policy path
             → IsAt result policy (path ++ Name name.now ∷ []) }
     {
-        self.step(Way::Name(name))
+        let mut near = 0;
+        self.step(Way::Name(name), &mut near)
+    }
+
+    /// The same, looked for first at a place among the rules, which is then set behind those that go
+    /// on. With one place for all members, 0 before the first, a member in the order of names takes
+    /// about as long as there are rules between it and the one before. Any place will do.
+    pub fn name_near(self, name: &str, near: &mut usize) -> RuleWalk<'a>
+        ensures { (policy : Policy) (path : List Step) → IsAt self.entry policy path
+            → IsAt result policy (path ++ Name name.now ∷ []) }
+    {
+        self.step(Way::Name(name), near)
     }
 
     /// The walk at an item of the list, which is the same for each item.
@@ -70,7 +93,8 @@ impl<'a> RuleWalk<'a> {
         ensures { (policy : Policy) (path : List Step) → IsAt self.entry policy path
             → IsAt result policy (path ++ Item ∷ []) }
     {
-        self.step(Way::Item)
+        let mut near = 0;
+        self.step(Way::Item, &mut near)
     }
 
     /// Whether the leaf here is indexed, as `Policy::covers` says it of its path.
@@ -97,23 +121,24 @@ impl<'a> RuleWalk<'a> {
         either(marked(self.rules, self.skip, false), self.decided)
     }
 
-    fn step(self, way: Way<'_>) -> RuleWalk<'a>
+    fn step(self, way: Way<'_>, near: &mut usize) -> RuleWalk<'a>
         ensures { (policy : Policy) (path : List Step) → IsAt self.entry policy path
             → IsAt result policy (path ++ step_of way.entry ∷ []) }
     {
         if self.rules.is_empty() {
             return self;
         }
-        self.step_among(way)
+        self.step_among(way, near)
     }
 
     /// The step where rules may go on with it.
-    fn step_among(self, way: Way<'_>) -> RuleWalk<'a>
+    fn step_among(self, way: Way<'_>, near: &mut usize) -> RuleWalk<'a>
         ensures { (policy : Policy) (path : List Step) → IsAt self.entry policy path
             → IsAt result policy (path ++ step_of way.entry ∷ []) }
     {
-        let rules = narrowed(self.rules, self.skip, way);
-        let skip = bytes_behind(rules, self.skip, way);
+        let piece = piece_of(way);
+        let rules = narrowed(self.rules, self.skip, piece, near);
+        let skip = bytes_behind(rules, self.skip, piece);
         RuleWalk {
             on: self.on,
             decided: self.decided_by(rules, skip),
@@ -147,42 +172,193 @@ fn marked(rules: &[Member<bool>], skip: usize, all: bool) -> Option<bool>
     ensures { (front : List ℕ) → IsRun rules.now skip front
         → result ≡ under (front ++ mark_text all) rules.now }
 {
+    if rules.len() <= FEW {
+        return marked_in_turn(rules, skip, all);
+    }
+    marked_by_halves(rules, skip, all)
+}
+
+fn marked_in_turn(rules: &[Member<bool>], skip: usize, all: bool) -> Option<bool>
+    ensures { (front : List ℕ) → IsRun rules.now skip front
+        → result ≡ under (front ++ mark_text all) rules.now }
+{
+    for rule in rules {
+        if mark(all).as_bytes() == rest_of(rule, skip) {
+            return Some(rule.value);
+        }
+    }
+    None
+}
+
+fn marked_by_halves(rules: &[Member<bool>], skip: usize, all: bool) -> Option<bool>
+    ensures { (front : List ℕ) → IsRun rules.now skip front
+        → result ≡ under (front ++ mark_text all) rules.now }
+{
     match rules.binary_search_by(|rule| rest_of(rule, skip).cmp(mark(all).as_bytes())) {
         Ok(at) => Some(rules[at].value),
         Err(_at) => None,
     }
 }
 
-/// The rules that go on with the step behind so many bytes.
-fn narrowed<'a>(rules: &'a [Member<bool>], skip: usize, way: Way<'_>) -> &'a [Member<bool>]
-    ensures { (front : List ℕ) → IsRun rules.now skip front
-        → result.now ≡ filter (does_go_on (way_text way.entry) skip) rules.now }
+/// The text of a step, in which a name is looked through for what is escaped.
+#[tactic(auto, using(crate::proofs::Walks::plain_is))]
+fn piece_of(way: Way<'_>) -> Piece<'_>
+    ensures { piece_text result ≡ way_text way.entry }
 {
-    up_to(from(rules, skip, way), skip, way)
+    if let Way::Name(name) = way {
+        if !has_escape(name.as_bytes()) {
+            return Piece::Plain(name);
+        }
+    }
+    Piece::Other(way)
 }
 
-/// Without the rules that come before the step.
-fn from<'a>(rules: &'a [Member<bool>], skip: usize, way: Way<'_>) -> &'a [Member<bool>]
+/// The rules that go on with the step behind so many bytes. They are looked for from a place on,
+/// which is then set behind them, and by halves among all where they are not just there.
+fn narrowed<'a>(
+    rules: &'a [Member<bool>],
+    skip: usize,
+    piece: Piece<'_>,
+    near: &mut usize,
+) -> &'a [Member<bool>]
     ensures { (front : List ℕ) → IsRun rules.now skip front
-        → result.now ≡ filter (λ rule. not (is_lt (how_against (way_text way.entry) (drop skip rule.name)))) rules.now }
+        → result.now ≡ filter (does_go_on (piece_text piece.entry) skip) rules.now }
 {
-    let count = rules.partition_point(|rule| against(rule, skip, way).is_lt());
+    let (behind, ahead) = rules.split_at((*near).min(rules.len()));
+    if let Some((passed, run)) = run_of_few(ahead, skip, piece) {
+        *near = place_behind(behind.len(), passed, run);
+        if passed > 0 {
+            return run;
+        }
+        if are_before(behind, skip, piece) {
+            return run;
+        }
+    }
+    let rest = from_by_halves(rules, skip, piece);
+    let run = run_at_front(rest, skip, piece);
+    *near = place_behind(rules.len().saturating_sub(rest.len()), 0, run);
+    run
+}
+
+/// The place behind a run that begins so many rules behind a place. It only tells where to look
+/// first, so that nothing is proved of it.
+fn place_behind(place: usize, passed: usize, run: &[Member<bool>]) -> usize {
+    place.saturating_add(passed).saturating_add(run.len())
+}
+
+/// Whether all these rules come before the step, which the last one tells.
+fn are_before(rules: &[Member<bool>], skip: usize, piece: Piece<'_>) -> bool
+    ensures { (rule : Member Bool) → IsTrue result → slice_get rules.now (length rules.now - 1) ≡ Some rule
+        → before (piece_text piece.entry) skip rule ≡ true }
+{
+    match rules.last() {
+        Some(rule) => against(rule, skip, piece).is_lt(),
+        None => true,
+    }
+}
+
+/// How many rules come before the step, and the rules that go on with it; `None` where a look at
+/// `FEW` rules does not tell.
+fn run_of_few<'a>(
+    rules: &'a [Member<bool>],
+    skip: usize,
+    piece: Piece<'_>,
+) -> Option<(usize, &'a [Member<bool>])>
+    ensures run { (front : List ℕ) → IsRun rules.now skip front
+        → IfSome result (λ found. found.1.now ≡ filter (does_go_on (piece_text piece.entry) skip) rules.now) }
+    ensures passed { (front : List ℕ) → IsRun rules.now skip front
+        → IfSome result (λ found. 0 < found.0 → BeginBefore (piece_text piece.entry) skip rules.now) }
+{
+    let mut passed = 0;
+    let mut count = 0;
+    for rule in rules {
+        if count == FEW {
+            return None;
+        }
+        let order = against(rule, skip, piece);
+        if order.is_gt() {
+            return Some((passed, between(rules, passed, count)));
+        }
+        count += 1;
+        if order.is_eq() {
+            continue;
+        }
+        passed = count;
+    }
+    Some((passed, between(rules, passed, count)))
+}
+
+fn between(rules: &[Member<bool>], from: usize, to: usize) -> &[Member<bool>]
+    requires order { from ≤ to }
+    requires bound { to ≤ length rules.now }
+    ensures { result.now ≡ drop from (take to rules.now) }
+{
+    let (front, _) = rules.split_at(to);
+    let (_, part) = front.split_at(from);
+    part
+}
+
+/// The rules that go on with the step, of rules of which none comes before it.
+fn run_at_front<'a>(rules: &'a [Member<bool>], skip: usize, piece: Piece<'_>) -> &'a [Member<bool>]
+    ensures { (front : List ℕ) → IsRun rules.now skip front
+        → rules_from (piece_text piece.entry) skip rules.now ≡ rules.now
+        → result.now ≡ filter (does_go_on (piece_text piece.entry) skip) rules.now }
+{
+    if are_many(rules, skip, piece) {
+        return up_to_by_halves(rules, skip, piece);
+    }
+    match run_of_few(rules, skip, piece) {
+        Some((_passed, run)) => run,
+        None => up_to_by_halves(rules, skip, piece),
+    }
+}
+
+/// Whether a rule goes on with the step that lies so far behind that a look at each costs more than
+/// a search by halves. It only tells which of the two is tried, so that nothing is proved of it.
+fn are_many(rules: &[Member<bool>], skip: usize, piece: Piece<'_>) -> bool {
+    match rules.get(FEW) {
+        Some(rule) => against(rule, skip, piece).is_eq(),
+        None => false,
+    }
+}
+
+fn from_by_halves<'a>(
+    rules: &'a [Member<bool>],
+    skip: usize,
+    piece: Piece<'_>,
+) -> &'a [Member<bool>]
+    ensures { (front : List ℕ) → IsRun rules.now skip front
+        → result.now ≡ rules_from (piece_text piece.entry) skip rules.now }
+{
+    let count = rules.partition_point(|rule| against(rule, skip, piece).is_lt());
     let (_, rest) = rules.split_at(count);
     rest
 }
 
-/// Without the rules that come behind those that go on with the step.
-fn up_to<'a>(rules: &'a [Member<bool>], skip: usize, way: Way<'_>) -> &'a [Member<bool>]
+fn up_to_by_halves<'a>(
+    rules: &'a [Member<bool>],
+    skip: usize,
+    piece: Piece<'_>,
+) -> &'a [Member<bool>]
     ensures { (front : List ℕ) → IsRun rules.now skip front
-        → result.now ≡ filter (λ rule. is_le (how_against (way_text way.entry) (drop skip rule.name))) rules.now }
+        → result.now ≡ rules_up_to (piece_text piece.entry) skip rules.now }
 {
-    let count = rules.partition_point(|rule| against(rule, skip, way).is_le());
+    let count = rules.partition_point(|rule| against(rule, skip, piece).is_le());
     let (front, _) = rules.split_at(count);
     front
 }
 
 /// How a rule compares behind so many bytes with the step; equal where it goes on with it.
-fn against(rule: &Member<bool>, skip: usize, way: Way<'_>) -> Ordering
+fn against(rule: &Member<bool>, skip: usize, piece: Piece<'_>) -> Ordering
+    ensures { result ≡ how_against (piece_text piece.entry) (drop skip rule.now.name) }
+{
+    match piece {
+        Piece::Plain(name) => against_plain(rest_of(rule, skip), name.as_bytes()),
+        Piece::Other(way) => against_way(rule, skip, way),
+    }
+}
+
+fn against_way(rule: &Member<bool>, skip: usize, way: Way<'_>) -> Ordering
     ensures { result ≡ how_against (way_text way.entry) (drop skip rule.now.name) }
 {
     match after_way(rest_of(rule, skip), way) {
@@ -192,18 +368,39 @@ fn against(rule: &Member<bool>, skip: usize, way: Way<'_>) -> Ordering
 }
 
 /// How many bytes of rules that go on with the step lie behind them once it is taken; 0 of none.
-fn bytes_behind(rules: &[Member<bool>], skip: usize, way: Way<'_>) -> usize
-    ensures { (front : List ℕ) → IsRun rules.now skip front → GoOn (way_text way.entry) skip rules.now
-        → result ≡ bytes_of (front ++ way_text way.entry) rules.now }
+fn bytes_behind(rules: &[Member<bool>], skip: usize, piece: Piece<'_>) -> usize
+    ensures { (front : List ℕ) → IsRun rules.now skip front → GoOn (piece_text piece.entry) skip rules.now
+        → result ≡ bytes_of (front ++ piece_text piece.entry) rules.now }
 {
     match rules.first() {
-        Some(rule) => bytes_before_rest(rule, skip, way),
+        Some(rule) => bytes_before_rest(rule, skip, piece),
         None => 0,
     }
 }
 
 /// How many bytes of a rule lie before what follows the step.
-fn bytes_before_rest(rule: &Member<bool>, skip: usize, way: Way<'_>) -> usize
+fn bytes_before_rest(rule: &Member<bool>, skip: usize, piece: Piece<'_>) -> usize
+    ensures { (front rest : List ℕ) → rule.now.name ≡ front ++ drop skip rule.now.name
+        → drop skip rule.now.name ≡ piece_text piece.entry ++ rest
+        → result ≡ length (front ++ piece_text piece.entry) }
+{
+    match piece {
+        Piece::Plain(name) => bytes_before_plain(rule, skip, name),
+        Piece::Other(way) => bytes_before_way(rule, skip, way),
+    }
+}
+
+/// The same for a name that stands between its quotes as it is, with a slash before them.
+fn bytes_before_plain(rule: &Member<bool>, skip: usize, name: &str) -> usize
+    ensures { (front rest : List ℕ) → rule.now.name ≡ front ++ drop skip rule.now.name
+        → drop skip rule.now.name ≡ plain_text name.now ++ rest
+        → result ≡ length (front ++ plain_text name.now) }
+{
+    let bytes = skip.saturating_add(name.len()).saturating_add(3);
+    bytes.min(rule.name.as_str().len())
+}
+
+fn bytes_before_way(rule: &Member<bool>, skip: usize, way: Way<'_>) -> usize
     ensures { (front rest : List ℕ) → rule.now.name ≡ front ++ drop skip rule.now.name
         → drop skip rule.now.name ≡ way_text way.entry ++ rest
         → result ≡ length (front ++ way_text way.entry) }

@@ -84,9 +84,10 @@ fn append_members(
     ensures front { OnOk result (front.new.items ≡ front.old.items) }
 {
     let len = front.len();
+    let mut near = 0;
     for member in members.as_slice() {
         append_name(front, &member.name)?;
-        let below = walk.name(member.name.as_str());
+        let below = walk.name_near(member.name.as_str(), &mut near);
         append_leaves(alloc, terms, front, below, &member.value)?;
         front.truncate(len);
     }

@@ -30,12 +30,12 @@ append_members-loop-member-preserved t c =
     record {
       front = same;
       terms =
-          member_added c.args.walk c.name-below.result c.args.front.now.items
+          member_added c.args.walk c.name_near-below.result c.args.front.now.items
           c.loop-member.front.items c.truncate.new.self.items c.append_name.new.out.items _
           c.as_slice-member-items.result.now c.loop-member.member-index c.member-item.result
           c.as_str.result.now c.args.terms.now.items c.loop-member.terms.items
           c.append_leaves.new.terms.items c.loop-member-test.true c.member-item.is
-          c.as_str.ensures.text c.name-below.ensures c.in_ok-append_name.ensures.ok
+          c.as_str.ensures.text c.name_near-below.ensures c.in_ok-append_name.ensures.ok
           (same ∙ sym c.loop-member.invariant.front) c.in_ok-append_leaves.ensures.terms
           c.loop-member.invariant.terms;
     }

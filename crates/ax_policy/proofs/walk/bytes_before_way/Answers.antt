@@ -2,7 +2,7 @@
 use Rattle.std.proofs.Common.{◌∙◌}
 use Rattle.ax_policy.specs.Walking.{way_text}
 use Rattle.ax_policy.proofs.Walks.{follows_within, before_follows, not_ends}
-use Rattle.ax_policy.proofs.walk.bytes_before_rest.Goals as goal
+use Rattle.ax_policy.proofs.walk.bytes_before_way.Goals as goal
 
 pub overflow_sub-result : goal.overflow_sub-result
 overflow_sub-result c =

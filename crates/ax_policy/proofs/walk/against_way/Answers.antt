@@ -1,7 +1,7 @@
 -- What follows the step, or that it differs, tells how the two compare.
 use Rattle.ax_policy.specs.Walking.{way_text}
 use Rattle.ax_policy.proofs.Walks.{against_ok, against_err}
-use Rattle.ax_policy.proofs.walk.against.Goals as goal
+use Rattle.ax_policy.proofs.walk.against_way.Goals as goal
 
 pub returns-in-Ok : goal.returns-in-Ok
 returns-in-Ok c =

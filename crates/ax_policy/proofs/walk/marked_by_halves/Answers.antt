@@ -6,7 +6,7 @@ use Rattle.std.proofs.lemmas.Fn.{always_returns_same}
 use Rattle.ax_tree.specs.declared.members.Member.{Member}
 use Rattle.ax_policy.specs.Paths.{mark_text}
 use Rattle.ax_policy.proofs.Walks.{marked_ok, marked_err}
-use Rattle.ax_policy.proofs.walk.marked.Goals as goal
+use Rattle.ax_policy.proofs.walk.marked_by_halves.Goals as goal
 
 pub returns-in-Ok : goal.returns-in-Ok
 returns-in-Ok c front r =

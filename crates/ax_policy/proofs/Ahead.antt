@@ -1,0 +1,290 @@
+-- Rules that come before a step, passed one after another, or from a place on; and rules looked
+-- through for a mark.
+use Rattle.std.proofs.Common.{◌≡◌, ℕ, ◌+◌, ◌-◌, ◌<◌, ◌≤◌, zero, suc, List, [], ◌∷◌, ◌++◌, length, take, drop, get_or, Bool, true, false, cond, ◌&&◌, if◌then◌else◌, not, Some, Ordering, Less, Equal, Greater, refl, sym, ap, subst, ◌∙◌, append-nil, append_assoc, add-zero, add-one, arith}
+use Rattle.std.specs.List.{filter}
+use Rattle.std.specs.List.Sorted.{IsPartitionedBy}
+use Rattle.std.specs.Ordering.{is_lt, is_le, is_gt, is_eq}
+use Rattle.std.specs.Str.{bytes_eq}
+use Rattle.std.specs.Prelude.{slice_get}
+use Rattle.std.proofs.Math.Seq.{drop-cons, take-suc}
+use Rattle.std.proofs.lemmas.List.{length-drop, length-take, get_or-drop, get_or-take, drop_all, drop-append-le}
+use Rattle.std.proofs.lemmas.List.Elements.{filter_agree}
+use Rattle.std.proofs.lemmas.Map.Text.{is_eq-slice_cmp}
+use Rattle.std.proofs.lemmas.Option.{slice_get-get_or}
+use Rattle.ax_tree.specs.Names.{HaveRisingNames}
+use Rattle.ax_tree.specs.declared.members.Member.{Member}
+use Rattle.ax_policy.specs.Comparing.{against}
+use Rattle.ax_policy.specs.Rules.{under}
+use Rattle.ax_policy.specs.Walking.{IsRun, BeginBefore, before, within, goes_on, rules_from, rules_up_to}
+use Rattle.ax_policy.proofs.Searching.{later}
+use Rattle.ax_policy.proofs.Walks.{before_parted, within_parted, cmp_front, filter_both, narrowed_is}
+
+-- ---- a run without its first rules
+
+rising_drop : (rules : List (Member Bool)) (count : ℕ) → HaveRisingNames rules
+    → HaveRisingNames (drop count rules)
+rising_drop [] zero r = r
+rising_drop [] (suc count) r = r
+rising_drop (first ∷ rest) zero r = r
+rising_drop (first ∷ rest) (suc count) r = rising_drop rest count (later first rest r)
+
+pub run_drop : (rules : List (Member Bool)) (skip : ℕ) (front : List ℕ) (count : ℕ)
+    → IsRun rules skip front → IsRun (drop count rules) skip front
+run_drop rules skip front count r = record {
+  rising = rising_drop rules count r.rising;
+  begin = λ k d h. rw (get_or-drop count rules k d)
+      (r.begin (count + k) d (omega (arith, length-drop count rules)));
+}
+
+-- ---- a test that only those pass that another does not, or that it does
+
+none_kept : (q : Member Bool → Bool) (rules : List (Member Bool))
+    → ((k : ℕ) (d : Member Bool) → k < length rules → q (get_or rules k d) ≡ false) → filter q rules ≡ []
+none_kept q [] n = refl
+none_kept q (first ∷ rest) n =
+    let here : q first ≡ false = n 0 first (omega arith) in
+    rw here (none_kept q rest (λ k d h. n (suc k) d (omega arith)))
+
+-- before a rule that comes before, and before the next, none goes on
+skip_before : (p q : Member Bool → Bool) (rules : List (Member Bool)) (count place : ℕ) (d : Member Bool)
+    → ((y : Member Bool) → p y ≡ true → q y ≡ false) → IsPartitionedBy p rules
+    → count ≤ suc place → place < length rules → p (get_or rules place d) ≡ true
+    → filter q (drop count rules) ≡ filter q rules
+skip_before p q [] count place d n parts h k e = absurd (omega arith)
+skip_before p q (first ∷ rest) zero place d n parts h k e = refl
+skip_before p q (first ∷ rest) (suc count) zero d n parts h k e =
+    let none : count ≡ 0 = omega arith in
+    let here : q first ≡ false = n first e in
+    rw (none, here) refl
+skip_before p q (first ∷ rest) (suc count) (suc place) d n parts h k e =
+    let here : q first ≡ false = n first (parts 0 (suc place) d (omega arith) (omega arith) e) in
+    rw here
+    (skip_before p q rest count place d n
+    (λ i j d h k f. parts (suc i) (suc j) d (omega arith) (omega arith) f)
+    (omega arith) (omega arith) e)
+
+-- from a rule on that comes behind, none goes on
+stop_behind : (p q : Member Bool → Bool) (rules : List (Member Bool)) (count : ℕ) (d : Member Bool)
+    → ((y : Member Bool) → p y ≡ false → q y ≡ false) → IsPartitionedBy p rules
+    → count < length rules → p (get_or rules count d) ≡ false → filter q (drop count rules) ≡ []
+stop_behind p q [] count d n parts h e = absurd (omega arith)
+stop_behind p q (first ∷ rest) zero d n parts h e =
+    none_kept q (first ∷ rest)
+    (λ k c l. n (get_or (first ∷ rest) k c) (by_test k c l (p (get_or (first ∷ rest) k c)) refl))
+  where
+    by_test : (k : ℕ) (c : Member Bool) → k < length (first ∷ rest) → (b : Bool)
+        → p (get_or (first ∷ rest) k c) ≡ b → p (get_or (first ∷ rest) k c) ≡ false
+    by_test k c l true t = absurd (cc (parts 0 k c (omega arith) l t))
+    by_test k c l false t = t
+stop_behind p q (first ∷ rest) (suc count) d n parts h e =
+    stop_behind p q rest count d n
+    (λ i j d h k f. parts (suc i) (suc j) d (omega arith) (omega arith) f) (omega arith) e
+
+lower_not : (o : Ordering) → is_lt o ≡ true → is_eq o ≡ false
+lower_not Less e = refl
+lower_not Equal e = absurd (cc)
+lower_not Greater e = absurd (cc)
+
+higher_not : (o : Ordering) → is_le o ≡ false → is_eq o ≡ false
+higher_not Less e = absurd (cc)
+higher_not Equal e = absurd (cc)
+higher_not Greater e = refl
+
+is_behind : (o : Ordering) → true ≡ is_gt o → is_le o ≡ false
+is_behind Less e = absurd (cc)
+is_behind Equal e = absurd (cc)
+is_behind Greater e = refl
+
+is_before : (o : Ordering) → false ≡ is_gt o → false ≡ is_eq o → is_lt o ≡ true
+is_before Less e f = refl
+is_before Equal e f = absurd (cc)
+is_before Greater e f = absurd (cc)
+
+pub skipped_before : (rules : List (Member Bool)) (skip : ℕ) (front piece : List ℕ) (count place : ℕ) (d : Member Bool)
+    → IsRun rules skip front → count ≤ suc place → place < length rules
+    → before piece skip (get_or rules place d) ≡ true
+    → filter (goes_on piece skip) (drop count rules) ≡ filter (goes_on piece skip) rules
+skipped_before rules skip front piece count place d r h k e =
+    skip_before (before piece skip) (goes_on piece skip) rules count place d
+    (λ y t. lower_not (against piece (drop skip y.name)) t) (before_parted rules skip front piece r) h k e
+
+-- ---- the rules that were looked at
+
+-- those from the first on that does not come before, and what goes on of the others
+abbrev pub found : List ℕ → ℕ → ℕ → ℕ → List (Member Bool) → List (Member Bool)
+found piece skip passed count rules =
+    drop passed (take count rules) ++ filter (goes_on piece skip) (drop count rules)
+
+pub found_before : (rules : List (Member Bool)) (skip : ℕ) (front piece : List ℕ) (index : ℕ) (rule : Member Bool)
+    → IsRun rules skip front → index < length rules → rule ≡ get_or rules index rule
+    → false ≡ is_gt (against piece (drop skip rule.name))
+    → false ≡ is_eq (against piece (drop skip rule.name))
+    → found piece skip (index + 1) (index + 1) rules ≡ filter (goes_on piece skip) rules
+found_before rules skip front piece index rule r h e g q =
+    ap (λ l. l ++ filter (goes_on piece skip) (drop (index + 1) rules))
+    (drop_all (index + 1) (take (index + 1) rules) (omega (arith, length-take (index + 1) rules)))
+    ∙ skipped_before rules skip front piece (index + 1) index rule r (omega arith) h
+    (ap (before piece skip) (sym e) ∙ is_before (against piece (drop skip rule.name)) g q)
+
+pub first_before : (rules : List (Member Bool)) (skip : ℕ) (front piece : List ℕ) (index : ℕ) (rule : Member Bool)
+    → IsRun rules skip front → index < length rules → rule ≡ get_or rules index rule
+    → false ≡ is_gt (against piece (drop skip rule.name))
+    → false ≡ is_eq (against piece (drop skip rule.name))
+    → BeginBefore piece skip rules
+first_before [] skip front piece index rule r h e g q = absurd (omega arith)
+first_before (first ∷ rest) skip front piece index rule r h e g q =
+    before_parted (first ∷ rest) skip front piece r 0 index rule (omega arith) h
+    (ap (before piece skip) (sym e) ∙ is_before (against piece (drop skip rule.name)) g q)
+
+pub found_equal : (rules : List (Member Bool)) (skip : ℕ) (piece : List ℕ) (passed index : ℕ) (rule : Member Bool)
+    → passed ≤ index → index < length rules → rule ≡ get_or rules index rule
+    → true ≡ is_eq (against piece (drop skip rule.name))
+    → found piece skip passed index rules ≡ filter (goes_on piece skip) rules
+    → found piece skip passed (index + 1) rules ≡ filter (goes_on piece skip) rules
+found_equal rules skip piece passed index rule w h e q f =
+    let last : take (index + 1) rules ≡ take index rules ++ rule ∷ [] =
+    ap (λ n. take n rules) (add-one index) ∙ take-suc rules index rule h
+    ∙ ap (λ y. take index rules ++ y ∷ []) (sym e) in
+    let cons : drop index rules ≡ rule ∷ drop (index + 1) rules =
+    drop-cons rules index rule h ∙ ap (λ y. y ∷ drop (suc index) rules) (sym e)
+    ∙ ap (λ n. rule ∷ drop n rules) (sym (add-one index)) in
+    let kept : filter (goes_on piece skip) (drop index rules)
+    ≡ rule ∷ filter (goes_on piece skip) (drop (index + 1) rules) =
+    ap (filter (goes_on piece skip)) cons
+    ∙ ap (λ (b : Bool). cond b (rule ∷ filter (goes_on piece skip) (drop (index + 1) rules))
+    (filter (goes_on piece skip) (drop (index + 1) rules))) (sym q) in
+    ap (λ l. drop passed l ++ filter (goes_on piece skip) (drop (index + 1) rules)) last
+    ∙ ap (λ l. l ++ filter (goes_on piece skip) (drop (index + 1) rules))
+    (drop-append-le passed (take index rules) (rule ∷ [])
+    (omega (arith, length-take index rules)))
+    ∙ append_assoc (drop passed (take index rules)) (rule ∷ []) (filter (goes_on piece skip) (drop (index + 1) rules))
+    ∙ ap (λ l. drop passed (take index rules) ++ l) (sym kept) ∙ f
+
+pub found_ends : (rules part : List (Member Bool)) (skip : ℕ) (front piece : List ℕ) (passed index : ℕ) (rule : Member Bool)
+    → IsRun rules skip front → index < length rules → rule ≡ get_or rules index rule
+    → true ≡ is_gt (against piece (drop skip rule.name))
+    → part ≡ drop passed (take index rules)
+    → found piece skip passed index rules ≡ filter (goes_on piece skip) rules
+    → part ≡ filter (goes_on piece skip) rules
+found_ends rules part skip front piece passed index rule r h e g p f =
+    let none : filter (goes_on piece skip) (drop index rules) ≡ [] =
+    stop_behind (within piece skip) (goes_on piece skip) rules index rule
+    (λ y t. higher_not (against piece (drop skip y.name)) t) (within_parted rules skip front piece r) h
+    (ap (within piece skip) (sym e) ∙ is_behind (against piece (drop skip rule.name)) g) in
+    p ∙ sym (append-nil (drop passed (take index rules)))
+    ∙ ap (λ l. drop passed (take index rules) ++ l) (sym none) ∙ f
+
+pub found_all : (rules part : List (Member Bool)) (skip : ℕ) (piece : List ℕ) (passed index : ℕ)
+    → length rules ≤ index → part ≡ drop passed (take index rules)
+    → found piece skip passed index rules ≡ filter (goes_on piece skip) rules
+    → part ≡ filter (goes_on piece skip) rules
+found_all rules part skip piece passed index h p f =
+    p ∙ sym (append-nil (drop passed (take index rules)))
+    ∙ ap (λ l. drop passed (take index rules) ++ filter (goes_on piece skip) l) (sym (drop_all index rules h)) ∙ f
+
+-- ---- from a place on
+
+no_rule : Member Bool
+no_rule = record { name = []; value = false }
+
+pub first_passed : (rules ahead run : List (Member Bool)) (skip : ℕ) (front piece : List ℕ) (near : ℕ)
+    → IsRun rules skip front → ahead ≡ drop near rules → BeginBefore piece skip ahead
+    → run ≡ filter (goes_on piece skip) ahead → run ≡ filter (goes_on piece skip) rules
+first_passed rules [] run skip front piece near r a b f = absurd b
+first_passed rules (first ∷ rest) run skip front piece near r a b f =
+    f ∙ ap (filter (goes_on piece skip)) a
+    ∙ skipped_before rules skip front piece near near no_rule r (omega arith)
+    (omega (arith, ap length a, length-drop near rules))
+    (ap (λ n. before piece skip (get_or rules n no_rule)) (sym (add-zero near))
+    ∙ ap (before piece skip) (sym (get_or-drop near rules 0 no_rule))
+    ∙ ap (λ l. before piece skip (get_or l 0 no_rule)) (sym a) ∙ b)
+
+pub last_passed : (rules behind ahead run : List (Member Bool)) (skip : ℕ) (front piece : List ℕ) (near : ℕ)
+    → IsRun rules skip front → near ≤ length rules → behind ≡ take near rules → ahead ≡ drop near rules
+    → ((rule : Member Bool) → slice_get behind (length behind - 1) ≡ Some rule → before piece skip rule ≡ true)
+    → run ≡ filter (goes_on piece skip) ahead → run ≡ filter (goes_on piece skip) rules
+last_passed rules behind ahead run skip front piece zero r h t a e f =
+    f ∙ ap (filter (goes_on piece skip)) a
+last_passed rules behind ahead run skip front piece (suc near) r h t a e f =
+    f ∙ ap (filter (goes_on piece skip)) a
+    ∙ skipped_before rules skip front piece (suc near) near no_rule r (omega arith) (omega arith)
+    (e (get_or rules near no_rule)
+    (ap (λ l. slice_get l (length l - 1)) t
+    ∙ ap (slice_get (take (suc near) rules)) (omega (arith, length-take (suc near) rules))
+    ∙ slice_get-get_or (take (suc near) rules) near no_rule (omega (arith, length-take (suc near) rules))
+    ∙ ap Some (get_or-take (suc near) rules near no_rule (omega arith))))
+
+-- ---- by halves
+
+twice : (b : Bool) → (b && b) ≡ b
+twice true = refl
+twice false = refl
+
+pub from_again : (rules : List (Member Bool)) (skip : ℕ) (piece : List ℕ)
+    → rules_from piece skip (rules_from piece skip rules) ≡ rules_from piece skip rules
+from_again rules skip piece =
+    sym (filter_both (λ y. not (before piece skip y)) (λ y. not (before piece skip y)) rules)
+    ∙ filter_agree (λ y. not (before piece skip y) && not (before piece skip y))
+    (λ y. not (before piece skip y)) (λ y. twice (not (before piece skip y))) rules
+
+later_on : (o : Ordering) → (not (is_lt o) && is_eq o) ≡ is_eq o
+later_on Less = refl
+later_on Equal = refl
+later_on Greater = refl
+
+pub run_from : (rules : List (Member Bool)) (skip : ℕ) (piece : List ℕ)
+    → filter (goes_on piece skip) (rules_from piece skip rules) ≡ filter (goes_on piece skip) rules
+run_from rules skip piece =
+    sym (filter_both (λ y. not (before piece skip y)) (goes_on piece skip) rules)
+    ∙ filter_agree (λ y. not (before piece skip y) && goes_on piece skip y) (goes_on piece skip)
+    (λ y. later_on (against piece (drop skip y.name))) rules
+
+pub run_up_to : (rules run : List (Member Bool)) (skip : ℕ) (piece : List ℕ)
+    → rules_from piece skip rules ≡ rules → run ≡ rules_up_to piece skip rules
+    → run ≡ filter (goes_on piece skip) rules
+run_up_to rules run skip piece e f =
+    f ∙ ap (rules_up_to piece skip) (sym e) ∙ narrowed_is rules skip piece
+
+-- ---- a mark
+
+same_mark : (name front rest key : List ℕ) → name ≡ front ++ rest
+    → bytes_eq (front ++ key) name ≡ bytes_eq key rest
+same_mark name front rest key e =
+    ap (bytes_eq (front ++ key)) e
+    ∙ sym (is_eq-slice_cmp (front ++ key) (front ++ rest))
+    ∙ ap is_eq (cmp_front front key rest) ∙ is_eq-slice_cmp key rest
+
+-- what stands under the mark among the rules from there on
+under_there : (rules : List (Member Bool)) (skip : ℕ) (front key : List ℕ) (index : ℕ) (rule : Member Bool)
+    → IsRun rules skip front → index < length rules → rule ≡ get_or rules index rule
+    → under (front ++ key) (drop index rules)
+    ≡ (if bytes_eq key (drop skip rule.name) then Some rule.value else under (front ++ key) (drop (suc index) rules))
+under_there rules skip front key index rule r h e =
+    let begin : rule.name ≡ front ++ drop skip rule.name =
+    subst (λ (y : Member Bool). y.name ≡ front ++ drop skip y.name) (sym e) (r.begin index rule h) in
+    let cons : drop index rules ≡ rule ∷ drop (suc index) rules =
+    drop-cons rules index rule h ∙ ap (λ y. y ∷ drop (suc index) rules) (sym e) in
+    ap (under (front ++ key)) cons
+    ∙ ap (λ (b : Bool). cond b (Some rule.value) (under (front ++ key) (drop (suc index) rules)))
+    (same_mark rule.name front (drop skip rule.name) key begin)
+
+pub mark_found : (rules : List (Member Bool)) (skip : ℕ) (front key rest : List ℕ) (index : ℕ) (rule : Member Bool)
+    → IsRun rules skip front → index < length rules → rule ≡ get_or rules index rule
+    → rest ≡ drop skip rule.name → true ≡ bytes_eq key rest
+    → under (front ++ key) (drop index rules) ≡ under (front ++ key) rules
+    → Some rule.value ≡ under (front ++ key) rules
+mark_found rules skip front key rest index rule r h e same t passed =
+    ap (λ (b : Bool). cond b (Some rule.value) (under (front ++ key) (drop (suc index) rules)))
+    (t ∙ ap (bytes_eq key) same)
+    ∙ sym (under_there rules skip front key index rule r h e) ∙ passed
+
+pub mark_passed : (rules : List (Member Bool)) (skip : ℕ) (front key rest : List ℕ) (index : ℕ) (rule : Member Bool)
+    → IsRun rules skip front → index < length rules → rule ≡ get_or rules index rule
+    → rest ≡ drop skip rule.name → false ≡ bytes_eq key rest
+    → under (front ++ key) (drop index rules) ≡ under (front ++ key) rules
+    → under (front ++ key) (drop (index + 1) rules) ≡ under (front ++ key) rules
+mark_passed rules skip front key rest index rule r h e same t passed =
+    ap (λ n. under (front ++ key) (drop n rules)) (add-one index)
+    ∙ ap (λ (b : Bool). cond b (Some rule.value) (under (front ++ key) (drop (suc index) rules)))
+    (t ∙ ap (bytes_eq key) same)
+    ∙ sym (under_there rules skip front key index rule r h e) ∙ passed
