@@ -4,3 +4,4 @@ mod few;
 mod largest;
 mod many;
 mod random;
+mod worked_page;

@@ -4,7 +4,7 @@ ghost use Rattle.ax_index_tests.specs.Ready.{IsReady};
 
 use crate::tests::changing::{change, fresh_disk, has_pair, numbers, opened, put};
 use ax_cache::NoPages;
-use ax_disk::MemDisk;
+use ax_disk::Disk;
 use ax_index::Change;
 use ax_store::Store;
 use std::alloc::Global;
@@ -19,11 +19,14 @@ struct Answers {
 }
 
 /// The answers of a1, a2, b1, b9 and c3, of all terms, and of those from b on and before c.
-fn all_answers(
+fn all_answers<D: Disk>(
     alloc: Global,
-    disk: &mut MemDisk,
+    disk: &mut D,
     store: &mut Store<NoPages>,
-) -> Result<Answers, Fail> {
+) -> Result<Answers, Fail>
+    requires { IsReady store.old (D.is_honest disk.old) (D.history disk.old (D.attached disk.old)) }
+    ensures { IsReady store.new (D.is_honest disk.new) (D.history disk.new (D.attached disk.new)) }
+{
     let has = [
         has_pair(alloc, disk, store, b"a", 1)?,
         has_pair(alloc, disk, store, b"a", 2)?,

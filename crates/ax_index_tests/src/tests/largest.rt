@@ -46,7 +46,7 @@ fn the_longest_terms_are_kept(rt: HostRuntime) -> Result<(), Fail> {
     let second = long_list(alloc, 7)?;
     let merged = change(alloc, &mut disk, &mut store, second.as_slice())?;
     assert_eq!(rt; merged, 1);
-    assert!(rt; store.pages() > 10, "{}", store.pages());
+    assert_eq!(rt; store.pages(), 20);
     drop(store);
     let mut store = opened(alloc, &mut disk)?;
     let found = numbers(alloc, &mut disk, &mut store, b"t", b"u")?;

@@ -4,7 +4,7 @@ ghost use Rattle.ax_index_tests.specs.Ready.{IsReady};
 
 use crate::tests::changing::{change, fresh_disk, merge, numbers, opened, put};
 use ax_cache::NoPages;
-use ax_disk::MemDisk;
+use ax_disk::Disk;
 use ax_index::Change;
 use ax_pages::Page;
 use ax_store::Store;
@@ -32,14 +32,19 @@ struct Most {
     parts: usize,
 }
 
+/// The number that a list has at a place of its own.
+fn number_of(list: u32, i: u32) -> u32 {
+    list.saturating_add(i.saturating_mul(LISTS))
+}
+
 /// A list of changes, over all terms: every so many-th number from one on.
 fn list_of(alloc: Global, add: bool, list: u32) -> Result<Vec<Change>, Fail> {
     let mut changes = Vec::new(alloc);
     for i in 0..NUMBERS {
-        put(alloc, &mut changes, add, SHARED, i * LISTS + list)?;
+        put(alloc, &mut changes, add, SHARED, number_of(list, i))?;
     }
     for i in 0..NUMBERS {
-        put_own(alloc, &mut changes, add, i * LISTS + list)?;
+        put_own(alloc, &mut changes, add, number_of(list, i))?;
     }
     Ok(changes)
 }
@@ -52,12 +57,15 @@ fn put_own(alloc: Global, changes: &mut Vec<Change>, add: bool, number: u32) -> 
 }
 
 /// Makes all changes, list by list.
-fn change_all(
+fn change_all<D: Disk>(
     alloc: Global,
-    disk: &mut MemDisk,
+    disk: &mut D,
     store: &mut Store<NoPages>,
     add: bool,
-) -> Result<Most, Fail> {
+) -> Result<Most, Fail>
+    requires { IsReady store.old (D.is_honest disk.old) (D.history disk.old (D.attached disk.old)) }
+    ensures { IsReady store.new (D.is_honest disk.new) (D.history disk.new (D.attached disk.new)) }
+{
     let mut most = Most {
         merged: 0,
         parts: 0,
@@ -74,9 +82,12 @@ fn change_all(
 }
 
 /// Merges four pages at a time, as often as there are lists, and answers how many were merged last.
-fn merge_all(alloc: Global, disk: &mut MemDisk, store: &mut Store<NoPages>) -> Result<u32, Fail> {
+fn merge_all<D: Disk>(alloc: Global, disk: &mut D, store: &mut Store<NoPages>) -> Result<u32, Fail>
+    requires { IsReady store.old (D.is_honest disk.old) (D.history disk.old (D.attached disk.old)) }
+    ensures { IsReady store.new (D.is_honest disk.new) (D.history disk.new (D.attached disk.new)) }
+{
     let mut last = 0;
-    for _ in 0..LISTS {
+    for round in 0..LISTS {
         last = merge(alloc, disk, store, 4)?;
     }
     Ok(last)
@@ -101,28 +112,56 @@ fn are_all(numbers: &[u32]) -> bool {
     numbers.len() == (LISTS * NUMBERS) as usize
 }
 
+/// Whether all numbers are found by both kinds of term together, and by each alone.
+fn all_are_found<D: Disk>(
+    alloc: Global,
+    disk: &mut D,
+    store: &mut Store<NoPages>,
+) -> Result<bool, Fail>
+    requires { IsReady store.old (D.is_honest disk.old) (D.history disk.old (D.attached disk.old)) }
+    ensures { IsReady store.new (D.is_honest disk.new) (D.history disk.new (D.attached disk.new)) }
+{
+    let both = numbers(alloc, disk, store, b"", END)?;
+    let shared = numbers(alloc, disk, store, SHARED, OWN)?;
+    let own = numbers(alloc, disk, store, OWN, END)?;
+    Ok(are_all(both.as_slice()) && are_all(shared.as_slice()) && are_all(own.as_slice()))
+}
+
 #[test]
-fn many_pairs_are_split_and_merged(rt: HostRuntime) -> Result<(), Fail> {
+fn many_pairs_are_split_and_found_again(rt: HostRuntime) -> Result<(), Fail> {
     let alloc = rt.alloc();
     let mut disk = fresh_disk(alloc, 1 << 22)?;
     let mut store = opened(alloc, &mut disk)?;
     let most = change_all(alloc, &mut disk, &mut store, true)?;
     assert!(rt; most.merged > 0 && most.merged <= 16, "{}", most.merged);
     assert!(rt; most.parts > 8 && most.parts <= 17, "{}", most.parts);
-
+    assert!(rt; store.pages() > 1, "{}", store.pages());
     drop(store);
     let mut store = opened(alloc, &mut disk)?;
-    assert!(rt; store.pages() > 1, "{}", store.pages());
-    assert!(rt; are_all(numbers(alloc, &mut disk, &mut store, b"", END)?.as_slice()));
-    assert!(rt; are_all(numbers(alloc, &mut disk, &mut store, SHARED, OWN)?.as_slice()));
-    assert!(rt; are_all(numbers(alloc, &mut disk, &mut store, OWN, END)?.as_slice()));
+    assert!(rt; all_are_found(alloc, &mut disk, &mut store)?);
+    Ok(())
+}
 
+#[test]
+fn many_pages_are_merged(rt: HostRuntime) -> Result<(), Fail> {
+    let alloc = rt.alloc();
+    let mut disk = fresh_disk(alloc, 1 << 22)?;
+    let mut store = opened(alloc, &mut disk)?;
+    change_all(alloc, &mut disk, &mut store, true)?;
     assert!(rt; most_parts(&store) > 1);
     assert_eq!(rt; merge(alloc, &mut disk, &mut store, 2)?, 2);
     assert_eq!(rt; merge_all(alloc, &mut disk, &mut store)?, 0);
     assert_eq!(rt; most_parts(&store), 1);
-    assert!(rt; are_all(numbers(alloc, &mut disk, &mut store, OWN, END)?.as_slice()));
+    assert!(rt; all_are_found(alloc, &mut disk, &mut store)?);
+    Ok(())
+}
 
+#[test]
+fn many_pairs_are_dropped(rt: HostRuntime) -> Result<(), Fail> {
+    let alloc = rt.alloc();
+    let mut disk = fresh_disk(alloc, 1 << 22)?;
+    let mut store = opened(alloc, &mut disk)?;
+    change_all(alloc, &mut disk, &mut store, true)?;
     let most = change_all(alloc, &mut disk, &mut store, false)?;
     assert!(rt; most.merged > 0 && most.merged <= 16, "{}", most.merged);
     assert!(rt; most.parts <= 17, "{}", most.parts);

@@ -1,10 +1,11 @@
 //! Random changes, against a set.
 
+ghost use Rattle.std.specs.Prelude.{◌<◌};
 ghost use Rattle.ax_index_tests.specs.Ready.{IsReady};
 
 use crate::tests::changing::{change, fresh_disk, has_pair, numbers, opened, put};
 use ax_cache::NoPages;
-use ax_disk::MemDisk;
+use ax_disk::Disk;
 use ax_index::Change;
 use ax_store::Store;
 use std::alloc::Global;
@@ -32,7 +33,9 @@ struct Draws {
 
 impl Draws {
     /// The next number below a bound, which is not 0.
-    fn below(&mut self, bound: u32) -> u32 {
+    fn below(&mut self, bound: u32) -> u32
+        ensures { 0 < bound → result < bound }
+    {
         self.state = self
             .state
             .wrapping_mul(1_664_525)
@@ -44,7 +47,7 @@ impl Draws {
 /// The bytes of a term: its place in the order, and up to 190 bytes.
 fn term_of(alloc: Global, term: u32) -> Result<Vec<u8>, Fail> {
     let mut bytes = Vec::from_slice(alloc, &term.to_be_bytes())?;
-    bytes.resize((4 + term * 37 % 190) as usize, b'x')?;
+    bytes.resize((4 + term.wrapping_mul(37) % 190) as usize, b'x')?;
     Ok(bytes)
 }
 
@@ -102,13 +105,16 @@ fn has_number(set: &BTreeSet<u32>, from: u32, below: u32, number: u32) -> bool {
 }
 
 /// Whether the index answers of a random pair what a set does.
-fn agree_on_a_pair(
+fn agree_on_a_pair<D: Disk>(
     alloc: Global,
-    disk: &mut MemDisk,
+    disk: &mut D,
     store: &mut Store<NoPages>,
     set: &BTreeSet<u32>,
     draws: &mut Draws,
-) -> Result<bool, Fail> {
+) -> Result<bool, Fail>
+    requires { IsReady store.old (D.is_honest disk.old) (D.history disk.old (D.attached disk.old)) }
+    ensures { IsReady store.new (D.is_honest disk.new) (D.history disk.new (D.attached disk.new)) }
+{
     let code = draws.below(TERMS * NUMBERS);
     let term = term_of(alloc, code / NUMBERS)?;
     let found = has_pair(alloc, disk, store, term.as_slice(), code % NUMBERS)?;
@@ -116,13 +122,16 @@ fn agree_on_a_pair(
 }
 
 /// Whether the index answers of a random range what a set does.
-fn agree_on_a_range(
+fn agree_on_a_range<D: Disk>(
     alloc: Global,
-    disk: &mut MemDisk,
+    disk: &mut D,
     store: &mut Store<NoPages>,
     set: &BTreeSet<u32>,
     draws: &mut Draws,
-) -> Result<bool, Fail> {
+) -> Result<bool, Fail>
+    requires { IsReady store.old (D.is_honest disk.old) (D.history disk.old (D.attached disk.old)) }
+    ensures { IsReady store.new (D.is_honest disk.new) (D.history disk.new (D.attached disk.new)) }
+{
     let from = draws.below(TERMS);
     let below = from + draws.below(4);
     let first = term_of(alloc, from)?;
@@ -131,21 +140,41 @@ fn agree_on_a_range(
     Ok(found.as_slice() == numbers_of(alloc, set, from, below)?.as_slice())
 }
 
+/// Whether the index and a set still agree when both have had one more random change list.
+fn agree_after_a_list<D: Disk>(
+    alloc: Global,
+    disk: &mut D,
+    store: &mut Store<NoPages>,
+    set: &mut BTreeSet<u32>,
+    draws: &mut Draws,
+) -> Result<bool, Fail>
+    requires { IsReady store.old (D.is_honest disk.old) (D.history disk.old (D.attached disk.old)) }
+    ensures { IsReady store.new (D.is_honest disk.new) (D.history disk.new (D.attached disk.new)) }
+{
+    let drawn = drawn(alloc, draws)?;
+    let changes = changes_of(alloc, &drawn)?;
+    change_set(set, &drawn)?;
+    change(alloc, disk, store, changes.as_slice())?;
+    agree_on_a_pair(alloc, disk, store, set, draws)
+}
+
 /// The first of random change lists after which the index and a set differ.
-fn first_difference(alloc: Global, seed: u32) -> Result<Option<u32>, Fail> {
-    let mut disk = fresh_disk(alloc, 1 << 22)?;
-    let mut store = opened(alloc, &mut disk)?;
+fn first_difference<D: Disk>(
+    alloc: Global,
+    disk: &mut D,
+    store: &mut Store<NoPages>,
+    seed: u32,
+) -> Result<Option<u32>, Fail>
+    requires { IsReady store.old (D.is_honest disk.old) (D.history disk.old (D.attached disk.old)) }
+    ensures { IsReady store.new (D.is_honest disk.new) (D.history disk.new (D.attached disk.new)) }
+{
     let mut set = BTreeSet::new(alloc);
     let mut draws = Draws { state: seed };
     for list in 0..LISTS {
-        let drawn = drawn(alloc, &mut draws)?;
-        let changes = changes_of(alloc, &drawn)?;
-        change(alloc, &mut disk, &mut store, changes.as_slice())?;
-        change_set(&mut set, &drawn)?;
-        if !agree_on_a_pair(alloc, &mut disk, &mut store, &set, &mut draws)? {
+        if !agree_after_a_list(alloc, disk, store, &mut set, &mut draws)? {
             return Ok(Some(list));
         }
-        if list % 25 == 24 && !agree_on_a_range(alloc, &mut disk, &mut store, &set, &mut draws)? {
+        if list % 25 == 24 && !agree_on_a_range(alloc, disk, store, &set, &mut draws)? {
             return Ok(Some(list));
         }
     }
@@ -154,6 +183,10 @@ fn first_difference(alloc: Global, seed: u32) -> Result<Option<u32>, Fail> {
 
 #[test]
 fn random_changes_are_as_in_a_set(rt: HostRuntime) -> Result<(), Fail> {
-    assert_eq!(rt; first_difference(rt.alloc(), SEED)?, None, "seed {SEED}");
+    let alloc = rt.alloc();
+    let mut disk = fresh_disk(alloc, 1 << 22)?;
+    let mut store = opened(alloc, &mut disk)?;
+    let differs = first_difference(alloc, &mut disk, &mut store, SEED)?;
+    assert_eq!(rt; differs, None, "seed {SEED}");
     Ok(())
 }

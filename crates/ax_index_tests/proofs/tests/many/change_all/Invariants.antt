@@ -1,0 +1,5 @@
+use Rattle.ax_index_tests.specs.Ready.{IsReady}
+use Rattle.ax_index_tests.proofs.tests.many.change_all.Given as goal
+
+abbrev pub invariant-loop-list : goal.invariant-loop-list
+invariant-loop-list g l = IsReady l.store (g.D.Disk.is_honest l.disk) (g.D.Disk.history l.disk (g.D.Disk.attached l.disk))
