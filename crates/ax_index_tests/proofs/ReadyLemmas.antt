@@ -1,9 +1,9 @@
 -- A store stays ready: where nothing of it changed but slots or room, and at a commit.
-use Rattle.std.proofs.Common.{◌≡◌, ◌≤◌, Bool, true, false, not, List, refl, sym, ap, subst, ◌∙◌, arith}
+use Rattle.std.proofs.Common.{◌≡◌, ◌≤◌, Bool, not, List, refl, sym, ap, subst, ◌∙◌, arith}
 use Rattle.std.specs.Prelude.{ℕ, [], ◌++◌, Some, IsTrue, count_by}
 use Rattle.ax_disk.specs.model.Moments.{History}
 use Rattle.ax_disk.specs.model.Calls.{Idles}
-use Rattle.ax_pool.specs.Frames.{Frames, free_count}
+use Rattle.ax_pool.specs.Frames.{free_count}
 use Rattle.ax_delta.specs.declared.change.Change.{Change}
 use Rattle.ax_frame.specs.Part.{PartValue}
 use Rattle.ax_pages.specs.AfterPart.{after_parts}
@@ -17,7 +17,7 @@ use Rattle.ax_store.specs.Kept.{deltas_of}
 use Rattle.ax_store.specs.Loading.{nothing_kept}
 use Rattle.ax_store.specs.Putting.{AreWithin}
 use Rattle.ax_store.specs.Slots.{HasAllFree}
-use Rattle.ax_store.specs.Store.{Agrees, SameButSlots, store_failed, store_slots}
+use Rattle.ax_store.specs.Store.{Agrees, SameButSlots, store_slots}
 use Rattle.ax_store.proofs.LoadLemmas.{last_same}
 use Rattle.ax_store.proofs.StoreLemmas.{agrees_still, agrees_slots}
 use Rattle.ax_index_tests.specs.Ready.{IsReady}

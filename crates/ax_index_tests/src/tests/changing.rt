@@ -148,6 +148,15 @@ pub fn put(
     Ok(changes.push(Change { add, pair })?)
 }
 
+/// Changes of so many rows.
+pub fn changes_of_rows(alloc: Global, rows: &[(bool, &[u8], u32)]) -> Result<Vec<Change>, Fail> {
+    let mut changes = Vec::new(alloc);
+    for (add, term, number) in rows {
+        put(alloc, &mut changes, *add, term, *number)?;
+    }
+    Ok(changes)
+}
+
 fn pair_of(alloc: Global, term: &[u8], number: u32) -> Result<Pair, AllocError> {
     let term = bytes_of(alloc, term)?;
     Ok(Pair { term, number })

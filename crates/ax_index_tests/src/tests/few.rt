@@ -2,10 +2,9 @@
 
 ghost use Rattle.ax_index_tests.specs.Ready.{IsReady};
 
-use crate::tests::changing::{change, fresh_disk, has_pair, numbers, opened, put};
+use crate::tests::changing::{change, changes_of_rows, fresh_disk, has_pair, numbers, opened};
 use ax_cache::NoPages;
 use ax_disk::Disk;
-use ax_index::Change;
 use ax_store::Store;
 use std::alloc::Global;
 use std::test::Fail;
@@ -46,15 +45,6 @@ fn wanted(alloc: Global, has: [bool; 5], all: &[u32], of_b: &[u32]) -> Result<An
     Ok(Answers { has, all, of_b })
 }
 
-/// Changes of so many rows.
-fn changes_of(alloc: Global, rows: &[(bool, &[u8], u32)]) -> Result<Vec<Change>, Fail> {
-    let mut changes = Vec::new(alloc);
-    for (add, term, number) in rows {
-        put(alloc, &mut changes, *add, term, *number)?;
-    }
-    Ok(changes)
-}
-
 // The second list adds what is there and drops what is not.
 #[test]
 fn pairs_are_added_and_dropped(rt: HostRuntime) -> Result<(), Fail> {
@@ -64,7 +54,7 @@ fn pairs_are_added_and_dropped(rt: HostRuntime) -> Result<(), Fail> {
     let nothing = wanted(alloc, [false; 5], &[], &[])?;
     assert_eq!(rt; all_answers(alloc, &mut disk, &mut store)?, nothing);
 
-    let first = changes_of(
+    let first = changes_of_rows(
         alloc,
         &[
             (true, b"a", 1),
@@ -79,7 +69,7 @@ fn pairs_are_added_and_dropped(rt: HostRuntime) -> Result<(), Fail> {
     let four = wanted(alloc, [true, true, true, false, true], &[1, 2, 3], &[1])?;
     assert_eq!(rt; all_answers(alloc, &mut disk, &mut store)?, four);
 
-    let second = changes_of(
+    let second = changes_of_rows(
         alloc,
         &[
             (true, b"a", 1),

@@ -2,10 +2,9 @@
 
 ghost use Rattle.ax_index_tests.specs.Ready.{IsReady};
 
-use crate::tests::changing::{change, fresh_disk, merge, opened, put};
+use crate::tests::changing::{change, changes_of_rows, fresh_disk, merge, opened};
 use ax_cache::NoPages;
 use ax_disk::{Disk, Extent};
-use ax_index::Change;
 use ax_store::Store;
 use std::alloc::Global;
 use std::test::Fail;
@@ -40,15 +39,6 @@ const MERGED_BASE: &[u8] = &[
     0, 0, 0, 0, 5, 1, 2, 14, 1, 6, 1, 1,
 ];
 
-/// Changes of so many rows.
-fn changes_of(alloc: Global, rows: &[(bool, &[u8], u32)]) -> Result<Vec<Change>, Fail> {
-    let mut changes = Vec::new(alloc);
-    for (add, term, number) in rows {
-        put(alloc, &mut changes, *add, term, *number)?;
-    }
-    Ok(changes)
-}
-
 /// Whether a payload stands anywhere in the bytes.
 fn has_payload(bytes: &[u8], payload: &[u8]) -> bool {
     for i in 0..bytes.len() {
@@ -65,12 +55,12 @@ fn write_page<D: Disk>(alloc: Global, disk: &mut D, store: &mut Store<NoPages>) 
     requires { IsReady store.old (D.is_honest disk.old) (D.history disk.old (D.attached disk.old)) }
     ensures { IsReady store.new (D.is_honest disk.new) (D.history disk.new (D.attached disk.new)) }
 {
-    let first = changes_of(alloc, &[(true, ID_A, 1), (true, FIVE, 1)])?;
+    let first = changes_of_rows(alloc, &[(true, ID_A, 1), (true, FIVE, 1)])?;
     change(alloc, disk, store, first.as_slice())?;
     merge(alloc, disk, store, 1)?;
-    let second = changes_of(alloc, &[(true, ID_B, 2), (true, FIVE, 2)])?;
+    let second = changes_of_rows(alloc, &[(true, ID_B, 2), (true, FIVE, 2)])?;
     change(alloc, disk, store, second.as_slice())?;
-    let third = changes_of(alloc, &[(false, FIVE, 1), (true, SIX, 1)])?;
+    let third = changes_of_rows(alloc, &[(false, FIVE, 1), (true, SIX, 1)])?;
     change(alloc, disk, store, third.as_slice())?;
     Ok(merge(alloc, disk, store, 1)?)
 }
