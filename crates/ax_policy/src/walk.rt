@@ -1,6 +1,6 @@
 //! A walk down a document beside the rules of a policy: at each step the rules that go on are found
 //! among those that were left, so that what is decided on a leaf costs what its last step costs.
-ghost use Rattle.std.specs.Prelude.{◌≡◌, ◌↔◌, ◌<◌, ◌≤◌, ℕ, [], ◌∷◌, ◌++◌, ◌-◌, Bool, List, IsTrue, slice_get, IfOk, IfErr, IfSome, true, drop, length, take};
+ghost use Rattle.std.specs.Prelude.{◌≡◌, ◌↔◌, ◌<◌, ◌≤◌, ℕ, [], ◌∷◌, ◌++◌, ◌-◌, Bool, List, IsTrue, slice_get, IfOk, IfErr, true, false, drop, length, take};
 ghost use Rattle.std.specs.List.{All, filter};
 ghost use Rattle.ax_mean.specs.declared.query.Step.{Step};
 ghost use Rattle.ax_mean.specs.declared.query.Step.TheVariants.{Name, Item};
@@ -11,7 +11,7 @@ ghost use Rattle.ax_policy.specs.Covering.{Covers};
 ghost use Rattle.ax_policy.specs.Deciding as spec;
 ghost use Rattle.ax_policy.specs.Paths.{either as either_of, mark_text, plain_text};
 ghost use Rattle.ax_policy.specs.Rules.{under};
-ghost use Rattle.ax_policy.specs.Walking.{IsAt, IsRun, GoOn, bytes_of, before, goes_on as does_go_on, piece_text, rules_from, rules_up_to, step_of, way_text, BeginBefore};
+ghost use Rattle.ax_policy.specs.Walking.{IsAt, IsRun, GoOn, bytes_of, before, goes_on as does_go_on, piece_text, rules_from, rules_up_to, step_of, way_text, within, BeginBefore};
 
 use crate::compare::{after_item, after_name, against_plain};
 use crate::covering::search;
@@ -214,7 +214,7 @@ fn piece_of(way: Way<'_>) -> Piece<'_>
 }
 
 /// The rules that go on with the step behind so many bytes. They are looked for from a place on,
-/// which is then set behind them, and by halves among all where they are not just there.
+/// which is then set behind them, and by halves among all where they begin before it.
 fn narrowed<'a>(
     rules: &'a [Member<bool>],
     skip: usize,
@@ -225,14 +225,13 @@ fn narrowed<'a>(
         → result.now ≡ filter (does_go_on (piece_text piece.entry) skip) rules.now }
 {
     let (behind, ahead) = rules.split_at((*near).min(rules.len()));
-    if let Some((passed, run)) = run_of_few(ahead, skip, piece) {
-        *near = place_behind(behind.len(), passed, run);
-        if passed > 0 {
-            return run;
-        }
-        if are_before(behind, skip, piece) {
-            return run;
-        }
+    let (passed, run) = run_ahead(ahead, skip, piece);
+    *near = place_behind(behind.len(), passed, run);
+    if passed > 0 {
+        return run;
+    }
+    if are_before(behind, skip, piece) {
+        return run;
     }
     let rest = from_by_halves(rules, skip, piece);
     let run = run_at_front(rest, skip, piece);
@@ -257,27 +256,70 @@ fn are_before(rules: &[Member<bool>], skip: usize, piece: Piece<'_>) -> bool
     }
 }
 
-/// How many rules come before the step, and the rules that go on with it; `None` where a look at
-/// `FEW` rules does not tell.
+/// How many rules come before the step, and the rules that go on with it.
+fn run_ahead<'a>(
+    rules: &'a [Member<bool>],
+    skip: usize,
+    piece: Piece<'_>,
+) -> (usize, &'a [Member<bool>])
+    ensures run { (front : List ℕ) → IsRun rules.now skip front
+        → result.1.now ≡ filter (does_go_on (piece_text piece.entry) skip) rules.now }
+    ensures passed { (front : List ℕ) → IsRun rules.now skip front
+        → 0 < result.0 → BeginBefore (piece_text piece.entry) skip rules.now }
+{
+    match run_of_few(rules, skip, piece) {
+        Ok(found) => found,
+        Err(passed) => run_far(rules, passed, skip, piece),
+    }
+}
+
+/// The same where so many rules are known to come before the step.
+fn run_far<'a>(
+    rules: &'a [Member<bool>],
+    passed: usize,
+    skip: usize,
+    piece: Piece<'_>,
+) -> (usize, &'a [Member<bool>])
+    requires bound { passed ≤ length rules.now }
+    requires before { (front : List ℕ) → IsRun rules.now skip front
+        → rules_from (piece_text piece) skip (drop passed rules.now)
+        ≡ rules_from (piece_text piece) skip rules.now }
+    ensures run { (front : List ℕ) → IsRun rules.now skip front
+        → result.1.now ≡ filter (does_go_on (piece_text piece.entry) skip) rules.now }
+    ensures passed { (front : List ℕ) → IsRun rules.now skip front
+        → 0 < result.0 → BeginBefore (piece_text piece.entry) skip rules.now }
+{
+    let (_, left) = rules.split_at(passed);
+    let rest = from_by_strides(left, skip, piece);
+    let run = run_at_front(rest, skip, piece);
+    (rules.len().saturating_sub(rest.len()), run)
+}
+
+/// How many rules come before the step, and the rules that go on with it; where a look at `FEW`
+/// rules does not tell, how many of these come before.
 fn run_of_few<'a>(
     rules: &'a [Member<bool>],
     skip: usize,
     piece: Piece<'_>,
-) -> Option<(usize, &'a [Member<bool>])>
+) -> Result<(usize, &'a [Member<bool>]), usize>
     ensures run { (front : List ℕ) → IsRun rules.now skip front
-        → IfSome result (λ found. found.1.now ≡ filter (does_go_on (piece_text piece.entry) skip) rules.now) }
+        → IfOk result (λ found. found.1.now ≡ filter (does_go_on (piece_text piece.entry) skip) rules.now) }
     ensures passed { (front : List ℕ) → IsRun rules.now skip front
-        → IfSome result (λ found. 0 < found.0 → BeginBefore (piece_text piece.entry) skip rules.now) }
+        → IfOk result (λ found. 0 < found.0 → BeginBefore (piece_text piece.entry) skip rules.now) }
+    ensures bound { IfErr result (λ passed. passed ≤ length rules.now) }
+    ensures before { (front : List ℕ) → IsRun rules.now skip front
+        → IfErr result (λ passed. rules_from (piece_text piece.entry) skip (drop passed rules.now)
+        ≡ rules_from (piece_text piece.entry) skip rules.now) }
 {
     let mut passed = 0;
     let mut count = 0;
     for rule in rules {
         if count == FEW {
-            return None;
+            return Err(passed);
         }
         let order = against(rule, skip, piece);
         if order.is_gt() {
-            return Some((passed, between(rules, passed, count)));
+            return Ok((passed, between(rules, passed, count)));
         }
         count += 1;
         if order.is_eq() {
@@ -285,7 +327,7 @@ fn run_of_few<'a>(
         }
         passed = count;
     }
-    Some((passed, between(rules, passed, count)))
+    Ok((passed, between(rules, passed, count)))
 }
 
 fn between(rules: &[Member<bool>], from: usize, to: usize) -> &[Member<bool>]
@@ -304,22 +346,7 @@ fn run_at_front<'a>(rules: &'a [Member<bool>], skip: usize, piece: Piece<'_>) ->
         → rules_from (piece_text piece.entry) skip rules.now ≡ rules.now
         → result.now ≡ filter (does_go_on (piece_text piece.entry) skip) rules.now }
 {
-    if are_many(rules, skip, piece) {
-        return up_to_by_halves(rules, skip, piece);
-    }
-    match run_of_few(rules, skip, piece) {
-        Some((_passed, run)) => run,
-        None => up_to_by_halves(rules, skip, piece),
-    }
-}
-
-/// Whether a rule goes on with the step that lies so far behind that a look at each costs more than
-/// a search by halves. It only tells which of the two is tried, so that nothing is proved of it.
-fn are_many(rules: &[Member<bool>], skip: usize, piece: Piece<'_>) -> bool {
-    match rules.get(FEW) {
-        Some(rule) => against(rule, skip, piece).is_eq(),
-        None => false,
-    }
+    up_to_by_strides(rules, skip, piece)
 }
 
 fn from_by_halves<'a>(
@@ -335,7 +362,23 @@ fn from_by_halves<'a>(
     rest
 }
 
-fn up_to_by_halves<'a>(
+/// The same, which costs by how far the first of them lies.
+fn from_by_strides<'a>(
+    rules: &'a [Member<bool>],
+    skip: usize,
+    piece: Piece<'_>,
+) -> &'a [Member<bool>]
+    ensures { (front : List ℕ) → IsRun rules.now skip front
+        → result.now ≡ rules_from (piece_text piece.entry) skip rules.now }
+{
+    let (near, _) = rules.split_at(stride_from(rules, skip, piece));
+    let count = near.partition_point(|rule| against(rule, skip, piece).is_lt());
+    let (_, rest) = rules.split_at(count);
+    rest
+}
+
+/// The rules that do not come behind the step, which costs by how many they are.
+fn up_to_by_strides<'a>(
     rules: &'a [Member<bool>],
     skip: usize,
     piece: Piece<'_>,
@@ -343,9 +386,42 @@ fn up_to_by_halves<'a>(
     ensures { (front : List ℕ) → IsRun rules.now skip front
         → result.now ≡ rules_up_to (piece_text piece.entry) skip rules.now }
 {
-    let count = rules.partition_point(|rule| against(rule, skip, piece).is_le());
+    let (near, _) = rules.split_at(stride_behind(rules, skip, piece));
+    let count = near.partition_point(|rule| against(rule, skip, piece).is_le());
     let (front, _) = rules.split_at(count);
     front
+}
+
+/// A place by strides that double from which on no rule comes before the step.
+fn stride_from(rules: &[Member<bool>], skip: usize, piece: Piece<'_>) -> usize
+    ensures bound { result ≤ length rules.now }
+    ensures rule { (rule : Member Bool) → slice_get rules.now result ≡ Some rule
+        → before (piece_text piece.entry) skip rule ≡ false }
+{
+    let mut to = 0;
+    while let Some(rule) = rules.get(to) {
+        if !against(rule, skip, piece).is_lt() {
+            return to;
+        }
+        to = to.saturating_mul(2).max(FEW);
+    }
+    rules.len()
+}
+
+/// A place by strides that double from which on each rule comes behind the step.
+fn stride_behind(rules: &[Member<bool>], skip: usize, piece: Piece<'_>) -> usize
+    ensures bound { result ≤ length rules.now }
+    ensures rule { (rule : Member Bool) → slice_get rules.now result ≡ Some rule
+        → within (piece_text piece.entry) skip rule ≡ false }
+{
+    let mut to = FEW;
+    while let Some(rule) = rules.get(to) {
+        if against(rule, skip, piece).is_gt() {
+            return to;
+        }
+        to = to.saturating_mul(2);
+    }
+    rules.len()
 }
 
 /// How a rule compares behind so many bytes with the step; equal where it goes on with it.
