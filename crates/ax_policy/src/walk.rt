@@ -23,6 +23,8 @@ use std::cmp::Ordering;
 
 /// So many rules are looked at one after another before a search by halves.
 const FEW: usize = 8;
+/// So many rules that go on with a step are looked at one after another before strides.
+const FEW_ON: usize = 3;
 
 /// Where a walk down a document stands among the rules of a policy.
 #[derive(Clone, Copy)]
@@ -137,8 +139,8 @@ impl<'a> RuleWalk<'a> {
             → IsAt result policy (path ++ step_of way.entry ∷ []) }
     {
         let piece = piece_of(way);
-        let rules = narrowed(self.rules, self.skip, piece, near);
-        let skip = bytes_behind(rules, self.skip, piece);
+        let rules = narrowed(self.rules, self.skip, &piece, near);
+        let skip = bytes_behind(rules, self.skip, &piece);
         RuleWalk {
             on: self.on,
             decided: self.decided_by(rules, skip),
@@ -218,11 +220,11 @@ fn piece_of(way: Way<'_>) -> Piece<'_>
 fn narrowed<'a>(
     rules: &'a [Member<bool>],
     skip: usize,
-    piece: Piece<'_>,
+    piece: &Piece<'_>,
     near: &mut usize,
 ) -> &'a [Member<bool>]
     ensures { (front : List ℕ) → IsRun rules.now skip front
-        → result.now ≡ filter (does_go_on (piece_text piece.entry) skip) rules.now }
+        → result.now ≡ filter (does_go_on (piece_text piece.now) skip) rules.now }
 {
     let (behind, ahead) = rules.split_at((*near).min(rules.len()));
     let (passed, run) = run_ahead(ahead, skip, piece);
@@ -246,9 +248,9 @@ fn place_behind(place: usize, passed: usize, run: &[Member<bool>]) -> usize {
 }
 
 /// Whether all these rules come before the step, which the last one tells.
-fn are_before(rules: &[Member<bool>], skip: usize, piece: Piece<'_>) -> bool
+fn are_before(rules: &[Member<bool>], skip: usize, piece: &Piece<'_>) -> bool
     ensures { (rule : Member Bool) → IsTrue result → slice_get rules.now (length rules.now - 1) ≡ Some rule
-        → before (piece_text piece.entry) skip rule ≡ true }
+        → before (piece_text piece.now) skip rule ≡ true }
 {
     match rules.last() {
         Some(rule) => against(rule, skip, piece).is_lt(),
@@ -260,12 +262,12 @@ fn are_before(rules: &[Member<bool>], skip: usize, piece: Piece<'_>) -> bool
 fn run_ahead<'a>(
     rules: &'a [Member<bool>],
     skip: usize,
-    piece: Piece<'_>,
+    piece: &Piece<'_>,
 ) -> (usize, &'a [Member<bool>])
     ensures run { (front : List ℕ) → IsRun rules.now skip front
-        → result.1.now ≡ filter (does_go_on (piece_text piece.entry) skip) rules.now }
+        → result.1.now ≡ filter (does_go_on (piece_text piece.now) skip) rules.now }
     ensures passed { (front : List ℕ) → IsRun rules.now skip front
-        → 0 < result.0 → BeginBefore (piece_text piece.entry) skip rules.now }
+        → 0 < result.0 → BeginBefore (piece_text piece.now) skip rules.now }
 {
     match run_of_few(rules, skip, piece) {
         Ok(found) => found,
@@ -278,16 +280,16 @@ fn run_far<'a>(
     rules: &'a [Member<bool>],
     passed: usize,
     skip: usize,
-    piece: Piece<'_>,
+    piece: &Piece<'_>,
 ) -> (usize, &'a [Member<bool>])
     requires bound { passed ≤ length rules.now }
     requires before { (front : List ℕ) → IsRun rules.now skip front
-        → rules_from (piece_text piece) skip (drop passed rules.now)
-        ≡ rules_from (piece_text piece) skip rules.now }
+        → rules_from (piece_text piece.now) skip (drop passed rules.now)
+        ≡ rules_from (piece_text piece.now) skip rules.now }
     ensures run { (front : List ℕ) → IsRun rules.now skip front
-        → result.1.now ≡ filter (does_go_on (piece_text piece.entry) skip) rules.now }
+        → result.1.now ≡ filter (does_go_on (piece_text piece.now) skip) rules.now }
     ensures passed { (front : List ℕ) → IsRun rules.now skip front
-        → 0 < result.0 → BeginBefore (piece_text piece.entry) skip rules.now }
+        → 0 < result.0 → BeginBefore (piece_text piece.now) skip rules.now }
 {
     let (_, left) = rules.split_at(passed);
     let rest = from_by_strides(left, skip, piece);
@@ -300,21 +302,21 @@ fn run_far<'a>(
 fn run_of_few<'a>(
     rules: &'a [Member<bool>],
     skip: usize,
-    piece: Piece<'_>,
+    piece: &Piece<'_>,
 ) -> Result<(usize, &'a [Member<bool>]), usize>
     ensures run { (front : List ℕ) → IsRun rules.now skip front
-        → IfOk result (λ found. found.1.now ≡ filter (does_go_on (piece_text piece.entry) skip) rules.now) }
+        → IfOk result (λ found. found.1.now ≡ filter (does_go_on (piece_text piece.now) skip) rules.now) }
     ensures passed { (front : List ℕ) → IsRun rules.now skip front
-        → IfOk result (λ found. 0 < found.0 → BeginBefore (piece_text piece.entry) skip rules.now) }
+        → IfOk result (λ found. 0 < found.0 → BeginBefore (piece_text piece.now) skip rules.now) }
     ensures bound { IfErr result (λ passed. passed ≤ length rules.now) }
     ensures before { (front : List ℕ) → IsRun rules.now skip front
-        → IfErr result (λ passed. rules_from (piece_text piece.entry) skip (drop passed rules.now)
-        ≡ rules_from (piece_text piece.entry) skip rules.now) }
+        → IfErr result (λ passed. rules_from (piece_text piece.now) skip (drop passed rules.now)
+        ≡ rules_from (piece_text piece.now) skip rules.now) }
 {
     let mut passed = 0;
     let mut count = 0;
     for rule in rules {
-        if count == FEW {
+        if count == FEW || count - passed == FEW_ON {
             return Err(passed);
         }
         let order = against(rule, skip, piece);
@@ -341,10 +343,10 @@ fn between(rules: &[Member<bool>], from: usize, to: usize) -> &[Member<bool>]
 }
 
 /// The rules that go on with the step, of rules of which none comes before it.
-fn run_at_front<'a>(rules: &'a [Member<bool>], skip: usize, piece: Piece<'_>) -> &'a [Member<bool>]
+fn run_at_front<'a>(rules: &'a [Member<bool>], skip: usize, piece: &Piece<'_>) -> &'a [Member<bool>]
     ensures { (front : List ℕ) → IsRun rules.now skip front
-        → rules_from (piece_text piece.entry) skip rules.now ≡ rules.now
-        → result.now ≡ filter (does_go_on (piece_text piece.entry) skip) rules.now }
+        → rules_from (piece_text piece.now) skip rules.now ≡ rules.now
+        → result.now ≡ filter (does_go_on (piece_text piece.now) skip) rules.now }
 {
     up_to_by_strides(rules, skip, piece)
 }
@@ -352,10 +354,10 @@ fn run_at_front<'a>(rules: &'a [Member<bool>], skip: usize, piece: Piece<'_>) ->
 fn from_by_halves<'a>(
     rules: &'a [Member<bool>],
     skip: usize,
-    piece: Piece<'_>,
+    piece: &Piece<'_>,
 ) -> &'a [Member<bool>]
     ensures { (front : List ℕ) → IsRun rules.now skip front
-        → result.now ≡ rules_from (piece_text piece.entry) skip rules.now }
+        → result.now ≡ rules_from (piece_text piece.now) skip rules.now }
 {
     let count = rules.partition_point(|rule| against(rule, skip, piece).is_lt());
     let (_, rest) = rules.split_at(count);
@@ -366,10 +368,10 @@ fn from_by_halves<'a>(
 fn from_by_strides<'a>(
     rules: &'a [Member<bool>],
     skip: usize,
-    piece: Piece<'_>,
+    piece: &Piece<'_>,
 ) -> &'a [Member<bool>]
     ensures { (front : List ℕ) → IsRun rules.now skip front
-        → result.now ≡ rules_from (piece_text piece.entry) skip rules.now }
+        → result.now ≡ rules_from (piece_text piece.now) skip rules.now }
 {
     let (near, _) = rules.split_at(stride_from(rules, skip, piece));
     let count = near.partition_point(|rule| against(rule, skip, piece).is_lt());
@@ -381,10 +383,10 @@ fn from_by_strides<'a>(
 fn up_to_by_strides<'a>(
     rules: &'a [Member<bool>],
     skip: usize,
-    piece: Piece<'_>,
+    piece: &Piece<'_>,
 ) -> &'a [Member<bool>]
     ensures { (front : List ℕ) → IsRun rules.now skip front
-        → result.now ≡ rules_up_to (piece_text piece.entry) skip rules.now }
+        → result.now ≡ rules_up_to (piece_text piece.now) skip rules.now }
 {
     let (near, _) = rules.split_at(stride_behind(rules, skip, piece));
     let count = near.partition_point(|rule| against(rule, skip, piece).is_le());
@@ -393,10 +395,10 @@ fn up_to_by_strides<'a>(
 }
 
 /// A place by strides that double from which on no rule comes before the step.
-fn stride_from(rules: &[Member<bool>], skip: usize, piece: Piece<'_>) -> usize
+fn stride_from(rules: &[Member<bool>], skip: usize, piece: &Piece<'_>) -> usize
     ensures bound { result ≤ length rules.now }
     ensures rule { (rule : Member Bool) → slice_get rules.now result ≡ Some rule
-        → before (piece_text piece.entry) skip rule ≡ false }
+        → before (piece_text piece.now) skip rule ≡ false }
 {
     let mut to = 0;
     while let Some(rule) = rules.get(to) {
@@ -409,10 +411,10 @@ fn stride_from(rules: &[Member<bool>], skip: usize, piece: Piece<'_>) -> usize
 }
 
 /// A place by strides that double from which on each rule comes behind the step.
-fn stride_behind(rules: &[Member<bool>], skip: usize, piece: Piece<'_>) -> usize
+fn stride_behind(rules: &[Member<bool>], skip: usize, piece: &Piece<'_>) -> usize
     ensures bound { result ≤ length rules.now }
     ensures rule { (rule : Member Bool) → slice_get rules.now result ≡ Some rule
-        → within (piece_text piece.entry) skip rule ≡ false }
+        → within (piece_text piece.now) skip rule ≡ false }
 {
     let mut to = FEW;
     while let Some(rule) = rules.get(to) {
@@ -425,12 +427,12 @@ fn stride_behind(rules: &[Member<bool>], skip: usize, piece: Piece<'_>) -> usize
 }
 
 /// How a rule compares behind so many bytes with the step; equal where it goes on with it.
-fn against(rule: &Member<bool>, skip: usize, piece: Piece<'_>) -> Ordering
-    ensures { result ≡ how_against (piece_text piece.entry) (drop skip rule.now.name) }
+fn against(rule: &Member<bool>, skip: usize, piece: &Piece<'_>) -> Ordering
+    ensures { result ≡ how_against (piece_text piece.now) (drop skip rule.now.name) }
 {
     match piece {
         Piece::Plain(name) => against_plain(rest_of(rule, skip), name.as_bytes()),
-        Piece::Other(way) => against_way(rule, skip, way),
+        Piece::Other(way) => against_way(rule, skip, *way),
     }
 }
 
@@ -444,9 +446,9 @@ fn against_way(rule: &Member<bool>, skip: usize, way: Way<'_>) -> Ordering
 }
 
 /// How many bytes of rules that go on with the step lie behind them once it is taken; 0 of none.
-fn bytes_behind(rules: &[Member<bool>], skip: usize, piece: Piece<'_>) -> usize
-    ensures { (front : List ℕ) → IsRun rules.now skip front → GoOn (piece_text piece.entry) skip rules.now
-        → result ≡ bytes_of (front ++ piece_text piece.entry) rules.now }
+fn bytes_behind(rules: &[Member<bool>], skip: usize, piece: &Piece<'_>) -> usize
+    ensures { (front : List ℕ) → IsRun rules.now skip front → GoOn (piece_text piece.now) skip rules.now
+        → result ≡ bytes_of (front ++ piece_text piece.now) rules.now }
 {
     match rules.first() {
         Some(rule) => bytes_before_rest(rule, skip, piece),
@@ -455,14 +457,14 @@ fn bytes_behind(rules: &[Member<bool>], skip: usize, piece: Piece<'_>) -> usize
 }
 
 /// How many bytes of a rule lie before what follows the step.
-fn bytes_before_rest(rule: &Member<bool>, skip: usize, piece: Piece<'_>) -> usize
+fn bytes_before_rest(rule: &Member<bool>, skip: usize, piece: &Piece<'_>) -> usize
     ensures { (front rest : List ℕ) → rule.now.name ≡ front ++ drop skip rule.now.name
-        → drop skip rule.now.name ≡ piece_text piece.entry ++ rest
-        → result ≡ length (front ++ piece_text piece.entry) }
+        → drop skip rule.now.name ≡ piece_text piece.now ++ rest
+        → result ≡ length (front ++ piece_text piece.now) }
 {
     match piece {
         Piece::Plain(name) => bytes_before_plain(rule, skip, name),
-        Piece::Other(way) => bytes_before_way(rule, skip, way),
+        Piece::Other(way) => bytes_before_way(rule, skip, *way),
     }
 }
 

@@ -8,9 +8,9 @@ use Rattle.ax_policy.proofs.walk.from_by_strides.Goals as goal
 pub returns : goal.returns
 returns c front r =
     c.split_at-2.ensures.back
-    ∙ from_strides c.args.rules.now c.split_at.result.0.now c.args.skip front (piece_text c.args.piece)
+    ∙ from_strides c.args.rules.now c.split_at.result.0.now c.args.skip front (piece_text c.args.piece.now)
     c.stride_from.result c.partition_point-count.result r c.stride_from.ensures.bound
     (λ rule s. c.stride_from.ensures.rule rule s) c.split_at.ensures.front
     c.partition_point-count.ensures.bound
-    (c.partition_point-count.ensures.partitioned (before (piece_text c.args.piece) c.args.skip)
+    (c.partition_point-count.ensures.partitioned (before (piece_text c.args.piece.now) c.args.skip)
     (always_returns_same _ _ _ (λ a r f k. search rules)))

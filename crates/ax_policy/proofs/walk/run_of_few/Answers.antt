@@ -9,7 +9,7 @@ pub returns-then-is_gt-clause-run : goal.returns-then-is_gt-clause-run
 returns-then-is_gt-clause-run c front r =
     let here : c.rule-item.result ≡ get_or c.args.rules.now c.loop-rule.count c.rule-item.result =
     c.rule-item.is ∙ ap (λ n. get_or c.args.rules.now n c.rule-item.result) (sym c.loop-rule.invariant.count) in
-    found_ends c.args.rules.now c.between.result.now c.args.skip front (piece_text c.args.piece)
+    found_ends c.args.rules.now c.between.result.now c.args.skip front (piece_text c.args.piece.now)
     c.loop-rule.passed c.loop-rule.count c.rule-item.result r (omega arith) here
     (c.if-is_gt.ensures ∙ ap is_gt c.against-order.ensures) c.between.ensures
     (c.loop-rule.invariant.run front r)
@@ -22,7 +22,7 @@ loop-rule-preserved-then-is_eq c =
       count = omega arith;
       within = omega arith;
       bound = c.loop-rule.invariant.bound;
-      run = λ front r. found_equal c.args.rules.now c.args.skip (piece_text c.args.piece)
+      run = λ front r. found_equal c.args.rules.now c.args.skip (piece_text c.args.piece.now)
           c.loop-rule.passed c.loop-rule.count c.rule-item.result c.loop-rule.invariant.within
           (omega arith) here (c.if-is_eq.ensures ∙ ap is_eq c.against-order.ensures)
           (c.loop-rule.invariant.run front r);
@@ -38,15 +38,15 @@ loop-rule-preserved c =
       count = omega arith;
       within = omega arith;
       bound = omega arith;
-      run = λ front r. found_before c.args.rules.now c.args.skip front (piece_text c.args.piece)
+      run = λ front r. found_before c.args.rules.now c.args.skip front (piece_text c.args.piece.now)
           c.loop-rule.count c.rule-item.result r (omega arith) here
           (c.if-is_gt.ensures ∙ ap is_gt c.against-order.ensures)
           (c.if-is_eq.ensures ∙ ap is_eq c.against-order.ensures);
-      passed = λ front r h. first_before c.args.rules.now c.args.skip front (piece_text c.args.piece)
+      passed = λ front r h. first_before c.args.rules.now c.args.skip front (piece_text c.args.piece.now)
           c.loop-rule.count c.rule-item.result r (omega arith) here
           (c.if-is_gt.ensures ∙ ap is_gt c.against-order.ensures)
           (c.if-is_eq.ensures ∙ ap is_eq c.against-order.ensures);
-      before = λ front r. from_before c.args.rules.now c.args.skip front (piece_text c.args.piece)
+      before = λ front r. from_before c.args.rules.now c.args.skip front (piece_text c.args.piece.now)
           c.loop-rule.count c.rule-item.result r (omega arith) here
           (c.if-is_gt.ensures ∙ ap is_gt c.against-order.ensures)
           (c.if-is_eq.ensures ∙ ap is_eq c.against-order.ensures);
@@ -54,6 +54,6 @@ loop-rule-preserved c =
 
 pub returns-clause-run : goal.returns-clause-run
 returns-clause-run c front r =
-    found_all c.args.rules.now c.between-2.result.now c.args.skip (piece_text c.args.piece)
+    found_all c.args.rules.now c.between-2.result.now c.args.skip (piece_text c.args.piece.now)
     c.loop-rule.passed c.loop-rule.count (omega arith) c.between-2.ensures
     (c.loop-rule.invariant.run front r)
