@@ -192,6 +192,7 @@ fn marked_in_turn(rules: &[Member<bool>], skip: usize, all: bool) -> Option<bool
     None
 }
 
+#[inline(never)]
 fn marked_by_halves(rules: &[Member<bool>], skip: usize, all: bool) -> Option<bool>
     ensures { (front : List ℕ) → IsRun rules.now skip front
         → result ≡ under (front ++ mark_text all) rules.now }
@@ -276,6 +277,7 @@ fn run_ahead<'a>(
 }
 
 /// The same where so many rules are known to come before the step.
+#[inline(never)]
 fn run_far<'a>(
     rules: &'a [Member<bool>],
     passed: usize,
@@ -351,6 +353,7 @@ fn run_at_front<'a>(rules: &'a [Member<bool>], skip: usize, piece: &Piece<'_>) -
     up_to_by_strides(rules, skip, piece)
 }
 
+#[inline(never)]
 fn from_by_halves<'a>(
     rules: &'a [Member<bool>],
     skip: usize,
@@ -427,6 +430,7 @@ fn stride_behind(rules: &[Member<bool>], skip: usize, piece: &Piece<'_>) -> usiz
 }
 
 /// How a rule compares behind so many bytes with the step; equal where it goes on with it.
+#[inline(always)]
 fn against(rule: &Member<bool>, skip: usize, piece: &Piece<'_>) -> Ordering
     ensures { result ≡ how_against (piece_text piece.now) (drop skip rule.now.name) }
 {
@@ -436,6 +440,7 @@ fn against(rule: &Member<bool>, skip: usize, piece: &Piece<'_>) -> Ordering
     }
 }
 
+#[inline(never)]
 fn against_way(rule: &Member<bool>, skip: usize, way: Way<'_>) -> Ordering
     ensures { result ≡ how_against (way_text way.entry) (drop skip rule.now.name) }
 {
