@@ -272,6 +272,7 @@ point_further p rules to count h parts stop b point = (
     by_test k d l m true t =
         absurd (cc (stop d (omega arith), parts to k d l m t))
     by_test k d l m false t = t
+
     by_place : (k : ℕ) (d : Member Bool) → count ≤ k → k < length rules → (k < to) ⊎ (to ≤ k)
         → p (get_or rules k d) ≡ false
     by_place k d l m (inl below) =

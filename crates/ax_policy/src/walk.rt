@@ -276,7 +276,8 @@ fn run_ahead<'a>(
     }
 }
 
-/// The same where so many rules are known to come before the step.
+/// The same where so many rules are known to come before the step. It is seldom called, and left
+/// out of line the usual step has more registers.
 #[inline(never)]
 fn run_far<'a>(
     rules: &'a [Member<bool>],
@@ -367,7 +368,7 @@ fn from_by_halves<'a>(
     rest
 }
 
-/// The same, which costs by how far the first of them lies.
+/// The rules that do not come before the step. Takes time by the number of digits of how many do.
 fn from_by_strides<'a>(
     rules: &'a [Member<bool>],
     skip: usize,
@@ -382,7 +383,8 @@ fn from_by_strides<'a>(
     rest
 }
 
-/// The rules that do not come behind the step, which costs by how many they are.
+/// The rules that do not come behind the step. Takes time by the number of digits of how many they
+/// are.
 fn up_to_by_strides<'a>(
     rules: &'a [Member<bool>],
     skip: usize,
@@ -429,7 +431,8 @@ fn stride_behind(rules: &[Member<bool>], skip: usize, piece: &Piece<'_>) -> usiz
     rules.len()
 }
 
-/// How a rule compares behind so many bytes with the step; equal where it goes on with it.
+/// How a rule compares behind so many bytes with the step; equal where it goes on with it. In line
+/// the kind of the step is asked once for all rules.
 #[inline(always)]
 fn against(rule: &Member<bool>, skip: usize, piece: &Piece<'_>) -> Ordering
     ensures { result ≡ how_against (piece_text piece.now) (drop skip rule.now.name) }

@@ -1,5 +1,5 @@
 -- What is left from the step on is the same, and where it is less, a rule was passed.
-use Rattle.std.proofs.Common.{◌≡◌, arith, sym, subst, ◌∙◌, ap, not, List, Bool, drop}
+use Rattle.std.proofs.Common.{◌≡◌, arith, sym, subst, ◌∙◌, ap, not, List, Bool}
 use Rattle.std.specs.List.{filter}
 use Rattle.ax_tree.specs.declared.members.Member.{Member}
 use Rattle.ax_policy.specs.Walking.{IsRun, before, goes_on, rules_from, piece_text}
