@@ -21,7 +21,7 @@ use crate::quoted::has_escape;
 use ax_mean::Member;
 use std::cmp::Ordering;
 
-/// So many rules are looked at one after another before a search by halves.
+/// So many rules are looked at one after another before strides or halves.
 const FEW: usize = 8;
 /// So many rules that go on with a step are looked at one after another before strides.
 const FEW_ON: usize = 3;
@@ -192,6 +192,7 @@ fn marked_in_turn(rules: &[Member<bool>], skip: usize, all: bool) -> Option<bool
     None
 }
 
+/// Out of line, since few runs are so long.
 #[inline(never)]
 fn marked_by_halves(rules: &[Member<bool>], skip: usize, all: bool) -> Option<bool>
     ensures { (front : List ℕ) → IsRun rules.now skip front
@@ -354,6 +355,7 @@ fn run_at_front<'a>(rules: &'a [Member<bool>], skip: usize, piece: &Piece<'_>) -
     up_to_by_strides(rules, skip, piece)
 }
 
+/// The rules that do not come before the step, which a walk in the order of names seldom looks for so.
 #[inline(never)]
 fn from_by_halves<'a>(
     rules: &'a [Member<bool>],
@@ -368,7 +370,7 @@ fn from_by_halves<'a>(
     rest
 }
 
-/// The rules that do not come before the step. Takes time by the number of digits of how many do.
+/// The same. Takes time by the number of digits of how many do.
 fn from_by_strides<'a>(
     rules: &'a [Member<bool>],
     skip: usize,
@@ -443,6 +445,7 @@ fn against(rule: &Member<bool>, skip: usize, piece: &Piece<'_>) -> Ordering
     }
 }
 
+/// The same for an item, or a name with something escaped; out of line beside the plain names.
 #[inline(never)]
 fn against_way(rule: &Member<bool>, skip: usize, way: Way<'_>) -> Ordering
     ensures { result ≡ how_against (way_text way.entry) (drop skip rule.now.name) }
