@@ -1,12 +1,13 @@
 -- Rules that come before a step, passed one after another, or from a place on; and rules looked
 -- through for a mark.
-use Rattle.std.proofs.Common.{◌≡◌, ℕ, ◌+◌, ◌-◌, ◌<◌, ◌≤◌, zero, suc, List, [], ◌∷◌, ◌++◌, length, take, drop, get_or, Bool, true, false, cond, ◌&&◌, if◌then◌else◌, not, Some, Ordering, Less, Equal, Greater, refl, sym, ap, subst, ◌∙◌, append-nil, append_assoc, add-zero, add-one, arith}
+use Rattle.std.proofs.Common.{◌≡◌, ℕ, ◌+◌, ◌-◌, ◌<◌, ◌≤◌, zero, suc, List, [], ◌∷◌, ◌++◌, length, take, drop, get_or, Bool, true, false, cond, ◌&&◌, if◌then◌else◌, not, Some, Ordering, Less, Equal, Greater, refl, sym, ap, subst, ◌∙◌, append-nil, append_assoc, add-zero, add-one, arith, ◌⊎◌, inl, inr}
 use Rattle.std.specs.List.{filter}
-use Rattle.std.specs.List.Sorted.{IsPartitionedBy}
+use Rattle.std.specs.List.Sorted.{IsPartitionedBy, IsPartitionPoint}
 use Rattle.std.specs.Ordering.{is_lt, is_le, is_gt, is_eq}
 use Rattle.std.specs.Str.{bytes_eq}
 use Rattle.std.specs.Prelude.{slice_get}
 use Rattle.std.proofs.Math.Seq.{drop-cons, take-suc}
+use Rattle.std.proofs.lemmas.Bool.{cases_lt}
 use Rattle.std.proofs.lemmas.List.{length-drop, length-take, get_or-drop, get_or-take, drop_all, drop-append-le}
 use Rattle.std.proofs.lemmas.List.Elements.{filter_agree}
 use Rattle.std.proofs.lemmas.Map.Text.{is_eq-slice_cmp}
@@ -17,7 +18,7 @@ use Rattle.ax_policy.specs.Comparing.{against}
 use Rattle.ax_policy.specs.Rules.{under}
 use Rattle.ax_policy.specs.Walking.{IsRun, BeginBefore, before, within, goes_on, rules_from, rules_up_to}
 use Rattle.ax_policy.proofs.Searching.{later}
-use Rattle.ax_policy.proofs.Walks.{before_parted, within_parted, cmp_front, filter_both, narrowed_is}
+use Rattle.ax_policy.proofs.Walks.{before_parted, within_parted, cmp_front, filter_both, kept_back, kept_front, narrowed_is}
 
 -- ---- a run without its first rules
 
@@ -244,6 +245,118 @@ pub run_up_to : (rules run : List (Member Bool)) (skip : ℕ) (piece : List ℕ)
     → run ≡ filter (goes_on piece skip) rules
 run_up_to rules run skip piece e f =
     f ∙ ap (rules_up_to piece skip) (sym e) ∙ narrowed_is rules skip piece
+
+-- ---- by strides
+
+parted_take : (p : Member Bool → Bool) (rules : List (Member Bool)) (to : ℕ) → to ≤ length rules
+    → IsPartitionedBy p rules → IsPartitionedBy p (take to rules)
+parted_take p rules to h parts i j d l k e =
+    let short : j < to = omega (arith, length-take to rules) in
+    ap p (get_or-take to rules i d (omega arith))
+    ∙ parts i j d l (omega arith) (ap p (sym (get_or-take to rules j d short)) ∙ e)
+
+-- a place that parts the rules up to another, from which on none passes, parts them all
+point_further : (p : Member Bool → Bool) (rules : List (Member Bool)) (to count : ℕ) → to ≤ length rules
+    → IsPartitionedBy p rules → ((d : Member Bool) → to < length rules → p (get_or rules to d) ≡ false)
+    → count ≤ length (take to rules)
+    → IsPartitionPoint (λ y. p y ≡ true) (λ y. p y ≡ false) (take to rules) count
+    → IsPartitionPoint (λ y. p y ≡ true) (λ y. p y ≡ false) rules count
+point_further p rules to count h parts stop b point = (
+  λ k d l m. ap p (sym (get_or-take to rules k d (omega (arith, length-take to rules))))
+      ∙ point.0 k d (omega arith) (omega arith),
+  λ k d l m. by_place k d l m (cases_lt k to),
+)
+  where
+    by_test : (k : ℕ) (d : Member Bool) → to ≤ k → k < length rules → (b : Bool)
+        → p (get_or rules k d) ≡ b → p (get_or rules k d) ≡ false
+    by_test k d l m true t =
+        absurd (cc (stop d (omega arith), parts to k d l m t))
+    by_test k d l m false t = t
+
+    by_place : (k : ℕ) (d : Member Bool) → count ≤ k → k < length rules → (k < to) ⊎ (to ≤ k)
+        → p (get_or rules k d) ≡ false
+    by_place k d l m (inl below) =
+        ap p (sym (get_or-take to rules k d below))
+        ∙ point.1 k d l (omega (arith, length-take to rules))
+    by_place k d l m (inr above) = by_test k d above m (p (get_or rules k d)) refl
+
+stop_at : (p : Member Bool → Bool) (rules : List (Member Bool)) (to : ℕ)
+    → ((rule : Member Bool) → slice_get rules to ≡ Some rule → p rule ≡ false)
+    → (d : Member Bool) → to < length rules → p (get_or rules to d) ≡ false
+stop_at p rules to stop d h = stop (get_or rules to d) (slice_get-get_or rules to d h)
+
+pub from_strides : (rules near : List (Member Bool)) (skip : ℕ) (front piece : List ℕ) (to count : ℕ)
+    → IsRun rules skip front → to ≤ length rules
+    → ((rule : Member Bool) → slice_get rules to ≡ Some rule → before piece skip rule ≡ false)
+    → near ≡ take to rules → count ≤ length near
+    → (IsPartitionedBy (before piece skip) near
+    → IsPartitionPoint (λ y. before piece skip y ≡ true) (λ y. before piece skip y ≡ false) near count)
+    → drop count rules ≡ rules_from piece skip rules
+from_strides rules near skip front piece to count r h stop n b e =
+    let parts : IsPartitionedBy (before piece skip) rules = before_parted rules skip front piece r in
+    kept_back (before piece skip) rules count (omega (arith, ap length n, length-take to rules))
+    (point_further (before piece skip) rules to count h parts
+    (stop_at (before piece skip) rules to stop) (omega (arith, ap length n))
+    (subst (λ (l : List (Member Bool)). IsPartitionPoint (λ y. before piece skip y ≡ true)
+    (λ y. before piece skip y ≡ false) l count) n
+    (e (subst (λ (l : List (Member Bool)). IsPartitionedBy (before piece skip) l) (sym n)
+    (parted_take (before piece skip) rules to h parts)))))
+
+pub up_to_strides : (rules near : List (Member Bool)) (skip : ℕ) (front piece : List ℕ) (to count : ℕ)
+    → IsRun rules skip front → to ≤ length rules
+    → ((rule : Member Bool) → slice_get rules to ≡ Some rule → within piece skip rule ≡ false)
+    → near ≡ take to rules → count ≤ length near
+    → (IsPartitionedBy (within piece skip) near
+    → IsPartitionPoint (λ y. within piece skip y ≡ true) (λ y. within piece skip y ≡ false) near count)
+    → take count rules ≡ rules_up_to piece skip rules
+up_to_strides rules near skip front piece to count r h stop n b e =
+    let parts : IsPartitionedBy (within piece skip) rules = within_parted rules skip front piece r in
+    kept_front (within piece skip) rules count (omega (arith, ap length n, length-take to rules))
+    (point_further (within piece skip) rules to count h parts
+    (stop_at (within piece skip) rules to stop) (omega (arith, ap length n))
+    (subst (λ (l : List (Member Bool)). IsPartitionPoint (λ y. within piece skip y ≡ true)
+    (λ y. within piece skip y ≡ false) l count) n
+    (e (subst (λ (l : List (Member Bool)). IsPartitionedBy (within piece skip) l) (sym n)
+    (parted_take (within piece skip) rules to h parts)))))
+
+-- where there are fewer from the step on, the first comes before it
+pub fewer_from : (rules rest : List (Member Bool)) (skip : ℕ) (front piece : List ℕ)
+    → IsRun rules skip front → rest ≡ rules_from piece skip rules → 0 < length rules - length rest
+    → BeginBefore piece skip rules
+fewer_from [] rest skip front piece r e h = absurd (omega arith)
+fewer_from (first ∷ more) rest skip front piece r e h = by_test (before piece skip first) refl
+  where
+    by_test : (b : Bool) → before piece skip first ≡ b → before piece skip first ≡ true
+    by_test true t = t
+    by_test false t =
+        let all : first ∷ more ≡ rules_from piece skip (first ∷ more) =
+        kept_back (before piece skip) (first ∷ more) 0 (omega arith) (
+          λ k d l m. absurd (omega arith),
+          λ k d l m. none k d m (before piece skip (get_or (first ∷ more) k d)) refl,
+        ) in
+        absurd (omega (arith, ap length (e ∙ sym all)))
+      where
+        none : (k : ℕ) (d : Member Bool) → k < length (first ∷ more) → (b : Bool)
+            → before piece skip (get_or (first ∷ more) k d) ≡ b
+            → before piece skip (get_or (first ∷ more) k d) ≡ false
+        none k d m true u =
+            absurd (cc (t, before_parted (first ∷ more) skip front piece r 0 k d (omega arith) m u))
+        none k d m false u = u
+
+not_before : (piece : List ℕ) (skip : ℕ) (y : Member Bool) → before piece skip y ≡ true
+    → not (before piece skip y) ≡ false
+not_before piece skip y t = ap not t
+
+-- a rule looked at that comes before is left out, with those that lie before it
+pub from_before : (rules : List (Member Bool)) (skip : ℕ) (front piece : List ℕ) (index : ℕ) (rule : Member Bool)
+    → IsRun rules skip front → index < length rules → rule ≡ get_or rules index rule
+    → false ≡ is_gt (against piece (drop skip rule.name))
+    → false ≡ is_eq (against piece (drop skip rule.name))
+    → rules_from piece skip (drop (index + 1) rules) ≡ rules_from piece skip rules
+from_before rules skip front piece index rule r h e g q =
+    skip_before (before piece skip) (λ y. not (before piece skip y)) rules (index + 1) index rule
+    (not_before piece skip) (before_parted rules skip front piece r) (omega arith) h
+    (ap (before piece skip) (sym e) ∙ is_before (against piece (drop skip rule.name)) g q)
 
 -- ---- a mark
 

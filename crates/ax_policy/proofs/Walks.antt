@@ -270,7 +270,7 @@ within_parted rules skip front piece r i j d h k e =
     (piece_no_fall rules skip front piece r i j d h k) e
 
 -- what lies before the place is what passes, and what lies from it on is what does not
-kept_front : (p : Member Bool → Bool) (rules : List (Member Bool)) (i : ℕ) → i ≤ length rules
+pub kept_front : (p : Member Bool → Bool) (rules : List (Member Bool)) (i : ℕ) → i ≤ length rules
     → IsPartitionPoint (λ y. p y ≡ true) (λ y. p y ≡ false) rules i → take i rules ≡ filter p rules
 kept_front p [] zero h parts = refl
 kept_front p [] (suc i) h parts = refl
@@ -287,7 +287,7 @@ kept_front p (first ∷ rest) (suc i) h parts =
     ) in
     rw here (ap (λ l. first ∷ l) less)
 
-kept_back : (p : Member Bool → Bool) (rules : List (Member Bool)) (i : ℕ) → i ≤ length rules
+pub kept_back : (p : Member Bool → Bool) (rules : List (Member Bool)) (i : ℕ) → i ≤ length rules
     → IsPartitionPoint (λ y. p y ≡ true) (λ y. p y ≡ false) rules i
     → drop i rules ≡ filter (λ y. not (p y)) rules
 kept_back p [] zero h parts = refl

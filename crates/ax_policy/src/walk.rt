@@ -1,6 +1,6 @@
 //! A walk down a document beside the rules of a policy: at each step the rules that go on are found
 //! among those that were left, so that what is decided on a leaf costs what its last step costs.
-ghost use Rattle.std.specs.Prelude.{◌≡◌, ◌↔◌, ◌<◌, ◌≤◌, ℕ, [], ◌∷◌, ◌++◌, ◌-◌, Bool, List, IsTrue, slice_get, IfOk, IfErr, IfSome, true, drop, length, take};
+ghost use Rattle.std.specs.Prelude.{◌≡◌, ◌↔◌, ◌<◌, ◌≤◌, ℕ, [], ◌∷◌, ◌++◌, ◌-◌, Bool, List, IsTrue, slice_get, IfOk, IfErr, true, false, drop, length, take};
 ghost use Rattle.std.specs.List.{All, filter};
 ghost use Rattle.ax_mean.specs.declared.query.Step.{Step};
 ghost use Rattle.ax_mean.specs.declared.query.Step.TheVariants.{Name, Item};
@@ -11,7 +11,7 @@ ghost use Rattle.ax_policy.specs.Covering.{Covers};
 ghost use Rattle.ax_policy.specs.Deciding as spec;
 ghost use Rattle.ax_policy.specs.Paths.{either as either_of, mark_text, plain_text};
 ghost use Rattle.ax_policy.specs.Rules.{under};
-ghost use Rattle.ax_policy.specs.Walking.{IsAt, IsRun, GoOn, bytes_of, before, goes_on as does_go_on, piece_text, rules_from, rules_up_to, step_of, way_text, BeginBefore};
+ghost use Rattle.ax_policy.specs.Walking.{IsAt, IsRun, GoOn, bytes_of, before, goes_on as does_go_on, piece_text, rules_from, rules_up_to, step_of, way_text, within, BeginBefore};
 
 use crate::compare::{after_item, after_name, against_plain};
 use crate::covering::search;
@@ -21,8 +21,10 @@ use crate::quoted::has_escape;
 use ax_mean::Member;
 use std::cmp::Ordering;
 
-/// So many rules are looked at one after another before a search by halves.
+/// So many rules are looked at one after another before strides or halves.
 const FEW: usize = 8;
+/// So many rules that go on with a step are looked at one after another before strides.
+const FEW_ON: usize = 3;
 
 /// Where a walk down a document stands among the rules of a policy.
 #[derive(Clone, Copy)]
@@ -137,8 +139,8 @@ impl<'a> RuleWalk<'a> {
             → IsAt result policy (path ++ step_of way.entry ∷ []) }
     {
         let piece = piece_of(way);
-        let rules = narrowed(self.rules, self.skip, piece, near);
-        let skip = bytes_behind(rules, self.skip, piece);
+        let rules = narrowed(self.rules, self.skip, &piece, near);
+        let skip = bytes_behind(rules, self.skip, &piece);
         RuleWalk {
             on: self.on,
             decided: self.decided_by(rules, skip),
@@ -190,6 +192,8 @@ fn marked_in_turn(rules: &[Member<bool>], skip: usize, all: bool) -> Option<bool
     None
 }
 
+/// Out of line, since few runs are so long.
+#[inline(never)]
 fn marked_by_halves(rules: &[Member<bool>], skip: usize, all: bool) -> Option<bool>
     ensures { (front : List ℕ) → IsRun rules.now skip front
         → result ≡ under (front ++ mark_text all) rules.now }
@@ -214,25 +218,24 @@ fn piece_of(way: Way<'_>) -> Piece<'_>
 }
 
 /// The rules that go on with the step behind so many bytes. They are looked for from a place on,
-/// which is then set behind them, and by halves among all where they are not just there.
+/// which is then set behind them, and by halves among all where they begin before it.
 fn narrowed<'a>(
     rules: &'a [Member<bool>],
     skip: usize,
-    piece: Piece<'_>,
+    piece: &Piece<'_>,
     near: &mut usize,
 ) -> &'a [Member<bool>]
     ensures { (front : List ℕ) → IsRun rules.now skip front
-        → result.now ≡ filter (does_go_on (piece_text piece.entry) skip) rules.now }
+        → result.now ≡ filter (does_go_on (piece_text piece.now) skip) rules.now }
 {
     let (behind, ahead) = rules.split_at((*near).min(rules.len()));
-    if let Some((passed, run)) = run_of_few(ahead, skip, piece) {
-        *near = place_behind(behind.len(), passed, run);
-        if passed > 0 {
-            return run;
-        }
-        if are_before(behind, skip, piece) {
-            return run;
-        }
+    let (passed, run) = run_ahead(ahead, skip, piece);
+    *near = place_behind(behind.len(), passed, run);
+    if passed > 0 {
+        return run;
+    }
+    if are_before(behind, skip, piece) {
+        return run;
     }
     let rest = from_by_halves(rules, skip, piece);
     let run = run_at_front(rest, skip, piece);
@@ -247,9 +250,9 @@ fn place_behind(place: usize, passed: usize, run: &[Member<bool>]) -> usize {
 }
 
 /// Whether all these rules come before the step, which the last one tells.
-fn are_before(rules: &[Member<bool>], skip: usize, piece: Piece<'_>) -> bool
+fn are_before(rules: &[Member<bool>], skip: usize, piece: &Piece<'_>) -> bool
     ensures { (rule : Member Bool) → IsTrue result → slice_get rules.now (length rules.now - 1) ≡ Some rule
-        → before (piece_text piece.entry) skip rule ≡ true }
+        → before (piece_text piece.now) skip rule ≡ true }
 {
     match rules.last() {
         Some(rule) => against(rule, skip, piece).is_lt(),
@@ -257,27 +260,72 @@ fn are_before(rules: &[Member<bool>], skip: usize, piece: Piece<'_>) -> bool
     }
 }
 
-/// How many rules come before the step, and the rules that go on with it; `None` where a look at
-/// `FEW` rules does not tell.
+/// How many rules come before the step, and the rules that go on with it.
+fn run_ahead<'a>(
+    rules: &'a [Member<bool>],
+    skip: usize,
+    piece: &Piece<'_>,
+) -> (usize, &'a [Member<bool>])
+    ensures run { (front : List ℕ) → IsRun rules.now skip front
+        → result.1.now ≡ filter (does_go_on (piece_text piece.now) skip) rules.now }
+    ensures passed { (front : List ℕ) → IsRun rules.now skip front
+        → 0 < result.0 → BeginBefore (piece_text piece.now) skip rules.now }
+{
+    match run_of_few(rules, skip, piece) {
+        Ok(found) => found,
+        Err(passed) => run_far(rules, passed, skip, piece),
+    }
+}
+
+/// The same where so many rules are known to come before the step. It is seldom called, and left
+/// out of line the usual step has more registers.
+#[inline(never)]
+fn run_far<'a>(
+    rules: &'a [Member<bool>],
+    passed: usize,
+    skip: usize,
+    piece: &Piece<'_>,
+) -> (usize, &'a [Member<bool>])
+    requires bound { passed ≤ length rules.now }
+    requires before { (front : List ℕ) → IsRun rules.now skip front
+        → rules_from (piece_text piece.now) skip (drop passed rules.now)
+        ≡ rules_from (piece_text piece.now) skip rules.now }
+    ensures run { (front : List ℕ) → IsRun rules.now skip front
+        → result.1.now ≡ filter (does_go_on (piece_text piece.now) skip) rules.now }
+    ensures passed { (front : List ℕ) → IsRun rules.now skip front
+        → 0 < result.0 → BeginBefore (piece_text piece.now) skip rules.now }
+{
+    let (_, left) = rules.split_at(passed);
+    let rest = from_by_strides(left, skip, piece);
+    let run = run_at_front(rest, skip, piece);
+    (rules.len().saturating_sub(rest.len()), run)
+}
+
+/// How many rules come before the step, and the rules that go on with it; where a look at `FEW`
+/// rules does not tell, how many of these come before.
 fn run_of_few<'a>(
     rules: &'a [Member<bool>],
     skip: usize,
-    piece: Piece<'_>,
-) -> Option<(usize, &'a [Member<bool>])>
+    piece: &Piece<'_>,
+) -> Result<(usize, &'a [Member<bool>]), usize>
     ensures run { (front : List ℕ) → IsRun rules.now skip front
-        → IfSome result (λ found. found.1.now ≡ filter (does_go_on (piece_text piece.entry) skip) rules.now) }
+        → IfOk result (λ found. found.1.now ≡ filter (does_go_on (piece_text piece.now) skip) rules.now) }
     ensures passed { (front : List ℕ) → IsRun rules.now skip front
-        → IfSome result (λ found. 0 < found.0 → BeginBefore (piece_text piece.entry) skip rules.now) }
+        → IfOk result (λ found. 0 < found.0 → BeginBefore (piece_text piece.now) skip rules.now) }
+    ensures bound { IfErr result (λ passed. passed ≤ length rules.now) }
+    ensures before { (front : List ℕ) → IsRun rules.now skip front
+        → IfErr result (λ passed. rules_from (piece_text piece.now) skip (drop passed rules.now)
+        ≡ rules_from (piece_text piece.now) skip rules.now) }
 {
     let mut passed = 0;
     let mut count = 0;
     for rule in rules {
-        if count == FEW {
-            return None;
+        if count == FEW || count - passed == FEW_ON {
+            return Err(passed);
         }
         let order = against(rule, skip, piece);
         if order.is_gt() {
-            return Some((passed, between(rules, passed, count)));
+            return Ok((passed, between(rules, passed, count)));
         }
         count += 1;
         if order.is_eq() {
@@ -285,7 +333,7 @@ fn run_of_few<'a>(
         }
         passed = count;
     }
-    Some((passed, between(rules, passed, count)))
+    Ok((passed, between(rules, passed, count)))
 }
 
 fn between(rules: &[Member<bool>], from: usize, to: usize) -> &[Member<bool>]
@@ -299,65 +347,106 @@ fn between(rules: &[Member<bool>], from: usize, to: usize) -> &[Member<bool>]
 }
 
 /// The rules that go on with the step, of rules of which none comes before it.
-fn run_at_front<'a>(rules: &'a [Member<bool>], skip: usize, piece: Piece<'_>) -> &'a [Member<bool>]
+fn run_at_front<'a>(rules: &'a [Member<bool>], skip: usize, piece: &Piece<'_>) -> &'a [Member<bool>]
     ensures { (front : List ℕ) → IsRun rules.now skip front
-        → rules_from (piece_text piece.entry) skip rules.now ≡ rules.now
-        → result.now ≡ filter (does_go_on (piece_text piece.entry) skip) rules.now }
+        → rules_from (piece_text piece.now) skip rules.now ≡ rules.now
+        → result.now ≡ filter (does_go_on (piece_text piece.now) skip) rules.now }
 {
-    if are_many(rules, skip, piece) {
-        return up_to_by_halves(rules, skip, piece);
-    }
-    match run_of_few(rules, skip, piece) {
-        Some((_passed, run)) => run,
-        None => up_to_by_halves(rules, skip, piece),
-    }
+    up_to_by_strides(rules, skip, piece)
 }
 
-/// Whether a rule goes on with the step that lies so far behind that a look at each costs more than
-/// a search by halves. It only tells which of the two is tried, so that nothing is proved of it.
-fn are_many(rules: &[Member<bool>], skip: usize, piece: Piece<'_>) -> bool {
-    match rules.get(FEW) {
-        Some(rule) => against(rule, skip, piece).is_eq(),
-        None => false,
-    }
-}
-
+/// The rules that do not come before the step, which a walk in the order of names seldom looks for so.
+#[inline(never)]
 fn from_by_halves<'a>(
     rules: &'a [Member<bool>],
     skip: usize,
-    piece: Piece<'_>,
+    piece: &Piece<'_>,
 ) -> &'a [Member<bool>]
     ensures { (front : List ℕ) → IsRun rules.now skip front
-        → result.now ≡ rules_from (piece_text piece.entry) skip rules.now }
+        → result.now ≡ rules_from (piece_text piece.now) skip rules.now }
 {
     let count = rules.partition_point(|rule| against(rule, skip, piece).is_lt());
     let (_, rest) = rules.split_at(count);
     rest
 }
 
-fn up_to_by_halves<'a>(
+/// The same. Takes time by the number of digits of how many do.
+fn from_by_strides<'a>(
     rules: &'a [Member<bool>],
     skip: usize,
-    piece: Piece<'_>,
+    piece: &Piece<'_>,
 ) -> &'a [Member<bool>]
     ensures { (front : List ℕ) → IsRun rules.now skip front
-        → result.now ≡ rules_up_to (piece_text piece.entry) skip rules.now }
+        → result.now ≡ rules_from (piece_text piece.now) skip rules.now }
 {
-    let count = rules.partition_point(|rule| against(rule, skip, piece).is_le());
+    let (near, _) = rules.split_at(stride_from(rules, skip, piece));
+    let count = near.partition_point(|rule| against(rule, skip, piece).is_lt());
+    let (_, rest) = rules.split_at(count);
+    rest
+}
+
+/// The rules that do not come behind the step. Takes time by the number of digits of how many they
+/// are.
+fn up_to_by_strides<'a>(
+    rules: &'a [Member<bool>],
+    skip: usize,
+    piece: &Piece<'_>,
+) -> &'a [Member<bool>]
+    ensures { (front : List ℕ) → IsRun rules.now skip front
+        → result.now ≡ rules_up_to (piece_text piece.now) skip rules.now }
+{
+    let (near, _) = rules.split_at(stride_behind(rules, skip, piece));
+    let count = near.partition_point(|rule| against(rule, skip, piece).is_le());
     let (front, _) = rules.split_at(count);
     front
 }
 
-/// How a rule compares behind so many bytes with the step; equal where it goes on with it.
-fn against(rule: &Member<bool>, skip: usize, piece: Piece<'_>) -> Ordering
-    ensures { result ≡ how_against (piece_text piece.entry) (drop skip rule.now.name) }
+/// A place by strides that double from which on no rule comes before the step.
+fn stride_from(rules: &[Member<bool>], skip: usize, piece: &Piece<'_>) -> usize
+    ensures bound { result ≤ length rules.now }
+    ensures rule { (rule : Member Bool) → slice_get rules.now result ≡ Some rule
+        → before (piece_text piece.now) skip rule ≡ false }
+{
+    let mut to = 0;
+    while let Some(rule) = rules.get(to) {
+        if !against(rule, skip, piece).is_lt() {
+            return to;
+        }
+        to = to.saturating_mul(2).max(FEW);
+    }
+    rules.len()
+}
+
+/// A place by strides that double from which on each rule comes behind the step.
+fn stride_behind(rules: &[Member<bool>], skip: usize, piece: &Piece<'_>) -> usize
+    ensures bound { result ≤ length rules.now }
+    ensures rule { (rule : Member Bool) → slice_get rules.now result ≡ Some rule
+        → within (piece_text piece.now) skip rule ≡ false }
+{
+    let mut to = FEW;
+    while let Some(rule) = rules.get(to) {
+        if against(rule, skip, piece).is_gt() {
+            return to;
+        }
+        to = to.saturating_mul(2);
+    }
+    rules.len()
+}
+
+/// How a rule compares behind so many bytes with the step; equal where it goes on with it. In line
+/// the kind of the step is asked once for all rules.
+#[inline(always)]
+fn against(rule: &Member<bool>, skip: usize, piece: &Piece<'_>) -> Ordering
+    ensures { result ≡ how_against (piece_text piece.now) (drop skip rule.now.name) }
 {
     match piece {
         Piece::Plain(name) => against_plain(rest_of(rule, skip), name.as_bytes()),
-        Piece::Other(way) => against_way(rule, skip, way),
+        Piece::Other(way) => against_way(rule, skip, *way),
     }
 }
 
+/// The same for an item, or a name with something escaped; out of line beside the plain names.
+#[inline(never)]
 fn against_way(rule: &Member<bool>, skip: usize, way: Way<'_>) -> Ordering
     ensures { result ≡ how_against (way_text way.entry) (drop skip rule.now.name) }
 {
@@ -368,9 +457,9 @@ fn against_way(rule: &Member<bool>, skip: usize, way: Way<'_>) -> Ordering
 }
 
 /// How many bytes of rules that go on with the step lie behind them once it is taken; 0 of none.
-fn bytes_behind(rules: &[Member<bool>], skip: usize, piece: Piece<'_>) -> usize
-    ensures { (front : List ℕ) → IsRun rules.now skip front → GoOn (piece_text piece.entry) skip rules.now
-        → result ≡ bytes_of (front ++ piece_text piece.entry) rules.now }
+fn bytes_behind(rules: &[Member<bool>], skip: usize, piece: &Piece<'_>) -> usize
+    ensures { (front : List ℕ) → IsRun rules.now skip front → GoOn (piece_text piece.now) skip rules.now
+        → result ≡ bytes_of (front ++ piece_text piece.now) rules.now }
 {
     match rules.first() {
         Some(rule) => bytes_before_rest(rule, skip, piece),
@@ -379,14 +468,14 @@ fn bytes_behind(rules: &[Member<bool>], skip: usize, piece: Piece<'_>) -> usize
 }
 
 /// How many bytes of a rule lie before what follows the step.
-fn bytes_before_rest(rule: &Member<bool>, skip: usize, piece: Piece<'_>) -> usize
+fn bytes_before_rest(rule: &Member<bool>, skip: usize, piece: &Piece<'_>) -> usize
     ensures { (front rest : List ℕ) → rule.now.name ≡ front ++ drop skip rule.now.name
-        → drop skip rule.now.name ≡ piece_text piece.entry ++ rest
-        → result ≡ length (front ++ piece_text piece.entry) }
+        → drop skip rule.now.name ≡ piece_text piece.now ++ rest
+        → result ≡ length (front ++ piece_text piece.now) }
 {
     match piece {
         Piece::Plain(name) => bytes_before_plain(rule, skip, name),
-        Piece::Other(way) => bytes_before_way(rule, skip, way),
+        Piece::Other(way) => bytes_before_way(rule, skip, *way),
     }
 }
 

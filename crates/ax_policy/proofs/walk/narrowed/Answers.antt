@@ -13,29 +13,29 @@ returns-then-passed-gt0 c front r =
     let run : IsRun c.split_at.result.1.now c.args.skip front =
     subst (λ (l : List (Member Bool)). IsRun l c.args.skip front) (sym c.split_at.ensures.back)
     (run_drop c.args.rules.now c.args.skip front c.min.result r) in
-    first_passed c.args.rules.now c.split_at.result.1.now c.in-Some.run'.now c.args.skip front
-    (piece_text c.args.piece) c.min.result r c.split_at.ensures.back
-    (c.in-Some.ensures.passed front run c.if-passed-gt0.true) (c.in-Some.ensures.run front run)
+    first_passed c.args.rules.now c.split_at.result.1.now c.run_ahead-passed.result.1.now c.args.skip front
+    (piece_text c.args.piece.now) c.min.result r c.split_at.ensures.back
+    (c.run_ahead-passed.ensures.passed front run c.if-passed-gt0.true) (c.run_ahead-passed.ensures.run front run)
 
 pub returns-then-are_before : goal.returns-then-are_before
 returns-then-are_before c front r =
     let run : IsRun c.split_at.result.1.now c.args.skip front =
     subst (λ (l : List (Member Bool)). IsRun l c.args.skip front) (sym c.split_at.ensures.back)
     (run_drop c.args.rules.now c.args.skip front c.min.result r) in
-    last_passed c.args.rules.now c.split_at.result.0.now c.split_at.result.1.now c.in-Some.run'.now
-    c.args.skip front (piece_text c.args.piece) c.min.result r (omega arith)
+    last_passed c.args.rules.now c.split_at.result.0.now c.split_at.result.1.now c.run_ahead-passed.result.1.now
+    c.args.skip front (piece_text c.args.piece.now) c.min.result r (omega arith)
     c.split_at.ensures.front c.split_at.ensures.back
     (λ rule s. c.are_before.ensures rule c.if-are_before.true s)
-    (c.in-Some.ensures.run front run)
+    (c.run_ahead-passed.ensures.run front run)
 
 pub returns : goal.returns
 returns c front r =
     let rest = c.from_by_halves-rest.ensures front r in
     let run : IsRun c.from_by_halves-rest.result.now c.args.skip front =
     subst (λ (l : List (Member Bool)). IsRun l c.args.skip front) (sym rest)
-    (run_filter (λ y. not (before (piece_text c.args.piece) c.args.skip y)) c.args.rules.now c.args.skip front r) in
+    (run_filter (λ y. not (before (piece_text c.args.piece.now) c.args.skip y)) c.args.rules.now c.args.skip front r) in
     c.run_at_front-run.ensures front run
-    (ap (rules_from (piece_text c.args.piece) c.args.skip) rest
-    ∙ from_again c.args.rules.now c.args.skip (piece_text c.args.piece) ∙ sym rest)
-    ∙ ap (filter (goes_on (piece_text c.args.piece) c.args.skip)) rest
-    ∙ run_from c.args.rules.now c.args.skip (piece_text c.args.piece)
+    (ap (rules_from (piece_text c.args.piece.now) c.args.skip) rest
+    ∙ from_again c.args.rules.now c.args.skip (piece_text c.args.piece.now) ∙ sym rest)
+    ∙ ap (filter (goes_on (piece_text c.args.piece.now) c.args.skip)) rest
+    ∙ run_from c.args.rules.now c.args.skip (piece_text c.args.piece.now)

@@ -1,7 +1,7 @@
 -- What was looked at, and what goes on of the rest.
-use Rattle.std.proofs.Common.{◌≡◌, ◌<◌, ◌≤◌, ℕ, List}
+use Rattle.std.proofs.Common.{◌≡◌, ◌<◌, ◌≤◌, ℕ, List, drop, length}
 use Rattle.std.specs.List.{filter}
-use Rattle.ax_policy.specs.Walking.{IsRun, BeginBefore, goes_on, piece_text}
+use Rattle.ax_policy.specs.Walking.{IsRun, BeginBefore, goes_on, piece_text, rules_from}
 use Rattle.ax_policy.proofs.Ahead.{found}
 use Rattle.ax_policy.proofs.walk.run_of_few.Given as goal
 
@@ -9,9 +9,13 @@ abbrev pub invariant-loop-rule : goal.invariant-loop-rule
 invariant-loop-rule l = record {
   count : l.count ≡ l.rule-index;
   within : l.passed ≤ l.count;
+  bound : l.passed ≤ length l.rules;
   run : (front : List ℕ) → IsRun l.rules l.skip front
       → found (piece_text l.piece) l.skip l.passed l.count l.rules
       ≡ filter (goes_on (piece_text l.piece) l.skip) l.rules;
   passed : (front : List ℕ) → IsRun l.rules l.skip front → 0 < l.passed
       → BeginBefore (piece_text l.piece) l.skip l.rules;
+  before : (front : List ℕ) → IsRun l.rules l.skip front
+      → rules_from (piece_text l.piece) l.skip (drop l.passed l.rules)
+      ≡ rules_from (piece_text l.piece) l.skip l.rules;
 }
