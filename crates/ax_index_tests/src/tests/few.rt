@@ -10,7 +10,7 @@ use std::alloc::Global;
 use std::test::Fail;
 
 /// What the index answers of a few pairs and ranges.
-#[derive(Debug, PartialEq, Eq, Drop)]
+#[derive(Drop)]
 struct Answers {
     has: [bool; 5],
     all: Vec<u32>,
@@ -38,52 +38,58 @@ fn all_answers<D: Disk>(
     Ok(Answers { has, all, of_b })
 }
 
-/// The answers that are wanted.
-fn wanted(alloc: Global, has: [bool; 5], all: &[u32], of_b: &[u32]) -> Result<Answers, Fail> {
-    let all = Vec::from_slice(alloc, all)?;
-    let of_b = Vec::from_slice(alloc, of_b)?;
-    Ok(Answers { has, all, of_b })
+impl Answers {
+    /// Whether these are the answers.
+    fn are(&self, has: [bool; 5], all: &[u32], of_b: &[u32]) -> bool {
+        self.has == has && self.all.as_slice() == all && self.of_b.as_slice() == of_b
+    }
 }
 
-// The second list adds what is there and drops what is not.
+/// The answers of a store that is opened on a disk.
+fn found_on<D: Disk>(alloc: Global, disk: &mut D) -> Result<Answers, Fail> {
+    let mut store = opened(alloc, disk)?;
+    all_answers(alloc, disk, &mut store)
+}
+
+/// The answers after changes that merge nothing.
+fn changed<D: Disk>(
+    alloc: Global,
+    disk: &mut D,
+    rows: &[(bool, &[u8], u32)],
+) -> Result<Answers, Fail> {
+    let changes = changes_of_rows(alloc, rows)?;
+    let mut store = opened(alloc, disk)?;
+    change(alloc, disk, &mut store, changes.as_slice())?;
+    all_answers(alloc, disk, &mut store)
+}
+
+const FIRST: &[(bool, &[u8], u32)] = &[
+    (true, b"a", 1),
+    (true, b"a", 2),
+    (true, b"b", 1),
+    (false, b"b", 9),
+    (true, b"c", 3),
+];
+
+/// Adds what is there and drops what is not.
+const SECOND: &[(bool, &[u8], u32)] = &[
+    (true, b"a", 1),
+    (false, b"b", 1),
+    (true, b"b", 9),
+    (false, b"c", 7),
+];
+
 #[test]
 fn pairs_are_added_and_dropped(rt: HostRuntime) -> Result<(), Fail> {
     let alloc = rt.alloc();
     let mut disk = fresh_disk(alloc, 4096)?;
-    let mut store = opened(alloc, &mut disk)?;
-    let nothing = wanted(alloc, [false; 5], &[], &[])?;
-    assert_eq!(rt; all_answers(alloc, &mut disk, &mut store)?, nothing);
-
-    let first = changes_of_rows(
-        alloc,
-        &[
-            (true, b"a", 1),
-            (true, b"a", 2),
-            (true, b"b", 1),
-            (false, b"b", 9),
-            (true, b"c", 3),
-        ],
-    )?;
-    let merged = change(alloc, &mut disk, &mut store, first.as_slice())?;
-    assert_eq!(rt; merged, 0);
-    let four = wanted(alloc, [true, true, true, false, true], &[1, 2, 3], &[1])?;
-    assert_eq!(rt; all_answers(alloc, &mut disk, &mut store)?, four);
-
-    let second = changes_of_rows(
-        alloc,
-        &[
-            (true, b"a", 1),
-            (false, b"b", 1),
-            (true, b"b", 9),
-            (false, b"c", 7),
-        ],
-    )?;
-    change(alloc, &mut disk, &mut store, second.as_slice())?;
-    let after = wanted(alloc, [true, true, false, true, true], &[1, 2, 3, 9], &[9])?;
-    assert_eq!(rt; all_answers(alloc, &mut disk, &mut store)?, after);
-
-    drop(store);
-    let mut store = opened(alloc, &mut disk)?;
-    assert_eq!(rt; all_answers(alloc, &mut disk, &mut store)?, after);
+    let nothing = found_on(alloc, &mut disk)?;
+    assert!(rt; nothing.are([false; 5], &[], &[]));
+    let four = changed(alloc, &mut disk, FIRST)?;
+    assert!(rt; four.are([true, true, true, false, true], &[1, 2, 3], &[1]));
+    let after = changed(alloc, &mut disk, SECOND)?;
+    assert!(rt; after.are([true, true, false, true, true], &[1, 2, 3, 9], &[9]));
+    let again = found_on(alloc, &mut disk)?;
+    assert!(rt; again.are([true, true, false, true, true], &[1, 2, 3, 9], &[9]));
     Ok(())
 }

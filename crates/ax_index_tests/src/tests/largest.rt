@@ -1,8 +1,7 @@
 //! The largest lists.
 
-ghost use Rattle.ax_index_tests.specs.Ready.{IsReady};
-
 use crate::tests::changing::{change, fresh_disk, numbers, opened, put};
+use ax_disk::Disk;
 use ax_index::Change;
 use std::alloc::Global;
 use std::test::Fail;
@@ -34,22 +33,34 @@ fn put_numbers(
     Ok(())
 }
 
+/// Opens the store and makes changes: how many pages were merged, and how many there are.
+fn changed<D: Disk>(alloc: Global, disk: &mut D, changes: &[Change]) -> Result<(u32, u32), Fail> {
+    let mut store = opened(alloc, disk)?;
+    let merged = change(alloc, disk, &mut store, changes)?;
+    Ok((merged, store.pages()))
+}
+
+/// The numbers that a store that is opened on a disk finds in a range.
+fn found_on<D: Disk>(
+    alloc: Global,
+    disk: &mut D,
+    from: &[u8],
+    below: &[u8],
+) -> Result<Vec<u32>, Fail> {
+    let mut store = opened(alloc, disk)?;
+    numbers(alloc, disk, &mut store, from, below)
+}
+
 // The first list is put as deltas, and the second merges the page.
 #[test]
 fn the_longest_terms_are_kept(rt: HostRuntime) -> Result<(), Fail> {
     let alloc = rt.alloc();
     let mut disk = fresh_disk(alloc, 1 << 22)?;
-    let mut store = opened(alloc, &mut disk)?;
     let first = long_list(alloc, 2)?;
-    let merged = change(alloc, &mut disk, &mut store, first.as_slice())?;
-    assert_eq!(rt; merged, 0);
+    assert_eq!(rt; changed(alloc, &mut disk, first.as_slice())?, (0, 1));
     let second = long_list(alloc, 7)?;
-    let merged = change(alloc, &mut disk, &mut store, second.as_slice())?;
-    assert_eq!(rt; merged, 1);
-    assert_eq!(rt; store.pages(), 20);
-    drop(store);
-    let mut store = opened(alloc, &mut disk)?;
-    let found = numbers(alloc, &mut disk, &mut store, b"t", b"u")?;
+    assert_eq!(rt; changed(alloc, &mut disk, second.as_slice())?, (1, 20));
+    let found = found_on(alloc, &mut disk, b"t", b"u")?;
     assert_eq!(rt; found.as_slice(), [0, 1, 2, 3, 4, 5, 6].as_slice());
     Ok(())
 }
@@ -58,11 +69,10 @@ fn the_longest_terms_are_kept(rt: HostRuntime) -> Result<(), Fail> {
 fn a_long_list_changes_one_page(rt: HostRuntime) -> Result<(), Fail> {
     let alloc = rt.alloc();
     let mut disk = fresh_disk(alloc, 1 << 20)?;
-    let mut store = opened(alloc, &mut disk)?;
     let mut changes = Vec::new(alloc);
     put_numbers(alloc, &mut changes, b"a", 5000)?;
-    change(alloc, &mut disk, &mut store, changes.as_slice())?;
-    let found = numbers(alloc, &mut disk, &mut store, b"a", b"b")?;
-    assert_eq!(rt; found.len(), 5000);
+    let (_, pages) = changed(alloc, &mut disk, changes.as_slice())?;
+    assert_eq!(rt; pages, 1);
+    assert_eq!(rt; found_on(alloc, &mut disk, b"a", b"b")?.len(), 5000);
     Ok(())
 }

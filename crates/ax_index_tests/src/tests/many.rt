@@ -127,44 +127,62 @@ fn all_are_found<D: Disk>(
     Ok(are_all(both.as_slice()) && are_all(shared.as_slice()) && are_all(own.as_slice()))
 }
 
+/// What a store that is opened on a disk finds.
+#[derive(Clone, Copy)]
+struct Found {
+    all: bool,
+    pages: u32,
+    most_parts: usize,
+}
+
+fn found_on<D: Disk>(alloc: Global, disk: &mut D) -> Result<Found, Fail> {
+    let mut store = opened(alloc, disk)?;
+    let all = all_are_found(alloc, disk, &mut store)?;
+    Ok(Found {
+        all,
+        pages: store.pages(),
+        most_parts: most_parts(&store),
+    })
+}
+
+/// Opens the store and makes all changes.
+fn changed<D: Disk>(alloc: Global, disk: &mut D, add: bool) -> Result<Most, Fail> {
+    let mut store = opened(alloc, disk)?;
+    change_all(alloc, disk, &mut store, add)
+}
+
+/// Opens the store and merges two pages at most, and then all: how many were merged first and last.
+fn merged<D: Disk>(alloc: Global, disk: &mut D) -> Result<(u32, u32), Fail> {
+    let mut store = opened(alloc, disk)?;
+    let first = merge(alloc, disk, &mut store, 2)?;
+    let last = merge_all(alloc, disk, &mut store)?;
+    Ok((first, last))
+}
+
+/// How many numbers are found on a disk.
+fn count_on<D: Disk>(alloc: Global, disk: &mut D) -> Result<usize, Fail> {
+    let mut store = opened(alloc, disk)?;
+    let found = numbers(alloc, disk, &mut store, b"", END)?;
+    Ok(found.len())
+}
+
 #[test]
-fn many_pairs_are_split_and_found_again(rt: HostRuntime) -> Result<(), Fail> {
+fn many_pairs_are_split_merged_and_dropped(rt: HostRuntime) -> Result<(), Fail> {
     let alloc = rt.alloc();
     let mut disk = fresh_disk(alloc, 1 << 22)?;
-    let mut store = opened(alloc, &mut disk)?;
-    let most = change_all(alloc, &mut disk, &mut store, true)?;
+    let most = changed(alloc, &mut disk, true)?;
     assert!(rt; most.merged > 0 && most.merged <= 16, "{}", most.merged);
     assert!(rt; most.parts > 8 && most.parts <= 17, "{}", most.parts);
-    assert!(rt; store.pages() > 1, "{}", store.pages());
-    drop(store);
-    let mut store = opened(alloc, &mut disk)?;
-    assert!(rt; all_are_found(alloc, &mut disk, &mut store)?);
-    Ok(())
-}
+    let split = found_on(alloc, &mut disk)?;
+    assert!(rt; split.all && split.pages > 1 && split.most_parts > 1);
 
-#[test]
-fn many_pages_are_merged(rt: HostRuntime) -> Result<(), Fail> {
-    let alloc = rt.alloc();
-    let mut disk = fresh_disk(alloc, 1 << 22)?;
-    let mut store = opened(alloc, &mut disk)?;
-    change_all(alloc, &mut disk, &mut store, true)?;
-    assert!(rt; most_parts(&store) > 1);
-    assert_eq!(rt; merge(alloc, &mut disk, &mut store, 2)?, 2);
-    assert_eq!(rt; merge_all(alloc, &mut disk, &mut store)?, 0);
-    assert_eq!(rt; most_parts(&store), 1);
-    assert!(rt; all_are_found(alloc, &mut disk, &mut store)?);
-    Ok(())
-}
+    assert_eq!(rt; merged(alloc, &mut disk)?, (2, 0));
+    let whole = found_on(alloc, &mut disk)?;
+    assert!(rt; whole.all && whole.pages == split.pages && whole.most_parts == 1);
 
-#[test]
-fn many_pairs_are_dropped(rt: HostRuntime) -> Result<(), Fail> {
-    let alloc = rt.alloc();
-    let mut disk = fresh_disk(alloc, 1 << 22)?;
-    let mut store = opened(alloc, &mut disk)?;
-    change_all(alloc, &mut disk, &mut store, true)?;
-    let most = change_all(alloc, &mut disk, &mut store, false)?;
+    let most = changed(alloc, &mut disk, false)?;
     assert!(rt; most.merged > 0 && most.merged <= 16, "{}", most.merged);
     assert!(rt; most.parts <= 17, "{}", most.parts);
-    assert!(rt; numbers(alloc, &mut disk, &mut store, b"", END)?.is_empty());
+    assert_eq!(rt; count_on(alloc, &mut disk)?, 0);
     Ok(())
 }

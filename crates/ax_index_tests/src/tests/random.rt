@@ -158,23 +158,16 @@ fn agree_after_a_list<D: Disk>(
     agree_on_a_pair(alloc, disk, store, set, draws)
 }
 
-/// The first of random change lists after which the index and a set differ.
-fn first_difference<D: Disk>(
-    alloc: Global,
-    disk: &mut D,
-    store: &mut Store<NoPages>,
-    seed: u32,
-) -> Result<Option<u32>, Fail>
-    requires { IsReady store.old (D.is_honest disk.old) (D.history disk.old (D.attached disk.old)) }
-    ensures { IsReady store.new (D.is_honest disk.new) (D.history disk.new (D.attached disk.new)) }
-{
+/// The first of random change lists after which the index on a fresh disk and a set differ.
+fn first_difference<D: Disk>(alloc: Global, disk: &mut D, seed: u32) -> Result<Option<u32>, Fail> {
+    let mut store = opened(alloc, disk)?;
     let mut set = BTreeSet::new(alloc);
     let mut draws = Draws { state: seed };
     for list in 0..LISTS {
-        if !agree_after_a_list(alloc, disk, store, &mut set, &mut draws)? {
+        if !agree_after_a_list(alloc, disk, &mut store, &mut set, &mut draws)? {
             return Ok(Some(list));
         }
-        if list % 25 == 24 && !agree_on_a_range(alloc, disk, store, &set, &mut draws)? {
+        if list % 25 == 24 && !agree_on_a_range(alloc, disk, &mut store, &set, &mut draws)? {
             return Ok(Some(list));
         }
     }
@@ -183,10 +176,8 @@ fn first_difference<D: Disk>(
 
 #[test]
 fn random_changes_are_as_in_a_set(rt: HostRuntime) -> Result<(), Fail> {
-    let alloc = rt.alloc();
-    let mut disk = fresh_disk(alloc, 1 << 22)?;
-    let mut store = opened(alloc, &mut disk)?;
-    let differs = first_difference(alloc, &mut disk, &mut store, SEED)?;
+    let mut disk = fresh_disk(rt.alloc(), 1 << 22)?;
+    let differs = first_difference(rt.alloc(), &mut disk, SEED)?;
     assert_eq!(rt; differs, None, "seed {SEED}");
     Ok(())
 }

@@ -1,11 +1,7 @@
 //! The bytes of a page that has two documents, one of which was replaced.
 
-ghost use Rattle.ax_index_tests.specs.Ready.{IsReady};
-
 use crate::tests::changing::{change, changes_of_rows, fresh_disk, merge, opened};
-use ax_cache::NoPages;
 use ax_disk::{Disk, Extent};
-use ax_store::Store;
 use std::alloc::Global;
 use std::test::Fail;
 
@@ -51,26 +47,23 @@ fn has_payload(bytes: &[u8], payload: &[u8]) -> bool {
 }
 
 /// Document 1 comes and is merged, document 2 comes, document 1 is replaced, and the page is merged.
-fn write_page<D: Disk>(alloc: Global, disk: &mut D, store: &mut Store<NoPages>) -> Result<u32, Fail>
-    requires { IsReady store.old (D.is_honest disk.old) (D.history disk.old (D.attached disk.old)) }
-    ensures { IsReady store.new (D.is_honest disk.new) (D.history disk.new (D.attached disk.new)) }
-{
+fn write_page<D: Disk>(alloc: Global, disk: &mut D) -> Result<u32, Fail> {
+    let mut store = opened(alloc, disk)?;
     let first = changes_of_rows(alloc, &[(true, ID_A, 1), (true, FIVE, 1)])?;
-    change(alloc, disk, store, first.as_slice())?;
-    merge(alloc, disk, store, 1)?;
+    change(alloc, disk, &mut store, first.as_slice())?;
+    merge(alloc, disk, &mut store, 1)?;
     let second = changes_of_rows(alloc, &[(true, ID_B, 2), (true, FIVE, 2)])?;
-    change(alloc, disk, store, second.as_slice())?;
+    change(alloc, disk, &mut store, second.as_slice())?;
     let third = changes_of_rows(alloc, &[(false, FIVE, 1), (true, SIX, 1)])?;
-    change(alloc, disk, store, third.as_slice())?;
-    Ok(merge(alloc, disk, store, 1)?)
+    change(alloc, disk, &mut store, third.as_slice())?;
+    Ok(merge(alloc, disk, &mut store, 1)?)
 }
 
 #[test]
 fn the_parts_of_a_page_are_these_bytes(rt: HostRuntime) -> Result<(), Fail> {
     let alloc = rt.alloc();
     let mut disk = fresh_disk(alloc, 4096)?;
-    let mut store = opened(alloc, &mut disk)?;
-    assert_eq!(rt; write_page(alloc, &mut disk, &mut store)?, 1);
+    assert_eq!(rt; write_page(alloc, &mut disk)?, 1);
     let area = disk.bytes(Extent::A);
     assert!(rt; has_payload(area, FIRST_BASE));
     assert!(rt; has_payload(area, SECOND_DELTA));
