@@ -66,13 +66,12 @@ fn the_longest_terms_are_kept(rt: HostRuntime) -> Result<(), Fail> {
 }
 
 #[test]
-fn a_long_list_changes_one_page(rt: HostRuntime) -> Result<(), Fail> {
+fn a_long_list_is_merged_and_split(rt: HostRuntime) -> Result<(), Fail> {
     let alloc = rt.alloc();
     let mut disk = fresh_disk(alloc, 1 << 20)?;
     let mut changes = Vec::new(alloc);
     put_numbers(alloc, &mut changes, b"a", 5000)?;
-    let (_, pages) = changed(alloc, &mut disk, changes.as_slice())?;
-    assert_eq!(rt; pages, 1);
+    assert_eq!(rt; changed(alloc, &mut disk, changes.as_slice())?, (1, 2));
     assert_eq!(rt; found_on(alloc, &mut disk, b"a", b"b")?.len(), 5000);
     Ok(())
 }

@@ -178,7 +178,7 @@ fn many_pairs_are_split_merged_and_dropped(rt: HostRuntime) -> Result<(), Fail> 
 
     assert_eq!(rt; merged(alloc, &mut disk)?, (2, 0));
     let whole = found_on(alloc, &mut disk)?;
-    assert!(rt; whole.all && whole.pages == split.pages && whole.most_parts == 1);
+    assert!(rt; whole.all && whole.pages >= split.pages && whole.most_parts == 1);
 
     let most = changed(alloc, &mut disk, false)?;
     assert!(rt; most.merged > 0 && most.merged <= 16, "{}", most.merged);
