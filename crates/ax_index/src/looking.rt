@@ -20,6 +20,7 @@ ghost use Rattle.ax_index.specs.Reading.{SameButBytes, first_delta};
 use crate::damage::damaged_at;
 use crate::number_lookup::has_one;
 use crate::payload::payload_in;
+use crate::runs::page_of_pair;
 use ax_disk::Disk;
 use ax_leaf::Pair;
 use ax_pages::Page;
@@ -71,7 +72,7 @@ fn has_by<D: Disk, C>(
     ensures attached { D.attached disk.new ≡ D.attached disk.old }
     ensures honest { D.is_honest disk.new ≡ D.is_honest disk.old }
 {
-    let page = store.page_of(pair.term.as_slice(), pair.number);
+    let page = page_of_pair(store, pair);
     let said = match look_back(store, disk, slot, page, pair) {
         Ok(said) => said,
         Err(fault) => return Err(fault),

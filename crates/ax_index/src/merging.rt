@@ -122,7 +122,7 @@ fn merge_pages<D: Disk, C>(
     let mut merged = 0;
     let mut at = Some(store.page_of(&[], 0));
     while let Some(page) = at {
-        if merged >= n {
+        if are_enough(merged, n) {
             return Ok(merged);
         }
         match merge_one(alloc, store, disk, slot, &mut next, page, batch) {
@@ -132,6 +132,14 @@ fn merge_pages<D: Disk, C>(
         at = store.next_page(page);
     }
     Ok(merged)
+}
+
+/// Whether so many pages are merged as were asked for.
+fn are_enough(merged: u32, asked: u32) -> bool
+    ensures enough { result ≡ true → asked ≤ merged }
+    ensures fewer { result ≡ false → merged < asked }
+{
+    merged >= asked
 }
 
 /// Merges a page where it has deltas, and answers whether it did.

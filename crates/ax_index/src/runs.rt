@@ -30,10 +30,17 @@ pub(crate) fn first_run<C>(store: &Store<C>, changes: &[Change]) -> Run
     ensures within { result.len ≤ length changes.now }
     ensures parted { IsPartedAt result.page (take result.len changes.now) (drop result.len changes.now) (store_contents store.now).terms }
 {
-    let first = &changes[0].pair;
-    let page = store.page_of(first.term.as_slice(), first.number);
+    let page = page_of_pair(store, &changes[0].pair);
     let len = run_len(store, page, changes);
     Run { page, len }
+}
+
+/// The page to which a pair belongs.
+#[tactic(auto, using(crate::proofs::IndexPages::of_term))]
+pub(crate) fn page_of_pair<C>(store: &Store<C>, pair: &Pair) -> u32
+    ensures { IsPageOf pair.now result (store_contents store.now).terms }
+{
+    store.page_of(pair.term.as_slice(), pair.number)
 }
 
 /// How many of the changes come before the page behind this one.

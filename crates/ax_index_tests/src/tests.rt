@@ -1,4 +1,4 @@
-mod changing;
+mod asking;
 mod crashes;
 mod few;
 mod largest;

@@ -114,7 +114,16 @@ fn serve_piece<D: Disk, K: Sink, L: Ledger>(
         }
         rest = tail;
     }
-    match pending.extend_from_slice(rest) {
+    put_behind(pending, rest)?;
+    Ok(())
+}
+
+/// Puts a part of a line behind what is pending of it.
+fn put_behind(pending: &mut Vec<u8>, part: &[u8]) -> Result<(), Status>
+    ensures items { OnOk result (pending.new.items ≡ pending.old.items ++ part.now) }
+    ensures only { IfErr result (λ status. status ≡ Status.Memory) }
+{
+    match pending.extend_from_slice(part) {
         Ok(()) => Ok(()),
         Err(_) => Err(Status::Memory),
     }
@@ -153,9 +162,7 @@ fn serve_head<D: Disk, K: Sink, L: Ledger>(
     if pending.is_empty() {
         return serve_line(alloc, documents, disk, head, sink, steps);
     }
-    let Ok(()) = pending.extend_from_slice(head) else {
-        return Err(Status::Memory);
-    };
+    put_behind(pending, head)?;
     let served = serve_line(alloc, documents, disk, pending.as_slice(), sink, steps);
     if let Err(status) = served {
         return Err(status);

@@ -1,12 +1,13 @@
 //! A change that the disk stops: what is found later is what was there before it or after it, whole.
 
 ghost use Rattle.std.specs.Prelude.{IfOk};
-ghost use Rattle.ax_index_tests.specs.Ready.{IsReady};
+ghost use Rattle.ax_index_support.specs.Ready.{IsReady};
 
-use crate::tests::changing::{change, fresh_disk, numbers, opened, put};
+use crate::tests::asking::{fresh_disk, numbers};
 use ax_cache::NoPages;
 use ax_disk::{Extent, FuseDisk, MemDisk};
 use ax_index::Change;
+use ax_index_support::{change, open, put};
 use ax_store::Store;
 use std::alloc::Global;
 use std::test::Fail;
@@ -34,14 +35,14 @@ fn list_of(alloc: Global, step: u32, dropped: u32) -> Result<Vec<Change>, Fail> 
 
 /// The numbers that are found on a disk.
 fn found_on(alloc: Global, disk: &mut MemDisk) -> Result<Vec<u32>, Fail> {
-    let mut store = opened(alloc, disk)?;
+    let mut store = open(alloc, disk)?;
     numbers(alloc, disk, &mut store, &[0], &[255])
 }
 
 /// A disk on which the first list was committed.
 fn begun_disk(alloc: Global) -> Result<MemDisk, Fail> {
     let mut disk = fresh_disk(alloc, 1 << 17)?;
-    let mut store = opened(alloc, &mut disk)?;
+    let mut store = open(alloc, &mut disk)?;
     let first = list_of(alloc, 4, 0)?;
     change(alloc, &mut disk, &mut store, first.as_slice())?;
     Ok(disk)
@@ -63,7 +64,7 @@ fn stopped(
     calls: u64,
     keep: bool,
 ) -> Result<(bool, Vec<u32>), Fail> {
-    let mut store = opened(alloc, &mut disk)?;
+    let mut store = open(alloc, &mut disk)?;
     let second = list_of(alloc, 1, 1)?;
     let mut fuse = FuseDisk::make(disk, calls);
     let done = change(alloc, &mut fuse, &mut store, second.as_slice()).is_ok();

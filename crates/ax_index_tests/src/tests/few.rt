@@ -1,10 +1,11 @@
 //! A few pairs, changed and asked.
 
-ghost use Rattle.ax_index_tests.specs.Ready.{IsReady};
+ghost use Rattle.ax_index_support.specs.Ready.{IsReady};
 
-use crate::tests::changing::{change, changes_of_rows, fresh_disk, has_pair, numbers, opened};
+use crate::tests::asking::{changes_of_rows, fresh_disk, has_pair, numbers};
 use ax_cache::NoPages;
 use ax_disk::Disk;
+use ax_index_support::{change, open};
 use ax_store::Store;
 use std::alloc::Global;
 use std::test::Fail;
@@ -47,7 +48,7 @@ impl Answers {
 
 /// The answers of a store that is opened on a disk.
 fn found_on<D: Disk>(alloc: Global, disk: &mut D) -> Result<Answers, Fail> {
-    let mut store = opened(alloc, disk)?;
+    let mut store = open(alloc, disk)?;
     all_answers(alloc, disk, &mut store)
 }
 
@@ -58,7 +59,7 @@ fn changed<D: Disk>(
     rows: &[(bool, &[u8], u32)],
 ) -> Result<Answers, Fail> {
     let changes = changes_of_rows(alloc, rows)?;
-    let mut store = opened(alloc, disk)?;
+    let mut store = open(alloc, disk)?;
     change(alloc, disk, &mut store, changes.as_slice())?;
     all_answers(alloc, disk, &mut store)
 }

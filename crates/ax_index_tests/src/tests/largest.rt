@@ -1,8 +1,9 @@
 //! The largest lists.
 
-use crate::tests::changing::{change, fresh_disk, numbers, opened, put};
+use crate::tests::asking::{fresh_disk, numbers};
 use ax_disk::Disk;
 use ax_index::Change;
+use ax_index_support::{change, open, put};
 use std::alloc::Global;
 use std::test::Fail;
 
@@ -35,7 +36,7 @@ fn put_numbers(
 
 /// Opens the store and makes changes: how many pages were merged, and how many there are.
 fn changed<D: Disk>(alloc: Global, disk: &mut D, changes: &[Change]) -> Result<(u32, u32), Fail> {
-    let mut store = opened(alloc, disk)?;
+    let mut store = open(alloc, disk)?;
     let merged = change(alloc, disk, &mut store, changes)?;
     Ok((merged, store.pages()))
 }
@@ -47,7 +48,7 @@ fn found_on<D: Disk>(
     from: &[u8],
     below: &[u8],
 ) -> Result<Vec<u32>, Fail> {
-    let mut store = opened(alloc, disk)?;
+    let mut store = open(alloc, disk)?;
     numbers(alloc, disk, &mut store, from, below)
 }
 

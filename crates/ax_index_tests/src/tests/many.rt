@@ -1,11 +1,12 @@
 //! Pairs on several pages, changed by many lists.
 
-ghost use Rattle.ax_index_tests.specs.Ready.{IsReady};
+ghost use Rattle.ax_index_support.specs.Ready.{IsReady};
 
-use crate::tests::changing::{change, fresh_disk, merge, numbers, opened, put};
+use crate::tests::asking::{fresh_disk, numbers};
 use ax_cache::NoPages;
 use ax_disk::Disk;
 use ax_index::Change;
+use ax_index_support::{change, merge, open, put};
 use ax_pages::Page;
 use ax_store::Store;
 use std::alloc::Global;
@@ -53,7 +54,7 @@ fn list_of(alloc: Global, add: bool, list: u32) -> Result<Vec<Change>, Fail> {
 fn put_own(alloc: Global, changes: &mut Vec<Change>, add: bool, number: u32) -> Result<(), Fail> {
     let mut term = Vec::from_slice(alloc, OWN)?;
     term.extend_from_slice(&u64::from(number).to_be_bytes())?;
-    put(alloc, changes, add, term.as_slice(), number)
+    Ok(put(alloc, changes, add, term.as_slice(), number)?)
 }
 
 /// Makes all changes, list by list.
@@ -136,7 +137,7 @@ struct Found {
 }
 
 fn found_on<D: Disk>(alloc: Global, disk: &mut D) -> Result<Found, Fail> {
-    let mut store = opened(alloc, disk)?;
+    let mut store = open(alloc, disk)?;
     let all = all_are_found(alloc, disk, &mut store)?;
     Ok(Found {
         all,
@@ -147,13 +148,13 @@ fn found_on<D: Disk>(alloc: Global, disk: &mut D) -> Result<Found, Fail> {
 
 /// Opens the store and makes all changes.
 fn changed<D: Disk>(alloc: Global, disk: &mut D, add: bool) -> Result<Most, Fail> {
-    let mut store = opened(alloc, disk)?;
+    let mut store = open(alloc, disk)?;
     change_all(alloc, disk, &mut store, add)
 }
 
 /// Opens the store and merges two pages at most, and then all: how many were merged first and last.
 fn merged<D: Disk>(alloc: Global, disk: &mut D) -> Result<(u32, u32), Fail> {
-    let mut store = opened(alloc, disk)?;
+    let mut store = open(alloc, disk)?;
     let first = merge(alloc, disk, &mut store, 2)?;
     let last = merge_all(alloc, disk, &mut store)?;
     Ok((first, last))
@@ -161,7 +162,7 @@ fn merged<D: Disk>(alloc: Global, disk: &mut D) -> Result<(u32, u32), Fail> {
 
 /// How many numbers are found on a disk.
 fn count_on<D: Disk>(alloc: Global, disk: &mut D) -> Result<usize, Fail> {
-    let mut store = opened(alloc, disk)?;
+    let mut store = open(alloc, disk)?;
     let found = numbers(alloc, disk, &mut store, b"", END)?;
     Ok(found.len())
 }

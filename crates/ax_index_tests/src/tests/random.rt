@@ -1,12 +1,13 @@
 //! Random changes, against a set.
 
 ghost use Rattle.std.specs.Prelude.{◌<◌};
-ghost use Rattle.ax_index_tests.specs.Ready.{IsReady};
+ghost use Rattle.ax_index_support.specs.Ready.{IsReady};
 
-use crate::tests::changing::{change, fresh_disk, has_pair, numbers, opened, put};
+use crate::tests::asking::{fresh_disk, has_pair, numbers};
 use ax_cache::NoPages;
 use ax_disk::Disk;
 use ax_index::Change;
+use ax_index_support::{change, open, put};
 use ax_store::Store;
 use std::alloc::Global;
 use std::collections::{BTreeMap, BTreeSet};
@@ -160,7 +161,7 @@ fn agree_after_a_list<D: Disk>(
 
 /// The first of random change lists after which the index on a fresh disk and a set differ.
 fn first_difference<D: Disk>(alloc: Global, disk: &mut D, seed: u32) -> Result<Option<u32>, Fail> {
-    let mut store = opened(alloc, disk)?;
+    let mut store = open(alloc, disk)?;
     let mut set = BTreeSet::new(alloc);
     let mut draws = Draws { state: seed };
     for list in 0..LISTS {

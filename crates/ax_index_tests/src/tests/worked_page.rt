@@ -1,7 +1,8 @@
 //! The bytes of a page that has two documents, one of which was replaced.
 
-use crate::tests::changing::{change, changes_of_rows, fresh_disk, merge, opened};
+use crate::tests::asking::{changes_of_rows, fresh_disk};
 use ax_disk::{Disk, Extent};
+use ax_index_support::{change, merge, open};
 use std::alloc::Global;
 use std::test::Fail;
 
@@ -48,7 +49,7 @@ fn has_payload(bytes: &[u8], payload: &[u8]) -> bool {
 
 /// Document 1 comes and is merged, document 2 comes, document 1 is replaced, and the page is merged.
 fn write_page<D: Disk>(alloc: Global, disk: &mut D) -> Result<u32, Fail> {
-    let mut store = opened(alloc, disk)?;
+    let mut store = open(alloc, disk)?;
     let first = changes_of_rows(alloc, &[(true, ID_A, 1), (true, FIVE, 1)])?;
     change(alloc, disk, &mut store, first.as_slice())?;
     merge(alloc, disk, &mut store, 1)?;

@@ -37,7 +37,7 @@ loop-at-preserved g c =
       merging = merge_step c.in-Some.page c.loop-at.at c.next_page-at.result (store_contents c.args.store.now).terms (store_contents c.loop-at.store).terms
           (store_contents c.merge_one.new.store).terms c.loop-at.merged c.loop-at.next c.merge_one.new.next c.as_number-merged.result c.in-Ok.done _ _ _ c.in-Some.is now after
           c.as_number-merged.ensures more.step c.next_page-at.ensures.found c.next_page-at.ensures.none inv.merging;
-      most = omega (arith, c.if-merged-n.false, number_small c.in-Ok.done, c.as_number-merged.ensures);
+      most = omega (arith, c.are_enough.ensures.fewer c.if-are_enough.false, number_small c.in-Ok.done, c.as_number-merged.ensures);
       same = unmoved_then _ _ _ inv.same more.same;
       slot = more.slot ∙ inv.slot;
       lists = λ honest. idles_join _ _ _ (inv.lists honest) (more.lists (subst IsTrue (sym inv.honest) honest));

@@ -1,4 +1,4 @@
-use Rattle.ax_index_tests.specs.Ready.{IsReady}
+use Rattle.ax_index_support.specs.Ready.{IsReady}
 use Rattle.ax_index_tests.proofs.tests.many.merge_all.Given as goal
 
 abbrev pub invariant-loop-round : goal.invariant-loop-round

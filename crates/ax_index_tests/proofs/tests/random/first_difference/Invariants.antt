@@ -1,4 +1,4 @@
-use Rattle.ax_index_tests.specs.Ready.{IsReady}
+use Rattle.ax_index_support.specs.Ready.{IsReady}
 use Rattle.ax_index_tests.proofs.tests.random.first_difference.Given as goal
 
 abbrev pub invariant-loop-list : goal.invariant-loop-list

@@ -20,7 +20,7 @@ use Rattle.ax_store.specs.Slots.{HasAllFree}
 use Rattle.ax_store.specs.Store.{Agrees, SameButSlots, store_slots}
 use Rattle.ax_store.proofs.LoadLemmas.{last_same}
 use Rattle.ax_store.proofs.StoreLemmas.{agrees_still, agrees_slots}
-use Rattle.ax_index_tests.specs.Ready.{IsReady}
+use Rattle.ax_index_support.specs.Ready.{IsReady}
 
 pub all_free : {C : Type 0} (store : Store C) → HasAllFree store → 2 ≤ free_count (store_slots store)
 all_free store free = subst (λ (taken : List Bool). 2 ≤ count_by not taken) (sym free) (omega arith)

@@ -1,0 +1,121 @@
+//! A store on a disk, whose index is changed and asked.
+
+ghost use Rattle.std.specs.Prelude.{◌≡◌, ◌+◌, IfOk, OnErr};
+ghost use Rattle.ax_index.specs.Bare.{with_deltas};
+ghost use Rattle.ax_index.specs.Wanted.{AreNumbersIn};
+ghost use Rattle.ax_index_support.specs.Ready.{IsReady};
+ghost use Rattle.ax_pairs.specs.Index.{IsIndex};
+ghost use Rattle.ax_pairs.specs.PairSets.{PairSet, with_changes};
+ghost use Rattle.ax_store.specs.Store.{store_contents};
+
+use ax_cache::NoPages;
+use ax_delta::are_in_order;
+use ax_disk::Disk;
+use ax_index::{Change, Pair, StoreFault, TermRange, has, merge_some, pairs_in, plan_changes};
+use ax_store::{Batch, Store};
+use std::alloc::Global;
+
+/// Opens the store on a disk.
+pub fn open<D: Disk>(alloc: Global, disk: &mut D) -> Result<Store<NoPages>, StoreFault>
+    ensures { IfOk result (λ store. IsReady store (D.is_honest disk.new) (D.history disk.new (D.attached disk.new))) }
+{
+    Store::open_store(alloc, disk, NoPages)
+}
+
+/// Plans rising changes and commits them, and answers how many pages were merged. Changes that do not
+/// rise are answered by `Memory`.
+pub fn change<D: Disk>(
+    alloc: Global,
+    disk: &mut D,
+    store: &mut Store<NoPages>,
+    changes: &[Change],
+) -> Result<u32, StoreFault>
+    requires { IsReady store.old (D.is_honest disk.old) (D.history disk.old (D.attached disk.old)) }
+    ensures changed { (set : PairSet) → IsIndex (store_contents store.old).terms set
+        → IfOk result (λ merged. IsIndex (store_contents store.new).terms (with_changes changes.now set)) }
+    ensures kept { OnErr result (store_contents store.new ≡ store_contents store.old) }
+    ensures ready { IsReady store.new (D.is_honest disk.new) (D.history disk.new (D.attached disk.new)) }
+{
+    if !are_in_order(changes) {
+        return Err(StoreFault::Memory);
+    }
+    let mut batch = Batch::begin(alloc);
+    let merged = match plan_changes(alloc, store, disk, changes, &mut batch) {
+        Ok(merged) => merged,
+        Err(fault) => return Err(fault),
+    };
+    if batch.parts() == 0 {
+        return Ok(merged);
+    }
+    let Ok(batch) = batch.seal(alloc) else {
+        return Err(StoreFault::Memory);
+    };
+    match store.commit(disk, batch) {
+        Ok(()) => Ok(merged),
+        Err(fault) => Err(fault),
+    }
+}
+
+/// Merges so many pages at most and commits that, and answers how many were merged.
+pub fn merge<D: Disk>(
+    alloc: Global,
+    disk: &mut D,
+    store: &mut Store<NoPages>,
+    most: u32,
+) -> Result<u32, StoreFault>
+    requires { IsReady store.old (D.is_honest disk.old) (D.history disk.old (D.attached disk.old)) }
+    ensures merged { (set : PairSet) → IsIndex (store_contents store.old).terms set
+        → IfOk result (λ merged. IsIndex (store_contents store.new).terms set) }
+    ensures fewer { IfOk result (λ merged. with_deltas (store_contents store.new).terms + merged ≡ with_deltas (store_contents store.old).terms) }
+    ensures kept { OnErr result (store_contents store.new ≡ store_contents store.old) }
+    ensures ready { IsReady store.new (D.is_honest disk.new) (D.history disk.new (D.attached disk.new)) }
+{
+    let mut batch = Batch::begin(alloc);
+    let merged = match merge_some(alloc, store, disk, most, &mut batch) {
+        Ok(merged) => merged,
+        Err(fault) => return Err(fault),
+    };
+    if batch.parts() == 0 {
+        return Ok(merged);
+    }
+    let Ok(batch) = batch.seal(alloc) else {
+        return Err(StoreFault::Memory);
+    };
+    match store.commit(disk, batch) {
+        Ok(()) => Ok(merged),
+        Err(fault) => Err(fault),
+    }
+}
+
+/// Whether a pair is in the index.
+#[tactic(auto, using(crate::proofs::ReadyLemmas::ready_slots))]
+pub fn ask<D: Disk>(
+    disk: &mut D,
+    store: &mut Store<NoPages>,
+    pair: &Pair,
+) -> Result<bool, StoreFault>
+    requires { IsReady store.old (D.is_honest disk.old) (D.history disk.old (D.attached disk.old)) }
+    ensures has { (set : PairSet) → IsIndex (store_contents store.old).terms set
+        → IfOk result (λ found. found ≡ set pair.now) }
+    ensures same { store_contents store.new ≡ store_contents store.old }
+    ensures ready { IsReady store.new (D.is_honest disk.new) (D.history disk.new (D.attached disk.new)) }
+{
+    has(store, disk, pair)
+}
+
+/// The numbers with a term in a range.
+#[tactic(auto, using(crate::proofs::ReadyLemmas::ready_slots))]
+pub fn look<D: Disk>(
+    alloc: Global,
+    disk: &mut D,
+    store: &mut Store<NoPages>,
+    range: &TermRange,
+) -> Result<Vec<u32>, StoreFault>
+    requires { IsReady store.old (D.is_honest disk.old) (D.history disk.old (D.attached disk.old)) }
+    ensures found { (set : PairSet) → IsIndex (store_contents store.old).terms set
+        → IfOk result (λ numbers. AreNumbersIn range.now set numbers.items) }
+    ensures same { store_contents store.new ≡ store_contents store.old }
+    ensures ready { IsReady store.new (D.is_honest disk.new) (D.history disk.new (D.attached disk.new)) }
+{
+    pairs_in(alloc, store, disk, range)
+}
