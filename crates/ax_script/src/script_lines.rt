@@ -11,7 +11,7 @@ use crate::status::Status;
 use ax_base::{Sink, Source, Steps};
 use ax_disk::Disk;
 use ax_lines::first_line;
-use std::alloc::Global;
+use std::alloc::{AllocError, Global};
 use std::sync::ledger::Ledger;
 
 /// A run that takes more bytes than these ends as `Long`.
@@ -114,19 +114,17 @@ fn serve_piece<D: Disk, K: Sink, L: Ledger>(
         }
         rest = tail;
     }
-    put_behind(pending, rest)?;
-    Ok(())
-}
-
-/// Puts a part of a line behind what is pending of it.
-fn put_behind(pending: &mut Vec<u8>, part: &[u8]) -> Result<(), Status>
-    ensures items { OnOk result (pending.new.items ≡ pending.old.items ++ part.now) }
-    ensures only { IfErr result (λ status. status ≡ Status.Memory) }
-{
-    match pending.extend_from_slice(part) {
+    match put_behind(pending, rest) {
         Ok(()) => Ok(()),
         Err(_) => Err(Status::Memory),
     }
+}
+
+/// Puts a part of a line behind what is pending of it.
+fn put_behind(pending: &mut Vec<u8>, part: &[u8]) -> Result<(), AllocError>
+    ensures items { OnOk result (pending.new.items ≡ pending.old.items ++ part.now) }
+{
+    pending.extend_from_slice(part)
 }
 
 /// Serves the line that is pending and ends with `head`, whose newline has come. A line of which
@@ -162,7 +160,9 @@ fn serve_head<D: Disk, K: Sink, L: Ledger>(
     if pending.is_empty() {
         return serve_line(alloc, documents, disk, head, sink, steps);
     }
-    put_behind(pending, head)?;
+    let Ok(()) = put_behind(pending, head) else {
+        return Err(Status::Memory);
+    };
     let served = serve_line(alloc, documents, disk, pending.as_slice(), sink, steps);
     if let Err(status) = served {
         return Err(status);

@@ -97,7 +97,7 @@ returns-in-Ok-clause-line g c =
     subst IsOneLine (sym c.in-Ok.ensures.items)
     (IsOneLine-append c.lines.pending.items c.lines.rest.now c.lines.invariant.line c.in_default.ensures.none)
 
-pub returns-in-Err-extend_from_slice-clause-err : goal.returns-in-Err-extend_from_slice-clause-err
-returns-in-Err-extend_from_slice-clause-err g c = λ before holds.
+pub returns-in-Err-put_behind-clause-err : goal.returns-in-Err-put_behind-clause-err
+returns-in-Err-put_behind-clause-err g c = λ before holds.
     let p = c.lines.invariant.part before holds in
     piece_breaks_off _ before p.0 _ _ _ _ _ _ p.2
