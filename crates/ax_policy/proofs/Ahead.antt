@@ -320,6 +320,45 @@ up_to_strides rules near skip front piece to count r h stop n b e =
     (e (subst (λ (l : List (Member Bool)). IsPartitionedBy (within piece skip) l) (sym n)
     (parted_take (within piece skip) rules to h parts)))))
 
+middle : (o p q : Ordering) → ordering_index o ≤ ordering_index p → ordering_index p ≤ ordering_index q
+    → is_eq o ≡ true → is_eq q ≡ true → is_eq p ≡ true
+middle Less p q h k e f = absurd (cc)
+middle Greater p q h k e f = absurd (cc)
+middle Equal Less q h k e f = absurd (omega arith)
+middle Equal Equal q h k e f = refl
+middle Equal Greater Less h k e f = absurd (cc)
+middle Equal Greater Equal h k e f = absurd (omega arith)
+middle Equal Greater Greater h k e f = absurd (cc)
+
+-- where the first goes on, those that do are the first
+on_parted : (rules : List (Member Bool)) (skip : ℕ) (front piece : List ℕ)
+    → IsRun rules skip front → begins_on piece skip rules ≡ true
+    → IsPartitionedBy (goes_on piece skip) rules
+on_parted [] skip front piece r b i j d h k e = absurd (omega arith)
+on_parted (first ∷ rest) skip front piece r b i j d h k e =
+    middle (against piece (drop skip first.name))
+    (against piece (drop skip (get_or (first ∷ rest) i d).name))
+    (against piece (drop skip (get_or (first ∷ rest) j d).name))
+    (piece_no_fall (first ∷ rest) skip front piece r 0 i d (omega arith) (omega arith))
+    (piece_no_fall (first ∷ rest) skip front piece r i j d h k) b e
+
+pub on_strides : (rules near : List (Member Bool)) (skip : ℕ) (front piece : List ℕ) (to count : ℕ)
+    → IsRun rules skip front → begins_on piece skip rules ≡ true → to ≤ length rules
+    → ((rule : Member Bool) → slice_get rules to ≡ Some rule → goes_on piece skip rule ≡ false)
+    → near ≡ take to rules → count ≤ length near
+    → (IsPartitionedBy (goes_on piece skip) near
+    → IsPartitionPoint (λ y. goes_on piece skip y ≡ true) (λ y. goes_on piece skip y ≡ false) near count)
+    → take count rules ≡ filter (goes_on piece skip) rules
+on_strides rules near skip front piece to count r begin h stop n b e =
+    let parts : IsPartitionedBy (goes_on piece skip) rules = on_parted rules skip front piece r begin in
+    kept_front (goes_on piece skip) rules count (omega (arith, ap length n, length-take to rules))
+    (point_further (goes_on piece skip) rules to count h parts
+    (stop_at (goes_on piece skip) rules to stop) (omega (arith, ap length n))
+    (subst (λ (l : List (Member Bool)). IsPartitionPoint (λ y. goes_on piece skip y ≡ true)
+    (λ y. goes_on piece skip y ≡ false) l count) n
+    (e (subst (λ (l : List (Member Bool)). IsPartitionedBy (goes_on piece skip) l) (sym n)
+    (parted_take (goes_on piece skip) rules to h parts)))))
+
 -- where there are fewer from the step on, the first comes before it
 pub fewer_from : (rules rest : List (Member Bool)) (skip : ℕ) (front piece : List ℕ)
     → IsRun rules skip front → rest ≡ rules_from piece skip rules → 0 < length rules - length rest
@@ -377,13 +416,6 @@ behind_on Equal Equal h e f = absurd (cc)
 behind_on Equal Greater h e f = refl
 behind_on Greater q h e f = absurd (cc)
 
-no_less : (o q : Ordering) → ordering_index o ≤ ordering_index q → is_eq o ≡ true → is_lt q ≡ false
-no_less Less q h e = absurd (cc)
-no_less Equal Less h e = absurd (omega arith)
-no_less Equal Equal h e = refl
-no_less Equal Greater h e = refl
-no_less Greater q h e = absurd (cc)
-
 abbrev one_rule : Member Bool → Option (Member Bool)
 one_rule rule = Some rule
 
@@ -426,18 +458,6 @@ pub before_passed : (rules : List (Member Bool)) (skip : ℕ) (front piece : Lis
 before_passed rules skip front piece index rule r h e g =
     skipped_before rules skip front piece (index + 1) index rule r (omega arith) h
     (ap (before piece skip) (sym e) ∙ sym (ap is_lt g))
-
--- where the first goes on, none comes before
-pub none_before : (rules : List (Member Bool)) (skip : ℕ) (front piece : List ℕ)
-    → IsRun rules skip front → begins_on piece skip rules ≡ true → rules_from piece skip rules ≡ rules
-none_before [] skip front piece r b = absurd (cc)
-none_before (first ∷ rest) skip front piece r b =
-    sym (kept_back (before piece skip) (first ∷ rest) 0 (omega arith) (
-      λ k d l m. absurd (omega arith),
-      λ k d l m. no_less (against piece (drop skip first.name))
-          (against piece (drop skip (get_or (first ∷ rest) k d).name))
-          (piece_no_fall (first ∷ rest) skip front piece r 0 k d (omega arith) m) b,
-    ))
 
 pub found_first : (rules : List (Member Bool)) (skip : ℕ) (piece : List ℕ) → begins_on piece skip rules ≡ true
     → found piece skip 0 1 rules ≡ filter (goes_on piece skip) rules

@@ -28,7 +28,7 @@ use std::cmp::Ordering;
 /// So many rules are looked at one after another before strides or halves.
 const FEW: usize = 8;
 /// So many rules that go on with a step are looked at one after another before strides.
-const FEW_ON: usize = 3;
+const FEW_ON: usize = 2;
 
 /// Where a walk down a document stands among the rules of a policy.
 #[derive(Clone, Copy)]
@@ -348,7 +348,7 @@ fn run_of_first<'a>(rules: &'a [Member<bool>], skip: usize, piece: &Piece<'_>) -
 {
     match few_on(rules, skip, piece) {
         Some(count) => between(rules, 0, count),
-        None => up_to_by_strides(rules, skip, piece),
+        None => run_of_many(rules, skip, piece),
     }
 }
 
@@ -373,6 +373,35 @@ fn few_on(rules: &[Member<bool>], skip: usize, piece: &Piece<'_>) -> Option<usiz
         count += 1;
     }
     Some(rules.len())
+}
+
+/// The same by strides and halves. Takes time by the number of digits of how many go on.
+#[inline(never)]
+fn run_of_many<'a>(rules: &'a [Member<bool>], skip: usize, piece: &Piece<'_>) -> &'a [Member<bool>]
+    ensures { (front : List ℕ) → IsRun rules.now skip front
+        → begins_on (piece_text piece.now) skip rules.now ≡ true
+        → result.now ≡ filter (does_go_on (piece_text piece.now) skip) rules.now }
+{
+    let (near, _) = rules.split_at(stride_on(rules, skip, piece));
+    let count = near.partition_point(|rule| goes_on(rule, skip, piece));
+    let (front, _) = rules.split_at(count);
+    front
+}
+
+/// A place by strides that double where no rule goes on with the step.
+fn stride_on(rules: &[Member<bool>], skip: usize, piece: &Piece<'_>) -> usize
+    ensures bound { result ≤ length rules.now }
+    ensures rule { (rule : Member Bool) → slice_get rules.now result ≡ Some rule
+        → does_go_on (piece_text piece.now) skip rule ≡ false }
+{
+    let mut to = FEW;
+    while let Some(rule) = rules.get(to) {
+        if !goes_on(rule, skip, piece) {
+            return to;
+        }
+        to = to.saturating_mul(2);
+    }
+    rules.len()
 }
 
 /// Whether all these rules come before the step, which the last one tells.
