@@ -17,9 +17,9 @@ use Rattle.ax_tree.specs.Names.{HaveRisingNames}
 use Rattle.ax_tree.specs.declared.members.Member.{Member}
 use Rattle.ax_policy.specs.Comparing.{against}
 use Rattle.ax_policy.specs.Rules.{under}
-use Rattle.ax_policy.specs.Walking.{IsRun, BeginBefore, before, begins_on, within, goes_on, rules_from, rules_up_to}
+use Rattle.ax_policy.specs.Walking.{IsRun, BeginBefore, before, begins_on, within, goes_on, rules_from}
 use Rattle.ax_policy.proofs.Searching.{later}
-use Rattle.ax_policy.proofs.Walks.{before_parted, within_parted, cmp_front, filter_both, kept_back, kept_front, narrowed_is, piece_no_fall}
+use Rattle.ax_policy.proofs.Walks.{before_parted, within_parted, cmp_front, filter_both, kept_back, kept_front, piece_no_fall}
 
 -- ---- a run without its first rules
 
@@ -241,12 +241,6 @@ run_from rules skip piece =
     ∙ filter_agree (λ y. not (before piece skip y) && goes_on piece skip y) (goes_on piece skip)
     (λ y. later_on (against piece (drop skip y.name))) rules
 
-pub run_up_to : (rules run : List (Member Bool)) (skip : ℕ) (piece : List ℕ)
-    → rules_from piece skip rules ≡ rules → run ≡ rules_up_to piece skip rules
-    → run ≡ filter (goes_on piece skip) rules
-run_up_to rules run skip piece e f =
-    f ∙ ap (rules_up_to piece skip) (sym e) ∙ narrowed_is rules skip piece
-
 -- ---- by strides
 
 parted_take : (p : Member Bool → Bool) (rules : List (Member Bool)) (to : ℕ) → to ≤ length rules
@@ -302,23 +296,6 @@ from_strides rules near skip front piece to count r h stop n b e =
     (λ y. before piece skip y ≡ false) l count) n
     (e (subst (λ (l : List (Member Bool)). IsPartitionedBy (before piece skip) l) (sym n)
     (parted_take (before piece skip) rules to h parts)))))
-
-pub up_to_strides : (rules near : List (Member Bool)) (skip : ℕ) (front piece : List ℕ) (to count : ℕ)
-    → IsRun rules skip front → to ≤ length rules
-    → ((rule : Member Bool) → slice_get rules to ≡ Some rule → within piece skip rule ≡ false)
-    → near ≡ take to rules → count ≤ length near
-    → (IsPartitionedBy (within piece skip) near
-    → IsPartitionPoint (λ y. within piece skip y ≡ true) (λ y. within piece skip y ≡ false) near count)
-    → take count rules ≡ rules_up_to piece skip rules
-up_to_strides rules near skip front piece to count r h stop n b e =
-    let parts : IsPartitionedBy (within piece skip) rules = within_parted rules skip front piece r in
-    kept_front (within piece skip) rules count (omega (arith, ap length n, length-take to rules))
-    (point_further (within piece skip) rules to count h parts
-    (stop_at (within piece skip) rules to stop) (omega (arith, ap length n))
-    (subst (λ (l : List (Member Bool)). IsPartitionPoint (λ y. within piece skip y ≡ true)
-    (λ y. within piece skip y ≡ false) l count) n
-    (e (subst (λ (l : List (Member Bool)). IsPartitionedBy (within piece skip) l) (sym n)
-    (parted_take (within piece skip) rules to h parts)))))
 
 middle : (o p q : Ordering) → ordering_index o ≤ ordering_index p → ordering_index p ≤ ordering_index q
     → is_eq o ≡ true → is_eq q ≡ true → is_eq p ≡ true
@@ -458,6 +435,35 @@ pub before_passed : (rules : List (Member Bool)) (skip : ℕ) (front piece : Lis
 before_passed rules skip front piece index rule r h e g =
     skipped_before rules skip front piece (index + 1) index rule r (omega arith) h
     (ap (before piece skip) (sym e) ∙ sym (ap is_lt g))
+
+fewer : (p : Member Bool → Bool) (rules : List (Member Bool)) → length (filter p rules) ≤ length rules
+fewer p [] = omega arith
+fewer p (first ∷ rest) = by_test (p first) (fewer p rest)
+  where
+    by_test : (b : Bool) → length (filter p rest) ≤ length rest
+        → length (cond b (first ∷ filter p rest) (filter p rest)) ≤ suc (length rest)
+    by_test true h = omega arith
+    by_test false h = omega arith
+
+-- where none comes before and the first does not go on, none does
+pub none_first : (rules : List (Member Bool)) (skip : ℕ) (front piece : List ℕ)
+    → IsRun rules skip front → rules_from piece skip rules ≡ rules → begins_on piece skip rules ≡ false
+    → [] ≡ filter (goes_on piece skip) rules
+none_first [] skip front piece r all b = refl
+none_first (first ∷ rest) skip front piece r all b = by_order (against piece (drop skip first.name)) refl
+  where
+    by_order : (o : Ordering) → against piece (drop skip first.name) ≡ o
+        → [] ≡ filter (goes_on piece skip) (first ∷ rest)
+    by_order Less t =
+        absurd (omega (
+          arith,
+          fewer (λ y. not (before piece skip y)) rest,
+          ap length (sym (ap (λ (b : Bool). cond (not b) (first ∷ rules_from piece skip rest)
+              (rules_from piece skip rest)) (ap is_lt t)) ∙ all),
+        ))
+    by_order Equal t = absurd (cc (b, ap is_eq t))
+    by_order Greater t =
+        none_from (first ∷ rest) skip front piece 0 first r (omega arith) refl (sym t) refl
 
 pub found_first : (rules : List (Member Bool)) (skip : ℕ) (piece : List ℕ) → begins_on piece skip rules ≡ true
     → found piece skip 0 1 rules ≡ filter (goes_on piece skip) rules

@@ -1,7 +1,7 @@
 -- Texts of rules against the piece of a step: the rules that go on with it are a run of neighbours
 -- among rules that rise and have one front.
 use Rattle.std.proofs.Common.{◌≡◌, ℕ, ◌+◌, ◌-◌, ◌<◌, ◌≤◌, zero, suc, List, [], ◌∷◌, ◌++◌, length, take, drop, get_or, Bool, true, false, cond, ◌&&◌, ◌||◌, if◌then◌else◌, not, Option, Some, Ordering, Less, Equal, Greater, refl, sym, ap, subst, ◌∙◌, arith, ◌⊎◌, inl, inr}
-use Rattle.std.specs.Prelude.{Err, slice_get}
+use Rattle.std.specs.Prelude.{Err, nat_eq, slice_get}
 use Rattle.std.specs.Option.{unwrap_or}
 use Rattle.std.specs.Cmp.Lexicographic.{slice_cmp}
 use Rattle.std.specs.List.{filter, list_any}
@@ -119,6 +119,27 @@ stands (byte ∷ name) e =
 
 pub plain_is : (name : List ℕ) → false ≡ list_any is_escaped name → plain_text name ≡ name_text name
 plain_is name e = ap (λ l. slash ∷ quote ∷ l ++ quote ∷ []) (stands name e)
+
+-- a byte to be escaped is one of two
+either_moved : (a b c d : Bool) → ((a || b) || (c || d)) ≡ ((a || c) || (b || d))
+either_moved true b c d = refl
+either_moved false true true d = refl
+either_moved false true false d = refl
+either_moved false false c d = refl
+
+pub escapes_are : (name : List ℕ)
+    → (list_any (λ y. nat_eq y quote) name || list_any (λ y. nat_eq y backslash) name)
+    ≡ list_any is_escaped name
+escapes_are [] = refl
+escapes_are (byte ∷ name) =
+    either_moved (nat_eq byte quote) (list_any (λ y. nat_eq y quote) name) (nat_eq byte backslash)
+    (list_any (λ y. nat_eq y backslash) name)
+    ∙ ap (λ b. is_escaped byte || b) (escapes_are name)
+
+pub escapes_there : (name : List ℕ) (a b : Bool) → a ≡ list_any (λ y. nat_eq y quote) name → a ≡ false
+    → b ≡ list_any (λ y. nat_eq y backslash) name → b ≡ list_any is_escaped name
+escapes_there name a b e f g =
+    g ∙ ap (λ x. x || list_any (λ y. nat_eq y backslash) name) (sym f ∙ e) ∙ escapes_are name
 
 -- ---- rules that rise
 
@@ -351,14 +372,6 @@ pub from_is : (rules : List (Member Bool)) (skip : ℕ) (front piece : List ℕ)
     → drop i rules ≡ filter (λ y. not (before piece skip y)) rules
 from_is rules skip front piece i r h e =
     kept_back (before piece skip) rules i h (e (before_parted rules skip front piece r))
-
-pub up_to_is : (rules : List (Member Bool)) (skip : ℕ) (front piece : List ℕ) (i : ℕ)
-    → IsRun rules skip front → i ≤ length rules
-    → (IsPartitionedBy (within piece skip) rules
-    → IsPartitionPoint (λ y. within piece skip y ≡ true) (λ y. within piece skip y ≡ false) rules i)
-    → take i rules ≡ filter (within piece skip) rules
-up_to_is rules skip front piece i r h e =
-    kept_front (within piece skip) rules i h (e (within_parted rules skip front piece r))
 
 -- two tests one after another
 pub filter_both : (p q : Member Bool → Bool) (rules : List (Member Bool))

@@ -75,10 +75,6 @@ within piece skip rule = is_le (against piece (drop skip rule.name))
 abbrev pub rules_from : List ℕ → ℕ → List (Member Bool) → List (Member Bool)
 rules_from piece skip rules = filter (λ rule. not (before piece skip rule)) rules
 
--- without the rules that come behind
-abbrev pub rules_up_to : List ℕ → ℕ → List (Member Bool) → List (Member Bool)
-rules_up_to piece skip rules = filter (within piece skip) rules
-
 -- the first rule comes before
 abbrev pub BeginBefore : List ℕ → ℕ → List (Member Bool) → Type 0
 BeginBefore piece skip [] = ⊥

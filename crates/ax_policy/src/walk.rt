@@ -15,7 +15,7 @@ ghost use Rattle.ax_policy.specs.Covering.{Covers};
 ghost use Rattle.ax_policy.specs.Deciding as spec;
 ghost use Rattle.ax_policy.specs.Paths.{either as either_of, mark_text, plain_text};
 ghost use Rattle.ax_policy.specs.Rules.{under};
-ghost use Rattle.ax_policy.specs.Walking.{IsAt, IsRun, GoOn, bytes_of, before, goes_on as does_go_on, piece_text, rules_from, rules_up_to, step_of, way_text, begins_on, within, BeginBefore};
+ghost use Rattle.ax_policy.specs.Walking.{IsAt, IsRun, GoOn, bytes_of, before, goes_on as does_go_on, piece_text, rules_from, step_of, way_text, begins_on, BeginBefore};
 
 use crate::compare::{after_item, after_name, against_plain, begins_plain};
 use crate::covering::search;
@@ -319,7 +319,7 @@ fn place_behind(place: usize, passed: usize, run: &[Member<bool>]) -> usize {
 
 /// Whether the first rule goes on with the step.
 fn first_goes_on(rules: &[Member<bool>], skip: usize, piece: &Piece<'_>) -> bool
-    ensures { IsTrue result → begins_on (piece_text piece.now) skip rules.now ≡ true }
+    ensures { result ≡ begins_on (piece_text piece.now) skip rules.now }
 {
     match rules.first() {
         Some(rule) => goes_on(rule, skip, piece),
@@ -334,10 +334,10 @@ fn last_goes_on(rules: &[Member<bool>], skip: usize, piece: &Piece<'_>) -> bool
         → slice_get rules.now (length rules.now - 1) ≡ Some rule
         → does_go_on (piece_text piece.now) skip rule ≡ false }
 {
-    match rules.last() {
-        Some(rule) => goes_on(rule, skip, piece),
-        None => false,
-    }
+    let Some(rule) = rules.last() else {
+        return false;
+    };
+    goes_on(rule, skip, piece)
 }
 
 /// The rules that go on with the step, of rules of which the first one does.
@@ -517,7 +517,10 @@ fn run_at_front<'a>(rules: &'a [Member<bool>], skip: usize, piece: &Piece<'_>) -
         → rules_from (piece_text piece.now) skip rules.now ≡ rules.now
         → result.now ≡ filter (does_go_on (piece_text piece.now) skip) rules.now }
 {
-    up_to_by_strides(rules, skip, piece)
+    if first_goes_on(rules, skip, piece) {
+        return run_of_first(rules, skip, piece);
+    }
+    &[]
 }
 
 /// The rules that do not come before the step, which a walk in the order of names seldom looks for so.
@@ -550,22 +553,6 @@ fn from_by_strides<'a>(
     rest
 }
 
-/// The rules that do not come behind the step. Takes time by the number of digits of how many they
-/// are.
-fn up_to_by_strides<'a>(
-    rules: &'a [Member<bool>],
-    skip: usize,
-    piece: &Piece<'_>,
-) -> &'a [Member<bool>]
-    ensures { (front : List ℕ) → IsRun rules.now skip front
-        → result.now ≡ rules_up_to (piece_text piece.now) skip rules.now }
-{
-    let (near, _) = rules.split_at(stride_behind(rules, skip, piece));
-    let count = near.partition_point(|rule| against(rule, skip, piece).is_le());
-    let (front, _) = rules.split_at(count);
-    front
-}
-
 /// A place by strides that double from which on no rule comes before the step.
 fn stride_from(rules: &[Member<bool>], skip: usize, piece: &Piece<'_>) -> usize
     ensures bound { result ≤ length rules.now }
@@ -578,22 +565,6 @@ fn stride_from(rules: &[Member<bool>], skip: usize, piece: &Piece<'_>) -> usize
             return to;
         }
         to = to.saturating_mul(2).max(FEW);
-    }
-    rules.len()
-}
-
-/// A place by strides that double from which on each rule comes behind the step.
-fn stride_behind(rules: &[Member<bool>], skip: usize, piece: &Piece<'_>) -> usize
-    ensures bound { result ≤ length rules.now }
-    ensures rule { (rule : Member Bool) → slice_get rules.now result ≡ Some rule
-        → within (piece_text piece.now) skip rule ≡ false }
-{
-    let mut to = FEW;
-    while let Some(rule) = rules.get(to) {
-        if against(rule, skip, piece).is_gt() {
-            return to;
-        }
-        to = to.saturating_mul(2);
     }
     rules.len()
 }
