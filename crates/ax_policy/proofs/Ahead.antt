@@ -1,14 +1,15 @@
 -- Rules that come before a step, passed one after another, or from a place on; and rules looked
 -- through for a mark.
-use Rattle.std.proofs.Common.{◌≡◌, ℕ, ◌+◌, ◌-◌, ◌<◌, ◌≤◌, zero, suc, List, [], ◌∷◌, ◌++◌, length, take, drop, get_or, Bool, true, false, cond, ◌&&◌, if◌then◌else◌, not, Some, Ordering, Less, Equal, Greater, refl, sym, ap, subst, ◌∙◌, append-nil, append_assoc, add-zero, add-one, arith, ◌⊎◌, inl, inr}
+use Rattle.std.proofs.Common.{◌≡◌, ℕ, ◌+◌, ◌-◌, ◌<◌, ◌≤◌, zero, suc, List, [], ◌∷◌, ◌++◌, length, take, drop, get_or, Bool, true, false, cond, ◌&&◌, if◌then◌else◌, not, Option, Some, Ordering, Less, Equal, Greater, refl, sym, ap, subst, ◌∙◌, append-nil, append_assoc, add-zero, add-one, arith, ◌⊎◌, inl, inr}
 use Rattle.std.specs.List.{filter}
 use Rattle.std.specs.List.Sorted.{IsPartitionedBy, IsPartitionPoint}
-use Rattle.std.specs.Ordering.{is_lt, is_le, is_gt, is_eq}
+use Rattle.std.specs.Ordering.{is_lt, is_le, is_gt, is_eq, ordering_index}
 use Rattle.std.specs.Str.{bytes_eq}
 use Rattle.std.specs.Prelude.{slice_get}
+use Rattle.std.specs.Option.{unwrap_or}
 use Rattle.std.proofs.Math.Seq.{drop-cons, take-suc}
 use Rattle.std.proofs.lemmas.Bool.{cases_lt}
-use Rattle.std.proofs.lemmas.List.{length-drop, length-take, get_or-drop, get_or-take, drop_all, drop-append-le}
+use Rattle.std.proofs.lemmas.List.{length-drop, length-take, take_all, get_or-drop, get_or-take, drop_all, drop-append-le}
 use Rattle.std.proofs.lemmas.List.Elements.{filter_agree}
 use Rattle.std.proofs.lemmas.Map.Text.{is_eq-slice_cmp}
 use Rattle.std.proofs.lemmas.Option.{slice_get-get_or}
@@ -16,9 +17,9 @@ use Rattle.ax_tree.specs.Names.{HaveRisingNames}
 use Rattle.ax_tree.specs.declared.members.Member.{Member}
 use Rattle.ax_policy.specs.Comparing.{against}
 use Rattle.ax_policy.specs.Rules.{under}
-use Rattle.ax_policy.specs.Walking.{IsRun, BeginBefore, before, within, goes_on, rules_from, rules_up_to}
+use Rattle.ax_policy.specs.Walking.{IsRun, BeginBefore, before, begins_on, within, goes_on, rules_from}
 use Rattle.ax_policy.proofs.Searching.{later}
-use Rattle.ax_policy.proofs.Walks.{before_parted, within_parted, cmp_front, filter_both, kept_back, kept_front, narrowed_is}
+use Rattle.ax_policy.proofs.Walks.{before_parted, within_parted, cmp_front, filter_both, kept_back, kept_front, piece_no_fall}
 
 -- ---- a run without its first rules
 
@@ -240,12 +241,6 @@ run_from rules skip piece =
     ∙ filter_agree (λ y. not (before piece skip y) && goes_on piece skip y) (goes_on piece skip)
     (λ y. later_on (against piece (drop skip y.name))) rules
 
-pub run_up_to : (rules run : List (Member Bool)) (skip : ℕ) (piece : List ℕ)
-    → rules_from piece skip rules ≡ rules → run ≡ rules_up_to piece skip rules
-    → run ≡ filter (goes_on piece skip) rules
-run_up_to rules run skip piece e f =
-    f ∙ ap (rules_up_to piece skip) (sym e) ∙ narrowed_is rules skip piece
-
 -- ---- by strides
 
 parted_take : (p : Member Bool → Bool) (rules : List (Member Bool)) (to : ℕ) → to ≤ length rules
@@ -302,22 +297,44 @@ from_strides rules near skip front piece to count r h stop n b e =
     (e (subst (λ (l : List (Member Bool)). IsPartitionedBy (before piece skip) l) (sym n)
     (parted_take (before piece skip) rules to h parts)))))
 
-pub up_to_strides : (rules near : List (Member Bool)) (skip : ℕ) (front piece : List ℕ) (to count : ℕ)
-    → IsRun rules skip front → to ≤ length rules
-    → ((rule : Member Bool) → slice_get rules to ≡ Some rule → within piece skip rule ≡ false)
+middle : (o p q : Ordering) → ordering_index o ≤ ordering_index p → ordering_index p ≤ ordering_index q
+    → is_eq o ≡ true → is_eq q ≡ true → is_eq p ≡ true
+middle Less p q h k e f = absurd (cc)
+middle Greater p q h k e f = absurd (cc)
+middle Equal Less q h k e f = absurd (omega arith)
+middle Equal Equal q h k e f = refl
+middle Equal Greater Less h k e f = absurd (cc)
+middle Equal Greater Equal h k e f = absurd (omega arith)
+middle Equal Greater Greater h k e f = absurd (cc)
+
+-- where the first goes on, those that do are the first
+on_parted : (rules : List (Member Bool)) (skip : ℕ) (front piece : List ℕ)
+    → IsRun rules skip front → begins_on piece skip rules ≡ true
+    → IsPartitionedBy (goes_on piece skip) rules
+on_parted [] skip front piece r b i j d h k e = absurd (omega arith)
+on_parted (first ∷ rest) skip front piece r b i j d h k e =
+    middle (against piece (drop skip first.name))
+    (against piece (drop skip (get_or (first ∷ rest) i d).name))
+    (against piece (drop skip (get_or (first ∷ rest) j d).name))
+    (piece_no_fall (first ∷ rest) skip front piece r 0 i d (omega arith) (omega arith))
+    (piece_no_fall (first ∷ rest) skip front piece r i j d h k) b e
+
+pub on_strides : (rules near : List (Member Bool)) (skip : ℕ) (front piece : List ℕ) (to count : ℕ)
+    → IsRun rules skip front → begins_on piece skip rules ≡ true → to ≤ length rules
+    → ((rule : Member Bool) → slice_get rules to ≡ Some rule → goes_on piece skip rule ≡ false)
     → near ≡ take to rules → count ≤ length near
-    → (IsPartitionedBy (within piece skip) near
-    → IsPartitionPoint (λ y. within piece skip y ≡ true) (λ y. within piece skip y ≡ false) near count)
-    → take count rules ≡ rules_up_to piece skip rules
-up_to_strides rules near skip front piece to count r h stop n b e =
-    let parts : IsPartitionedBy (within piece skip) rules = within_parted rules skip front piece r in
-    kept_front (within piece skip) rules count (omega (arith, ap length n, length-take to rules))
-    (point_further (within piece skip) rules to count h parts
-    (stop_at (within piece skip) rules to stop) (omega (arith, ap length n))
-    (subst (λ (l : List (Member Bool)). IsPartitionPoint (λ y. within piece skip y ≡ true)
-    (λ y. within piece skip y ≡ false) l count) n
-    (e (subst (λ (l : List (Member Bool)). IsPartitionedBy (within piece skip) l) (sym n)
-    (parted_take (within piece skip) rules to h parts)))))
+    → (IsPartitionedBy (goes_on piece skip) near
+    → IsPartitionPoint (λ y. goes_on piece skip y ≡ true) (λ y. goes_on piece skip y ≡ false) near count)
+    → take count rules ≡ filter (goes_on piece skip) rules
+on_strides rules near skip front piece to count r begin h stop n b e =
+    let parts : IsPartitionedBy (goes_on piece skip) rules = on_parted rules skip front piece r begin in
+    kept_front (goes_on piece skip) rules count (omega (arith, ap length n, length-take to rules))
+    (point_further (goes_on piece skip) rules to count h parts
+    (stop_at (goes_on piece skip) rules to stop) (omega (arith, ap length n))
+    (subst (λ (l : List (Member Bool)). IsPartitionPoint (λ y. goes_on piece skip y ≡ true)
+    (λ y. goes_on piece skip y ≡ false) l count) n
+    (e (subst (λ (l : List (Member Bool)). IsPartitionedBy (goes_on piece skip) l) (sym n)
+    (parted_take (goes_on piece skip) rules to h parts)))))
 
 -- where there are fewer from the step on, the first comes before it
 pub fewer_from : (rules rest : List (Member Bool)) (skip : ℕ) (front piece : List ℕ)
@@ -357,6 +374,153 @@ from_before rules skip front piece index rule r h e g q =
     skip_before (before piece skip) (λ y. not (before piece skip y)) rules (index + 1) index rule
     (not_before piece skip) (before_parted rules skip front piece r) (omega arith) h
     (ap (before piece skip) (sym e) ∙ is_before (against piece (drop skip rule.name)) g q)
+
+-- ---- beside a rule that goes on
+
+before_on : (o q : Ordering) → ordering_index o ≤ ordering_index q → is_eq q ≡ true → is_eq o ≡ false
+    → is_lt o ≡ true
+before_on Less q h e f = refl
+before_on Equal q h e f = absurd (cc)
+before_on Greater Less h e f = absurd (cc)
+before_on Greater Equal h e f = absurd (omega arith)
+before_on Greater Greater h e f = absurd (cc)
+
+behind_on : (o q : Ordering) → ordering_index o ≤ ordering_index q → is_eq o ≡ true → false ≡ is_eq q
+    → true ≡ is_gt q
+behind_on Less q h e f = absurd (cc)
+behind_on Equal Less h e f = absurd (omega arith)
+behind_on Equal Equal h e f = absurd (cc)
+behind_on Equal Greater h e f = refl
+behind_on Greater q h e f = absurd (cc)
+
+abbrev one_rule : Member Bool → Option (Member Bool)
+one_rule rule = Some rule
+
+pub first_on : (rules : List (Member Bool)) (rule : Member Bool) (skip : ℕ) (piece : List ℕ)
+    → one_rule rule ≡ slice_get rules 0 → goes_on piece skip rule ≡ true → begins_on piece skip rules ≡ true
+first_on [] rule skip piece e g = absurd (cc)
+first_on (first ∷ rest) rule skip piece e g =
+    let same : rule ≡ first = ap (λ (o : Option (Member Bool)). unwrap_or o first) e in
+    ap (goes_on piece skip) (sym same) ∙ g
+
+pub on_from : (rules : List (Member Bool)) (skip : ℕ) (piece : List ℕ) (index : ℕ) (rule : Member Bool)
+    → index < length rules → rule ≡ get_or rules index rule
+    → Equal ≡ against piece (drop skip rule.name) → begins_on piece skip (drop index rules) ≡ true
+on_from rules skip piece index rule h e g =
+    ap (begins_on piece skip) (drop-cons rules index rule h)
+    ∙ ap (goes_on piece skip) (sym e) ∙ sym (ap is_eq g)
+
+-- from a rule on that comes behind, none goes on
+pub none_from : (rules : List (Member Bool)) (skip : ℕ) (front piece : List ℕ) (index : ℕ) (rule : Member Bool)
+    → IsRun rules skip front → index < length rules → rule ≡ get_or rules index rule
+    → Greater ≡ against piece (drop skip rule.name)
+    → filter (goes_on piece skip) (drop index rules) ≡ filter (goes_on piece skip) rules
+    → [] ≡ filter (goes_on piece skip) rules
+none_from rules skip front piece index rule r h e g f =
+    sym (stop_behind (within piece skip) (goes_on piece skip) rules index rule
+    (λ y t. higher_not (against piece (drop skip y.name)) t) (within_parted rules skip front piece r) h
+    (ap (within piece skip) (sym e) ∙ sym (ap is_le g)))
+    ∙ f
+
+pub none_left : (rules : List (Member Bool)) (skip : ℕ) (piece : List ℕ) (index : ℕ)
+    → length rules ≤ index
+    → filter (goes_on piece skip) (drop index rules) ≡ filter (goes_on piece skip) rules
+    → [] ≡ filter (goes_on piece skip) rules
+none_left rules skip piece index h f = sym (ap (filter (goes_on piece skip)) (drop_all index rules h)) ∙ f
+
+pub before_passed : (rules : List (Member Bool)) (skip : ℕ) (front piece : List ℕ) (index : ℕ) (rule : Member Bool)
+    → IsRun rules skip front → index < length rules → rule ≡ get_or rules index rule
+    → Less ≡ against piece (drop skip rule.name)
+    → filter (goes_on piece skip) (drop (index + 1) rules) ≡ filter (goes_on piece skip) rules
+before_passed rules skip front piece index rule r h e g =
+    skipped_before rules skip front piece (index + 1) index rule r (omega arith) h
+    (ap (before piece skip) (sym e) ∙ sym (ap is_lt g))
+
+fewer : (p : Member Bool → Bool) (rules : List (Member Bool)) → length (filter p rules) ≤ length rules
+fewer p [] = omega arith
+fewer p (first ∷ rest) = by_test (p first) (fewer p rest)
+  where
+    by_test : (b : Bool) → length (filter p rest) ≤ length rest
+        → length (cond b (first ∷ filter p rest) (filter p rest)) ≤ suc (length rest)
+    by_test true h = omega arith
+    by_test false h = omega arith
+
+-- where none comes before and the first does not go on, none does
+pub none_first : (rules : List (Member Bool)) (skip : ℕ) (front piece : List ℕ)
+    → IsRun rules skip front → rules_from piece skip rules ≡ rules → begins_on piece skip rules ≡ false
+    → [] ≡ filter (goes_on piece skip) rules
+none_first [] skip front piece r all b = refl
+none_first (first ∷ rest) skip front piece r all b = by_order (against piece (drop skip first.name)) refl
+  where
+    by_order : (o : Ordering) → against piece (drop skip first.name) ≡ o
+        → [] ≡ filter (goes_on piece skip) (first ∷ rest)
+    by_order Less t =
+        absurd (omega (
+          arith,
+          fewer (λ y. not (before piece skip y)) rest,
+          ap length (sym (ap (λ (b : Bool). cond (not b) (first ∷ rules_from piece skip rest)
+              (rules_from piece skip rest)) (ap is_lt t)) ∙ all),
+        ))
+    by_order Equal t = absurd (cc (b, ap is_eq t))
+    by_order Greater t =
+        none_from (first ∷ rest) skip front piece 0 first r (omega arith) refl (sym t) refl
+
+pub found_first : (rules : List (Member Bool)) (skip : ℕ) (piece : List ℕ) → begins_on piece skip rules ≡ true
+    → found piece skip 0 1 rules ≡ filter (goes_on piece skip) rules
+found_first [] skip piece b = absurd (cc)
+found_first (first ∷ rest) skip piece b =
+    sym (ap (λ (b : Bool). cond b (first ∷ filter (goes_on piece skip) rest) (filter (goes_on piece skip) rest)) b)
+
+-- behind a rule that goes on, one that does not ends the run
+pub found_stops : (rules : List (Member Bool)) (skip : ℕ) (front piece : List ℕ) (index : ℕ) (rule : Member Bool)
+    → IsRun rules skip front → begins_on piece skip rules ≡ true → index < length rules
+    → rule ≡ get_or rules index rule → false ≡ goes_on piece skip rule
+    → found piece skip 0 index rules ≡ filter (goes_on piece skip) rules
+    → take index rules ≡ filter (goes_on piece skip) rules
+found_stops [] skip front piece index rule r b h e g f = absurd (cc)
+found_stops (first ∷ rest) skip front piece index rule r b h e g f =
+    found_ends (first ∷ rest) (take index (first ∷ rest)) skip front piece 0 index rule r h e
+    (behind_on (against piece (drop skip first.name)) (against piece (drop skip rule.name))
+    (omega (
+      arith,
+      piece_no_fall (first ∷ rest) skip front piece r 0 index rule (omega arith) h,
+      ap (λ y. ordering_index (against piece (drop skip y.name))) e,
+    )) b g)
+    refl f
+
+pub found_whole : (rules : List (Member Bool)) (skip : ℕ) (piece : List ℕ) (index : ℕ)
+    → length rules ≤ index → found piece skip 0 index rules ≡ filter (goes_on piece skip) rules
+    → take (length rules) rules ≡ filter (goes_on piece skip) rules
+found_whole rules skip piece index h f =
+    found_all rules (take (length rules) rules) skip piece 0 index h
+    (take_all (length rules) rules (omega arith) ∙ sym (take_all index rules h)) f
+
+-- the run begins at a place where a rule goes on and the last before it does not
+pub first_begins : (rules behind ahead run : List (Member Bool)) (skip : ℕ) (front piece : List ℕ) (near : ℕ)
+    → IsRun rules skip front → near ≤ length rules → behind ≡ take near rules → ahead ≡ drop near rules
+    → begins_on piece skip ahead ≡ true
+    → ((rule : Member Bool) → slice_get behind (length behind - 1) ≡ Some rule → goes_on piece skip rule ≡ false)
+    → run ≡ filter (goes_on piece skip) ahead → run ≡ filter (goes_on piece skip) rules
+first_begins rules behind [] run skip front piece near r h t a b e f = absurd (cc)
+first_begins rules behind (first ∷ rest) run skip front piece zero r h t a b e f =
+    f ∙ ap (filter (goes_on piece skip)) a
+first_begins rules behind (first ∷ rest) run skip front piece (suc near) r h t a b e f =
+    let some : suc near < length rules = omega (arith, ap length a, length-drop (suc near) rules) in
+    let here : goes_on piece skip (get_or rules (suc near) no_rule) ≡ true =
+    ap (λ n. goes_on piece skip (get_or rules n no_rule)) (sym (add-zero (suc near)))
+    ∙ ap (goes_on piece skip) (sym (get_or-drop (suc near) rules 0 no_rule))
+    ∙ ap (λ l. goes_on piece skip (get_or l 0 no_rule)) (sym a) ∙ b in
+    let last : goes_on piece skip (get_or rules near no_rule) ≡ false =
+    e (get_or rules near no_rule)
+    (ap (λ l. slice_get l (length l - 1)) t
+    ∙ ap (slice_get (take (suc near) rules)) (omega (arith, length-take (suc near) rules))
+    ∙ slice_get-get_or (take (suc near) rules) near no_rule (omega (arith, length-take (suc near) rules))
+    ∙ ap one_rule (get_or-take (suc near) rules near no_rule (omega arith))) in
+    f ∙ ap (filter (goes_on piece skip)) a
+    ∙ skipped_before rules skip front piece (suc near) near no_rule r (omega arith) (omega arith)
+    (before_on (against piece (drop skip (get_or rules near no_rule).name))
+    (against piece (drop skip (get_or rules (suc near) no_rule).name))
+    (piece_no_fall rules skip front piece r near (suc near) no_rule (omega arith) some) here last)
 
 -- ---- a mark
 

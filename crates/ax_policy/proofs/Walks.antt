@@ -1,7 +1,7 @@
 -- Texts of rules against the piece of a step: the rules that go on with it are a run of neighbours
 -- among rules that rise and have one front.
 use Rattle.std.proofs.Common.{◌≡◌, ℕ, ◌+◌, ◌-◌, ◌<◌, ◌≤◌, zero, suc, List, [], ◌∷◌, ◌++◌, length, take, drop, get_or, Bool, true, false, cond, ◌&&◌, ◌||◌, if◌then◌else◌, not, Option, Some, Ordering, Less, Equal, Greater, refl, sym, ap, subst, ◌∙◌, arith, ◌⊎◌, inl, inr}
-use Rattle.std.specs.Prelude.{Err, slice_get}
+use Rattle.std.specs.Prelude.{Err, nat_eq, slice_get}
 use Rattle.std.specs.Option.{unwrap_or}
 use Rattle.std.specs.Cmp.Lexicographic.{slice_cmp}
 use Rattle.std.specs.List.{filter, list_any}
@@ -12,6 +12,7 @@ use Rattle.std.proofs.lemmas.Bool.{cases_lt}
 use Rattle.std.proofs.lemmas.List.{length-append, length-drop, take-append-drop}
 use Rattle.std.proofs.lemmas.List.Elements.{All-filter, filter_agree}
 use Rattle.std.proofs.lemmas.Map.Text.{is_eq-slice_cmp}
+use Rattle.std.proofs.lemmas.Option.{slice_get-get_or}
 use Rattle.ax_tree.specs.Names.{HaveRisingNames}
 use Rattle.ax_tree.specs.declared.members.Member.{Member}
 use Rattle.ax_policy.specs.Comparing.{GoesOn, Ends, against}
@@ -80,6 +81,20 @@ pub byte_ends : (byte : ℕ) (piece text : List ℕ) (order : Ordering) → Ends
 byte_ends byte piece text order e =
     ends_take (byte ∷ piece) text order (λ f. e.0 (piece ++ f)) e.1
 
+pub byte_goes_same : (byte : ℕ) (piece text rest : List ℕ) (b : Bool) → GoesOn text (byte ∷ []) rest
+    → b ≡ is_eq (against piece rest) → b ≡ is_eq (against (byte ∷ piece) text)
+byte_goes_same byte piece text rest b g e = e ∙ sym (ap is_eq (byte_goes byte piece text rest g))
+
+not_equal : (o : Ordering) → (o ≡ Equal → ⊥) → false ≡ is_eq o
+not_equal Less n = refl
+not_equal Equal n = absurd (n refl)
+not_equal Greater n = refl
+
+pub byte_ends_other : (byte : ℕ) (piece text : List ℕ) (order : Ordering) → Ends text (byte ∷ []) order
+    → false ≡ is_eq (against (byte ∷ piece) text)
+byte_ends_other byte piece text order e =
+    not_equal order e.1 ∙ sym (ap is_eq (byte_ends byte piece text order e))
+
 -- bytes that go on with a piece are the piece and what follows
 pub goes_so : (piece bytes : List ℕ) → is_eq (against piece bytes) ≡ true
     → bytes ≡ piece ++ drop (length piece) bytes
@@ -104,6 +119,27 @@ stands (byte ∷ name) e =
 
 pub plain_is : (name : List ℕ) → false ≡ list_any is_escaped name → plain_text name ≡ name_text name
 plain_is name e = ap (λ l. slash ∷ quote ∷ l ++ quote ∷ []) (stands name e)
+
+-- a byte to be escaped is one of two
+either_moved : (a b c d : Bool) → ((a || b) || (c || d)) ≡ ((a || c) || (b || d))
+either_moved true b c d = refl
+either_moved false true true d = refl
+either_moved false true false d = refl
+either_moved false false c d = refl
+
+pub escapes_are : (name : List ℕ)
+    → (list_any (λ y. nat_eq y quote) name || list_any (λ y. nat_eq y backslash) name)
+    ≡ list_any is_escaped name
+escapes_are [] = refl
+escapes_are (byte ∷ name) =
+    either_moved (nat_eq byte quote) (list_any (λ y. nat_eq y quote) name) (nat_eq byte backslash)
+    (list_any (λ y. nat_eq y backslash) name)
+    ∙ ap (λ b. is_escaped byte || b) (escapes_are name)
+
+pub escapes_there : (name : List ℕ) (a b : Bool) → a ≡ list_any (λ y. nat_eq y quote) name → a ≡ false
+    → b ≡ list_any (λ y. nat_eq y backslash) name → b ≡ list_any is_escaped name
+escapes_there name a b e f g =
+    g ∙ ap (λ x. x || list_any (λ y. nat_eq y backslash) name) (sym f ∙ e) ∙ escapes_are name
 
 -- ---- rules that rise
 
@@ -183,6 +219,30 @@ marked_err rules skip front key at r h e =
       λ k d l m. sym (behind_front rules skip front key r k d m) ∙ parts.1 k d l m,
     ))
 
+least : (o q : Ordering) → ordering_index o ≤ ordering_index q → q ≡ Less → o ≡ Less
+least Less q h e = refl
+least Equal Less h e = absurd (omega arith)
+least Equal Equal h e = e
+least Equal Greater h e = absurd (cc)
+least Greater Less h e = absurd (omega arith)
+least Greater Equal h e = absurd (omega arith)
+least Greater Greater h e = e
+
+-- where the last rule comes before the mark, each does
+pub marked_behind : (rules : List (Member Bool)) (skip : ℕ) (front key : List ℕ) → IsRun rules skip front
+    → ((rule : Member Bool) → slice_get rules (length rules - 1) ≡ Some rule
+    → slice_cmp nat_cmp (drop skip rule.name) key ≡ Less)
+    → no_flag ≡ under (front ++ key) rules
+marked_behind rules skip front key r last =
+    marked_err rules skip front key (length rules) r (omega arith) (λ up. (
+      λ k d l m. least (slice_cmp nat_cmp (drop skip (get_or rules k d).name) key)
+          (slice_cmp nat_cmp (drop skip (get_or rules (length rules - 1) d).name) key)
+          (up k (length rules - 1) d (omega arith) (omega arith))
+          (last (get_or rules (length rules - 1) d)
+          (slice_get-get_or rules (length rules - 1) d (omega arith))),
+      λ k d l m. absurd (omega arith),
+    ))
+
 -- ---- the run of a piece
 
 -- of two texts the fronts do not fall
@@ -219,7 +279,7 @@ no_higher piece a b e = by_place (take_less (length piece) a b e)
               (same_from_Equal (take (length piece) a) (take (length piece) b) same),
         )
 
-piece_no_fall : (rules : List (Member Bool)) (skip : ℕ) (front piece : List ℕ)
+pub piece_no_fall : (rules : List (Member Bool)) (skip : ℕ) (front piece : List ℕ)
     → IsRun rules skip front
     → IsNonDecreasingBy (λ y. ordering_index (against piece (drop skip y.name))) rules
 piece_no_fall rules skip front piece r i j d h k = by_place (cases_lt i j)
@@ -312,14 +372,6 @@ pub from_is : (rules : List (Member Bool)) (skip : ℕ) (front piece : List ℕ)
     → drop i rules ≡ filter (λ y. not (before piece skip y)) rules
 from_is rules skip front piece i r h e =
     kept_back (before piece skip) rules i h (e (before_parted rules skip front piece r))
-
-pub up_to_is : (rules : List (Member Bool)) (skip : ℕ) (front piece : List ℕ) (i : ℕ)
-    → IsRun rules skip front → i ≤ length rules
-    → (IsPartitionedBy (within piece skip) rules
-    → IsPartitionPoint (λ y. within piece skip y ≡ true) (λ y. within piece skip y ≡ false) rules i)
-    → take i rules ≡ filter (within piece skip) rules
-up_to_is rules skip front piece i r h e =
-    kept_front (within piece skip) rules i h (e (within_parted rules skip front piece r))
 
 -- two tests one after another
 pub filter_both : (p q : Member Bool → Bool) (rules : List (Member Bool))

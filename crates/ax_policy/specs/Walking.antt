@@ -3,7 +3,7 @@
 -- most steps decides, and of equal steps the one with `/?`. So a walk keeps what the longest rule
 -- with `/*` on its way says, and the rules that begin with its path: those for the leaf there, and
 -- those that go deeper.
-use Rattle.std.specs.Prelude.{◌≡◌, ℕ, List, [], ◌∷◌, ◌++◌, length, drop, Bool, true, not}
+use Rattle.std.specs.Prelude.{◌≡◌, ℕ, List, [], ◌∷◌, ◌++◌, length, drop, Bool, true, false, not}
 use Rattle.std.specs.List.{All, filter}
 use Rattle.std.specs.Ordering.{is_eq, is_lt, is_le}
 use Rattle.ax_mean.specs.declared.query.Step.{Step}
@@ -75,11 +75,12 @@ within piece skip rule = is_le (against piece (drop skip rule.name))
 abbrev pub rules_from : List ℕ → ℕ → List (Member Bool) → List (Member Bool)
 rules_from piece skip rules = filter (λ rule. not (before piece skip rule)) rules
 
--- without the rules that come behind
-abbrev pub rules_up_to : List ℕ → ℕ → List (Member Bool) → List (Member Bool)
-rules_up_to piece skip rules = filter (within piece skip) rules
-
 -- the first rule comes before
 abbrev pub BeginBefore : List ℕ → ℕ → List (Member Bool) → Type 0
 BeginBefore piece skip [] = ⊥
 BeginBefore piece skip (rule ∷ rules) = before piece skip rule ≡ true
+
+-- the first rule goes on
+abbrev pub begins_on : List ℕ → ℕ → List (Member Bool) → Bool
+begins_on piece skip [] = false
+begins_on piece skip (rule ∷ rules) = goes_on piece skip rule

@@ -1,7 +1,7 @@
 //! Texts compared with those of paths, which are not written out for it.
 ghost use Rattle.std.specs.Prelude.{◌≡◌, [], ◌∷◌, ◌++◌, IfOk, IfErr};
 ghost use Rattle.std.specs.Cmp.Lexicographic.{slice_cmp};
-ghost use Rattle.std.specs.Ordering.{nat_cmp};
+ghost use Rattle.std.specs.Ordering.{is_eq, nat_cmp};
 ghost use Rattle.ax_policy.specs.Comparing.{against as how_against, GoesOn, Ends};
 ghost use Rattle.ax_mean.specs.declared.query.Step.TheVariants.{Item};
 ghost use Rattle.ax_policy.specs.Paths as spec;
@@ -64,6 +64,36 @@ pub(crate) fn against_plain(text: &[u8], name: &[u8]) -> Ordering
     match after_byte(text, b'/') {
         Ok(rest) => against_opened(rest, name),
         Err(order) => order,
+    }
+}
+
+/// Whether a text begins with that of a name that stands between its quotes as it is.
+pub(crate) fn begins_plain(text: &[u8], name: &[u8]) -> bool
+    ensures { result ≡ is_eq (how_against (spec.plain_text name.now) text.now) }
+{
+    match after_byte(text, b'/') {
+        Ok(rest) => begins_opened(rest, name),
+        Err(_order) => false,
+    }
+}
+
+fn begins_opened(text: &[u8], name: &[u8]) -> bool
+    ensures { result ≡ is_eq (how_against (spec.quote ∷ name.now ++ spec.quote ∷ []) text.now) }
+{
+    match after_byte(text, b'"') {
+        Ok(rest) => begins_closed(rest, name),
+        Err(_order) => false,
+    }
+}
+
+/// The same behind the quote that opens. The one that closes is looked at first, since it tells names
+/// of other lengths.
+fn begins_closed(text: &[u8], name: &[u8]) -> bool
+    ensures { result ≡ is_eq (how_against (name.now ++ spec.quote ∷ []) text.now) }
+{
+    match text.get(name.len()) {
+        Some(byte) => *byte == b'"' && text.split_at(name.len()).0 == name,
+        None => false,
     }
 }
 

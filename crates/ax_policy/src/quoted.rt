@@ -49,12 +49,7 @@ pub(crate) fn is_escaped(byte: u8) -> bool
 pub(crate) fn has_escape(name: &[u8]) -> bool
     ensures { result ≡ list_any spec.is_escaped name.now }
 {
-    for byte in name {
-        if is_escaped(*byte) {
-            return true;
-        }
-    }
-    false
+    name.contains(&b'"') || name.contains(&b'\\')
 }
 
 /// The name up to the quote that closes it, from behind the quote that opens it on, and what

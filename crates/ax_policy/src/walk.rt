@@ -1,7 +1,11 @@
 //! A walk down a document beside the rules of a policy: at each step the rules that go on are found
 //! among those that were left, so that what is decided on a leaf costs what its last step costs.
-ghost use Rattle.std.specs.Prelude.{◌≡◌, ◌↔◌, ◌<◌, ◌≤◌, ℕ, [], ◌∷◌, ◌++◌, ◌-◌, Bool, List, IsTrue, slice_get, IfOk, IfErr, true, false, drop, length, take};
+ghost use Rattle.std.specs.Prelude.{◌≡◌, ◌↔◌, ◌<◌, ◌≤◌, ℕ, [], ◌∷◌, ◌++◌, ◌-◌, Bool, List, IsTrue, slice_get, IfOk, IfErr, IfSome, true, false, drop, length, take};
 ghost use Rattle.std.specs.List.{All, filter};
+ghost use Rattle.std.specs.Cmp.Lexicographic.{slice_cmp};
+ghost use Rattle.std.specs.Ordering.{nat_cmp};
+ghost use Rattle.std.specs.Str.{bytes_eq};
+ghost use Rattle.std.specs.declared.cmp.Ordering.TheVariants.{Less};
 ghost use Rattle.ax_mean.specs.declared.query.Step.{Step};
 ghost use Rattle.ax_mean.specs.declared.query.Step.TheVariants.{Name, Item};
 ghost use Rattle.ax_tree.specs.declared.members.Member.{Member};
@@ -11,9 +15,9 @@ ghost use Rattle.ax_policy.specs.Covering.{Covers};
 ghost use Rattle.ax_policy.specs.Deciding as spec;
 ghost use Rattle.ax_policy.specs.Paths.{either as either_of, mark_text, plain_text};
 ghost use Rattle.ax_policy.specs.Rules.{under};
-ghost use Rattle.ax_policy.specs.Walking.{IsAt, IsRun, GoOn, bytes_of, before, goes_on as does_go_on, piece_text, rules_from, rules_up_to, step_of, way_text, within, BeginBefore};
+ghost use Rattle.ax_policy.specs.Walking.{IsAt, IsRun, GoOn, bytes_of, before, goes_on as does_go_on, piece_text, rules_from, step_of, way_text, begins_on, BeginBefore};
 
-use crate::compare::{after_item, after_name, against_plain};
+use crate::compare::{after_item, after_name, against_plain, begins_plain};
 use crate::covering::search;
 use crate::path_text::mark;
 use crate::policy::Policy;
@@ -24,7 +28,7 @@ use std::cmp::Ordering;
 /// So many rules are looked at one after another before strides or halves.
 const FEW: usize = 8;
 /// So many rules that go on with a step are looked at one after another before strides.
-const FEW_ON: usize = 3;
+const FEW_ON: usize = 2;
 
 /// Where a walk down a document stands among the rules of a policy.
 #[derive(Clone, Copy)]
@@ -177,7 +181,7 @@ fn marked(rules: &[Member<bool>], skip: usize, all: bool) -> Option<bool>
     if rules.len() <= FEW {
         return marked_in_turn(rules, skip, all);
     }
-    marked_by_halves(rules, skip, all)
+    marked_in_many(rules, skip, all)
 }
 
 fn marked_in_turn(rules: &[Member<bool>], skip: usize, all: bool) -> Option<bool>
@@ -185,15 +189,58 @@ fn marked_in_turn(rules: &[Member<bool>], skip: usize, all: bool) -> Option<bool
         → result ≡ under (front ++ mark_text all) rules.now }
 {
     for rule in rules {
-        if mark(all).as_bytes() == rest_of(rule, skip) {
+        if is_mark(rest_of(rule, skip), all) {
             return Some(rule.value);
         }
     }
     None
 }
 
-/// Out of line, since few runs are so long.
+/// Whether the text is that mark and no more.
+fn is_mark(text: &[u8], all: bool) -> bool
+    ensures { result ≡ bytes_eq (mark_text all) text.now }
+{
+    match text {
+        [b'/', b'*'] => all,
+        [b'/', b'?'] => !all,
+        _ => false,
+    }
+}
+
+/// The same of many rules, of which the last one mostly tells: rules for what lies below stand before
+/// both marks. Out of line, since few runs are so long.
 #[inline(never)]
+fn marked_in_many(rules: &[Member<bool>], skip: usize, all: bool) -> Option<bool>
+    ensures { (front : List ℕ) → IsRun rules.now skip front
+        → result ≡ under (front ++ mark_text all) rules.now }
+{
+    if last_is_before_mark(rules, skip, all) {
+        return None;
+    }
+    marked_by_halves(rules, skip, all)
+}
+
+fn last_is_before_mark(rules: &[Member<bool>], skip: usize, all: bool) -> bool
+    ensures { (rule : Member Bool) → IsTrue result
+        → slice_get rules.now (length rules.now - 1) ≡ Some rule
+        → slice_cmp nat_cmp (drop skip rule.name) (mark_text all) ≡ Less }
+{
+    match rules.last() {
+        Some(rule) => is_before_mark(rest_of(rule, skip), all),
+        None => false,
+    }
+}
+
+/// Whether the text comes before the mark, as far as the byte behind its slash tells.
+fn is_before_mark(text: &[u8], all: bool) -> bool
+    ensures { IsTrue result → slice_cmp nat_cmp text.now (mark_text all) ≡ Less }
+{
+    match text {
+        [b'/', sign, ..] => *sign < if all { b'*' } else { b'?' },
+        _ => false,
+    }
+}
+
 fn marked_by_halves(rules: &[Member<bool>], skip: usize, all: bool) -> Option<bool>
     ensures { (front : List ℕ) → IsRun rules.now skip front
         → result ≡ under (front ++ mark_text all) rules.now }
@@ -217,9 +264,30 @@ fn piece_of(way: Way<'_>) -> Piece<'_>
     Piece::Other(way)
 }
 
-/// The rules that go on with the step behind so many bytes. They are looked for from a place on,
-/// which is then set behind them, and by halves among all where they begin before it.
+/// The rules that go on with the step behind so many bytes. They are looked for at a place first,
+/// which is then set behind them. Where they begin there, no more is asked of rules than whether they
+/// go on.
 fn narrowed<'a>(
+    rules: &'a [Member<bool>],
+    skip: usize,
+    piece: &Piece<'_>,
+    near: &mut usize,
+) -> &'a [Member<bool>]
+    ensures { (front : List ℕ) → IsRun rules.now skip front
+        → result.now ≡ filter (does_go_on (piece_text piece.now) skip) rules.now }
+{
+    let (behind, ahead) = rules.split_at((*near).min(rules.len()));
+    if first_goes_on(ahead, skip, piece) && !last_goes_on(behind, skip, piece) {
+        let run = run_of_first(ahead, skip, piece);
+        *near = place_behind(behind.len(), 0, run);
+        return run;
+    }
+    narrowed_from(rules, skip, piece, near)
+}
+
+/// The rules that go on with the step, looked for from the place on, and by halves among all where
+/// they begin before it.
+fn narrowed_from<'a>(
     rules: &'a [Member<bool>],
     skip: usize,
     piece: &Piece<'_>,
@@ -247,6 +315,93 @@ fn narrowed<'a>(
 /// first, so that nothing is proved of it.
 fn place_behind(place: usize, passed: usize, run: &[Member<bool>]) -> usize {
     place.saturating_add(passed).saturating_add(run.len())
+}
+
+/// Whether the first rule goes on with the step.
+fn first_goes_on(rules: &[Member<bool>], skip: usize, piece: &Piece<'_>) -> bool
+    ensures { result ≡ begins_on (piece_text piece.now) skip rules.now }
+{
+    match rules.first() {
+        Some(rule) => goes_on(rule, skip, piece),
+        None => false,
+    }
+}
+
+/// Whether the last rule goes on with the step. Where it does not and the next one does, none before
+/// that one does, by the order of rules.
+fn last_goes_on(rules: &[Member<bool>], skip: usize, piece: &Piece<'_>) -> bool
+    ensures { (rule : Member Bool) → result ≡ false
+        → slice_get rules.now (length rules.now - 1) ≡ Some rule
+        → does_go_on (piece_text piece.now) skip rule ≡ false }
+{
+    let Some(rule) = rules.last() else {
+        return false;
+    };
+    goes_on(rule, skip, piece)
+}
+
+/// The rules that go on with the step, of rules of which the first one does.
+fn run_of_first<'a>(rules: &'a [Member<bool>], skip: usize, piece: &Piece<'_>) -> &'a [Member<bool>]
+    ensures { (front : List ℕ) → IsRun rules.now skip front
+        → begins_on (piece_text piece.now) skip rules.now ≡ true
+        → result.now ≡ filter (does_go_on (piece_text piece.now) skip) rules.now }
+{
+    match few_on(rules, skip, piece) {
+        Some(count) => between(rules, 0, count),
+        None => run_of_many(rules, skip, piece),
+    }
+}
+
+/// How many rules go on with the step, of rules of which the first one does; `None` where more than
+/// `FEW_ON` do. Behind a rule that goes on, one that does not ends the run, so that no look asks for
+/// an order.
+fn few_on(rules: &[Member<bool>], skip: usize, piece: &Piece<'_>) -> Option<usize>
+    ensures bound { IfSome result (λ count. count ≤ length rules.now) }
+    ensures run { (front : List ℕ) → IsRun rules.now skip front
+        → begins_on (piece_text piece.now) skip rules.now ≡ true
+        → IfSome result (λ count. take count rules.now
+        ≡ filter (does_go_on (piece_text piece.now) skip) rules.now) }
+{
+    let mut count = 1;
+    while let Some(rule) = rules.get(count) {
+        if !goes_on(rule, skip, piece) {
+            return Some(count);
+        }
+        if count == FEW_ON {
+            return None;
+        }
+        count += 1;
+    }
+    Some(rules.len())
+}
+
+/// The same by strides and halves. Takes time by the number of digits of how many go on.
+#[inline(never)]
+fn run_of_many<'a>(rules: &'a [Member<bool>], skip: usize, piece: &Piece<'_>) -> &'a [Member<bool>]
+    ensures { (front : List ℕ) → IsRun rules.now skip front
+        → begins_on (piece_text piece.now) skip rules.now ≡ true
+        → result.now ≡ filter (does_go_on (piece_text piece.now) skip) rules.now }
+{
+    let (near, _) = rules.split_at(stride_on(rules, skip, piece));
+    let count = near.partition_point(|rule| goes_on(rule, skip, piece));
+    let (front, _) = rules.split_at(count);
+    front
+}
+
+/// A place by strides that double where no rule goes on with the step.
+fn stride_on(rules: &[Member<bool>], skip: usize, piece: &Piece<'_>) -> usize
+    ensures bound { result ≤ length rules.now }
+    ensures rule { (rule : Member Bool) → slice_get rules.now result ≡ Some rule
+        → does_go_on (piece_text piece.now) skip rule ≡ false }
+{
+    let mut to = FEW;
+    while let Some(rule) = rules.get(to) {
+        if !goes_on(rule, skip, piece) {
+            return to;
+        }
+        to = to.saturating_mul(2);
+    }
+    rules.len()
 }
 
 /// Whether all these rules come before the step, which the last one tells.
@@ -301,8 +456,7 @@ fn run_far<'a>(
     (rules.len().saturating_sub(rest.len()), run)
 }
 
-/// How many rules come before the step, and the rules that go on with it; where a look at `FEW`
-/// rules does not tell, how many of these come before.
+/// The same where no more than `FEW` rules come before the step; else as many do, and more may.
 fn run_of_few<'a>(
     rules: &'a [Member<bool>],
     skip: usize,
@@ -318,22 +472,33 @@ fn run_of_few<'a>(
         ≡ rules_from (piece_text piece.now) skip rules.now) }
 {
     let mut passed = 0;
-    let mut count = 0;
     for rule in rules {
-        if count == FEW || count - passed == FEW_ON {
+        if passed == FEW {
             return Err(passed);
         }
-        let order = against(rule, skip, piece);
-        if order.is_gt() {
-            return Ok((passed, between(rules, passed, count)));
+        match against(rule, skip, piece) {
+            Ordering::Less => passed += 1,
+            Ordering::Equal => return Ok((passed, run_from(rules, passed, skip, piece))),
+            Ordering::Greater => return Ok((passed, &[])),
         }
-        count += 1;
-        if order.is_eq() {
-            continue;
-        }
-        passed = count;
     }
-    Ok((passed, between(rules, passed, count)))
+    Ok((passed, &[]))
+}
+
+/// The rules that go on with the step, of rules of which the one at that place does and none before.
+fn run_from<'a>(
+    rules: &'a [Member<bool>],
+    place: usize,
+    skip: usize,
+    piece: &Piece<'_>,
+) -> &'a [Member<bool>]
+    requires bound { place ≤ length rules.now }
+    ensures { (front : List ℕ) → IsRun rules.now skip front
+        → begins_on (piece_text piece.now) skip (drop place rules.now) ≡ true
+        → result.now ≡ filter (does_go_on (piece_text piece.now) skip) (drop place rules.now) }
+{
+    let (_, left) = rules.split_at(place);
+    run_of_first(left, skip, piece)
 }
 
 fn between(rules: &[Member<bool>], from: usize, to: usize) -> &[Member<bool>]
@@ -352,7 +517,10 @@ fn run_at_front<'a>(rules: &'a [Member<bool>], skip: usize, piece: &Piece<'_>) -
         → rules_from (piece_text piece.now) skip rules.now ≡ rules.now
         → result.now ≡ filter (does_go_on (piece_text piece.now) skip) rules.now }
 {
-    up_to_by_strides(rules, skip, piece)
+    if first_goes_on(rules, skip, piece) {
+        return run_of_first(rules, skip, piece);
+    }
+    &[]
 }
 
 /// The rules that do not come before the step, which a walk in the order of names seldom looks for so.
@@ -385,22 +553,6 @@ fn from_by_strides<'a>(
     rest
 }
 
-/// The rules that do not come behind the step. Takes time by the number of digits of how many they
-/// are.
-fn up_to_by_strides<'a>(
-    rules: &'a [Member<bool>],
-    skip: usize,
-    piece: &Piece<'_>,
-) -> &'a [Member<bool>]
-    ensures { (front : List ℕ) → IsRun rules.now skip front
-        → result.now ≡ rules_up_to (piece_text piece.now) skip rules.now }
-{
-    let (near, _) = rules.split_at(stride_behind(rules, skip, piece));
-    let count = near.partition_point(|rule| against(rule, skip, piece).is_le());
-    let (front, _) = rules.split_at(count);
-    front
-}
-
 /// A place by strides that double from which on no rule comes before the step.
 fn stride_from(rules: &[Member<bool>], skip: usize, piece: &Piece<'_>) -> usize
     ensures bound { result ≤ length rules.now }
@@ -417,20 +569,16 @@ fn stride_from(rules: &[Member<bool>], skip: usize, piece: &Piece<'_>) -> usize
     rules.len()
 }
 
-/// A place by strides that double from which on each rule comes behind the step.
-fn stride_behind(rules: &[Member<bool>], skip: usize, piece: &Piece<'_>) -> usize
-    ensures bound { result ≤ length rules.now }
-    ensures rule { (rule : Member Bool) → slice_get rules.now result ≡ Some rule
-        → within (piece_text piece.now) skip rule ≡ false }
+/// Whether a rule goes on with the step behind so many bytes, which is told with fewer looks at bytes
+/// than how the two compare.
+#[inline(always)]
+fn goes_on(rule: &Member<bool>, skip: usize, piece: &Piece<'_>) -> bool
+    ensures { result ≡ does_go_on (piece_text piece.now) skip rule.now }
 {
-    let mut to = FEW;
-    while let Some(rule) = rules.get(to) {
-        if against(rule, skip, piece).is_gt() {
-            return to;
-        }
-        to = to.saturating_mul(2);
+    match piece {
+        Piece::Plain(name) => begins_plain(rest_of(rule, skip), name.as_bytes()),
+        Piece::Other(way) => against_way(rule, skip, *way).is_eq(),
     }
-    rules.len()
 }
 
 /// How a rule compares behind so many bytes with the step; equal where it goes on with it. In line
