@@ -1,6 +1,6 @@
 //! What a store answers of its pages.
 
-ghost use Rattle.std.specs.Prelude.{◌≡◌, ◌+◌, ◌<◌, ℕ, true, false, Err, IsTrue, Some, None, IfOk, IfSome, IfNone, option_map, length, drop, slice_index, slice_get};
+ghost use Rattle.std.specs.Prelude.{◌≡◌, ◌+◌, ◌<◌, ℕ, true, false, Err, IsTrue, Some, None, IfErr, IfOk, IfSome, IfNone, option_map, length, drop, slice_index, slice_get};
 ghost use Rattle.std.specs.FinMap as map;
 ghost use Rattle.ax_disk.specs.model.Calls.{Idles};
 ghost use Rattle.ax_pages.specs.Contents.{next_number, policy_now, parts_of};
@@ -91,6 +91,7 @@ impl<C> Store<C> {
     ) -> Result<Option<Vec<u8>>, StoreFault>
         ensures text { IfOk result (λ found. option_map (λ text. text.items) found
             ≡ option_map (λ payload. drop 1 payload) (map.get (store_contents self.old).documents number)) }
+        ensures memory_alone { store_failed self.old ≡ false → IfErr result (λ fault. fault ≡ StoreFault.Memory) }
         ensures same { self.new ≡ self.old }
         ensures ticked { steps.new ≡ steps.old + 1 }
         ensures lists { IsTrue (D.is_honest disk.old)
