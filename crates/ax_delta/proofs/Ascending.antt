@@ -15,7 +15,7 @@ use Rattle.ax_delta.specs.Changes.{TermChange, changed_pairs, drops_with, add_am
 use Rattle.ax_delta.specs.Merge.{IsMerge}
 use Rattle.ax_delta.specs.Pass.{merged}
 use Rattle.ax_delta.specs.Payload.{AreDisjoint, AreAfter, AreTermChanges}
-use Rattle.ax_delta.specs.Said.{has, said_of}
+use Rattle.ax_delta.specs.Said.{has}
 use Rattle.ax_delta.proofs.Numbers.{one_in_both, no_longer_first, no_longer_second}
 use Rattle.ax_delta.proofs.Passing.{merged_rises, merged_has}
 use Rattle.ax_delta.proofs.SamePair.{the_pair, IsAbove, RisesOver, put_over, rises_alone}

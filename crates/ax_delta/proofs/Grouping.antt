@@ -1,6 +1,6 @@
 -- The term changes of rising changes: the numbers of each rise, and none is both added and dropped.
-use Rattle.std.proofs.Common.{◌≡◌, ℕ, ◌+◌, ◌<◌, ◌≤◌, List, [], ◌∷◌, ◌++◌, length, get_or, arith, refl, ap, ◌∙◌, sym, Bool, true, false, cond, nat_eq, ⊎_elim, zero, suc}
-use Rattle.std.proofs.lemmas.Bool.{eq-eqb, ne_eqb, eqb-true}
+use Rattle.std.proofs.Common.{◌≡◌, ℕ, ◌+◌, ◌<◌, ◌≤◌, List, [], ◌∷◌, ◌++◌, length, get_or, arith, refl, ap, ◌∙◌, sym, Bool, true, false, cond, nat_eq, ⊎_elim, suc}
+use Rattle.std.proofs.lemmas.Bool.{ne_eqb, eqb-true}
 use Rattle.std.proofs.lemmas.List.{length-append}
 use Rattle.std.proofs.lemmas.Slice.Eq.{bytes_eq-Decides}
 use Rattle.std.specs.List.Sorted.{IsStrictlyIncreasing}
@@ -10,7 +10,7 @@ use Rattle.ax_leaf.proofs.Grouping.{increasing_with, below_with, numbers_rise, o
 use Rattle.ax_leaf.proofs.Ordered.{terms_rise}
 use Rattle.ax_delta.specs.declared.change.Change.{Change}
 use Rattle.ax_delta.specs.Changes.{TermChange, changed_pairs, with_added, with_dropped, term_changes_from, term_changes_of}
-use Rattle.ax_delta.specs.Payload.{AreDisjoint, IsTermChange, AreGood, AreAfter, AreTermChanges}
+use Rattle.ax_delta.specs.Payload.{AreDisjoint, AreGood, AreAfter, AreTermChanges}
 use Rattle.ax_delta.specs.Said.{has_number}
 use Rattle.ax_delta.proofs.SamePair.{true_or_false}
 use Rattle.ax_delta.proofs.Saying.{Ascend, TermsRise, AreApart}

@@ -1,5 +1,5 @@
 -- A list of term changes is its first and a list of those behind it.
-use Rattle.std.proofs.Common.{◌≡◌, ℕ, ◌+◌, ◌<◌, ◌≤◌, List, [], ◌∷◌, ◌++◌, length, take, drop, arith, refl, ap, ◌∙◌, sym, subst, suc, Option, Some, nat_eq, true, false}
+use Rattle.std.proofs.Common.{◌≡◌, ℕ, ◌+◌, ◌<◌, ◌≤◌, List, [], ◌∷◌, ◌++◌, length, take, drop, arith, refl, ap, ◌∙◌, sym, subst, suc, Option, Some, nat_eq}
 use Rattle.std.proofs.lemmas.List.{append-nil, length-append, length-take-le, drop_at, length-drop}
 use Rattle.std.proofs.lemmas.List.Sums.{common_prefix_len-le}
 use Rattle.std.specs.Cmp.Lexicographic.{slice_cmp}
@@ -11,7 +11,6 @@ use Rattle.ax_leaf.specs.ShortTerm.{short_term, whole_term, Follows}
 use Rattle.ax_leaf.proofs.OneSpelling.{varint_parts}
 use Rattle.ax_leaf.proofs.ShortTerms.{short_parts}
 use Rattle.ax_delta.specs.Changes.{TermChange}
-use Rattle.ax_delta.specs.Said.{has_number}
 use Rattle.ax_delta.specs.Payload.{list_after, AreDisjoint, IsTermChange, AreAfter}
 use Rattle.ax_delta.specs.Reading.{first_change}
 use Rattle.ax_delta.specs.ChangeList.{HasListAfter, HasChangeList, Begins}

@@ -1,19 +1,17 @@
 -- Laws of payloads, of lists that rise, and of several deltas.
-use Rattle.std.proofs.Common.{◌≡◌, ℕ, List, [], ◌∷◌, ◌++◌, length, refl, ap, ◌∙◌, sym, subst, Bool, true, false, ⊎_elim, Option, Some, None}
+use Rattle.std.proofs.Common.{◌≡◌, ℕ, List, [], ◌∷◌, length, refl, ap, ◌∙◌, sym, subst, Bool, true, false, ⊎_elim, Option, Some, None}
 use Rattle.std.specs.Option.{option_or, unwrap_or}
 use Rattle.std.specs.declared.cmp.Ordering.TheVariants.{Less}
-use Rattle.ax_gap.specs.Varint.{varint}
 use Rattle.ax_leaf.specs.declared.pair.Pair.{Pair}
 use Rattle.ax_leaf.specs.Pairs.{pair_cmp, Rise, RiseAfter}
 use Rattle.ax_leaf.proofs.FromLow.{pair_cmp_total}
 use Rattle.ax_leaf.proofs.OneSpelling.{varint_parts}
 use Rattle.ax_delta.specs.Changes.{TermChange}
 use Rattle.ax_delta.specs.ChangeList.{IsChangeList}
-use Rattle.ax_delta.specs.Merge.{IsMerge, AreMerged}
+use Rattle.ax_delta.specs.Merge.{AreMerged}
 use Rattle.ax_delta.specs.Payload.{list_after, IsDelta}
-use Rattle.ax_delta.specs.Reading.{changes_in}
 use Rattle.ax_delta.specs.Said.{is_same, has, said_of, last_said}
-use Rattle.ax_delta.proofs.SamePair.{true_or_false, same_from, same_to, differs, less_apart, later, rises_alone, none_above}
+use Rattle.ax_delta.proofs.SamePair.{true_or_false, same_from, same_to, less_apart, later, rises_alone, none_above}
 use Rattle.ax_delta.proofs.Whole.{delta_parts, listed_seen}
 
 pub one_delta : (bytes : List ℕ) (a b : List TermChange) → IsDelta bytes a → IsDelta bytes b → a ≡ b

@@ -1,7 +1,6 @@
 -- The pass of a merge: what it makes rises, and has what the changes and the pairs say.
 use Rattle.std.proofs.Common.{◌≡◌, List, [], ◌∷◌, refl, ap, ◌∙◌, sym, subst, Bool, true, false, cond, ⊎_elim, Option, Some, None}
 use Rattle.std.specs.Option.{unwrap_or}
-use Rattle.std.specs.declared.cmp.Ordering.{Ordering}
 use Rattle.std.specs.declared.cmp.Ordering.TheVariants.{Less, Equal, Greater}
 use Rattle.ax_leaf.specs.declared.pair.Pair.{Pair}
 use Rattle.ax_leaf.specs.Pairs.{pair_cmp, Rise, RiseAfter}

@@ -1,7 +1,6 @@
 -- What is reached behind one term change more.
-use Rattle.std.proofs.Common.{◌≡◌, ◌↔◌, ℕ, ◌+◌, ◌-◌, ◌<◌, ◌≤◌, List, [], length, get_or, take, arith, refl, ap, ◌∙◌, sym, subst, suc, add-one, cond, nat_lt, ⊎_elim, below_more}
-use Rattle.std.proofs.lemmas.Bool.{cases_lt, lt-ltb, le-ltb}
-use Rattle.std.proofs.lemmas.List.{length-append, length-take-le, get_or_append_left, get_or-append_right, get_or-take}
+use Rattle.std.proofs.Common.{◌≡◌, ◌↔◌, ℕ, ◌+◌, ◌-◌, ◌<◌, ◌≤◌, List, [], length, get_or, take, arith, refl, ap, ◌∙◌, sym, subst, suc, add-one, cond, nat_lt, below_more}
+use Rattle.std.proofs.lemmas.List.{length-append, length-take-le}
 use Rattle.ax_leaf.specs.ShortTerm.{whole_term, Follows}
 use Rattle.ax_leaf.proofs.Reaching.{byte_of_whole}
 use Rattle.ax_delta.specs.ChangeList.{HasListAfter, Begins, Begun, CanReach}

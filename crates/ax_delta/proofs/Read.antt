@@ -1,7 +1,7 @@
 -- What is spelled as a term change, or as term changes, is read so.
-use Rattle.std.proofs.Common.{◌≡◌, ℕ, ◌+◌, ◌-◌, ◌<◌, List, [], ◌∷◌, ◌++◌, length, take, drop, refl, ap, ◌∙◌, sym, subst, Option, Some}
+use Rattle.std.proofs.Common.{◌≡◌, ℕ, ◌-◌, List, [], ◌∷◌, ◌++◌, length, take, drop, refl, ap, ◌∙◌, sym, subst, Option, Some}
 use Rattle.std.proofs.lemmas.List.{append_assoc, append-nil, take_at, drop_at, length-drop}
-use Rattle.ax_gap.specs.Gaps.{IsRisingList, gaps}
+use Rattle.ax_gap.specs.Gaps.{gaps}
 use Rattle.ax_gap.specs.Varint.{varint}
 use Rattle.ax_gap.proofs.VarintLaws.{first_varint_again}
 use Rattle.ax_leaf.specs.Payload.{common, term_after}

@@ -1,14 +1,14 @@
 -- The term changes of changes hold these changes, in order.
-use Rattle.std.proofs.Common.{◌≡◌, ℕ, ◌+◌, ◌<◌, ◌≤◌, List, [], ◌∷◌, ◌++◌, length, get_or, arith, refl, ap, ◌∙◌, sym, Bool, true, false, cond, nat_lt, zero, suc}
+use Rattle.std.proofs.Common.{◌≡◌, ℕ, ◌<◌, ◌≤◌, List, [], ◌∷◌, ◌++◌, length, get_or, arith, refl, ap, ◌∙◌, sym, Bool, true, false, cond, nat_lt, suc}
 use Rattle.std.proofs.lemmas.Bool.{lt-ltb, le-ltb}
-use Rattle.std.proofs.lemmas.List.{append_assoc, append-nil}
+use Rattle.std.proofs.lemmas.List.{append_assoc}
 use Rattle.std.proofs.lemmas.Slice.Eq.{bytes_eq-Decides}
 use Rattle.std.specs.Str.{bytes_eq}
 use Rattle.ax_leaf.specs.declared.pair.Pair.{Pair}
 use Rattle.ax_leaf.specs.Pairs.{Rise, RiseAfter}
 use Rattle.ax_leaf.proofs.Grouping.{numbers_rise}
 use Rattle.ax_delta.specs.declared.change.Change.{Change}
-use Rattle.ax_delta.specs.Changes.{TermChange, changed_pairs, with_added, with_dropped, term_changes_from, term_changes_of, change_at, drops_with, add_among, changes_with, changes_of}
+use Rattle.ax_delta.specs.Changes.{changed_pairs, with_added, with_dropped, term_changes_from, term_changes_of, change_at, drops_with, add_among, changes_with, changes_of}
 use Rattle.ax_delta.specs.Said.{said_of, said_by}
 use Rattle.ax_delta.proofs.Grouping.{IsUpTo, more, one, fit, terms_of_rise, apart_from}
 use Rattle.ax_delta.proofs.Saying.{same_said}

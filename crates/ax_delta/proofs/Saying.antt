@@ -1,8 +1,6 @@
 -- What term changes say of a pair is what their changes say.
 use Rattle.std.proofs.Common.{◌≡◌, ℕ, List, [], ◌∷◌, ◌++◌, refl, ap, ◌∙◌, sym, Bool, true, false, cond, nat_eq, nat_lt, ⊎_elim, Option, Some, None}
-use Rattle.std.proofs.lemmas.Bool.{eq-eqb, ne_eqb, eqb-true}
 use Rattle.std.proofs.lemmas.Cmp.{nat_list_cmp_total}
-use Rattle.std.proofs.lemmas.List.{append_assoc}
 use Rattle.std.proofs.lemmas.Slice.Eq.{bytes_eq-Decides}
 use Rattle.std.specs.Cmp.Lexicographic.{slice_cmp}
 use Rattle.std.specs.Option.{option_or}
@@ -15,7 +13,7 @@ use Rattle.ax_leaf.proofs.Ordered.{differ}
 use Rattle.ax_delta.specs.declared.change.Change.{Change}
 use Rattle.ax_delta.specs.Changes.{TermChange, change_at, drops_with, add_among, changes_with, changes_of}
 use Rattle.ax_delta.specs.Payload.{AreDisjoint, AreAfter, AreTermChanges}
-use Rattle.ax_delta.specs.Said.{is_same, has_number, said_in, said_of, said_by}
+use Rattle.ax_delta.specs.Said.{has_number, said_in, said_of, said_by}
 use Rattle.ax_delta.proofs.Numbers.{no_longer_first, no_longer_second, not_in_first}
 use Rattle.ax_delta.proofs.SamePair.{true_or_false, same_by_term, other_by_term}
 

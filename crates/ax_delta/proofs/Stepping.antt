@@ -1,12 +1,12 @@
 -- A step of the pass of a merge.
-use Rattle.std.proofs.Common.{◌≡◌, ℕ, ◌<◌, List, [], ◌∷◌, ◌++◌, length, drop, arith, refl, ap, ◌∙◌, sym, Bool, true, false, Option, Some, None}
+use Rattle.std.proofs.Common.{◌≡◌, ◌<◌, List, [], ◌∷◌, ◌++◌, length, drop, arith, refl, ap, ◌∙◌, sym, Bool, true, false, Some, None}
 use Rattle.std.proofs.lemmas.List.{append_assoc, append-nil}
 use Rattle.std.specs.declared.cmp.Ordering.{Ordering}
 use Rattle.std.specs.declared.cmp.Ordering.TheVariants.{Less, Equal, Greater}
 use Rattle.ax_leaf.specs.declared.pair.Pair.{Pair}
 use Rattle.ax_leaf.specs.Pairs.{pair_cmp}
 use Rattle.ax_delta.specs.declared.change.Change.{Change}
-use Rattle.ax_delta.specs.Pass.{put_where, added_by, by_order, put_among, adds_first, added_first, first_cmp, met_by, merged}
+use Rattle.ax_delta.specs.Pass.{put_where, added_by, put_among, adds_first, added_first, first_cmp, met_by, merged}
 
 pub shorter : (changes : List Change) → (changes ≡ [] → ⊥) → length (drop 1 changes) < length changes
 shorter [] h = absurd (h refl)

@@ -6,7 +6,7 @@ use Rattle.ax_gap.specs.Gaps.{IsRisingList, gaps}
 use Rattle.ax_leaf.specs.Payload.{term_after}
 use Rattle.ax_delta.specs.declared.change.Change.{Change}
 use Rattle.ax_delta.specs.Changes.{TermChange, with_added, with_dropped, term_changes_from, term_changes_of}
-use Rattle.ax_delta.specs.Payload.{AreDisjoint, IsTermChange, AreGood, list_after}
+use Rattle.ax_delta.specs.Payload.{IsTermChange, AreGood, list_after}
 use Rattle.ax_delta.proofs.Grouping.{AreFit, IsFit}
 use Rattle.ax_delta.proofs.Listed.{change_with}
 

@@ -1,6 +1,5 @@
 -- The first change that is left, and what is left behind it.
-use Rattle.std.proofs.Common.{◌≡◌, ◌↔◌, ℕ, ◌-◌, ◌+◌, ◌<◌, List, [], ◌∷◌, ◌++◌, length, drop, arith, refl, ap, ◌∙◌, sym, subst, Bool, IsTrue, true, false, cond, nat_lt, Option, Some, None}
-use Rattle.std.proofs.lemmas.List.{append-nil}
+use Rattle.std.proofs.Common.{◌≡◌, ℕ, ◌-◌, ◌<◌, List, [], ◌∷◌, ◌++◌, length, drop, arith, refl, ap, ◌∙◌, sym, subst, Bool, true, false, cond, nat_lt, Option, Some, None}
 use Rattle.std.specs.declared.cmp.Ordering.{Ordering}
 use Rattle.ax_leaf.specs.declared.pair.Pair.{Pair}
 use Rattle.ax_leaf.specs.Pairs.{pair_cmp}

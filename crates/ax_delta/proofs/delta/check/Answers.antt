@@ -1,4 +1,4 @@
-use Rattle.std.proofs.Common.{◌≡◌, ◌∙◌, List, [], length, sym}
+use Rattle.std.proofs.Common.{◌∙◌, List, [], length, sym}
 use Rattle.std.proofs.lemmas.Bool.{false≢true}
 use Rattle.ax_delta.specs.Changes.{TermChange}
 use Rattle.ax_delta.specs.ChangeList.{IsChangeList}

@@ -5,7 +5,7 @@ use Rattle.std.specs.Str.{bytes_eq}
 use Rattle.ax_gap.specs.Gaps.{gaps}
 use Rattle.ax_leaf.specs.Payload.{term_after}
 use Rattle.ax_delta.specs.declared.change.Change.{Change}
-use Rattle.ax_delta.specs.Changes.{TermChange, term_changes_from, term_changes_of, with_added, with_dropped}
+use Rattle.ax_delta.specs.Changes.{term_changes_from, term_changes_of, with_added, with_dropped}
 use Rattle.ax_delta.specs.Payload.{AreGood, list_after}
 use Rattle.ax_delta.proofs.Grouping.{AreFit, IsFit, fit}
 use Rattle.ax_delta.proofs.Listed.{change_with}

@@ -1,4 +1,4 @@
-use Rattle.std.proofs.Common.{◌≡◌, ◌∙◌, ap, sym}
+use Rattle.std.proofs.Common.{◌∙◌, ap, sym}
 use Rattle.ax_leaf.specs.Pairs.{pair_cmp}
 use Rattle.ax_delta.specs.Pass.{first_cmp}
 use Rattle.ax_delta.proofs.SamePair.{the_pair}

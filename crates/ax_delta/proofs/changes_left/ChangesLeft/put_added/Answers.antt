@@ -1,6 +1,5 @@
-use Rattle.std.proofs.Common.{◌≡◌, ◌∙◌, ◌++◌, ◌∷◌, List, [], ap, sym, true, false, Bool}
+use Rattle.std.proofs.Common.{◌∙◌, ◌++◌, ◌∷◌, [], ap, sym, Bool}
 use Rattle.std.proofs.lemmas.List.{append-nil}
-use Rattle.ax_leaf.specs.declared.pair.Pair.{Pair}
 use Rattle.ax_delta.specs.Pass.{added_first, put_where}
 use Rattle.ax_delta.proofs.SamePair.{the_pair}
 use Rattle.ax_delta.proofs.Taking.{at_end, put_it}

@@ -1,4 +1,4 @@
-use Rattle.std.proofs.Common.{◌≡◌, ◌∙◌, ◌++◌, List, ℕ, [], length, arith, ap, sym, rules, ◌-◌}
+use Rattle.std.proofs.Common.{◌∙◌, ◌++◌, List, ℕ, length, arith, ap, sym, rules, ◌-◌}
 use Rattle.ax_delta.specs.declared.change.Change.{Change}
 use Rattle.ax_delta.specs.Changes.{changes_with, changes_of}
 use Rattle.ax_delta.specs.Reading.{changes_in}

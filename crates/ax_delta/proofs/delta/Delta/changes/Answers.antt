@@ -1,5 +1,5 @@
-use Rattle.std.proofs.Common.{◌≡◌, ◌∙◌, ◌++◌, List, ℕ, [], ap, sym, rules}
-use Rattle.ax_delta.specs.Changes.{changes_with, changes_of}
+use Rattle.std.proofs.Common.{◌∙◌, List, ℕ, ap}
+use Rattle.ax_delta.specs.Changes.{changes_of}
 use Rattle.ax_delta.specs.Reading.{changes_in}
 use Rattle.ax_delta.proofs.Taking.{spells_list, nothing_with}
 use Rattle.ax_delta.proofs.delta.Delta.changes.Goals as goal
