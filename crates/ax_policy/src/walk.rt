@@ -1,7 +1,7 @@
 //! A walk down a document beside the rules of a policy: at each step the rules that go on are found
 //! among those that were left, so that what is decided on a leaf costs what its last step costs.
 ghost use Rattle.std.specs.Prelude.{◌≡◌, ◌↔◌, ◌<◌, ◌≤◌, ℕ, [], ◌∷◌, ◌++◌, ◌-◌, Bool, List, IsTrue, slice_get, IfOk, IfErr, IfSome, true, false, drop, length, take};
-ghost use Rattle.std.specs.List.{All, filter};
+ghost use Rattle.std.specs.List.{filter};
 ghost use Rattle.std.specs.Cmp.Lexicographic.{slice_cmp};
 ghost use Rattle.std.specs.Ordering.{nat_cmp};
 ghost use Rattle.std.specs.Str.{bytes_eq};

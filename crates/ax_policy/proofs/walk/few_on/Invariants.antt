@@ -1,5 +1,5 @@
 -- The first rules go on, and what goes on of the rest.
-use Rattle.std.proofs.Common.{◌≡◌, ◌<◌, ◌-◌, ℕ, List, length, true}
+use Rattle.std.proofs.Common.{◌≡◌, ◌-◌, ℕ, List, length, true}
 use Rattle.std.specs.List.{filter}
 use Rattle.ax_policy.specs.Walking.{IsRun, begins_on, goes_on, piece_text}
 use Rattle.ax_policy.proofs.Ahead.{found}

@@ -1,5 +1,5 @@
 -- What lies from the place on is a run, too.
-use Rattle.std.proofs.Common.{◌≡◌, ap, sym, subst, ◌∙◌, List, Bool, true}
+use Rattle.std.proofs.Common.{ap, sym, subst, ◌∙◌, List, Bool}
 use Rattle.std.specs.List.{filter}
 use Rattle.ax_tree.specs.declared.members.Member.{Member}
 use Rattle.ax_policy.specs.Walking.{IsRun, begins_on, goes_on, piece_text}

@@ -1,5 +1,5 @@
 -- Each rule looked at comes before the step, begins the run, or comes behind.
-use Rattle.std.proofs.Common.{◌≡◌, ◌∙◌, ap, sym, arith, get_or, refl}
+use Rattle.std.proofs.Common.{◌≡◌, ◌∙◌, ap, sym, arith, get_or}
 use Rattle.std.specs.Ordering.{is_gt, is_eq}
 use Rattle.ax_policy.specs.Walking.{piece_text}
 use Rattle.ax_policy.proofs.Ahead.{before_passed, first_before, from_before, none_from, none_left, on_from}
