@@ -1,5 +1,5 @@
 -- Comparisons piece by piece, one after another.
-use Rattle.std.proofs.Common.{◌≡◌, ℕ, List, [], ◌++◌, length, take, drop, Bool, true, false, refl, sym, ap, ◌∙◌, append_assoc}
+use Rattle.std.proofs.Common.{◌≡◌, ℕ, List, ◌++◌, length, take, drop, Bool, true, false, refl, sym, ap, ◌∙◌}
 use Rattle.std.specs.Str.{bytes_eq}
 use Rattle.std.proofs.Math.Seq.{take-append_seam}
 use Rattle.std.proofs.lemmas.List.{take-append-drop}
@@ -11,28 +11,6 @@ use Rattle.std.specs.Cmp.Lexicographic.{slice_cmp}
 use Rattle.std.specs.Ordering.{nat_cmp}
 use Rattle.std.specs.declared.cmp.Ordering.{Ordering}
 use Rattle.ax_policy.specs.Comparing.{GoesOn, Ends}
-
-pub goes_nowhere : (text : List ℕ) → GoesOn text [] text
-goes_nowhere text follow = refl
-
-pub goes_on : (text piece more rest after : List ℕ) → GoesOn text piece rest → GoesOn rest more after
-    → GoesOn text (piece ++ more) after
-goes_on text piece more rest after one two follow =
-    ap (slice_cmp nat_cmp text) (append_assoc piece more follow) ∙ one (more ++ follow) ∙ two follow
-
-pub ends_later : (text piece more rest : List ℕ) (order : Ordering) → GoesOn text piece rest
-    → Ends rest more order → Ends text (piece ++ more) order
-ends_later text piece more rest order one two = (
-  λ follow. ap (slice_cmp nat_cmp text) (append_assoc piece more follow) ∙ one (more ++ follow) ∙ two.0 follow,
-  two.1,
-)
-
-pub ends_first : (text piece more : List ℕ) (order : Ordering) → Ends text piece order
-    → Ends text (piece ++ more) order
-ends_first text piece more order one = (
-  λ follow. ap (slice_cmp nat_cmp text) (append_assoc piece more follow) ∙ one.0 (more ++ follow),
-  one.1,
-)
 
 -- ---- a text that begins so
 

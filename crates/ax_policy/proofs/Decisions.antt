@@ -118,10 +118,6 @@ longest_none rules path (suc most) e j h =
         let same : j ≡ suc most = omega arith in
         rw same here
 
-no_length : (rule : Rule) (path : List Step) → IsFront rule.steps path
-    → rule_text (take (length rule.steps) path) true ≡ rule_text rule.steps true
-no_length rule path f = ap (λ l. rule_text l true) (sym f.is)
-
 -- ---- deciding
 
 pub record Decided (policy : Policy) (path : List Step) (b : Bool) : Type 0 where

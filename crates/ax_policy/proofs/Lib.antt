@@ -1,4 +1,3 @@
-mod Ahead
 mod Apart
 mod Below
 mod Comparisons
@@ -7,20 +6,19 @@ mod Decisions
 mod DefaultRules
 mod Insertion
 mod Lists
+mod NamePlaces
 mod NormalFits
 mod NormalTrees
 mod NumberLaws
 mod Orders
 mod PathReading
 mod PathTexts
-mod PlainNames
 mod PolicyAgain
-mod Rooms
 mod RuleLaws
 mod RuleMaps
 mod RulesAgain
+mod SamePaths
 mod Searching
 mod TreeLooks
 mod Utf8
 mod WalkPlaces
-mod Walks

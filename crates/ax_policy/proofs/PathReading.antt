@@ -21,10 +21,6 @@ before front name = option_map (λ (f : List ℕ × List ℕ). (front ++ f.0, f.
 abbrev pub behind : List Step → Option (List Step) → Option (List Step)
 behind front steps = option_map (λ more. front ++ more) steps
 
-pub behind_start : (o : Option (List Step)) → behind [] o ≡ o
-behind_start None = refl
-behind_start (Some l) = refl
-
 behind_more : (front : List Step) (step : Step) (o : Option (List Step))
     → behind (front ++ step ∷ []) o ≡ behind front (put_step step o)
 behind_more front step None = refl

@@ -146,7 +146,7 @@ text_is_written path h =
 
 -- ---- fronts
 
-name_apart : (a b x y : List ℕ) → name_text a ++ x ≡ name_text b ++ y → found a x ≡ found b y
+pub name_apart : (a b x y : List ℕ) → name_text a ++ x ≡ name_text b ++ y → found a x ≡ found b y
 name_apart a b x y e =
     sym (quoted_again a x)
     ∙ ap (quoted false) (sym (append_assoc (escaped a) (quote ∷ []) x))
@@ -166,16 +166,16 @@ abbrev rest_in : Option (List ℕ × List ℕ) → List ℕ
 rest_in None = []
 rest_in (Some f) = f.1
 
-found_0 : (a b x y : List ℕ) → found a x ≡ found b y → a ≡ b
+pub found_0 : (a b x y : List ℕ) → found a x ≡ found b y → a ≡ b
 found_0 a b x y e = ap name_in e
 
-found_1 : (a b x y : List ℕ) → found a x ≡ found b y → x ≡ y
+pub found_1 : (a b x y : List ℕ) → found a x ≡ found b y → x ≡ y
 found_1 a b x y e = ap rest_in e
 
 longer : (step : Step) (front steps : List Step) → Front front steps → Front (step ∷ front) (step ∷ steps)
 longer step front steps f = record { more = f.more; whole = ap (λ l. step ∷ l) f.whole }
 
-no_mark : (step : Step) (x : List ℕ) (all : Bool) → mark_text all ≡ step_text step ++ x → ⊥
+pub no_mark : (step : Step) (x : List ℕ) (all : Bool) → mark_text all ≡ step_text step ++ x → ⊥
 no_mark (Name name) x true e = absurd (let h : 42 ≡ 34 = ap (λ l. get_or l 1 0) e in omega arith)
 no_mark (Name name) x false e = absurd (let h : 63 ≡ 34 = ap (λ l. get_or l 1 0) e in omega arith)
 no_mark Item x true e = absurd (let h : 42 ≡ 91 = ap (λ l. get_or l 1 0) e in omega arith)

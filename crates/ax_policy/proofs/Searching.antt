@@ -1,8 +1,7 @@
 -- Rules whose texts rise, searched by halves: where one is found, it is the rule under its text.
 use Rattle.std.proofs.Common.{◌≡◌, ℕ, ◌<◌, ◌≤◌, zero, suc, List, [], ◌∷◌, length, get_or, Bool, true, false, cond, ◌&&◌, Option, Some, None, Ordering, Less, Equal, Greater, refl, sym, ap, subst, ◌∙◌, arith, ◌⊎◌, inl, inr}
-use Rattle.std.specs.Prelude.{Err}
 use Rattle.std.specs.Cmp.Lexicographic.{slice_cmp}
-use Rattle.std.specs.List.Sorted.{IsBinarySearchResult, IsNonDecreasingBy}
+use Rattle.std.specs.List.Sorted.{IsNonDecreasingBy}
 use Rattle.std.specs.Ordering.{nat_cmp, is_lt, is_eq, ordering_index, ordering_reverse}
 use Rattle.std.specs.Str.{bytes_eq}
 use Rattle.std.proofs.lemmas.Bool.{cases_lt}
@@ -26,7 +25,7 @@ both_true true true e f = refl
 both_true true false e f = f
 both_true false b e f = e
 
-is_lt_Less : (o : Ordering) → is_lt o ≡ true → o ≡ Less
+pub is_lt_Less : (o : Ordering) → is_lt o ≡ true → o ≡ Less
 is_lt_Less Less e = refl
 is_lt_Less Equal e = absurd (cc)
 is_lt_Less Greater e = absurd (cc)
@@ -50,7 +49,7 @@ same_from_Equal a b e = same_bytes a b (sym (is_eq-slice_cmp a b) ∙ ap is_eq e
 
 -- ---- rising texts
 
-pub skipped : (first next : Member Bool) (rest : List (Member Bool))
+pub skipped : {T : Type 0} (first next : Member T) (rest : List (Member T))
     → HaveRisingNames (first ∷ next ∷ rest) → HaveRisingNames (first ∷ rest)
 skipped first next [] r = refl
 skipped first next (third ∷ rest) r =
@@ -61,12 +60,12 @@ skipped first next (third ∷ rest) r =
     (is_lt_Less _ two.0)))
     two.1
 
-pub later : (first : Member Bool) (rest : List (Member Bool)) → HaveRisingNames (first ∷ rest)
+pub later : {T : Type 0} (first : Member T) (rest : List (Member T)) → HaveRisingNames (first ∷ rest)
     → HaveRisingNames rest
 later first [] r = refl
 later first (next ∷ rest) r = (both (is_lt (cmp first.name next.name)) _ r).1
 
-after : (first : Member Bool) (rest : List (Member Bool)) (d : Member Bool)
+pub after : {T : Type 0} (first : Member T) (rest : List (Member T)) (d : Member T)
     → HaveRisingNames (first ∷ rest) → (k : ℕ) → k < length rest
     → cmp first.name (get_or rest k d).name ≡ Less
 after first [] d r k h = absurd (omega arith)
@@ -74,7 +73,7 @@ after first (next ∷ rest) d r zero h = is_lt_Less _ (both (is_lt (cmp first.na
 after first (next ∷ rest) d r (suc k) h =
     after first rest d (skipped first next rest r) k (omega arith)
 
-pub rises : (rules : List (Member Bool)) (d : Member Bool) → HaveRisingNames rules → (i j : ℕ) → i < j
+pub rises : {T : Type 0} (rules : List (Member T)) (d : Member T) → HaveRisingNames rules → (i j : ℕ) → i < j
     → j < length rules → cmp (get_or rules i d).name (get_or rules j d).name ≡ Less
 rises [] d r i j h k = absurd (omega arith)
 rises (first ∷ rest) d r i zero h k = absurd (omega arith)
@@ -83,12 +82,12 @@ rises (first ∷ rest) d r (suc i) (suc j) h k =
     rises rest d (later first rest r) i j (omega arith) (omega arith)
 
 -- a text before another is another text
-apart : (a b : List ℕ) → cmp a b ≡ Less → bytes_eq b a ≡ false
+pub apart : (a b : List ℕ) → cmp a b ≡ Less → bytes_eq b a ≡ false
 apart a b e =
     sym (is_eq-slice_cmp b a) ∙ ap is_eq (nat_list_cmp_total.antisymm b a ∙ ap ordering_reverse e)
 
 -- each rule stands under its text
-pub under_at : (rules : List (Member Bool)) (d : Member Bool) → HaveRisingNames rules → (k : ℕ)
+pub under_at : {T : Type 0} (rules : List (Member T)) (d : Member T) → HaveRisingNames rules → (k : ℕ)
     → k < length rules → under (get_or rules k d).name rules ≡ Some (get_or rules k d).value
 under_at [] d r k h = absurd (omega arith)
 under_at (first ∷ rest) d r zero h = rw (bytes_eq_same first.name) refl
@@ -99,22 +98,22 @@ under_at (first ∷ rest) d r (suc k) h =
 abbrev pub no_flag : Option Bool
 no_flag = None
 
-under_none : (key : List ℕ) (rules : List (Member Bool))
-    → ((k : ℕ) (d : Member Bool) → k < length rules → cmp (get_or rules k d).name key ≡ Equal → ⊥)
-    → under key rules ≡ no_flag
+pub under_none : {T : Type 0} (key : List ℕ) (rules : List (Member T))
+    → ((k : ℕ) (d : Member T) → k < length rules → cmp (get_or rules k d).name key ≡ Equal → ⊥)
+    → under key rules ≡ None
 under_none key [] n = refl
 under_none key (first ∷ rest) n = by_test (bytes_eq key first.name) refl
     (under_none key rest (λ k d h e. n (suc k) d (omega arith) e))
   where
-    by_test : (b : Bool) → bytes_eq key first.name ≡ b → under key rest ≡ no_flag
-        → cond b (Some first.value) (under key rest) ≡ no_flag
+    by_test : (b : Bool) → bytes_eq key first.name ≡ b → under key rest ≡ None
+        → cond b (Some first.value) (under key rest) ≡ None
     by_test true e later =
         let same : key ≡ first.name = same_bytes key first.name e in
         absurd (n 0 first (omega arith) (ap (λ k. cmp first.name k) same ∙ cmp_same first.name))
     by_test false e later = later
 
-pub first_absent : (first : Member Bool) (rest : List (Member Bool)) → HaveRisingNames (first ∷ rest)
-    → under first.name rest ≡ no_flag
+pub first_absent : {T : Type 0} (first : Member T) (rest : List (Member T)) → HaveRisingNames (first ∷ rest)
+    → under first.name rest ≡ None
 first_absent first rest r =
     under_none first.name rest (λ k d h e.
     let less : cmp first.name (get_or rest k d).name ≡ Less = after first rest d r k h in
@@ -139,7 +138,7 @@ no_later a b key e Equal f =
     rw (less, f) (omega arith)
 no_later a b key e Greater f = rw f (most_is_two (cmp a key))
 
-pub no_fall : (rules : List (Member Bool)) (key : List ℕ) → HaveRisingNames rules
+pub no_fall : {T : Type 0} (rules : List (Member T)) (key : List ℕ) → HaveRisingNames rules
     → IsNonDecreasingBy (λ y. ordering_index (slice_cmp nat_cmp y.name key)) rules
 no_fall rules key r i j d h k = by_place (cases_lt i j)
   where
@@ -151,26 +150,3 @@ no_fall rules key r i j d h k = by_place (cases_lt i j)
     by_place (inr above) =
         let same : i ≡ j = omega arith in
         rw same (omega arith)
-
-pub searched_ok : (rules : List (Member Bool)) (key : List ℕ) (at : ℕ) → HaveRisingNames rules
-    → at < length rules → (d : Member Bool)
-    → ((d : Member Bool) → slice_cmp nat_cmp (get_or rules at d).name key ≡ Equal)
-    → Some (get_or rules at d).value ≡ under key rules
-searched_ok rules key at r h d e =
-    sym (under_at rules d r at h)
-    ∙ ap (λ k. under k rules) (same_from_Equal (get_or rules at d).name key (e d))
-
-pub searched_err : (rules : List (Member Bool)) (key : List ℕ) (at : ℕ) → HaveRisingNames rules
-    → IsBinarySearchResult (λ y. slice_cmp nat_cmp y.name key) rules (Err at)
-    → no_flag ≡ under key rules
-searched_err rules key at r e =
-    sym (under_none key rules (λ k d h same. by_place k d h same (cases_lt k at)))
-  where
-    by_place : (k : ℕ) (d : Member Bool) → k < length rules → cmp (get_or rules k d).name key ≡ Equal
-        → (k < at) ⊎ (at ≤ k) → ⊥
-    by_place k d h same (inl below) =
-        let less : cmp (get_or rules k d).name key ≡ Less = (e (no_fall rules key r)).0 k d (omega arith) below in
-        cc
-    by_place k d h same (inr above) =
-        let more : cmp (get_or rules k d).name key ≡ Greater = (e (no_fall rules key r)).1 k d above h in
-        cc

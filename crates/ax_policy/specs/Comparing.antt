@@ -1,6 +1,6 @@
 -- Bytes compared with others that are told piece by piece: what is left of them behind a piece, or
 -- that they differ from it, whatever follows. No public clause cites these words.
-use Rattle.std.specs.Prelude.{◌≡◌, ℕ, List, ◌++◌, length, take}
+use Rattle.std.specs.Prelude.{◌≡◌, ℕ, List, ◌++◌}
 use Rattle.std.specs.Cmp.Lexicographic.{slice_cmp}
 use Rattle.std.specs.Ordering.{nat_cmp}
 use Rattle.std.specs.declared.cmp.Ordering.{Ordering}
@@ -16,7 +16,3 @@ abbrev pub Ends : List ℕ → List ℕ → Ordering → Type 0
 Ends text piece order =
     ((follow : List ℕ) → slice_cmp nat_cmp text (piece ++ follow) ≡ order)
     × (order ≡ Equal → ⊥)
-
--- how bytes compare with a piece, equal where they begin with it
-abbrev pub against : List ℕ → List ℕ → Ordering
-against piece bytes = slice_cmp nat_cmp (take (length piece) bytes) piece

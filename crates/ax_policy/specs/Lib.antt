@@ -11,6 +11,7 @@ pub mod Paths
 pub mod Policies
 pub mod Reading
 pub mod Rules
+pub mod RuleTrees
 pub mod Sameness
 pub mod Table
 pub mod Walking

@@ -40,10 +40,6 @@ escaped name = flat_map escaped_byte name
 abbrev pub name_text : List ℕ → List ℕ
 name_text name = slash ∷ quote ∷ escaped name ++ quote ∷ []
 
--- the same of a name that has nothing to be escaped; no public clause cites it
-abbrev pub plain_text : List ℕ → List ℕ
-plain_text name = slash ∷ quote ∷ name ++ quote ∷ []
-
 abbrev pub step_text : Step → List ℕ
 step_text (Name name) = name_text name
 step_text Item = codes "/[]"

@@ -73,8 +73,8 @@ rules_of mode included excluded =
     option_and_then (λ ins. option_and_then (if_allowed mode ins) (texts_of excluded))
     (texts_of included)
 
--- whether the rule under a text is included
-abbrev pub under : List ℕ → List (Member Bool) → Option Bool
+-- what stands under a name: under the text of a rule whether it is included
+abbrev pub under : {T : Type 0} → List ℕ → List (Member T) → Option T
 under text [] = None
 under text (first ∷ rest) = if bytes_eq text first.name then Some first.value else under text rest
 

@@ -4,26 +4,27 @@ ghost use Rattle.std.specs.List.{list_all};
 ghost use Rattle.ax_tree.specs.Names.{HaveRisingNames};
 ghost use Rattle.ax_policy.specs.Covering.{Covers, CoversAll, indexes as does_index};
 ghost use Rattle.ax_policy.specs.Deciding as spec;
-ghost use Rattle.ax_policy.specs.Paths.{rule_text};
-ghost use Rattle.ax_policy.specs.Rules.{under};
+ghost use Rattle.ax_policy.specs.Walking.{IsAt};
 ghost use Rattle.ax_policy.specs.Written.{are_written};
 
-use crate::compare::{after_steps, compare};
+use crate::compare::after_steps;
 use crate::mode::Mode;
 use crate::policy::Policy;
+use crate::walk::RuleWalk;
 use ax_mean::{Member, Path, Step};
 
 impl Policy {
     /// Whether the leaf at that path is indexed: of the included and excluded paths that match, the
-    /// one with most steps decides, and of equal steps the one with `/?`. Makes at most two
-    /// searches by halves more than the path has steps.
+    /// one with most steps decides, and of equal steps the one with `/?`. Takes time by the path's
+    /// length, and for each step by the number of digits of how many names rules go on with.
     pub fn covers(&self, path: &Path) -> bool
         ensures { IsTrue result ↔ Covers self.now path.now }
     {
         self.is_covered(path)
     }
 
-    /// Whether every leaf whose path begins with that path is indexed.
+    /// Whether every leaf whose path begins with that path is indexed. Takes time by the number of
+    /// rules.
     pub fn covers_all(&self, path: &Path) -> bool
         ensures { IsTrue result ↔ CoversAll self.now path.now }
     {
@@ -34,7 +35,7 @@ impl Policy {
     pub(crate) fn is_covered(&self, path: &Path) -> bool
         ensures { result ≡ spec.is_covered self.now path.now }
     {
-        self.indexes() && decides(self.rules.as_slice(), path.as_slice()).unwrap_or(false)
+        self.walk_to(path.as_slice()).is_covered()
     }
 
     fn is_all_covered(&self, path: &Path) -> bool
@@ -44,7 +45,18 @@ impl Policy {
     {
         let rules = self.rules.as_slice();
         let path = path.as_slice();
-        self.indexes() && longest(rules, path).unwrap_or(false) && all_are_included(rules, path)
+        self.walk_to(path).is_covered_below() && all_are_included(rules, path)
+    }
+
+    /// The walk at that path.
+    fn walk_to(&self, steps: &[Step]) -> RuleWalk<'_>
+        ensures { IsAt result self.now steps.now }
+    {
+        let mut walk = self.walk();
+        for step in steps {
+            walk = walk.step(step);
+        }
+        walk
     }
 
     /// Whether the policy indexes at all.
@@ -55,44 +67,6 @@ impl Policy {
             Mode::Consistent => self.automatic,
             Mode::None => false,
         }
-    }
-}
-
-/// Whether the rule that decides on a leaf is an included one; `None` where no rule matches.
-fn decides(rules: &[Member<bool>], path: &[Step]) -> Option<bool>
-    requires { HaveRisingNames rules.now }
-    ensures { result ≡ spec.decision rules.now path.now }
-{
-    match search(rules, path, false) {
-        Some(included) => Some(included),
-        None => longest(rules, path),
-    }
-}
-
-/// Whether the rule with `/*` and most steps that matches the path is an included one.
-fn longest(rules: &[Member<bool>], path: &[Step]) -> Option<bool>
-    requires { HaveRisingNames rules.now }
-    ensures { result ≡ spec.longest rules.now path.now (length path.now) }
-{
-    let mut count = path.len();
-    while count > 0 {
-        let (front, _) = path.split_at(count);
-        if let Some(included) = search(rules, front, true) {
-            return Some(included);
-        }
-        count -= 1;
-    }
-    search(rules, &[], true)
-}
-
-/// Whether the rule with that path is an included one; `None` where there is no such rule.
-pub(crate) fn search(rules: &[Member<bool>], steps: &[Step], all: bool) -> Option<bool>
-    requires { HaveRisingNames rules.now }
-    ensures { result ≡ under (rule_text steps.now all) rules.now }
-{
-    match rules.binary_search_by(|rule| compare(rule.name.as_str().as_bytes(), steps, all)) {
-        Ok(at) => Some(rules[at].value),
-        Err(_at) => None,
     }
 }
 

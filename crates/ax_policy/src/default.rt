@@ -28,7 +28,7 @@ fn default_rules(alloc: Global) -> Result<Rules, Memory>
 {
     let excluded = with_rule(alloc, Vec::new(alloc), r#"/"_etag"/?"#, false)?;
     let rules = with_rule(alloc, excluded, "/*", true)?;
-    Ok(Rules::from_members(Members::from_vec(rules)))
+    Rules::from_members(alloc, Members::from_vec(rules))
 }
 
 /// The rules, and one more behind them.

@@ -13,6 +13,7 @@ pub mod laws;
 mod limits;
 mod members;
 mod mode;
+mod name_places;
 mod normal;
 mod number_use;
 mod ordering;
@@ -27,6 +28,7 @@ mod read;
 mod read_path;
 mod read_rules;
 mod rule_path;
+mod rule_tree;
 mod rules;
 mod slot;
 mod table;
@@ -36,6 +38,7 @@ mod tests;
 mod walk;
 #[cfg(test)]
 mod walk_tests;
+mod with_rule;
 
 pub use default::default_policy;
 pub use mode::Mode;

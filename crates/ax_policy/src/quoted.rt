@@ -1,6 +1,5 @@
 //! Names between quotes.
 ghost use Rattle.std.specs.Prelude.{◌≡◌, ◌++◌, IfOk, OnOk, IfSome, false, option_map};
-ghost use Rattle.std.specs.List.{list_any};
 ghost use Rattle.std.specs.Str.{IsUtf8};
 ghost use Rattle.ax_policy.specs.Paths as spec;
 
@@ -43,13 +42,6 @@ pub(crate) fn is_escaped(byte: u8) -> bool
     ensures { result ≡ spec.is_escaped byte }
 {
     byte == b'"' || byte == b'\\'
-}
-
-/// Whether a byte of the name stands behind a backslash between quotes.
-pub(crate) fn has_escape(name: &[u8]) -> bool
-    ensures { result ≡ list_any spec.is_escaped name.now }
-{
-    name.contains(&b'"') || name.contains(&b'\\')
 }
 
 /// The name up to the quote that closes it, from behind the quote that opens it on, and what

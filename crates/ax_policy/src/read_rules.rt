@@ -148,7 +148,7 @@ fn if_says(
         (map (λ e. record { name = string_bytes e.0; value = e.1 }) rules.entries)) }
 {
     if says_of_all(mode, &rules) {
-        Ok(Some(Rules::from_members(members_from(alloc, rules)?)))
+        Ok(Some(Rules::from_members(alloc, members_from(alloc, rules)?)?))
     } else {
         drop(rules);
         Ok(None)

@@ -118,3 +118,73 @@ fn a_walk_of_what_indexes_little_covers_little(rt: HostRuntime) -> Result<(), Fa
     }
     Ok(())
 }
+
+/// The name of two digits behind an `n`.
+fn name_of(alloc: Global, number: u8) -> Result<String, Memory> {
+    let mut name = String::from_str(alloc, "n")?;
+    name.push((b'0' + number / 10 % 10) as char)?;
+    name.push((b'0' + number % 10) as char)?;
+    Ok(name)
+}
+
+/// The policy that leaves out the leaves at the forty even names below 80.
+fn policy_of_many(alloc: Global) -> Result<Policy, Memory> {
+    let mut text = String::from_str(
+        alloc,
+        r#"{"includedPaths":[{"path":"/*"}],"excludedPaths":[{"path":"/m/?"}"#,
+    )?;
+    for half in 0..40u8 {
+        text.push_str(r#",{"path":"/"#)?;
+        text.push_str(name_of(alloc, half * 2)?.as_str())?;
+        text.push_str(r#"/?"}"#)?;
+    }
+    text.push_str("]}")?;
+    policy_of(alloc, text.as_str())
+}
+
+#[test]
+fn a_name_is_found_from_any_place(rt: HostRuntime) -> Result<(), Fail> {
+    let alloc = rt.alloc();
+    let policy = policy_of_many(alloc)?;
+    let mut next = 0;
+    for number in 0..80u8 {
+        let name = name_of(alloc, number)?;
+        let covered = number % 2 == 1;
+        for near in [0, 1, 2, 12, 20, 39, 40, 41, 42, usize::MAX] {
+            let mut place = near;
+            let walk = policy.walk().name_near(name.as_str(), &mut place);
+            assert_eq!(rt; walk.covers(), covered, "{number} {near}");
+        }
+        let walk = policy.walk().name_near(name.as_str(), &mut next);
+        assert_eq!(rt; walk.covers(), covered, "{number}");
+    }
+    Ok(())
+}
+
+/// The text of so many steps to items.
+fn items_text(alloc: Global, count: usize) -> Result<String, Memory> {
+    let mut text = String::new(alloc);
+    for _ in 0..count {
+        text.push_str("/[]")?;
+    }
+    Ok(text)
+}
+
+// 1,023 steps to items are the most that a path has: each takes one byte of 1,024, and its end one.
+#[test]
+fn the_deepest_rule_is_found(rt: HostRuntime) -> Result<(), Fail> {
+    let alloc = rt.alloc();
+    let mut text = String::from_str(
+        alloc,
+        r#"{"includedPaths":[{"path":"/*"}],"excludedPaths":[{"path":""#,
+    )?;
+    text.push_str(items_text(alloc, 1_023)?.as_str())?;
+    text.push_str(r#"/?"}]}"#)?;
+    let policy = policy_of(alloc, text.as_str())?;
+    let mut walk = policy.walk();
+    for steps in 0..1_025u32 {
+        assert_eq!(rt; walk.covers(), steps != 1_023, "{steps}");
+        walk = walk.item();
+    }
+    Ok(())
+}
