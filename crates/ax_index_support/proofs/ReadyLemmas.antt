@@ -1,29 +1,23 @@
 -- A store stays ready: where nothing of it changed but slots or room, and at a commit.
-use Rattle.std.proofs.Common.{◌≡◌, ◌≤◌, Bool, not, List, refl, sym, ap, subst, ◌∙◌, arith}
+use Rattle.std.proofs.Common.{◌≡◌, ◌≤◌, Bool, not, List, refl, sym, ap, subst, ◌∙◌}
 use Rattle.std.specs.Prelude.{ℕ, [], ◌++◌, Some, IsTrue, count_by}
 use Rattle.ax_disk.specs.model.Moments.{History}
 use Rattle.ax_disk.specs.model.Calls.{Idles}
-use Rattle.ax_pool.specs.Frames.{free_count}
 use Rattle.ax_delta.specs.declared.change.Change.{Change}
 use Rattle.ax_frame.specs.Part.{PartValue}
 use Rattle.ax_pages.specs.AfterPart.{after_parts}
 use Rattle.ax_pages.specs.Contents.{Contents, TermPage}
 use Rattle.ax_pairs.specs.TermParts.{LeadTo}
 use Rattle.ax_index.specs.Merging.{IsMergePlan}
-use Rattle.ax_index.specs.Plans.{HasNoDeltas, IsPlan, SameButRoomAndBytes}
+use Rattle.ax_index.specs.Plans.{IsPlan, SameButRoomAndBytes}
 use Rattle.ax_log.specs.Agreement as log
 use Rattle.ax_store.specs.declared.store.Store.{Store}
-use Rattle.ax_store.specs.Kept.{deltas_of}
 use Rattle.ax_store.specs.Loading.{nothing_kept}
 use Rattle.ax_store.specs.Putting.{AreWithin}
-use Rattle.ax_store.specs.Slots.{HasAllFree}
 use Rattle.ax_store.specs.Store.{Agrees, SameButSlots, store_slots}
 use Rattle.ax_store.proofs.LoadLemmas.{last_same}
 use Rattle.ax_store.proofs.StoreLemmas.{agrees_still, agrees_slots}
 use Rattle.ax_index_support.specs.Ready.{IsReady}
-
-pub all_free : {C : Type 0} (store : Store C) → HasAllFree store → 2 ≤ free_count (store_slots store)
-all_free store free = subst (λ (taken : List Bool). 2 ≤ count_by not taken) (sym free) (omega arith)
 
 pub ready_slots : {C : Type 0} (old new : Store C) (honest after : Bool) (before history : History)
     → IsReady old honest before → SameButSlots old new → (store_slots new).taken ≡ (store_slots old).taken
@@ -52,10 +46,6 @@ ready_planned old new honest after before history ready same alike idles = recor
       agrees_still new before history (agrees_planned old new before same (ready.agrees was (sym same.failed ∙ works))) (idles was);
   free = subst (λ (t : List Bool). 2 ≤ count_by not t) (sym same.taken) ready.free;
 }
-
--- a batch that has just begun has no deltas
-pub no_deltas : (parts : List PartValue) → parts ≡ [] → HasNoDeltas parts
-no_deltas parts none number = ap (deltas_of number) none
 
 -- parts that lead from the term pages of the contents, behind no others, are within the format after these
 led_within : (parts old new : List PartValue) (before : Contents) (after : List TermPage) → LeadTo parts before.terms after

@@ -1,6 +1,6 @@
 //! Pairs and changes of them.
 
-ghost use Rattle.std.specs.Prelude.{◌≡◌, [], ◌∷◌, ◌++◌, IfOk, OnOk, OnErr};
+ghost use Rattle.std.specs.Prelude.{◌≡◌, [], ◌∷◌, ◌++◌, IfOk, OnOk};
 
 use ax_delta::Change;
 use ax_leaf::{Bytes, Pair};

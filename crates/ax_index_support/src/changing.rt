@@ -1,12 +1,16 @@
 //! A store on a disk, whose index is changed and asked.
 
-ghost use Rattle.std.specs.Prelude.{◌≡◌, ◌+◌, IfOk, OnErr};
+ghost use Rattle.std.specs.Prelude.{◌≡◌, ◌≤◌, ◌+◌, ℕ, length, IfOk, OnErr, OnOk, Some};
 ghost use Rattle.ax_index.specs.Bare.{with_deltas};
 ghost use Rattle.ax_index.specs.Wanted.{AreNumbersIn};
 ghost use Rattle.ax_index_support.specs.Ready.{IsReady};
+ghost use Rattle.ax_pages.specs.AfterPart.{after_parts};
 ghost use Rattle.ax_pairs.specs.Index.{IsIndex};
 ghost use Rattle.ax_pairs.specs.PairSets.{PairSet, with_changes};
-ghost use Rattle.ax_store.specs.Store.{store_contents};
+ghost use Rattle.ax_store.specs.Batch.{batch_parts};
+ghost use Rattle.ax_store.specs.Kept.{deltas_of};
+ghost use Rattle.ax_store.specs.Putting.{AreWithin};
+ghost use Rattle.ax_store.specs.Store.{store_contents, store_room, store_spare};
 
 use ax_cache::NoPages;
 use ax_delta::are_in_order;
@@ -40,20 +44,9 @@ pub fn change<D: Disk>(
         return Err(StoreFault::Memory);
     }
     let mut batch = Batch::begin(alloc);
-    let merged = match plan_changes(alloc, store, disk, changes, &mut batch) {
-        Ok(merged) => merged,
-        Err(fault) => return Err(fault),
-    };
-    if batch.parts() == 0 {
-        return Ok(merged);
-    }
-    let Ok(batch) = batch.seal(alloc) else {
-        return Err(StoreFault::Memory);
-    };
-    match store.commit(disk, batch) {
-        Ok(()) => Ok(merged),
-        Err(fault) => Err(fault),
-    }
+    let merged = plan_changes(alloc, store, disk, changes, &mut batch)?;
+    commit_batch(alloc, disk, store, batch)?;
+    Ok(merged)
 }
 
 /// Merges so many pages at most and commits that, and answers how many were merged.
@@ -71,20 +64,33 @@ pub fn merge<D: Disk>(
     ensures ready { IsReady store.new (D.is_honest disk.new) (D.history disk.new (D.attached disk.new)) }
 {
     let mut batch = Batch::begin(alloc);
-    let merged = match merge_some(alloc, store, disk, most, &mut batch) {
-        Ok(merged) => merged,
-        Err(fault) => return Err(fault),
-    };
+    let merged = merge_some(alloc, store, disk, most, &mut batch)?;
+    commit_batch(alloc, disk, store, batch)?;
+    Ok(merged)
+}
+
+/// Commits a batch, if it has a part.
+fn commit_batch<D: Disk>(
+    alloc: Global,
+    disk: &mut D,
+    store: &mut Store<NoPages>,
+    batch: Batch,
+) -> Result<(), StoreFault>
+    requires ready { IsReady store.old (D.is_honest disk.old) (D.history disk.old (D.attached disk.old)) }
+    requires room { length (batch_parts batch) ≤ store_spare store.old }
+    requires deltas { (number : ℕ) → deltas_of number (batch_parts batch) ≤ store_room number store.old }
+    requires within { AreWithin (batch_parts batch) (store_contents store.old) }
+    ensures committed { OnOk result (after_parts (batch_parts batch) (store_contents store.old) ≡ Some (store_contents store.new)) }
+    ensures kept { OnErr result (store_contents store.new ≡ store_contents store.old) }
+    ensures ready { IsReady store.new (D.is_honest disk.new) (D.history disk.new (D.attached disk.new)) }
+{
     if batch.parts() == 0 {
-        return Ok(merged);
+        return Ok(());
     }
     let Ok(batch) = batch.seal(alloc) else {
         return Err(StoreFault::Memory);
     };
-    match store.commit(disk, batch) {
-        Ok(()) => Ok(merged),
-        Err(fault) => Err(fault),
-    }
+    store.commit(disk, batch)
 }
 
 /// Whether a pair is in the index.

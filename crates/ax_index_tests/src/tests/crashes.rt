@@ -1,8 +1,5 @@
 //! A change that the disk stops: what is found later is what was there before it or after it, whole.
 
-ghost use Rattle.std.specs.Prelude.{IfOk};
-ghost use Rattle.ax_index_support.specs.Ready.{IsReady};
-
 use crate::tests::asking::{fresh_disk, numbers};
 use ax_cache::NoPages;
 use ax_disk::{Extent, FuseDisk, MemDisk};
