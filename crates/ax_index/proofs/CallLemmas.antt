@@ -22,7 +22,7 @@ use Rattle.ax_store.specs.declared.fault.StoreFault.TheVariants.{Memory}
 use Rattle.ax_store.specs.Faults.{IsDiskFault, FailsByDisk, HasDiskCause}
 use Rattle.ax_store.specs.declared.store.Store.{Store}
 use Rattle.ax_store.specs.Kept.{deltas_of}
-use Rattle.ax_store.specs.Store.{SameButRoom, SameButSlots, store_slots}
+use Rattle.ax_store.specs.Store.{SameButSlots, store_slots}
 use Rattle.ax_index.specs.DeltaRuns.{AreCarried}
 use Rattle.ax_index.specs.Planning.{IsFirstOf, IsPartedAt, IsPlannedTo, IsUpTo, IsPagePlanned}
 use Rattle.ax_index.specs.Plans.{HasNoDeltas, SameButRoomAndBytes}
@@ -162,24 +162,6 @@ first_planned all changes run behind before merged next later extra room more ol
     (planned mine.now mine.parts up mine.next_is (run_all_belong before page changes run behind whole some first rise parted)) never_less)
 
 -- ---- stores
-
-pub same_from_slots : {C : Type 0} (old new : Store C) → SameButSlots old new → (store_slots new).taken ≡ (store_slots old).taken → SameButRoomAndBytes old new
-same_from_slots old new same taken = record {
-  logged = same.logged;
-  contents = ap (λ pages. pages.contents) same.pages;
-  offsets = ap (λ pages. pages.offsets) same.pages;
-  failed = same.failed;
-  taken = taken;
-}
-
-pub same_from_room : {C : Type 0} (old new : Store C) → SameButRoom old new → SameButRoomAndBytes old new
-same_from_room old new same = record {
-  logged = same.logged;
-  contents = same.contents;
-  offsets = same.offsets;
-  failed = same.failed;
-  taken = ap (λ slots. slots.taken) same.slots;
-}
 
 pub same_then : {C : Type 0} (old mid new : Store C) → SameButRoomAndBytes old mid → SameButRoomAndBytes mid new → SameButRoomAndBytes old new
 same_then old mid new one other = record {

@@ -40,9 +40,6 @@ count_parts page = count_behind page.base page.deltas
 pub delta_part : (page : TermPage) (i : ℕ) → first_delta page ≤ i → get_or (term_parts page) i [] ≡ get_or page.deltas (i - first_delta page) []
 delta_part page i h = part_behind page.base page.deltas i h
 
-pub no_base_at : (page : TermPage) (i : ℕ) → first_delta page ≤ i → is_base_at page i ≡ false
-no_base_at page i h = none_behind page.base i h
-
 -- ---- the base
 
 base_front : (base : Option (List ℕ)) (deltas : List (List ℕ)) (pairs : List Pair) → is_some base ≡ true → AreOfBase base pairs → IsBase (get_or (option_to_list base ++ deltas) 0 []) pairs
@@ -53,10 +50,6 @@ front_there : (base : Option (List ℕ)) (deltas : List (List ℕ)) → is_some 
 front_there None deltas there = absurd (cc)
 front_there (Some b) deltas there = omega arith
 
-nothing_there : (base : Option (List ℕ)) (pairs : List Pair) → is_some base ≡ false → AreOfBase base pairs → pairs ≡ []
-nothing_there None pairs none is = is
-nothing_there (Some b) pairs none is = absurd (cc)
-
 pub base_part : (page : TermPage) (pairs : List Pair) → is_some page.base ≡ true → AreOfBase page.base pairs → IsBase (get_or (term_parts page) 0 []) pairs
 base_part page pairs there is = base_front page.base page.deltas pairs there is
 
@@ -65,9 +58,6 @@ base_there page there = front_there page.base page.deltas there
 
 pub base_at : (page : TermPage) → is_some page.base ≡ true → is_base_at page 0 ≡ true
 base_at page there = there
-
-pub no_base : (page : TermPage) (pairs : List Pair) → is_some page.base ≡ false → AreOfBase page.base pairs → pairs ≡ []
-no_base page pairs none is = nothing_there page.base pairs none is
 
 -- ---- deltas
 

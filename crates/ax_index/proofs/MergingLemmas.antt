@@ -250,20 +250,6 @@ merged_none page before next old of next_is = record {
       (not_after_then (low_pair page before) first_pair (low_pair n before) of.below (first_not_after (low_pair n before))));
 }
 
-pub merged_enough : (at : Option ℕ) (before : List TermPage) (asked merged next : ℕ) (old new : List PartValue) → IsMergedTo at before merged next old new → merged ≤ asked → asked ≤ merged
-    → IsMergePlan asked merged old new before
-merged_enough at before asked merged next old new is most least = record {
-  parts = is.parts;
-  added = is.added;
-  after = is.now;
-  lead = is.lead;
-  holds = is.holds;
-  no_deltas = is.no_deltas;
-  fewer = is.fewer;
-  at_most = most;
-  finished = λ less. absurd (omega arith);
-}
-
 pub merged_all : (before : List TermPage) (asked merged next : ℕ) (old new : List PartValue) → IsMergedTo None before merged next old new → merged ≤ asked → IsMergePlan asked merged old new before
 merged_all before asked merged next old new is most = record {
   parts = is.parts;
@@ -293,10 +279,6 @@ all_of_page pages set page pairs index there same p h =
 pub behind_by : (page : ℕ) (at : Option ℕ) (pages : List TermPage) → IfSome at (λ next. IsNextPage page next pages) → IfNone at (IsLastPage page pages) → IsBehind page at pages
 behind_by page None pages found none = none
 behind_by page (Some next) pages found none = found
-
-pub page_there : (page : ℕ) (at : Option ℕ) (before : List TermPage) (merged next : ℕ) (old here : List PartValue) → at ≡ Some page → IsMergedTo at before merged next old here → page < length before
-page_there page at before merged next old here is merging =
-    (subst (λ (o : Option ℕ). IsMergedTo o before merged next old here) is merging).ready.0
 
 pub merge_step : (page : ℕ) (here at : Option ℕ) (before loop after : List TermPage) (merged next later extra : ℕ) (done : Bool) (old mid new : List PartValue) → here ≡ Some page → loop ≡ before → after ≡ before
     → extra ≡ as_number done

@@ -77,10 +77,6 @@ behind_some low (q ∷ first) rest rise begins some p h =
     not_before : (low q : Pair) → (pair_cmp q low ≡ Less → ⊥) → NotAfter low q
     not_before low q begins = ⊎_elim (λ (up : NotAfter low q). up) (λ (less : pair_cmp q low ≡ Less). absurd (begins less)) (order_cases low q)
 
-pub begins_some : (low : Pair) (first rest : List Pair) → BeginsFrom low (first ++ rest) → BeginsFrom low first
-begins_some low [] rest begins = tt
-begins_some low (q ∷ first) rest begins = begins
-
 pub begins_itself : (q : Pair) (pairs : List Pair) → BeginsFrom q (q ∷ pairs)
 begins_itself q pairs less = less_apart q q less refl
 
@@ -121,9 +117,6 @@ next_put page list q piece rest now next old here new rise belong few is put =
 pub list_parted : (all first behind : List Pair) → all ≡ first ++ behind → Rise all → Rise first × Rise behind
 list_parted all first behind whole rise =
     let both : Rise (first ++ behind) = subst Rise whole rise in (rises_front first behind both, rises_back first behind both)
-
-pub begins_parted : (low : Pair) (all first behind : List Pair) → all ≡ first ++ behind → BeginsFrom low all → BeginsFrom low first
-begins_parted low all first behind whole begins = begins_some low first behind (subst (BeginsFrom low) whole begins)
 
 pub piece_begins : (q : Pair) (rest tail piece behind : List Pair) → rest ≡ q ∷ tail → rest ≡ piece ++ behind → 0 < length piece → (more : List Pair) × (piece ≡ q ∷ more)
 piece_begins q rest tail [] behind begins parts some = absurd (omega arith)

@@ -114,12 +114,6 @@ told_last pages page p low before there same is not_so last =
 
 -- ---- a run
 
-pub nothing_before : (bound : Pair) → AreBefore (changed_pairs []) bound
-nothing_before bound p h = absurd (cc)
-
-pub starts_none : (bound : Pair) → StartsFrom [] bound
-starts_none bound = tt
-
 -- a run of the first change's page is not empty
 pub some_in_run : (pages : List TermPage) (page : ℕ) (changes : List Change) (n : ℕ) → 0 < length changes → IsFirstOf changes page pages
     → IsPartedAt page (take n changes) (drop n changes) pages → 0 < n
