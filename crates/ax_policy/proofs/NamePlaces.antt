@@ -1,5 +1,5 @@
 -- Members whose names rise, of which one is taken out or put in at its place.
-use Rattle.std.proofs.Common.{◌≡◌, ℕ, ◌+◌, ◌<◌, ◌≤◌, zero, suc, List, [], ◌∷◌, ◌++◌, length, take, drop, get_or, Bool, true, false, cond, Option, Some, None, Less, Equal, Greater, refl, sym, ap, subst, ◌∙◌, arith, ◌⊎◌, inl, inr}
+use Rattle.std.proofs.Common.{◌≡◌, ℕ, ◌+◌, ◌<◌, ◌≤◌, zero, suc, List, [], ◌∷◌, ◌++◌, length, take, drop, get_or, true, false, cond, Some, None, Less, Equal, Greater, refl, sym, ap, subst, ◌∙◌, arith, ◌⊎◌, inl, inr}
 use Rattle.std.specs.Cmp.Lexicographic.{slice_cmp}
 use Rattle.std.specs.List.{AllByRecursion}
 use Rattle.std.specs.Ordering.{nat_cmp, is_lt, ordering_reverse}
@@ -13,6 +13,7 @@ use Rattle.ax_tree.specs.declared.members.Member.{Member}
 use Rattle.ax_policy.specs.declared.rule_tree.RuleTree.{RuleTree}
 use Rattle.ax_policy.specs.RuleTrees.{says, SaySame, IsFound, IsRoom, AreBefore, IsOpened, put_at}
 use Rattle.ax_policy.specs.Rules.{under}
+use Rattle.ax_policy.proofs.RuleLaws.{swapped, twice}
 use Rattle.ax_policy.proofs.Searching.{both, both_true, same_bytes, bytes_eq_same, apart, rises, under_at, under_none}
 
 -- ---- a list parted at one of its places
@@ -54,12 +55,6 @@ lack_front members name zero h n = tt
 lack_front [] name (suc at) h n = tt
 lack_front (m ∷ members) name (suc at) h n =
     (n 0 m (omega arith), lack_front members name at (omega arith) (λ k d l. n (suc k) d (omega arith)))
-
-swapped : {T : Type 0} (a b : Bool) (x y other : Option T) → (a ≡ true → b ≡ true → ⊥)
-    → cond a x (cond b y other) ≡ cond b y (cond a x other)
-swapped true true x y other apart = absurd (apart refl refl)
-swapped true false x y other apart = refl
-swapped false b x y other apart = refl
 
 two_names : (key a b : List ℕ) → bytes_eq b a ≡ false → bytes_eq key a ≡ true
     → bytes_eq key b ≡ true → ⊥
@@ -139,10 +134,10 @@ none_there members name at room =
     by_place : (k : ℕ) (d : Member RuleTree) → k < length members
         → slice_cmp nat_cmp (get_or members k d).name name ≡ Equal → (k < at) ⊎ (at ≤ k) → ⊥
     by_place k d h same (inl below) =
-        let less : slice_cmp nat_cmp (get_or members k d).name name ≡ Less = room.1 k d below in
+        let less : slice_cmp nat_cmp (get_or members k d).name name ≡ Less = room.0.1 k d below in
         cc
     by_place k d h same (inr above) =
-        let more : slice_cmp nat_cmp (get_or members k d).name name ≡ Greater = room.2 k d above h in
+        let more : slice_cmp nat_cmp (get_or members k d).name name ≡ Greater = room.1 k d above h in
         cc
 
 -- ---- looking from a place on
@@ -169,7 +164,7 @@ pub room_here : (members : List (Member RuleTree)) (name : List ℕ) (at : ℕ) 
     × ((d : Member RuleTree) → slice_cmp nat_cmp (get_or members at d).name name ≡ Greater)
     → IsRoom name members at
 room_here members name at r before there =
-    (before.0, before.1, λ k d l h. by_place k d l h (cases_lt at k))
+    (before, λ k d l h. by_place k d l h (cases_lt at k))
   where
     by_place : (k : ℕ) (d : Member RuleTree) → at ≤ k → k < length members → (at < k) ⊎ (k ≤ at)
         → slice_cmp nat_cmp (get_or members k d).name name ≡ Greater
@@ -204,10 +199,6 @@ bound_again : {X : Type 0} (xs ys : List X) (at : ℕ) → at ≤ length xs
 bound_again xs ys zero h = omega arith
 bound_again [] ys (suc at) h = absurd (omega arith)
 bound_again (x ∷ xs) ys (suc at) h = omega (arith, bound_again xs ys at (omega arith))
-
-twice : {T : Type 0} (b : Bool) (x y other : Option T) → cond b x other ≡ cond b x (cond b y other)
-twice true x y other = refl
-twice false x y other = refl
 
 lack_found : (whole : List (Member RuleTree)) (name : List ℕ) (at : ℕ) → HaveRisingNames whole
     → IsFound name whole at → Lack name (take at whole)
@@ -251,11 +242,11 @@ pub opened_new : (whole : List (Member RuleTree)) (name own_name : List ℕ) (at
     → IsOpened whole name whole at own_name rules
 opened_new whole name own_name at rules r room own none = record {
   named = own;
-  bound = room.0;
-  rise = λ put. put_rises whole (named name put) at r (λ k d l h. room.1 k d l) room.2;
+  bound = room.0.0;
+  rise = λ put. put_rises whole (named name put) at r (λ k d l h. room.0.1 k d l) room.1;
   put_there = λ put key.
       under_put (take at whole) (drop at whole) (named name put) key
-      (lack_front whole name at room.0 (λ k d l. apart (get_or whole k d).name name (room.1 k d l)))
+      (lack_front whole name at room.0.0 (λ k d l. apart (get_or whole k d).name name (room.0.1 k d l)))
       ∙ ap (λ l. cond (bytes_eq key name) (Some put) (under key l)) (take-append-drop at whole);
   said = λ steps all. none steps all ∙ ap (λ o. says o steps all) (none_there whole name at room);
 }

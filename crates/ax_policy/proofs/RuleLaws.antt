@@ -20,11 +20,11 @@ use Rattle.ax_policy.proofs.Searching.{both, both_true, same_bytes, same_from_Eq
 abbrev pub unless_it : List ℕ → List ℕ → Bool → Option Bool → Option Bool
 unless_it text own value other = cond (bytes_eq text own) (Some value) other
 
-twice : (b : Bool) (x y other : Option Bool) → cond b x other ≡ cond b x (cond b y other)
+pub twice : {T : Type 0} (b : Bool) (x y other : Option T) → cond b x other ≡ cond b x (cond b y other)
 twice true x y other = refl
 twice false x y other = refl
 
-swapped : (a b : Bool) (x y other : Option Bool) → (a ≡ true → b ≡ true → ⊥)
+pub swapped : {T : Type 0} (a b : Bool) (x y other : Option T) → (a ≡ true → b ≡ true → ⊥)
     → cond a x (cond b y other) ≡ cond b y (cond a x other)
 swapped true true x y other apart = absurd (apart refl refl)
 swapped true false x y other apart = refl

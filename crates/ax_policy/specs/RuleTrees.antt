@@ -1,5 +1,5 @@
--- The rules of an indexing policy as a tree of their steps: what it says of the path of a rule. No
--- public clause cites these words.
+-- The rules of an indexing policy as a tree of their steps: what it says of the path of a rule. Public
+-- clauses reach `says` alone, by where a walk stands.
 use Rattle.std.specs.Prelude.{◌≡◌, ℕ, ◌<◌, ◌≤◌, List, [], ◌∷◌, ◌++◌, length, take, drop, get_or, Bool, true, false, ◌&&◌, if◌then◌else◌, Option, Some, None}
 use Rattle.std.specs.Cmp.Lexicographic.{slice_cmp}
 use Rattle.std.specs.Ordering.{nat_cmp}
@@ -93,19 +93,18 @@ abbrev pub IsFound : List ℕ → List (Member RuleTree) → ℕ → Type 0
 IsFound name members at =
     (at < length members) × ((d : Member RuleTree) → (get_or members at d).name ≡ name)
 
--- the names before that place come before the name, and those from it on behind it
-abbrev pub IsRoom : List ℕ → List (Member RuleTree) → ℕ → Type 0
-IsRoom name members at =
-    (at ≤ length members)
-    × ((k : ℕ) (d : Member RuleTree) → k < at → slice_cmp nat_cmp (get_or members k d).name name ≡ Less)
-    × ((k : ℕ) (d : Member RuleTree) → at ≤ k → k < length members
-    → slice_cmp nat_cmp (get_or members k d).name name ≡ Greater)
-
 -- so many members come before the name
 abbrev pub AreBefore : List ℕ → List (Member RuleTree) → ℕ → Type 0
 AreBefore name members at =
     (at ≤ length members)
     × ((k : ℕ) (d : Member RuleTree) → k < at → slice_cmp nat_cmp (get_or members k d).name name ≡ Less)
+
+-- the names before that place come before the name, and those from it on behind it
+abbrev pub IsRoom : List ℕ → List (Member RuleTree) → ℕ → Type 0
+IsRoom name members at =
+    AreBefore name members at
+    × ((k : ℕ) (d : Member RuleTree) → at ≤ k → k < length members
+    → slice_cmp nat_cmp (get_or members k d).name name ≡ Greater)
 
 -- the members with one of that name and value at that place
 abbrev pub put_at : ℕ → List ℕ → RuleTree → List (Member RuleTree) → List (Member RuleTree)

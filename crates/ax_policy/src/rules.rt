@@ -65,6 +65,7 @@ impl Rules {
     }
 }
 
+/// The rules as a tree.
 fn tree_of(alloc: Global, rules: &[Member<bool>]) -> Result<RuleTree, Memory>
     requires { are_written rules.now ≡ true }
     ensures { IfOk result (λ tree. IsTreeOf (Some tree) rules.now) }

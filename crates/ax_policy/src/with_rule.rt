@@ -89,6 +89,7 @@ fn with_item(
     }
 }
 
+/// The rules behind an item, which may be none.
 fn inner(alloc: Global, item: Option<Boxed<RuleTree>>) -> RuleTree
     ensures { spec.SaySame (Some result) item }
 {
@@ -98,6 +99,7 @@ fn inner(alloc: Global, item: Option<Boxed<RuleTree>>) -> RuleTree
     }
 }
 
+/// A tree of these parts.
 fn boxed(
     alloc: Global,
     leaf: Option<bool>,
@@ -154,6 +156,7 @@ fn with_name(
     }
 }
 
+/// The names that rules go on with, where one more goes on with this name and then these steps.
 #[cycle(with_rule)]
 fn names_with(
     alloc: Global,
@@ -201,6 +204,7 @@ fn opened(alloc: Global, names: Members<RuleTree>, name: &Text) -> Result<Openin
     }
 }
 
+/// The same where no member has the name, which would stand at that place.
 fn opened_new(
     alloc: Global,
     names: Vec<Member<RuleTree>>,

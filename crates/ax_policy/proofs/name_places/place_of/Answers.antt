@@ -22,4 +22,4 @@ returns-in-Err-clause-absent c rising =
     let sides = c.in-Err.ensures.position
     (λ (y : Member RuleTree). slice_cmp nat_cmp y.name c.args.name.now)
     (always_returns_same _ _ _ (λ a r f k. search rules)) (no_fall c.args.names.now c.args.name.now rising) in
-    (c.in-Err.ensures.bound, λ k d l. sides.0 k d (omega (arith, l, c.in-Err.ensures.bound)) l, sides.1)
+    ((c.in-Err.ensures.bound, λ k d l. sides.0 k d (omega (arith, l, c.in-Err.ensures.bound)) l), sides.1)
