@@ -1,6 +1,6 @@
 -- The terms by which an index finds a document under an indexing policy, its id apart: one for each
 -- leaf that the policy covers, and one for each composite that it offers.
-use Rattle.std.specs.Prelude.{◌≡◌, ℕ, List, map, ◌⊎◌}
+use Rattle.std.specs.Prelude.{◌≡◌, ◌↔◌, ℕ, List, map, ◌⊎◌}
 use Rattle.std.specs.List.{Contains}
 use Rattle.ax_tree.specs.declared.tree.Tree.{Tree}
 use Rattle.ax_mean.specs.declared.query.Order.{Order}
@@ -39,3 +39,7 @@ HasComposite policy given bytes =
 
 abbrev pub HasTerm : Policy → Tree → List ℕ → Type 0
 HasTerm policy given bytes = HasPlain policy given bytes ⊎ HasComposite policy given bytes
+
+-- these are the terms of the document, in any order; no public clause cites it
+pub record AreTermsOf (policy : Policy) (given : Tree) (terms : List (List ℕ)) : Type 0 where
+  pub exact : (bytes : List ℕ) → Contains terms bytes ↔ HasTerm policy given bytes

@@ -2,7 +2,9 @@
 ghost use Rattle.std.specs.Prelude.{◌≡◌, ◌↔◌, ℕ, List, true, IfOk};
 ghost use Rattle.std.specs.List.{Contains};
 ghost use Rattle.ax_tree.specs.Rising.{is_rising};
-ghost use Rattle.ax_terms.specs.TermsOf.{HasPlain, HasTerm};
+ghost use Rattle.ax_terms.specs.TermsOf.{AreTermsOf, HasPlain, HasTerm};
+ghost use Rattle.ax_tree.specs.declared.tree.Tree.{Tree};
+ghost use Rattle.ax_policy.specs.declared.policy.Policy.{Policy};
 
 use crate::composites::append_composites;
 use crate::in_order::put_in_order;
@@ -22,9 +24,35 @@ pub fn terms_of(alloc: Global, policy: &Policy, tree: &Tree) -> Result<Vec<Bytes
     ensures exact { IfOk result (λ terms. (bytes : List ℕ)
         → Contains terms.items bytes ↔ HasTerm policy.now tree.now bytes) }
 {
+    in_order_once(alloc, policy, tree)
+}
+
+/// The same, as a fact with a name.
+fn in_order_once(alloc: Global, policy: &Policy, tree: &Tree) -> Result<Vec<Bytes>, Memory>
+    ensures rising { IfOk result (λ terms. is_rising terms.items ≡ true) }
+    ensures exact { IfOk result (λ terms. AreTermsOf policy.now tree.now terms.items) }
+{
+    let mut terms = all_terms(alloc, policy, tree)?;
+    put_once(&mut terms);
+    Ok(terms)
+}
+
+/// Puts the terms in the order of their bytes, each once, so that they are those of the documents that
+/// they were of.
+fn put_once(terms: &mut Vec<Bytes>)
+    ensures rising { is_rising terms.new.items ≡ true }
+    ensures exact { (policy : Policy) (given : Tree)
+        → AreTermsOf policy given terms.old.items → AreTermsOf policy given terms.new.items }
+{
+    put_in_order(terms);
+}
+
+/// The same in any order, some of them perhaps twice.
+fn all_terms(alloc: Global, policy: &Policy, tree: &Tree) -> Result<Vec<Bytes>, Memory>
+    ensures { IfOk result (λ terms. AreTermsOf policy.now tree.now terms.items) }
+{
     let mut terms = plain_terms(alloc, policy, tree)?;
     append_composites(alloc, policy, tree, &mut terms)?;
-    put_in_order(&mut terms);
     Ok(terms)
 }
 
