@@ -1,0 +1,26 @@
+-- Which of a store's three files count as written or cut since they were last synced.
+use Rattle.std.specs.Prelude.{Bool, true, false}
+use Rattle.ax_disk.specs.declared.extent.Extent.{Extent}
+use Rattle.ax_disk.specs.declared.extent.Extent.TheVariants.{Root, A, B}
+
+pub record Marks : Type 0 where
+  pub root : Bool
+  pub a : Bool
+  pub b : Bool
+
+abbrev pub marks : Bool → Bool → Bool → Marks
+marks root a b = record { root = root; a = a; b = b }
+
+-- all count as unsynced
+abbrev pub all_marked : Marks
+all_marked = marks true true true
+
+-- none counts as unsynced
+abbrev pub none_marked : Marks
+none_marked = marks false false false
+
+-- the file of that extent counts as unsynced too
+abbrev pub marked : Extent → Marks → Marks
+marked Root marks = record marks { root = true }
+marked A marks = record marks { a = true }
+marked B marks = record marks { b = true }

@@ -1,0 +1,145 @@
+//! Opening the files of a store: each is locked, a lost root is refused, and only then are absent files
+//! made.
+
+use crate::file_fault::{FileCall, FileFault, RootState, ending};
+use crate::judging::{judge, state_of};
+use crate::store_file::fill_from;
+use crate::store_files::{StoreFiles, named};
+use crate::system_file::SystemFile;
+use ax_disk::Extent;
+use ax_frame::{RootSlot, read_slot};
+use std::fs::{File, OpenOptions, TryLockError};
+use std::io::{self, ErrorKind};
+use std::path::Path;
+
+/// A root of fewer bytes is not whole.
+const WHOLE_ROOT: u64 = 33;
+
+/// Opens the files of the store of that name and locks each, so that no other program opens them while
+/// they are open; makes those that are absent, and syncs their folder, so that a crash keeps them. A
+/// store whose root has been lost is refused before anything is made. No byte of a file is changed.
+pub(crate) fn open_files(rt: &HostRuntime, name: &str) -> Result<StoreFiles<File>, FileFault> {
+    let root = find_file(rt, name, Extent::Root)?;
+    let a = find_file(rt, name, Extent::A)?;
+    let b = find_file(rt, name, Extent::B)?;
+    refuse_lost_root(root.as_ref(), a.as_ref(), b.as_ref())?;
+    let root = found_or_made(rt, name, Extent::Root, root)?;
+    let a = found_or_made(rt, name, Extent::A, a)?;
+    let b = found_or_made(rt, name, Extent::B, b)?;
+    // Another program may have made and filled files while none was locked here.
+    refuse_lost_root(Some(&root), Some(&a), Some(&b))?;
+    if let Err(error) = sync_folder(rt, name) {
+        return Err(FileFault::Folder { error });
+    }
+    Ok(StoreFiles::new(root, a, b))
+}
+
+/// The file where there is one, locked.
+fn find_file(rt: &HostRuntime, name: &str, extent: Extent) -> Result<Option<File>, FileFault> {
+    match open_file(rt, name, extent, false) {
+        Err(error) if error.kind() == ErrorKind::NotFound => Ok(None),
+        outcome => {
+            let file = named(extent, FileCall::Open, outcome)?;
+            lock(&file, extent)?;
+            Ok(Some(file))
+        }
+    }
+}
+
+/// The file that was found, or one that is made, locked.
+fn found_or_made(
+    rt: &HostRuntime,
+    name: &str,
+    extent: Extent,
+    found: Option<File>,
+) -> Result<File, FileFault> {
+    if let Some(file) = found {
+        return Ok(file);
+    }
+    let file = named(extent, FileCall::Open, open_file(rt, name, extent, true))?;
+    lock(&file, extent)?;
+    Ok(file)
+}
+
+/// Opens a file of a store to read and write it; where there is none it is made, or the call fails.
+fn open_file(rt: &HostRuntime, name: &str, extent: Extent, makes: bool) -> io::Result<File> {
+    let path = file_path(rt, name, extent)?;
+    OpenOptions::new()
+        .read(true)
+        .write(true)
+        .create(makes)
+        .open(rt, path.as_str())
+}
+
+fn file_path(rt: &HostRuntime, name: &str, extent: Extent) -> io::Result<String> {
+    let ending = ending(extent);
+    Ok(format!(in rt.alloc(); "{name}.{ending}")?)
+}
+
+/// Locks a file for this program alone, without waiting.
+fn lock(file: &File, extent: Extent) -> Result<(), FileFault> {
+    match file.try_lock() {
+        Ok(()) => Ok(()),
+        Err(TryLockError::WouldBlock) => Err(FileFault::Locked { extent }),
+        Err(TryLockError::Error(error)) => Err(FileFault::Call {
+            extent,
+            call: FileCall::Lock,
+            error,
+        }),
+    }
+}
+
+/// Syncs the folder of the files, which is that of the root.
+fn sync_folder(rt: &HostRuntime, name: &str) -> io::Result<()> {
+    let root = file_path(rt, name, Extent::Root)?;
+    let folder = match Path::new(root.as_str()).parent() {
+        Some(folder) if !folder.as_str().is_empty() => folder,
+        _ => Path::new("."),
+    };
+    File::open(rt, folder)?.sync_all()
+}
+
+/// Refuses a store whose root stands for a fresh one while an area holds more than forming writes.
+pub(crate) fn refuse_lost_root<F: SystemFile>(
+    root: Option<&F>,
+    a: Option<&F>,
+    b: Option<&F>,
+) -> Result<(), FileFault> {
+    let state = root_state(root)?;
+    let a_len = len_or_none(a, Extent::A)?;
+    let b_len = len_or_none(b, Extent::B)?;
+    match judge(state, a_len, b_len) {
+        Ok(()) => Ok(()),
+        Err(area) => Err(FileFault::Rootless { root: state, area }),
+    }
+}
+
+/// What is at the place of the root.
+fn root_state<F: SystemFile>(root: Option<&F>) -> Result<RootState, FileFault> {
+    let Some(root) = root else {
+        return Ok(RootState::Absent);
+    };
+    let len = named(Extent::Root, FileCall::Length, root.size())?;
+    if len < WHOLE_ROOT {
+        return Ok(RootState::Short);
+    }
+    Ok(state_of(slot_at(root, 0)?, slot_at(root, 16)?))
+}
+
+fn slot_at<F: SystemFile>(root: &F, at: u64) -> Result<RootSlot, FileFault> {
+    let mut bytes = [0; 16];
+    named(
+        Extent::Root,
+        FileCall::Read,
+        fill_from(root, at, &mut bytes),
+    )?;
+    Ok(read_slot(&bytes))
+}
+
+/// The length of an area, 0 where there is none.
+fn len_or_none<F: SystemFile>(area: Option<&F>, extent: Extent) -> Result<u64, FileFault> {
+    match area {
+        Some(area) => named(extent, FileCall::Length, area.size()),
+        None => Ok(0),
+    }
+}

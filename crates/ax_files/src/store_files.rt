@@ -1,0 +1,131 @@
+//! The three files of a store: where it writes, cuts and syncs.
+ghost use Rattle.std.specs.Prelude.{◌≡◌, ◌≤◌, ◌<◌, ◌+◌, ◌^◌, ◌↔◌, false, length, IsTrue, IsOk, IsErr, OnOk, IfOk};
+ghost use Rattle.ax_files.specs.Marks.{marks, marked, none_marked, all_marked};
+
+use crate::file_fault::{FileCall, FileFault};
+use crate::store_file::StoreFile;
+use crate::system_file::SystemFile;
+use ax_disk::Extent;
+use std::io;
+
+/// The most bytes that a file may have.
+const MOST_BYTES: u64 = 1 << 62;
+
+/// The files of a store.
+#[derive(Drop)]
+pub(crate) struct StoreFiles<F: SystemFile> {
+    pub root: StoreFile<F>,
+    pub a: StoreFile<F>,
+    pub b: StoreFile<F>,
+}
+
+impl<F: SystemFile> StoreFiles<F> {
+    /// Files that are open. All count as unsynced.
+    pub fn new(root: F, a: F, b: F) -> StoreFiles<F>
+        ensures { marks result.root.is_unsynced result.a.is_unsynced result.b.is_unsynced
+            ≡ all_marked }
+    {
+        StoreFiles {
+            root: StoreFile::new(root),
+            a: StoreFile::new(a),
+            b: StoreFile::new(b),
+        }
+    }
+
+    /// The length of a file, which is refused where it is above 2^62.
+    pub fn len(&self, extent: Extent) -> Result<u64, FileFault>
+        ensures { IfOk result (λ len. len ≤ 2 ^ 62) }
+    {
+        let len = named(extent, FileCall::Length, self.file(extent).len())?;
+        if len > MOST_BYTES {
+            return Err(FileFault::Bound { extent });
+        }
+        Ok(len)
+    }
+
+    /// Fills `buf` with the bytes at `at`, and with 0 past the end of the file.
+    pub fn read(&self, extent: Extent, at: u64, buf: &mut [u8]) -> Result<(), FileFault> {
+        named(extent, FileCall::Read, self.file(extent).read(at, buf))
+    }
+
+    /// Writes all the bytes at `at`. An end above 2^62 is refused. Else the file counts as unsynced
+    /// from here on, whatever comes of it.
+    pub fn write(&mut self, extent: Extent, at: u64, bytes: &[u8]) -> Result<(), FileFault>
+        ensures limit { 2 ^ 62 < at + length bytes.now → IsErr result }
+        ensures unsynced { at + length bytes.now ≤ 2 ^ 62
+            → marks self.new.root.is_unsynced self.new.a.is_unsynced self.new.b.is_unsynced
+            ≡ marked extent (marks self.old.root.is_unsynced self.old.a.is_unsynced self.old.b.is_unsynced) }
+    {
+        if !is_within(at, bytes.len() as u64) {
+            return Err(FileFault::Bound { extent });
+        }
+        let outcome = match extent {
+            Extent::Root => self.root.write(at, bytes),
+            Extent::A => self.a.write(at, bytes),
+            Extent::B => self.b.write(at, bytes),
+        };
+        named(extent, FileCall::Write, outcome)
+    }
+
+    /// Shortens a file to `len` bytes, where it is longer. It counts as unsynced from here on, whatever
+    /// comes of it.
+    pub fn cut(&mut self, extent: Extent, len: u64) -> Result<(), FileFault>
+        ensures unsynced { marks self.new.root.is_unsynced self.new.a.is_unsynced self.new.b.is_unsynced
+            ≡ marked extent (marks self.old.root.is_unsynced self.old.a.is_unsynced self.old.b.is_unsynced) }
+    {
+        let outcome = match extent {
+            Extent::Root => self.root.cut(len),
+            Extent::A => self.a.cut(len),
+            Extent::B => self.b.cut(len),
+        };
+        named(extent, FileCall::Cut, outcome)
+    }
+
+    /// Syncs the files that count as unsynced. It is Ok exactly where none counts as unsynced then.
+    pub fn sync(&mut self) -> Result<(), FileFault>
+        ensures synced { IsOk result
+            ↔ (marks self.new.root.is_unsynced self.new.a.is_unsynced self.new.b.is_unsynced
+            ≡ none_marked) }
+    {
+        named(Extent::A, FileCall::Sync, self.a.sync())?;
+        named(Extent::B, FileCall::Sync, self.b.sync())?;
+        named(Extent::Root, FileCall::Sync, self.root.sync())
+    }
+
+    fn file(&self, extent: Extent) -> &StoreFile<F> {
+        match extent {
+            Extent::Root => &self.root,
+            Extent::A => &self.a,
+            Extent::B => &self.b,
+        }
+    }
+}
+
+/// The outcome of a call on a file; a failure says of which.
+pub(crate) fn named<T>(
+    extent: Extent,
+    call: FileCall,
+    outcome: io::Result<T>,
+) -> Result<T, FileFault>
+    ensures same { IsOk result ↔ IsOk outcome }
+    ensures value { IfOk result (λ value. outcome ≡ Ok value) }
+{
+    match outcome {
+        Ok(value) => Ok(value),
+        Err(error) => Err(FileFault::Call {
+            extent,
+            call,
+            error,
+        }),
+    }
+}
+
+/// Whether so many bytes at `at` end at most at 2^62.
+fn is_within(at: u64, len: u64) -> bool
+    ensures { IsTrue result ↔ (at + len ≤ 2 ^ 62) }
+{
+    match at.checked_add(len) {
+        Some(end) => end <= MOST_BYTES,
+        None => false,
+    }
+}
