@@ -6,6 +6,9 @@
 #![tactic(auto)]
 
 mod answer;
+mod group_rows;
+mod held;
+pub mod laws;
 mod out_of_memory;
 
 pub use answer::Answer;

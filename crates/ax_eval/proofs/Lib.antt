@@ -1,3 +1,4 @@
 pub mod Chains
 pub mod Puts
 pub mod Rising
+pub mod Searching

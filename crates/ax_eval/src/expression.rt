@@ -43,7 +43,7 @@ pub fn eval_in<'a>(alloc: Global, expr: &'a Expr, scope: &Scope<'a>) -> Result<S
     ensures { IfOk result (λ seen. seen ≡ meaning scope.now expr.now) }
 {
     match expr {
-        Expr::Literal(value) => Ok(Seen::of(value)),
+        Expr::Literal(value) => Ok(Seen::of(value.get())),
         Expr::Alias(name) => Ok(alias_in(name, scope)),
         Expr::Steps(base, steps) => stepped_in(alloc, base.get(), steps, scope),
         Expr::Choice(test, a, b) => {
@@ -76,7 +76,10 @@ pub fn eval_in<'a>(alloc: Global, expr: &'a Expr, scope: &Scope<'a>) -> Result<S
             high,
         } => {
             let left = eval_in(alloc, left.get(), scope)?;
-            let low = eval_in(alloc, low.get(), scope)?;
+            let Ok(low) = eval_in(alloc, low.get(), scope) else {
+                drop(left);
+                return Err(Memory);
+            };
             between_in(alloc, *negated, left, low, high.get(), scope)
         }
         Expr::Like {

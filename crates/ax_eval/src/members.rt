@@ -1,6 +1,7 @@
 //! The members of a map that is being made, in the order of their names.
 ghost use Rattle.std.specs.Prelude.{◌≡◌, ◌∷◌, ◌++◌, ◌+◌, ◌<◌, length, take, drop, IfOk, OnOk, MatchOption};
 ghost use Rattle.ax_mean.specs.Building.{with_value as value_put, with_member as member_put, without_member as member_removed};
+ghost use Rattle.ax_tree.specs.Names.{HaveRisingNames};
 ghost use Rattle.ax_eval.specs.Places.{IsPlace};
 
 use crate::out_of_memory::Memory;
@@ -41,6 +42,7 @@ fn with_member(members: Members<Tree>, name: Text, value: Tree) -> Result<Member
 }
 
 fn put(members: &mut Vec<Member<Tree>>, name: Text, value: Tree) -> Result<(), Memory>
+    requires { HaveRisingNames members.old.items }
     ensures { OnOk result (members.new.items ≡ member_put name value members.old.items) }
 {
     match place_for(members.as_slice(), name.as_str()) {
@@ -63,18 +65,15 @@ fn replace(members: &mut Vec<Member<Tree>>, at: usize, member: Member<Tree>)
     drop(mem::replace(&mut members[at], member));
 }
 
+/// Looked for by halves: a map that is written may have its members in any order.
 fn place_for(members: &[Member<Tree>], name: &str) -> Place
+    requires { HaveRisingNames members.now }
     ensures { IsPlace name.now members.now result }
 {
-    for (at, member) in members.iter().enumerate() {
-        if name == member.name.as_str() {
-            return Place::Taken(at);
-        }
-        if name.cmp(member.name.as_str()).is_lt() {
-            return Place::Free(at);
-        }
+    match members.binary_search_by(|member| member.name.as_str().cmp(name)) {
+        Ok(at) => Place::Taken(at),
+        Err(at) => Place::Free(at),
     }
-    Place::Free(members.len())
 }
 
 #[tactic(auto, using(crate::proofs::Rising::without_member_rises))]

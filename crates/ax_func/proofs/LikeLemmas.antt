@@ -15,7 +15,7 @@ absorb true b h = refl
 absorb false true h = sym (h refl)
 absorb false false h = refl
 
-or_right : (a : Bool) {b : Bool} → b ≡ true → (a || b) ≡ true
+pub or_right : (a : Bool) {b : Bool} → b ≡ true → (a || b) ≡ true
 or_right true e = refl
 or_right false e = e
 
@@ -24,7 +24,7 @@ or_false true b e = false_true (sym e)
 or_false false b e = e
 
 -- a text that passes has a rest that does
-some_rest-here : (test : Test) (cs : List ℕ) → test cs ≡ true → some_rest test cs ≡ true
+pub some_rest-here : (test : Test) (cs : List ℕ) → test cs ≡ true → some_rest test cs ≡ true
 some_rest-here test [] h = h
 some_rest-here test (c ∷ cs) h = ap (λ b. b || some_rest test cs) h
 
@@ -35,7 +35,7 @@ nested_step : (test : Test) (c : ℕ) (cs : List ℕ) (b : Bool) → b ≡ some_
 nested_step test c cs true e ih h = sym e
 nested_step test c cs false e ih h = or_right (test (c ∷ cs)) (ih h)
 
-some_rest-nested : (test : Test) (cs : List ℕ) → some_rest (some_rest test) cs ≡ true
+pub some_rest-nested : (test : Test) (cs : List ℕ) → some_rest (some_rest test) cs ≡ true
     → some_rest test cs ≡ true
 some_rest-nested test [] h = h
 some_rest-nested test (c ∷ cs) h =
@@ -61,7 +61,7 @@ some_rest-later first rest (c ∷ cs) h =
     or_right (rest (c ∷ cs))
     (later_step first rest c cs (first c && rest cs) refl (some_rest-later first rest cs) h)
 
-some_rest-next : (first : ℕ → Bool) (rest : Test) (c : ℕ) (cs : List ℕ)
+pub some_rest-next : (first : ℕ → Bool) (rest : Test) (c : ℕ) (cs : List ℕ)
     → some_rest (first_and_rest first rest) (c ∷ cs) ≡ true → some_rest rest cs ≡ true
 some_rest-next first rest c cs h =
     later_step first rest c cs (first c && rest cs) refl (some_rest-later first rest cs) h

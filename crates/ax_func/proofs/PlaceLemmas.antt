@@ -107,6 +107,17 @@ module _ (text part : List ℕ) (u : IsUtf8 text) (v : IsUtf8 part) where
         IsUtf8-take text i u
         (IsCharBoundary-from_drop text i (omega (arith, fits, finds.1.ends)) from)
 
+    -- the characters before the part, those of the part and those behind it
+    pub parts_of-some :
+        chars text ≡ chars (take i text) ++ (chars part ++ chars (drop j text))
+    parts_of-some =
+        let front = take i text in
+        let back = drop j text in
+        let whole : front ++ (part ++ back) ≡ text = ap (λ l. front ++ l) (sym finds.1.split)
+        ∙ take-append-drop i text in
+        ap chars (sym whole) ∙ chars-append front (part ++ back) before
+        ∙ ap (λ l. chars front ++ l) (chars-append part back v)
+
     pub place_of-some : place_of text part ≡ Some (length (chars (take i text)))
     place_of-some =
         let front = take i text in

@@ -19,7 +19,7 @@ use Rattle.ax_grammar.specs.Queries.IsSource.{each_element, whole}
 use Rattle.ax_grammar.specs.Queries.AreJoins.{joins_ended, more_joins}
 use Rattle.ax_grammar.specs.QueryReader.{read_optional, read_count, read_distinct, read_top, may_name, read_naming, read_item, read_pick, read_source, read_join, read_joins}
 use Rattle.ax_grammar.specs.Reading.{Reader, changed, at_once, take, take_name, marked}
-use Rattle.ax_grammar.specs.Tables.{greatest_count}
+use Rattle.ax_grammar.specs.Tables.{greatest_u32}
 use Rattle.ax_grammar.specs.Takes.{TakesKeyword, TakesName}
 use Rattle.ax_grammar.specs.Takes.Mark.{the_symbol, the_keyword}
 use Rattle.ax_grammar.specs.Takes.Takes.{symbol_first, keyword_first}
@@ -61,7 +61,7 @@ changed_read change r = record { so = ap (changed change) r.so }
 pub count_read : {params : List (Member Tree)} {count : ℕ} {before after : List Lexeme}
     → IsCount params count before after → Reads (read_count params) before count after
 count_read (written_count {count} number_first l) =
-    record { so = rw (le-leb count greatest_count l) refl }
+    record { so = rw (le-leb count greatest_u32 l) refl }
 count_read (given_count parameter_first e c) = record { so = rw (e, c) refl }
 
 pub distinct_read : {distinct : Bool} {before after : List Lexeme}

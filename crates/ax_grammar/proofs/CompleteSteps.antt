@@ -12,7 +12,7 @@ use Rattle.ax_grammar.specs.Steps.IsNameStep.{dotted, quoted}
 use Rattle.ax_grammar.specs.Steps.IsStep.{named, positioned}
 use Rattle.ax_grammar.specs.Steps.AreSteps.{ended as steps_ended, more as more_steps}
 use Rattle.ax_grammar.specs.StepReader.{turn_step, turn_name_step, read_steps, read_name_steps}
-use Rattle.ax_grammar.specs.Tables.{greatest_count}
+use Rattle.ax_grammar.specs.Tables.{greatest_u32}
 use Rattle.ax_grammar.specs.Takes.Takes.{symbol_first}
 use Rattle.ax_grammar.specs.Takes.TakesNumber.{number_first}
 use Rattle.ax_grammar.specs.Takes.TakesText.{text_first}
@@ -27,7 +27,7 @@ step_turn (named (dotted symbol_first name_as_word)) = refl
 step_turn (named (dotted symbol_first keyword_as_word)) = refl
 step_turn (named (quoted symbol_first text_first symbol_first)) = refl
 step_turn (positioned {at} symbol_first number_first l symbol_first) =
-    rw (le-leb at greatest_count l) refl
+    rw (le-leb at greatest_u32 l) refl
 
 no_step_turn : (after : List Lexeme) → begins_step after ≡ false → turn_step after ≡ ended
 no_step_turn (Lexeme.symbol symbol.Dot ∷ rest) e = absurd (cc)

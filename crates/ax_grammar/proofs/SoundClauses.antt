@@ -20,7 +20,7 @@ use Rattle.ax_grammar.specs.Queries.AreJoins.{joins_ended, more_joins}
 use Rattle.ax_grammar.specs.QueryReader.{read_count, read_distinct, read_top, may_name, read_naming, read_item, read_pick, read_elements, read_whole, read_source, read_join, read_joins}
 use Rattle.ax_grammar.specs.Reading.{and_then, at_once, marked, take_name}
 use Rattle.ax_grammar.specs.Steps.{AreSteps}
-use Rattle.ax_grammar.specs.Tables.{greatest_count, parameter_of, count_of}
+use Rattle.ax_grammar.specs.Tables.{greatest_u32, parameter_of, count_of}
 use Rattle.ax_grammar.specs.Takes.{TakesKeyword, TakesName}
 use Rattle.ax_grammar.specs.Takes.Mark.{the_symbol, the_keyword}
 use Rattle.ax_grammar.specs.Takes.TakesName.{name_first}
@@ -54,8 +54,8 @@ module _ (params : List (Member Tree)) where
       (read_count params)
   count_sound [] = gives_none
   count_sound (Lexeme.number n ∷ rest) =
-      gives_provided (nat_le n greatest_count) (λ e.
-      gives (written_count number_first (leb-true n greatest_count e)))
+      gives_provided (nat_le n greatest_u32) (λ e.
+      gives (written_count number_first (leb-true n greatest_u32 e)))
   count_sound (Lexeme.parameter word ∷ rest) =
       gives_mapped rest (λ n. n) (and_then (parameter_of params word) count_of) (λ count e.
       parameter_counts word rest count e)

@@ -14,7 +14,7 @@ use Rattle.ax_grammar.specs.Steps.{IsNameStep, IsStep, AreSteps}
 use Rattle.ax_grammar.specs.Steps.IsNameStep.{dotted, quoted}
 use Rattle.ax_grammar.specs.Steps.IsStep.{named, positioned}
 use Rattle.ax_grammar.specs.Steps.AreSteps.{ended, more}
-use Rattle.ax_grammar.specs.Tables.{greatest_count}
+use Rattle.ax_grammar.specs.Tables.{greatest_u32}
 use Rattle.ax_grammar.specs.Takes.{TakesSymbol, TakesName, TakesWord, TakesLabel}
 use Rattle.ax_grammar.specs.Takes.Mark.{the_symbol}
 use Rattle.ax_grammar.specs.Takes.Takes.{symbol_first}
@@ -86,9 +86,9 @@ in_brackets_gives (Lexeme.text name ∷ rest) =
     gives_closed_at (the_symbol symbol.CloseBracket) (Member name) rest (λ after t.
     named (quoted symbol_first text_first t))
 in_brackets_gives (Lexeme.number at ∷ rest) =
-    gives_provided (nat_le at greatest_count) (λ e.
+    gives_provided (nat_le at greatest_u32) (λ e.
     gives_closed_at (the_symbol symbol.CloseBracket) (Position at) rest (λ after t.
-    positioned symbol_first number_first (leb-true at greatest_count e) t))
+    positioned symbol_first number_first (leb-true at greatest_u32 e) t))
 in_brackets_gives (_ ∷ rest) = gives_none
 
 dotted_name_gives : (rest : List Lexeme)

@@ -14,7 +14,7 @@ use Rattle.ax_grammar.specs.Expressions.{Follow, IsWholeExpr}
 use Rattle.ax_grammar.specs.Fronts.{begins_keyword, begins_name}
 use Rattle.ax_grammar.specs.Levels.Level.{choice}
 use Rattle.ax_grammar.specs.Steps.{IsNameStep, AreSteps}
-use Rattle.ax_grammar.specs.Tables.{most_nesting, greatest_count, parameter_of, count_of}
+use Rattle.ax_grammar.specs.Tables.{most_nesting, greatest_u32, parameter_of, count_of}
 use Rattle.ax_grammar.specs.Takes.{TakesSymbol, TakesKeyword, TakesName, TakesNumber, TakesParameter}
 use Rattle.ax_grammar.specs.Takes.Mark.{the_symbol}
 use Rattle.ax_grammar.specs.Written.{Item, Picked, Source, Joined, Ordered, Window, Written}
@@ -24,7 +24,7 @@ use Rattle.ax_grammar.specs.Written.Picked.{the_star, the_value, the_items}
 pub data IsCount (params : List (Member Tree)) : (count : ℕ) (before after : List Lexeme)
     → Type 0 where
   written_count : {count : ℕ} {before after : List Lexeme} → TakesNumber count before after
-      → count ≤ greatest_count → IsCount params count before after
+      → count ≤ greatest_u32 → IsCount params count before after
   given_count : {count : ℕ} {word : List ℕ} {value : Tree} {before after : List Lexeme}
       → TakesParameter word before after → parameter_of params word ≡ Some value
       → count_of value ≡ Some count → IsCount params count before after

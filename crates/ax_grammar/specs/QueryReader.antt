@@ -10,7 +10,7 @@ use Rattle.ax_mean.specs.declared.expr.Expr.{Expr}
 use Rattle.ax_grammar.specs.ExprReader.{read_expr}
 use Rattle.ax_grammar.specs.Reading.{Reader, and_then, provided, changed, at_once, where_marked, behind_mark, take_name, marked, all_turns, parted}
 use Rattle.ax_grammar.specs.StepReader.{read_steps, read_name_steps}
-use Rattle.ax_grammar.specs.Tables.{greatest_count, parameter_of, count_of}
+use Rattle.ax_grammar.specs.Tables.{greatest_u32, parameter_of, count_of}
 use Rattle.ax_grammar.specs.Takes.Mark.{the_symbol, the_keyword}
 use Rattle.ax_grammar.specs.Written.{Item, Picked, Source, Joined, Ordered, Window, Written}
 use Rattle.ax_grammar.specs.Written.Picked.{the_star, the_value, the_items}
@@ -20,7 +20,7 @@ abbrev pub read_optional : {X : Type 0} → Keyword → X → Reader X → Reade
 read_optional which absent phrase = where_marked (the_keyword which) phrase (at_once absent)
 
 abbrev pub read_count : List (Member Tree) → Reader ℕ
-read_count params (Lexeme.number n ∷ rest) = provided (nat_le n greatest_count) (Some (n, rest))
+read_count params (Lexeme.number n ∷ rest) = provided (nat_le n greatest_u32) (Some (n, rest))
 read_count params (Lexeme.parameter word ∷ rest) =
     option_map (λ n. (n, rest)) (and_then (parameter_of params word) count_of)
 read_count params _ = None

@@ -17,9 +17,7 @@ use Rattle.ax_mean.specs.declared.operator.Func.{Func}
 use Rattle.ax_mean.specs.declared.operator.Func.TheVariants as func
 use Rattle.ax_mean.specs.declared.operator.UnaryOp.{UnaryOp}
 use Rattle.ax_mean.specs.declared.operator.UnaryOp.TheVariants as unary_op
-use Rattle.ax_mean.specs.declared.value.Value.{Value}
-use Rattle.ax_mean.specs.declared.value.Value.TheVariants.{Undefined, Defined}
-use Rattle.ax_mean.specs.Sameness.{is_same}
+use Rattle.ax_mean.specs.Comparison.{is_same_value}
 
 -- operators, functions and aggregates by their numbers
 abbrev pub operator_number : BinaryOp → ℕ
@@ -77,12 +75,6 @@ func_number func.ArrayLength = 21
 func_number func.ArrayContains = 22
 func_number func.ArrayConcat = 23
 func_number func.ArraySlice = 24
-
-abbrev pub is_same_value : Value → Value → Bool
-is_same_value Undefined Undefined = true
-is_same_value Undefined (Defined b) = false
-is_same_value (Defined a) Undefined = false
-is_same_value (Defined a) (Defined b) = is_same a b
 
 abbrev pub is_same_step : QueryStep → QueryStep → Bool
 is_same_step (step.Member a) (step.Member b) = bytes_eq a b

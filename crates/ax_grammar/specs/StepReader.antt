@@ -7,7 +7,7 @@ use Rattle.ax_mean.specs.declared.expr.QueryStep.{QueryStep}
 use Rattle.ax_mean.specs.declared.expr.QueryStep.TheVariants.{Member, Position}
 use Rattle.ax_grammar.specs.Reading.{Reader, Turn, changed, closed_by, provided, take_word, must, all_turns}
 use Rattle.ax_grammar.specs.Reading.Turn.{ended}
-use Rattle.ax_grammar.specs.Tables.{greatest_count}
+use Rattle.ax_grammar.specs.Tables.{greatest_u32}
 use Rattle.ax_grammar.specs.Takes.Mark.{the_symbol}
 
 -- what stands behind "["
@@ -20,7 +20,7 @@ abbrev pub read_in_brackets : Reader QueryStep
 read_in_brackets (Lexeme.text name ∷ rest) =
     closed_by (the_symbol symbol.CloseBracket) (Some (Member name, rest))
 read_in_brackets (Lexeme.number at ∷ rest) =
-    provided (nat_le at greatest_count)
+    provided (nat_le at greatest_u32)
     (closed_by (the_symbol symbol.CloseBracket) (Some (Position at, rest)))
 read_in_brackets _ = None
 

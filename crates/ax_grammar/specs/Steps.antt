@@ -4,7 +4,7 @@ use Rattle.ax_lex.specs.declared.symbol.Symbol.TheVariants as symbol
 use Rattle.ax_lex.specs.Lexeme.{Lexeme}
 use Rattle.ax_mean.specs.declared.expr.QueryStep.{QueryStep}
 use Rattle.ax_mean.specs.declared.expr.QueryStep.TheVariants.{Member, Position}
-use Rattle.ax_grammar.specs.Tables.{greatest_count}
+use Rattle.ax_grammar.specs.Tables.{greatest_u32}
 use Rattle.ax_grammar.specs.Takes.{TakesSymbol, TakesWord, TakesText, TakesNumber}
 
 -- nstep: a step to the member of that name
@@ -24,7 +24,7 @@ pub data IsStep : (step : QueryStep) (before after : List Lexeme) → Type 0 whe
   -- step = "[" position "]"
   positioned : {at : ℕ} {before inside behind after : List Lexeme}
       → TakesSymbol symbol.OpenBracket before inside → TakesNumber at inside behind
-      → at ≤ greatest_count → TakesSymbol symbol.CloseBracket behind after
+      → at ≤ greatest_u32 → TakesSymbol symbol.CloseBracket behind after
       → IsStep (Position at) before after
 
 -- {step}

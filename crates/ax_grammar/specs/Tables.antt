@@ -24,9 +24,9 @@ most_items = 256
 abbrev pub most_nesting : ℕ
 most_nesting = 64
 
--- the greatest number of a position or a count, and that of a literal
-abbrev pub greatest_count : ℕ
-greatest_count = 4294967295
+-- the greatest number of 32 bits, which a position and a count may be, and that of a literal
+abbrev pub greatest_u32 : ℕ
+greatest_u32 = 4294967295
 
 abbrev pub greatest_literal : ℕ
 greatest_literal = 9223372036854775807
@@ -123,7 +123,7 @@ parameter_of params word = value_of (64 ∷ word) params
 
 -- the number, where it may count
 abbrev pub may_count : ℕ → Option ℕ
-may_count n = if nat_le n greatest_count then Some n else None
+may_count n = if nat_le n greatest_u32 then Some n else None
 
 abbrev pub count_of_number : ℤ → Option ℕ
 count_of_number (pos n) = may_count n

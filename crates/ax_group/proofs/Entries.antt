@@ -1,5 +1,6 @@
 -- The entries of the map are the groups, in their order: a row more, and a group more.
-use Rattle.std.proofs.Common.{◌≡◌, List, [], ◌∷◌, ◌++◌, map, filter_map, Bool, cond, Some, None, refl, sym, ap, ◌∙◌, subst}
+use Rattle.std.proofs.Common.{◌≡◌, List, [], ◌∷◌, ◌++◌, map, filter_map, Bool, true, cond, Some, None, refl, sym, ap, ap₂, ◌∙◌, subst}
+use Rattle.std.proofs.lemmas.Bool.{false≢true}
 use Rattle.std.proofs.lemmas.List.{map-append}
 use Rattle.std.proofs.lemmas.Map.{lookup-none}
 use Rattle.std.proofs.lemmas.Map.Entries.{none_below_head}
@@ -19,7 +20,9 @@ use Rattle.ax_mean.specs.declared.expr.Expr.{Expr}
 use Rattle.ax_mean.specs.declared.query.Pick.{Pick}
 use Rattle.ax_mean.specs.declared.value.Value.{Value}
 use Rattle.ax_mean.specs.Meaning.{Env, meaning}
-use Rattle.ax_mean.specs.Rows.{keyed, shown}
+use Rattle.ax_mean.specs.declared.value.Value.TheVariants.{Undefined}
+use Rattle.ax_mean.specs.Aggregates.{has_some}
+use Rattle.ax_mean.specs.Rows.{first_bound, keyed}
 use Rattle.ax_mean.specs.ValueOrder.{value_cmp}
 use Rattle.ax_group.specs.contracts.key.GroupKeyOrd.TheImpl as group_order
 use Rattle.ax_group.specs.contracts.key.GroupKeyOrd.TheImpl.Laws.{total-law}
@@ -28,12 +31,12 @@ use Rattle.ax_group.specs.declared.key.GroupKey.{GroupKey}
 use Rattle.ax_group.specs.declared.key.SortKey.{SortKey}
 use Rattle.ax_group.specs.declared.state.State.{State}
 use Rattle.ax_group.specs.declared.tally.Tally.{Tally}
-use Rattle.ax_group.specs.Groups.{Group, group_values, values_cmp, alone, and_row, placed, with_row, groups_before, with_rows, groups_of, first_env, group_row, pick_over}
+use Rattle.ax_group.specs.declared.tally.Tally.TheVariants as tally
+use Rattle.ax_result.specs.Groups.{Group, group_values, values_cmp, alone, and_row, placed, with_row, groups_before, with_rows, groups_of, first_env, group_row}
 use Rattle.ax_group.specs.Keys.{Key, value_key, seen_key, seen_keys}
-use Rattle.ax_group.specs.States.{first_of, first_with, env_or_empty, arguments_in, started, tallies_of, tallies_with, IsState, AreEntries, state_row}
-use Rattle.ax_group.specs.Tallies.{start, tally_with, tally_from, tally_of, value_of}
-use Rattle.ax_group.specs.Totals.{total_over}
-use Rattle.ax_group.specs.Walks.{Ask, asked_by, totals_of, pick_filled}
+use Rattle.ax_group.specs.States.{argument_in, arguments_in, start_in, started, tally_over, tallies_of, tallies_with, IsState, AreEntries, state_row}
+use Rattle.ax_group.specs.Tallies.{tally_with, tally_from, value_of}
+use Rattle.ax_group.specs.Walks.{Ask, TotalOf, PartOf, FirstAlias, answer_over, answers_over, asked_by, shown_by}
 use Rattle.ax_group.proofs.Filling.{picked}
 use Rattle.ax_group.proofs.TallyLaws.{tally_is_aggregate}
 
@@ -86,49 +89,59 @@ tally_more : (t : Tally) (vs : List Value) (v : Value)
 tally_more t [] v = refl
 tally_more t (w ∷ vs) v = tally_more (tally_with t w) vs v
 
-tallies_more : (asks : List Ask) (envs : List Env) (env : Env)
-    → tallies_with (tallies_of asks envs) (arguments_in asks env) ≡ tallies_of asks (envs ++ env ∷ [])
-tallies_more [] envs env = refl
-tallies_more (ask ∷ asks) envs env =
-    let values : Env → Value = λ e. meaning e ask.1 in
-    ap (λ t. t ∷ tallies_with (tallies_of asks envs) (arguments_in asks env))
-    (tally_more (start ask.0) (map values envs) (values env)
-    ∙ ap (tally_of ask.0) (sym (map-append values envs (env ∷ []))))
-    ∙ ap (λ ts. tally_of ask.0 (map values (envs ++ env ∷ [])) ∷ ts) (tallies_more asks envs env)
+-- the first row stays the first
+first_stays : (envs : List Env) (env : Env) → has_some envs ≡ true
+    → first_env (envs ++ env ∷ []) ≡ first_env envs
+first_stays [] env h = absurd (false≢true h)
+first_stays (e ∷ envs) env h = refl
 
-first_more : (envs : List Env) (env : Env) → first_with (first_of envs) env ≡ first_of (envs ++ env ∷ [])
-first_more [] env = refl
-first_more (e ∷ envs) env = refl
+one_more : (envs : List Env) (env : Env) (ask : Ask) → has_some envs ≡ true
+    → tally_with (tally_over envs ask) (argument_in env ask) ≡ tally_over (envs ++ env ∷ []) ask
+one_more envs env ask h =
+    let values : Env → Value = λ e. argument_in e ask in
+    tally_more (start_in (first_env envs) ask) (map values envs) (values env)
+    ∙ ap (tally_from (start_in (first_env envs) ask)) (sym (map-append values envs (env ∷ [])))
+    ∙ ap (λ e. tally_from (start_in e ask) (map values (envs ++ env ∷ [])))
+    (sym (first_stays envs env h))
+
+tallies_more : (asks : List Ask) (envs : List Env) (env : Env) → has_some envs ≡ true
+    → tallies_with (tallies_of asks envs) (arguments_in asks env) ≡ tallies_of asks (envs ++ env ∷ [])
+tallies_more [] envs env h = refl
+tallies_more (ask ∷ asks) envs env h =
+    ap₂ (λ t ts. t ∷ ts) (one_more envs env ask h) (tallies_more asks envs env h)
+
+tallies_begin : (asks : List Ask) (env : Env)
+    → tallies_with (started asks env) (arguments_in asks env) ≡ tallies_of asks (env ∷ [])
+tallies_begin [] env = refl
+tallies_begin (ask ∷ asks) env =
+    ap (λ ts. tally_over (env ∷ []) ask ∷ ts) (tallies_begin asks env)
+
+more_has_some : (envs : List Env) (env : Env) → has_some (envs ++ env ∷ []) ≡ true
+more_has_some [] env = refl
+more_has_some (e ∷ envs) env = refl
 
 -- what a state is after a row
-pub record IsAfter (old : State) (env : Env) (arguments : List Value) (new : State) : Type 0 where
+pub record IsAfter (old : State) (arguments : List Value) (new : State) : Type 0 where
   pub values : new.values ≡ old.values
-  pub first : new.first ≡ first_with old.first env
   pub tallies : new.tallies.items ≡ tallies_with old.tallies.items arguments
 
 state_more : (asks : List Ask) (group : Group) (env : Env) (arguments : List Value) (old new : State)
-    → arguments ≡ arguments_in asks env → IsAfter old env arguments new → IsState asks group old
+    → arguments ≡ arguments_in asks env → IsAfter old arguments new → IsState asks group old
     → IsState asks (and_row group env) new
 state_more asks group env arguments old new e after h = (
   after.values ∙ h.0,
-  after.first ∙ ap (λ f. first_with f env) h.1 ∙ first_more group.envs env,
+  more_has_some group.envs env,
   after.tallies ∙ ap (λ ts. tallies_with ts arguments) h.2
-      ∙ ap (tallies_with (tallies_of asks group.envs)) e ∙ tallies_more asks group.envs env,
+      ∙ ap (tallies_with (tallies_of asks group.envs)) e ∙ tallies_more asks group.envs env h.1,
 )
 
 -- the state of a group with one row
 pub alone_state : (asks : List Ask) (values : List Value) (env : Env) (arguments : List Value)
     (state : State) → arguments ≡ arguments_in asks env → state.values ≡ values
-    → state.first ≡ Some env → state.tallies.items ≡ tallies_with (started asks) arguments
+    → state.tallies.items ≡ tallies_with (started asks env) arguments
     → IsState asks (alone values env) state
-alone_state asks values env arguments state e v f t =
-    (v, f, t ∙ ap (tallies_with (started asks)) e ∙ tallies_more asks [] env)
-
--- the state of a group with no row
-pub empty_state : (asks : List Ask) (values : List Value) (state : State) → state.values ≡ values
-    → state.first ≡ None → state.tallies.items ≡ started asks
-    → IsState asks (record { values = values; envs = [] }) state
-empty_state asks values state v f t = (v, f, t)
+alone_state asks values env arguments state e v t =
+    (v, refl, t ∙ ap (tallies_with (started asks env)) e ∙ tallies_begin asks env)
 
 -- ---- a row in its group
 
@@ -177,7 +190,7 @@ module _ (asks : List Ask) (values : List Value) (env : Env) (key : GroupKey)
 
   -- the group of these values is there
   pub same_group : (groups : List Group) (entries : List Entry) (arguments : List Value)
-      (old new : State) → arguments ≡ arguments_in asks env → IsAfter old env arguments new
+      (old new : State) → arguments ≡ arguments_in asks env → IsAfter old arguments new
       → IsStrictlySortedBy key_order (keys_of entries) → AreEntries asks groups entries
       → lookup here entries ≡ Some old
       → AreEntries asks (with_row values env groups) (set_value here entries new)
@@ -207,7 +220,7 @@ module _ (asks : List Ask) (values : List Value) (env : Env) (key : GroupKey)
         (
           are.0.0,
           state_more asks group env arguments entry.1 new e
-              (subst (λ (s : State). IsAfter s env arguments new) (sym (some_same entry.1 old f)) after)
+              (subst (λ (s : State). IsAfter s arguments new) (sym (some_same entry.1 old f)) after)
               are.0.1,
         ),
         are.1,
@@ -216,30 +229,53 @@ module _ (asks : List Ask) (values : List Value) (env : Env) (key : GroupKey)
 
 -- ---- the rows
 
-totals_come : (asks : List Ask) (envs : List Env)
-    → map value_of (tallies_of asks envs) ≡ totals_of envs asks
-totals_come [] envs = refl
-totals_come (ask ∷ asks) envs =
-    ap (λ v. v ∷ map value_of (tallies_of asks envs))
-    (tally_is_aggregate ask.0 (map (λ env. meaning env ask.1) envs))
-    ∙ ap (λ vs. total_over envs ask.0 ask.1 ∷ vs) (totals_come asks envs)
+-- what stays a value of the first row
+first_holds : (value : Value) (envs : List Env)
+    → tally_from (tally.First value) (map (λ (env : Env). Undefined) envs) ≡ tally.First value
+first_holds value [] = refl
+first_holds value (env ∷ envs) = first_holds value envs
 
-first_come : (envs : List Env) → env_or_empty (first_of envs) ≡ first_env envs
-first_come [] = refl
-first_come (env ∷ envs) = refl
+answer_comes : (ask : Ask) (envs : List Env)
+    → value_of (tally_over envs ask) ≡ answer_over envs ask
+answer_comes (TotalOf which argument) envs =
+    tally_is_aggregate which (map (λ env. meaning env argument) envs)
+answer_comes (PartOf part) envs =
+    ap value_of (first_holds (meaning (first_env envs) part) envs)
+answer_comes FirstAlias envs = ap value_of (first_holds (first_bound (first_env envs)) envs)
+
+answers_come : (asks : List Ask) (envs : List Env)
+    → map value_of (tallies_of asks envs) ≡ answers_over envs asks
+answers_come [] envs = refl
+answers_come (ask ∷ asks) envs =
+    ap₂ (λ v vs. v ∷ vs) (answer_comes ask envs) (answers_come asks envs)
+
+-- what a group shows by its tallies
+row_by_tallies : (pick : Pick) (group : Group) (state : State) → state.values ≡ group.values
+    → state.tallies.items ≡ tallies_of (asked_by pick) group.envs
+    → state_row pick state ≡ group_row pick group
+row_by_tallies pick group state v t =
+    ap (λ vs. keyed vs 0 [] (shown_by pick (map value_of state.tallies.items))) v
+    ∙ ap (λ ts. keyed group.values 0 [] (shown_by pick (map value_of ts))) t
+    ∙ ap (λ vs. keyed group.values 0 [] (shown_by pick vs))
+    (answers_come (asked_by pick) group.envs)
+    ∙ ap (keyed group.values 0 []) (picked group.envs pick)
 
 row_of_state : (pick : Pick) (group : Group) (state : State) → IsState (asked_by pick) group state
     → state_row pick state ≡ group_row pick group
-row_of_state pick group state h =
-    ap (λ vs. keyed vs 0 []
-    (shown (pick_filled pick (map value_of state.tallies.items)) (env_or_empty state.first))) h.0
-    ∙ ap (λ ts. keyed group.values 0 []
-    (shown (pick_filled pick (map value_of ts)) (env_or_empty state.first))) h.2
-    ∙ ap (λ vs. keyed group.values 0 [] (shown (pick_filled pick vs) (env_or_empty state.first)))
-    (totals_come (asked_by pick) group.envs)
-    ∙ ap (λ p. keyed group.values 0 [] (shown p (env_or_empty state.first))) (picked group.envs pick)
-    ∙ ap (λ env. keyed group.values 0 [] (shown (pick_over group.envs pick) env))
-    (ap env_or_empty h.1 ∙ first_come group.envs)
+row_of_state pick group state h = row_by_tallies pick group state h.0 h.2
+
+tallies_of_none : (asks : List Ask) → started asks [] ≡ tallies_of asks []
+tallies_of_none [] = refl
+tallies_of_none (ask ∷ asks) = ap (λ ts. start_in [] ask ∷ ts) (tallies_of_none asks)
+
+-- what the group of all rows shows, where there is no row
+pub row_of_none : (pick : Pick) (state : State) → state.values ≡ []
+    → state.tallies.items ≡ started (asked_by pick) []
+    → filter_map (group_row pick) (groups_before []) ≡ cons_option (state_row pick state) []
+row_of_none pick state v t =
+    ap (λ row. cons_option row [])
+    (sym (row_by_tallies pick (record { values = []; envs = [] }) state v
+    (t ∙ tallies_of_none (asked_by pick))))
 
 pub rows_of_entries : (pick : Pick) (groups : List Group) (entries : List (GroupKey × State))
     → AreEntries (asked_by pick) groups entries
@@ -261,5 +297,16 @@ rows_then_one exprs groups (e ∷ envs) env =
     rows_then_one exprs (with_row (group_values exprs e) e groups) envs env
 
 pub groups_more : (exprs : List Expr) (envs : List Env) (env : Env)
-    → groups_of exprs (envs ++ env ∷ []) ≡ with_row (group_values exprs env) env (groups_of exprs envs)
-groups_more exprs envs env = rows_then_one exprs (groups_before exprs) envs env
+    → with_rows exprs [] (envs ++ env ∷ [])
+    ≡ with_row (group_values exprs env) env (with_rows exprs [] envs)
+groups_more exprs envs env = rows_then_one exprs [] envs env
+
+-- with GROUP BY, and where there is a row, all groups are those that rows make
+pub groups_by_rows : (expr : Expr) (exprs : List Expr) (envs : List Env)
+    → groups_of (expr ∷ exprs) envs ≡ with_rows (expr ∷ exprs) [] envs
+groups_by_rows expr exprs envs = refl
+
+pub groups_of_some : (exprs : List Expr) (env : Env) (envs : List Env)
+    → groups_of exprs (env ∷ envs) ≡ with_rows exprs [] (env ∷ envs)
+groups_of_some [] env envs = refl
+groups_of_some (expr ∷ exprs) env envs = refl

@@ -3,6 +3,8 @@ pub mod Comparing
 pub mod Entries
 pub mod Filling
 pub mod GroupLaws
+pub mod Standing
 pub mod StateLaws
 pub mod TallyLaws
+pub mod Unaggregated
 pub mod Wholes

@@ -15,7 +15,7 @@ use Rattle.ax_mean.specs.ValueOrder.{value_cmp}
 use Rattle.ax_mean.specs.Values.{is_defined, number_of, of_number}
 use Rattle.ax_group.specs.declared.tally.Tally.TheVariants as tally
 use Rattle.ax_group.specs.Tallies.{one_more, of_sum, sum_more, least_with, greatest_with, tally_from, tally_of, value_of}
-use Rattle.ax_group.specs.Totals.{greatest_count, counted, and_number, numbers_of, exact_sum, summed, lesser, greater, is_composed, aggregate_of}
+use Rattle.ax_result.specs.Totals.{greatest_number, counted, and_number, numbers_of, exact_sum, summed, lesser, greater, is_composed, aggregate_of}
 
 undefined_stays : (vs : List Value) → tally_from tally.Undefined vs ≡ tally.Undefined
 undefined_stays [] = refl
@@ -25,14 +25,14 @@ undefined_stays (Defined t ∷ vs) = undefined_stays vs
 -- ---- COUNT
 
 counted_more : (n m : ℕ) → counted (one_more n + m) ≡ counted (n + suc m)
-counted_more n m = by (nat_le n greatest_count) refl
+counted_more n m = by (nat_le n greatest_number) refl
   where
-    by : (b : Bool) → nat_le n greatest_count ≡ b
+    by : (b : Bool) → nat_le n greatest_number ≡ b
         → counted (cond b (n + 1) n + m) ≡ counted (n + suc m)
     by true e = ap counted (omega arith)
     by false e =
-        let low : nat_le (n + m) greatest_count ≡ false = grind (arith) in
-        let high : nat_le (n + suc m) greatest_count ≡ false = grind (arith) in
+        let low : nat_le (n + m) greatest_number ≡ false = grind (arith) in
+        let high : nat_le (n + suc m) greatest_number ≡ false = grind (arith) in
         ap (λ b. cond b (Defined (tree.Number (pos (n + m)))) Undefined) low
         ∙ sym (ap (λ b. cond b (Defined (tree.Number (pos (n + suc m)))) Undefined) high)
 
@@ -52,7 +52,7 @@ sum_beside z numbers =
 
 abbrev summed_from : ℕ → ℤ → List Value → Value
 summed_from n z vs =
-    cond (nat_le (n + length vs) greatest_count) (sum_beside z (numbers_of vs)) Undefined
+    cond (nat_le (n + length vs) greatest_number) (sum_beside z (numbers_of vs)) Undefined
 
 either_undefined : (b : Bool) → cond b Undefined Undefined ≡ Undefined
 either_undefined true = refl
@@ -61,8 +61,8 @@ either_undefined false = refl
 no_numbers : (n : ℕ) (z : ℤ) (t : Tree) (vs : List Value) → number_of (Defined t) ≡ None
     → Undefined ≡ summed_from n z (Defined t ∷ vs)
 no_numbers n z t vs e =
-    sym (either_undefined (nat_le (n + suc (length vs)) greatest_count))
-    ∙ ap (λ x. cond (nat_le (n + suc (length vs)) greatest_count)
+    sym (either_undefined (nat_le (n + suc (length vs)) greatest_number))
+    ∙ ap (λ x. cond (nat_le (n + suc (length vs)) greatest_number)
     (sum_beside z (and_number x (numbers_of vs))) Undefined) (sym e)
 
 beside_more : (z x : ℤ) (numbers : Option (List ℤ))
@@ -72,31 +72,31 @@ beside_more z x (Some ns) =
     ap (λ s. of_number (in_64_bits s))
     (let e : (z +ℤ x) +ℤ exact_sum ns ≡ z +ℤ (x +ℤ exact_sum ns) = omega (arith, ints) in e)
 
-too_many : (n : ℕ) (z : ℤ) (t : Tree) (vs : List Value) → nat_lt n greatest_count ≡ false
+too_many : (n : ℕ) (z : ℤ) (t : Tree) (vs : List Value) → nat_lt n greatest_number ≡ false
     → Undefined ≡ summed_from n z (Defined t ∷ vs)
 too_many n z t vs e =
-    let many : nat_le (n + suc (length vs)) greatest_count ≡ false = grind (arith) in
+    let many : nat_le (n + suc (length vs)) greatest_number ≡ false = grind (arith) in
     sym (ap (λ b. cond b (sum_beside z (numbers_of (Defined t ∷ vs))) Undefined) many)
 
 sum_step : (n : ℕ) (z x : ℤ) (t : Tree) (vs : List Value) → number_of (Defined t) ≡ Some x
     → summed_from (n + 1) (z +ℤ x) vs ≡ summed_from n z (Defined t ∷ vs)
 sum_step n z x t vs e =
-    ap (λ k. cond (nat_le k greatest_count) (sum_beside (z +ℤ x) (numbers_of vs)) Undefined)
+    ap (λ k. cond (nat_le k greatest_number) (sum_beside (z +ℤ x) (numbers_of vs)) Undefined)
     (let k : n + 1 + length vs ≡ n + suc (length vs) = omega arith in k)
-    ∙ ap (λ v. cond (nat_le (n + suc (length vs)) greatest_count) v Undefined)
+    ∙ ap (λ v. cond (nat_le (n + suc (length vs)) greatest_number) v Undefined)
     (beside_more z x (numbers_of vs)
     ∙ ap (λ o. sum_beside z (and_number o (numbers_of vs))) (sym e))
 
-sum_end : (n : ℕ) (z : ℤ) → nat_le n greatest_count ≡ true
+sum_end : (n : ℕ) (z : ℤ) → nat_le n greatest_number ≡ true
     → of_number (in_64_bits z) ≡ summed_from n z []
 sum_end n z e =
     ap (λ s. of_number (in_64_bits s)) (let k : z ≡ z +ℤ pos 0 = omega (arith, ints) in k)
     ∙ sym (ap (λ b. cond b (sum_beside z (Some [])) Undefined)
-    (ap (λ k. nat_le k greatest_count) (let k : n + 0 ≡ n = omega arith in k) ∙ e))
+    (ap (λ k. nat_le k greatest_number) (let k : n + 0 ≡ n = omega arith in k) ∙ e))
 
 -- the numbers that come after, whatever the sum is
 abbrev SumsOn : List Value → Type 0
-SumsOn vs = (n : ℕ) (z : ℤ) → nat_le n greatest_count ≡ true
+SumsOn vs = (n : ℕ) (z : ℤ) → nat_le n greatest_number ≡ true
     → value_of (tally_from (tally.Sum (n, z)) vs) ≡ summed_from n z (filter is_defined vs)
 
 sum_on : (n : ℕ) (z : ℤ) (t : Tree) (vs : List Value) → SumsOn vs
@@ -104,11 +104,11 @@ sum_on : (n : ℕ) (z : ℤ) (t : Tree) (vs : List Value) → SumsOn vs
     ≡ summed_from n z (Defined t ∷ filter is_defined vs)
 sum_on n z t vs rest = by (number_of (Defined t)) refl
   where
-    fits : (b : Bool) (x : ℤ) → nat_lt n greatest_count ≡ b → number_of (Defined t) ≡ Some x
+    fits : (b : Bool) (x : ℤ) → nat_lt n greatest_number ≡ b → number_of (Defined t) ≡ Some x
         → value_of (tally_from (of_sum (cond b (Some (n + 1, z +ℤ x)) None)) vs)
         ≡ summed_from n z (Defined t ∷ filter is_defined vs)
     fits true x h k =
-        rest (n + 1) (z +ℤ x) (let m : nat_le (n + 1) greatest_count ≡ true = grind (arith) in m)
+        rest (n + 1) (z +ℤ x) (let m : nat_le (n + 1) greatest_number ≡ true = grind (arith) in m)
         ∙ sum_step n z x t (filter is_defined vs) k
     fits false x h k =
         ap value_of (undefined_stays vs) ∙ too_many n z t (filter is_defined vs) h
@@ -117,7 +117,7 @@ sum_on n z t vs rest = by (number_of (Defined t)) refl
         → value_of (tally_from (sum_more (n, z) o) vs)
         ≡ summed_from n z (Defined t ∷ filter is_defined vs)
     by None k = ap value_of (undefined_stays vs) ∙ no_numbers n z t (filter is_defined vs) k
-    by (Some x) k = fits (nat_lt n greatest_count) x refl k
+    by (Some x) k = fits (nat_lt n greatest_number) x refl k
 
 sum_from : (vs : List Value) → SumsOn vs
 sum_from [] n z e = sum_end n z e
@@ -129,16 +129,16 @@ zero_before z = omega (arith, ints)
 
 sum_is : (vs : List Value) → summed_from 0 (pos 0) vs ≡ summed vs
 sum_is vs =
-    ap (λ k. cond (nat_le k greatest_count) (sum_beside (pos 0) (numbers_of vs)) Undefined)
+    ap (λ k. cond (nat_le k greatest_number) (sum_beside (pos 0) (numbers_of vs)) Undefined)
     (let k : 0 + length vs ≡ length vs = omega arith in k)
     ∙ by (numbers_of vs)
   where
-    by : (o : Option (List ℤ)) → cond (nat_le (length vs) greatest_count) (sum_beside (pos 0) o) Undefined
-        ≡ cond (nat_le (length vs) greatest_count)
+    by : (o : Option (List ℤ)) → cond (nat_le (length vs) greatest_number) (sum_beside (pos 0) o) Undefined
+        ≡ cond (nat_le (length vs) greatest_number)
         (of_number (option_and_then (λ ns. in_64_bits (exact_sum ns)) o)) Undefined
     by None = refl
     by (Some ns) =
-        ap (λ s. cond (nat_le (length vs) greatest_count) (of_number (in_64_bits s)) Undefined)
+        ap (λ s. cond (nat_le (length vs) greatest_number) (of_number (in_64_bits s)) Undefined)
         (zero_before (exact_sum ns))
 
 -- ---- MIN and MAX

@@ -1,42 +1,48 @@
 -- What is kept of a group, and what is kept of all groups.
-use Rattle.std.specs.Prelude.{◌≡◌, ⊤, ℕ, zero, suc, List, [], ◌∷◌, map, Option, Some, None}
+use Rattle.std.specs.Prelude.{◌≡◌, ⊤, ℕ, zero, suc, List, [], ◌∷◌, map, true, Option}
 use Rattle.ax_mean.specs.declared.query.KeyedRow.{KeyedRow}
 use Rattle.ax_mean.specs.declared.query.Pick.{Pick}
 use Rattle.ax_mean.specs.declared.query.Query.{Query}
 use Rattle.ax_mean.specs.declared.value.Value.{Value}
+use Rattle.ax_mean.specs.declared.value.Value.TheVariants.{Undefined}
+use Rattle.ax_mean.specs.Aggregates.{has_some}
 use Rattle.ax_mean.specs.Meaning.{Env, meaning}
-use Rattle.ax_mean.specs.Rows.{keyed, shown}
+use Rattle.ax_mean.specs.Rows.{first_bound, keyed}
 use Rattle.ax_group.specs.declared.groups.Groups as groups
 use Rattle.ax_group.specs.declared.key.GroupKey.{GroupKey}
 use Rattle.ax_group.specs.declared.state.State.{State}
 use Rattle.ax_group.specs.declared.tally.Tally.{Tally}
-use Rattle.ax_group.specs.Groups.{Group, groups_of}
+use Rattle.ax_group.specs.declared.tally.Tally.TheVariants as tally
+use Rattle.ax_result.specs.Groups.{Group, first_env, with_rows}
 use Rattle.ax_group.specs.Keys.{seen_keys, value_key}
-use Rattle.ax_group.specs.Tallies.{tally_of, tally_with, value_of, start}
-use Rattle.ax_group.specs.Walks.{Ask, asks_of, asked_by, pick_filled}
+use Rattle.ax_group.specs.Tallies.{tally_from, tally_with, value_of, start}
+use Rattle.ax_group.specs.Walks.{Ask, TotalOf, PartOf, FirstAlias, asks_of, asked_by, shown_by}
 
-abbrev pub first_of : List Env → Option Env
-first_of [] = None
-first_of (env ∷ envs) = Some env
+-- a row's value for what is asked for, by which its tally goes on
+abbrev pub argument_in : Env → Ask → Value
+argument_in env (TotalOf which argument) = meaning env argument
+argument_in env (PartOf part) = Undefined
+argument_in env FirstAlias = Undefined
 
-abbrev pub first_with : Option Env → Env → Option Env
-first_with None env = Some env
-first_with (Some first) env = Some first
-
-abbrev pub env_or_empty : Option Env → Env
-env_or_empty None = []
-env_or_empty (Some env) = env
-
--- the values of the aggregates' arguments in a row
 abbrev pub arguments_in : List Ask → Env → List Value
-arguments_in asks env = map (λ ask. meaning env ask.1) asks
+arguments_in asks env = map (argument_in env) asks
 
-abbrev pub started : List Ask → List Tally
-started asks = map (λ ask. start ask.0) asks
+-- the tally that a group begins with, by its first row
+abbrev pub start_in : Env → Ask → Tally
+start_in env (TotalOf which argument) = start which
+start_in env (PartOf part) = tally.First (meaning env part)
+start_in env FirstAlias = tally.First (first_bound env)
 
--- a tally for each aggregate
+abbrev pub started : List Ask → Env → List Tally
+started asks env = map (start_in env) asks
+
+abbrev pub tally_over : List Env → Ask → Tally
+tally_over envs ask =
+    tally_from (start_in (first_env envs) ask) (map (λ env. argument_in env ask) envs)
+
+-- a tally for each thing asked for
 abbrev pub tallies_of : List Ask → List Env → List Tally
-tallies_of asks envs = map (λ ask. tally_of ask.0 (map (λ env. meaning env ask.1) envs)) asks
+tallies_of asks envs = map (tally_over envs) asks
 
 -- one value more for each tally
 abbrev pub tallies_with : List Tally → List Value → List Tally
@@ -44,8 +50,9 @@ tallies_with [] values = []
 tallies_with (t ∷ ts) [] = t ∷ ts
 tallies_with (t ∷ ts) (value ∷ values) = tally_with t value ∷ tallies_with ts values
 
+-- a group that has a row
 abbrev pub IsState : List Ask → Group → State → Type 0
-IsState asks group state = (state.values ≡ group.values) × (state.first ≡ first_of group.envs)
+IsState asks group state = (state.values ≡ group.values) × (has_some group.envs ≡ true)
     × (state.tallies.items ≡ tallies_of asks group.envs)
 
 abbrev pub IsEntry : List Ask → Group → GroupKey × State → Type 0
@@ -60,16 +67,15 @@ AreEntries asks (group ∷ groups) [] = ⊥
 AreEntries asks (group ∷ groups) (entry ∷ entries) =
     IsEntry asks group entry × AreEntries asks groups entries
 
--- `held` are the groups of a query after these rows
+-- `held` are the groups of a query after these rows, without the one that there is where no row is
 abbrev pub Holds : groups.Groups → Query → List Env → Type 0
 Holds held query envs = (held.query.now ≡ query) × (asks_of held.asked.items ≡ asked_by query.pick)
-    × AreEntries (asked_by query.pick) (groups_of query.groups envs) held.states.entries
+    × AreEntries (asked_by query.pick) (with_rows query.groups [] envs) held.states.entries
 
 -- the row that a state shows
 abbrev pub state_row : Pick → State → Option KeyedRow
 state_row picked state =
-    keyed state.values 0 []
-    (shown (pick_filled picked (map value_of state.tallies.items)) (env_or_empty state.first))
+    keyed state.values 0 [] (shown_by picked (map value_of state.tallies.items))
 
 -- one value more for the tally at that position
 abbrev pub with_one : ℕ → Value → List Tally → List Tally

@@ -9,7 +9,7 @@ use Rattle.ax_mean.specs.Arithmetic.{in_64_bits}
 use Rattle.ax_mean.specs.Values.{number_of, of_number}
 use Rattle.ax_group.specs.declared.tally.Tally.{Tally}
 use Rattle.ax_group.specs.declared.tally.Tally.TheVariants as tally
-use Rattle.ax_group.specs.Totals.{greatest_count, counted, lesser, greater, is_composed}
+use Rattle.ax_result.specs.Totals.{greatest_number, counted, lesser, greater, is_composed}
 use Rattle.ax_group.specs.Sums.{sum_with}
 
 abbrev pub start : Aggregate → Tally
@@ -20,7 +20,7 @@ start aggregate.Max = tally.Greatest Undefined
 
 -- a count that stops above the greatest
 abbrev pub one_more : ℕ → ℕ
-one_more n = if nat_le n greatest_count then n + 1 else n
+one_more n = if nat_le n greatest_number then n + 1 else n
 
 abbrev pub of_sum : Option (ℕ × ℤ) → Tally
 of_sum None = tally.Undefined
@@ -51,6 +51,7 @@ with_tree (tally.Count n) tree = tally.Count (one_more n)
 with_tree (tally.Sum s) tree = sum_more s (number_of (Defined tree))
 with_tree (tally.Least best) tree = least_more best (Defined tree)
 with_tree (tally.Greatest best) tree = greatest_more best (Defined tree)
+with_tree (tally.First value) tree = tally.First value
 with_tree tally.Undefined tree = tally.Undefined
 
 -- the tally with one value more
@@ -71,4 +72,5 @@ value_of (tally.Count n) = counted n
 value_of (tally.Sum s) = of_number (in_64_bits s.1)
 value_of (tally.Least best) = best
 value_of (tally.Greatest best) = best
+value_of (tally.First value) = value
 value_of tally.Undefined = Undefined

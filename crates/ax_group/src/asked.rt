@@ -1,25 +1,30 @@
-//! The aggregates that a query asks for.
+//! What a pick asks of the rows of a group, in the order of a walk over it.
 ghost use Rattle.std.specs.Prelude.{◌≡◌, ◌++◌, map, IfOk, OnOk};
-ghost use Rattle.ax_group.specs.Walks.{asks_of, asked_in, asked_pair, operand_pair, member_pair, all_asked, operands_asked, members_asked, items_asked, asked_by as asked_of};
+ghost use Rattle.ax_group.specs.Walks.{all_asked, asked_in, asked_pair, asked_within, asks_of, items_asked, member_pair, members_asked, operand_pair, operands_asked, asked_by as asked_of};
 
 use crate::out_of_memory::Memory;
+use crate::part::is_part;
 use ax_mean::{Aggregate, Expr, ExprList, MemberList, NamedList, OpChain, Pick};
 use std::alloc::Global;
 
-/// An aggregate with its argument.
-#[derive(Clone, Copy, Debug)]
-pub struct Asked<'a> {
-    pub which: Aggregate,
-    pub argument: &'a Expr,
+/// What is asked for.
+#[derive(Debug, Drop)]
+pub enum Asked<'a> {
+    /// An aggregate of its argument.
+    Total(Aggregate, &'a Expr),
+    /// The value of a part of the pick in the first row.
+    Part(&'a Expr),
+    /// The value of the first alias in the first row.
+    FirstAlias,
 }
 
-/// The aggregates of what is picked, in the order of a walk over it.
+/// What a pick asks for, in the order of a walk over it.
 pub fn asked_by<'a>(alloc: Global, pick: &'a Pick) -> Result<Vec<Asked<'a>>, Memory>
     ensures { IfOk result (λ asked. asks_of asked.items ≡ asked_of pick.now) }
 {
     let mut asked = Vec::new(alloc);
     match pick {
-        Pick::Star => {}
+        Pick::Star => asked.push(Asked::FirstAlias)?,
         Pick::Value(expr) => collect(&mut asked, expr)?,
         Pick::Named(items) => collect_items(&mut asked, items)?,
     }
@@ -35,11 +40,26 @@ fn collect_items<'a>(asked: &mut Vec<Asked<'a>>, items: &'a NamedList) -> Result
     Ok(())
 }
 
-/// Appends the aggregates of an expression. One inside another's argument is undefined there, and not
-/// asked for.
+/// Appends what an expression asks for.
+#[tactic(auto, using(crate::proofs::Asking::part_collected, crate::proofs::Asking::within_collected))]
 #[cycle(collect)]
 fn collect<'a>(asked: &mut Vec<Asked<'a>>, expr: &'a Expr) -> Result<(), Memory>
     ensures { OnOk result (asks_of asked.new.items ≡ asks_of asked.old.items ++ asked_in expr.now) }
+{
+    if is_part(expr) {
+        asked.push(Asked::Part(expr))?;
+        Ok(())
+    } else {
+        collect_within(asked, expr)
+    }
+}
+
+/// Appends what an expression asks for that is not asked for as a whole. An aggregate inside another's
+/// argument is undefined there, and not asked for.
+#[cycle(collect)]
+fn collect_within<'a>(asked: &mut Vec<Asked<'a>>, expr: &'a Expr) -> Result<(), Memory>
+    ensures { OnOk result
+        (asks_of asked.new.items ≡ asks_of asked.old.items ++ asked_within expr.now) }
 {
     match expr {
         Expr::Literal(_) => Ok(()),
@@ -100,9 +120,9 @@ fn collect_total<'a>(
     argument: &'a Expr,
 ) -> Result<(), Memory>
     ensures { OnOk result (asks_of asked.new.items
-        ≡ asks_of asked.old.items ++ asked_in (Expr.Total which argument.now)) }
+        ≡ asks_of asked.old.items ++ asked_within (Expr.Total which argument.now)) }
 {
-    asked.push(Asked { which, argument })?;
+    asked.push(Asked::Total(which, argument))?;
     Ok(())
 }
 

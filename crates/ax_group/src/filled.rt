@@ -1,23 +1,39 @@
-//! An expression in which each aggregate is the literal of its value. One function for each form of
+//! An expression in which what it asks for is the literal of its value. One function for each form of
 //! expression that has many parts; each holds at most one part that it owns while it makes the next.
 ghost use Rattle.std.specs.Prelude.{◌≡◌, map, IfOk, OnOk};
-ghost use Rattle.ax_group.specs.Walks.{fill, operand_fill, member_fill, all_filled, operands_filled, members_filled};
+ghost use Rattle.ax_group.specs.Walks.{fill, fill_pair, fill_within, operand_fill, member_fill, all_filled, operands_filled, members_filled};
 
 use crate::out_of_memory::Memory;
+use crate::part::is_part;
 use crate::results::Results;
 use ax_mean::{
-    Boxed, Chained, Expr, ExprList, Items, Member, MemberList, OpChain, QueryStep, StepList, Text,
+    Boxed, Chained, Expr, ExprList, Items, Member, MemberList, OpChain, QueryStep, Shared,
+    StepList, Text,
 };
 use std::alloc::Global;
 
-/// The expression with the next results in place of its aggregates.
+/// The expression with the next results in place of what it asks for.
+#[tactic(auto, using(crate::proofs::Asking::part_filled, crate::proofs::Asking::within_filled))]
 #[cycle(filled)]
 pub fn filled(alloc: Global, expr: &Expr, results: &mut Results) -> Result<Expr, Memory>
     ensures made { IfOk result (λ made. made ≡ (fill expr.now results.old).0) }
     ensures left { OnOk result (results.new ≡ (fill expr.now results.old).1) }
 {
+    if is_part(expr) {
+        Ok(Expr::Literal(Shared::new(alloc, results.take())?))
+    } else {
+        filled_within(alloc, expr, results)
+    }
+}
+
+/// The expression with the next results in place of what its children ask for.
+#[cycle(filled)]
+fn filled_within(alloc: Global, expr: &Expr, results: &mut Results) -> Result<Expr, Memory>
+    ensures made { IfOk result (λ made. made ≡ (fill_within expr.now results.old).0) }
+    ensures left { OnOk result (results.new ≡ (fill_within expr.now results.old).1) }
+{
     match expr {
-        Expr::Literal(value) => Ok(Expr::Literal(value.copy(alloc)?)),
+        Expr::Literal(value) => Ok(Expr::Literal(value.share()?)),
         Expr::Alias(name) => Ok(Expr::Alias(name.copy(alloc)?)),
         Expr::Steps(base, steps) => {
             let base = boxed(alloc, base, results)?;
@@ -148,7 +164,7 @@ pub fn filled(alloc: Global, expr: &Expr, results: &mut Results) -> Result<Expr,
         }
         Expr::Sign(op, a) => Ok(Expr::Sign(*op, boxed(alloc, a, results)?)),
         Expr::Call(func, args) => Ok(Expr::Call(*func, list_of(alloc, args, results)?)),
-        Expr::Total(_, _) => Ok(Expr::Literal(results.take())),
+        Expr::Total(_, _) => Ok(Expr::Literal(Shared::new(alloc, results.take())?)),
         Expr::List(items) => Ok(Expr::List(list_of(alloc, items, results)?)),
         Expr::Object(members) => Ok(Expr::Object(members_of(alloc, members, results)?)),
     }
@@ -165,8 +181,8 @@ fn boxed(alloc: Global, expr: &Boxed<Expr>, results: &mut Results) -> Result<Box
 
 #[cycle(filled)]
 fn list_of(alloc: Global, items: &ExprList, results: &mut Results) -> Result<ExprList, Memory>
-    ensures made { IfOk result (λ made. made ≡ (all_filled (map fill items.now) results.old).0) }
-    ensures left { OnOk result (results.new ≡ (all_filled (map fill items.now) results.old).1) }
+    ensures made { IfOk result (λ made. made ≡ (all_filled (map fill_pair items.now) results.old).0) }
+    ensures left { OnOk result (results.new ≡ (all_filled (map fill_pair items.now) results.old).1) }
 {
     let items = items.as_slice();
     let mut made = Vec::with_capacity(alloc, items.len())?;

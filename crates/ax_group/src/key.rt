@@ -3,7 +3,8 @@ ghost use Rattle.ax_mean.specs.declared.value.Value.TheVariants.{Defined};
 ghost use Rattle.ax_group.specs.Keys.{seen_key, seen_keys, value_key};
 
 use crate::out_of_memory::Memory;
-use ax_mean::{Text, Tree, Value, write_tree};
+use ax_func::Seen;
+use ax_mean::{Text, Tree, write_tree};
 use std::alloc::Global;
 
 /// What a value compares by: where its kind stands, its number, and its bytes. Comparing two keys
@@ -22,7 +23,7 @@ pub struct GroupKey {
 }
 
 impl GroupKey {
-    pub fn of(alloc: Global, values: &[Value]) -> Result<GroupKey, Memory>
+    pub fn of(alloc: Global, values: &[Seen]) -> Result<GroupKey, Memory>
         ensures { IfOk result (λ key. seen_keys key ≡ map value_key values.now) }
     {
         let mut keys = Vec::with_capacity(alloc, values.len())?;
@@ -34,12 +35,12 @@ impl GroupKey {
 }
 
 impl SortKey {
-    fn of_value(alloc: Global, value: &Value) -> Result<SortKey, Memory>
+    fn of_value(alloc: Global, value: &Seen) -> Result<SortKey, Memory>
         ensures { IfOk result (λ key. seen_key key ≡ value_key value.now) }
     {
-        match value {
-            Value::Undefined => Ok(SortKey::plain(alloc, 0)),
-            Value::Defined(tree) => SortKey::of_tree(alloc, tree),
+        match value.tree() {
+            None => Ok(SortKey::plain(alloc, 0)),
+            Some(tree) => SortKey::of_tree(alloc, tree),
         }
     }
 

@@ -1,6 +1,6 @@
 //! The answer of a query with GROUP BY or aggregates: rows with equal values of the expressions behind
-//! GROUP BY are one group, which shows one row. Of a group its values, its first row and a tally for
-//! each aggregate are kept, and nothing for each further row.
+//! GROUP BY are one group, which shows one row. Of a group its values are kept, a tally for each
+//! aggregate, and of its first row the values that it shows: no document.
 //!
 //! Stands on `ax_eval`, which gives the value of an expression. Its one contract: what `Groups` gives
 //! for rows that were added one after another are the rows of their groups by the definition; it fails
@@ -14,6 +14,7 @@ mod filled;
 mod groups;
 mod key;
 mod out_of_memory;
+mod part;
 mod results;
 mod scalar;
 mod shown;

@@ -3,7 +3,7 @@ ghost use Rattle.std.specs.Prelude.{◌≡◌, false};
 ghost use Rattle.std.specs.Ordering.{is_lt};
 ghost use Rattle.ax_mean.specs.ValueOrder.{value_cmp, tree_rank};
 ghost use Rattle.ax_mean.specs.declared.value.Value.TheVariants.{Defined};
-ghost use Rattle.ax_group.specs.Totals.{is_composed as composed_value};
+ghost use Rattle.ax_result.specs.Totals.{is_composed as composed_value};
 
 use ax_mean::Tree;
 use std::cmp::Ordering;

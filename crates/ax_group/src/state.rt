@@ -1,111 +1,101 @@
-ghost use Rattle.std.specs.Prelude.{◌≡◌, ◌<◌, length, None, Some, IfOk};
-ghost use Rattle.ax_group.specs.States.{first_with, started as tallies_started, tallies_with, with_one};
+ghost use Rattle.std.specs.Prelude.{◌≡◌, ◌<◌, length, [], IfOk};
+ghost use Rattle.ax_group.specs.States.{start_in as tally_start_in, started as tallies_started, tallies_with, with_one};
 ghost use Rattle.ax_group.specs.Tallies.{tally_with};
-ghost use Rattle.ax_group.specs.Walks.{asks_of};
+ghost use Rattle.ax_group.specs.Walks.{ask_of, asks_of};
 
+use crate::arguments::{first_in, value_in};
 use crate::asked::Asked;
 use crate::out_of_memory::Memory;
 use crate::tally::Tally;
-use ax_eval::Env;
-use ax_mean::{Value, ValueList};
+use ax_eval::Scope;
+use ax_mean::{Items, Value, ValueList};
 use std::alloc::Global;
 use std::mem;
 
-/// What is kept of a group: its values, its first row, and a tally for each aggregate.
+/// What is kept of a group: its values, and a tally for each thing that the pick asks for.
 #[derive(Drop)]
 pub struct State {
     pub values: ValueList,
-    pub first: Option<Env>,
     pub tallies: Vec<Tally>,
 }
 
 impl State {
-    /// A group with no row.
-    pub fn new(alloc: Global, values: ValueList, asked: &[Asked]) -> Result<State, Memory>
-        ensures values { IfOk result (λ state. state.values ≡ values) }
-        ensures first { IfOk result (λ state. state.first ≡ None) }
+    /// The group of all rows, where there is no row: its first row binds nothing.
+    pub fn without_rows(alloc: Global, asked: &[Asked]) -> Result<State, Memory>
+        ensures values { IfOk result (λ state. state.values ≡ []) }
         ensures tallies { IfOk result (λ state.
-            state.tallies.items ≡ tallies_started (asks_of asked.now)) }
+            state.tallies.items ≡ tallies_started (asks_of asked.now) []) }
     {
-        match started(alloc, asked) {
-            Ok(tallies) => Ok(State {
-                values,
-                first: None,
-                tallies,
-            }),
-            Err(fault) => {
-                drop(values);
-                Err(fault)
-            }
-        }
+        let scope = Scope::new(alloc);
+        let tallies = started(alloc, asked, &scope)?;
+        Ok(State {
+            values: Items::new(alloc),
+            tallies,
+        })
     }
 
     /// A group with one row.
-    pub fn of_row(
+    pub fn of_row<'a>(
         alloc: Global,
-        asked: &[Asked],
+        asked: &[Asked<'a>],
         values: ValueList,
-        env: Env,
+        scope: &Scope<'a>,
         arguments: Vec<Value>,
     ) -> Result<State, Memory>
         ensures values { IfOk result (λ state. state.values ≡ values) }
-        ensures first { IfOk result (λ state. state.first ≡ Some env) }
         ensures tallies { IfOk result (λ state. state.tallies.items
-            ≡ tallies_with (tallies_started (asks_of asked.now)) arguments.items) }
+            ≡ tallies_with (tallies_started (asks_of asked.now) scope.now) arguments.items) }
     {
-        match State::new(alloc, values, asked) {
-            Ok(state) => Ok(state.with_row(env, arguments)),
+        match started(alloc, asked, scope) {
+            Ok(tallies) => Ok(State { values, tallies }.with_row(arguments)),
             Err(fault) => {
-                drop(env);
+                drop(values);
                 drop(arguments);
                 Err(fault)
             }
         }
     }
 
-    fn with_row(self, env: Env, arguments: Vec<Value>) -> State
+    fn with_row(self, arguments: Vec<Value>) -> State
         ensures values { result.values ≡ self.values }
-        ensures first { result.first ≡ first_with self.first env }
         ensures tallies { result.tallies.items
             ≡ tallies_with self.tallies.items arguments.items }
     {
         let mut state = self;
-        state.add(env, arguments);
+        state.add(arguments);
         state
     }
 
-    /// One row more, with the value that it has for each aggregate.
-    pub fn add(&mut self, env: Env, arguments: Vec<Value>)
+    /// One row more, by its values for what is asked for.
+    pub fn add(&mut self, arguments: Vec<Value>)
         ensures values { self.new.values ≡ self.old.values }
-        ensures first { self.new.first ≡ first_with self.old.first env }
         ensures tallies { self.new.tallies.items
             ≡ tallies_with self.old.tallies.items arguments.items }
     {
-        keep_first(&mut self.first, env);
         add_all(&mut self.tallies, arguments);
     }
 }
 
-/// Keeps the first row.
-fn keep_first(first: &mut Option<Env>, env: Env)
-    ensures { first.new ≡ first_with first.old env }
-{
-    if first.is_none() {
-        *first = Some(env);
-    } else {
-        drop(env);
-    }
-}
-
-/// The tallies of no value.
-fn started(alloc: Global, asked: &[Asked]) -> Result<Vec<Tally>, Memory>
-    ensures { IfOk result (λ tallies. tallies.items ≡ tallies_started (asks_of asked.now)) }
+/// The tallies that a group begins with, by its first row.
+fn started<'a>(alloc: Global, asked: &[Asked<'a>], scope: &Scope<'a>) -> Result<Vec<Tally>, Memory>
+    ensures { IfOk result (λ tallies.
+        tallies.items ≡ tallies_started (asks_of asked.now) scope.now) }
 {
     let mut tallies = Vec::with_capacity(alloc, asked.len())?;
     for one in asked {
-        tallies.push(Tally::start(one.which))?;
+        tallies.push(start_in(alloc, one, scope)?)?;
     }
     Ok(tallies)
+}
+
+fn start_in<'a>(alloc: Global, asked: &Asked<'a>, scope: &Scope<'a>) -> Result<Tally, Memory>
+    ensures { IfOk result (λ tally. tally ≡ tally_start_in scope.now (ask_of asked.now)) }
+{
+    match asked {
+        Asked::Total(which, _) => Ok(Tally::start(*which)),
+        Asked::Part(part) => Ok(Tally::First(value_in(alloc, part, scope)?)),
+        Asked::FirstAlias => Ok(Tally::First(first_in(alloc, scope)?)),
+    }
 }
 
 /// One value more for each tally.

@@ -2,7 +2,7 @@ ghost use Rattle.std.specs.Prelude.{◌≡◌, false};
 ghost use Rattle.ax_mean.specs.declared.value.Value.TheVariants.{Defined};
 ghost use Rattle.ax_mean.specs.Values.{number_of as number_held};
 ghost use Rattle.ax_group.specs.Tallies.{start as tally_start, one_more as count_more, sum_more as sum_tally, least_more as least_tally, greatest_more as greatest_tally, with_tree as tally_with_tree, tally_with, value_of};
-ghost use Rattle.ax_group.specs.Totals.{counted as count_value, is_composed as composed_value, lesser as lesser_value, greater as greater_value};
+ghost use Rattle.ax_result.specs.Totals.{counted as count_value, is_composed as composed_value, lesser as lesser_value, greater as greater_value};
 
 use crate::exact_sum::ExactSum;
 use crate::scalar::{compare_scalar, is_above, is_composed};
@@ -21,6 +21,8 @@ pub enum Tally {
     Least(Value),
     /// The greatest value, undefined before the first.
     Greatest(Value),
+    /// A value of the first row, whatever comes.
+    First(Value),
     /// Undefined whatever comes.
     Undefined,
 }
@@ -56,6 +58,10 @@ impl Tally {
             Tally::Sum(sum) => sum_more(sum, &tree),
             Tally::Least(best) => least_more(best, tree),
             Tally::Greatest(best) => greatest_more(best, tree),
+            Tally::First(value) => {
+                drop(tree);
+                Tally::First(value)
+            }
             Tally::Undefined => Tally::Undefined,
         }
     }
@@ -69,6 +75,7 @@ impl Tally {
             Tally::Sum(sum) => summed(sum),
             Tally::Least(best) => best,
             Tally::Greatest(best) => best,
+            Tally::First(value) => value,
             Tally::Undefined => Value::Undefined,
         }
     }

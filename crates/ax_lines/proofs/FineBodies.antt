@@ -85,14 +85,14 @@ written_given most (Some t) fine =
 
 with_given : (most : ℕ) (ms : List (Member tree.Tree)) (m : Member tree.Tree)
     → AllByRecursion (IsGiven most) ms → IsGiven most m
-    → AllByRecursion (IsGiven most) (spec.with_member ms m)
+    → AllByRecursion (IsGiven most) (spec.with_parameter ms m)
 with_given most [] m all one = (one, tt)
 with_given most (first ∷ rest) m all one =
     by_order (slice_cmp nat_cmp m.name first.name) (with_given most rest m all.1 one)
   where
-    by_order : (o : Ordering) → AllByRecursion (IsGiven most) (spec.with_member rest m)
+    by_order : (o : Ordering) → AllByRecursion (IsGiven most) (spec.with_parameter rest m)
         → AllByRecursion (IsGiven most) (match_ordering o (m ∷ first ∷ rest)
-        (record { name = first.name; value = m.value } ∷ rest) (first ∷ spec.with_member rest m))
+        (record { name = first.name; value = m.value } ∷ rest) (first ∷ spec.with_parameter rest m))
     by_order Less later = (one, all)
     by_order Equal later =
         (record { utf8 = all.0.utf8; named = all.0.named; value = one.value }, all.1)
@@ -100,10 +100,10 @@ with_given most (first ∷ rest) m all one =
 
 by_name_given : (most : ℕ) (done written : List (Member tree.Tree))
     → AllByRecursion (IsGiven most) done → AllByRecursion (IsGiven most) written
-    → AllByRecursion (IsGiven most) (fold spec.with_member done written)
+    → AllByRecursion (IsGiven most) (fold spec.with_parameter done written)
 by_name_given most done [] before later = before
 by_name_given most done (m ∷ written) before later =
-    by_name_given most (spec.with_member done m) written (with_given most done m before later.0)
+    by_name_given most (spec.with_parameter done m) written (with_given most done m before later.0)
     later.1
 
 before_from_Greater : (m n : List ℕ) → slice_cmp nat_cmp m n ≡ Greater → is_before n m ≡ true
@@ -113,7 +113,7 @@ before_from_Greater m n e =
 -- one more member keeps the names rising, behind a name that is before both
 under : (n : List ℕ) (ms : List (Member tree.Tree)) (m : Member tree.Tree)
     → is_rising (n ∷ names ms) ≡ true → is_before n m.name ≡ true
-    → is_rising (n ∷ names (spec.with_member ms m)) ≡ true
+    → is_rising (n ∷ names (spec.with_parameter ms m)) ≡ true
 under n [] m rising before = ap (λ b. b && true) before
 under n (first ∷ rest) m rising before =
     by_order (slice_cmp nat_cmp m.name first.name) refl
@@ -121,9 +121,9 @@ under n (first ∷ rest) m rising before =
     (before_from_Greater m.name first.name greater))
   where
     by_order : (o : Ordering) → slice_cmp nat_cmp m.name first.name ≡ o
-        → (o ≡ Greater → is_rising (first.name ∷ names (spec.with_member rest m)) ≡ true)
+        → (o ≡ Greater → is_rising (first.name ∷ names (spec.with_parameter rest m)) ≡ true)
         → is_rising (n ∷ names (match_ordering o (m ∷ first ∷ rest)
-        (record { name = first.name; value = m.value } ∷ rest) (first ∷ spec.with_member rest m)))
+        (record { name = first.name; value = m.value } ∷ rest) (first ∷ spec.with_parameter rest m)))
         ≡ true
     by_order Less is later =
         ap₂ (λ a b. a && b) before (ap₂ (λ a b. a && b) (ap is_lt is)
@@ -133,22 +133,22 @@ under n (first ∷ rest) m rising before =
         ap₂ (λ a b. a && b) (and_first (is_before n first.name) _ rising) (later refl)
 
 with_rising : (ms : List (Member tree.Tree)) (m : Member tree.Tree) → HaveRisingNames ms
-    → HaveRisingNames (spec.with_member ms m)
+    → HaveRisingNames (spec.with_parameter ms m)
 with_rising [] m rising = refl
 with_rising (first ∷ rest) m rising = by_order (slice_cmp nat_cmp m.name first.name) refl
   where
     by_order : (o : Ordering) → slice_cmp nat_cmp m.name first.name ≡ o
         → HaveRisingNames (match_ordering o (m ∷ first ∷ rest)
-        (record { name = first.name; value = m.value } ∷ rest) (first ∷ spec.with_member rest m))
+        (record { name = first.name; value = m.value } ∷ rest) (first ∷ spec.with_parameter rest m))
     by_order Less is = ap₂ (λ a b. a && b) (ap is_lt is) rising
     by_order Equal is = rising
     by_order Greater is = under first.name rest m rising (before_from_Greater m.name first.name is)
 
 pub by_name_rising : (done written : List (Member tree.Tree)) → HaveRisingNames done
-    → HaveRisingNames (fold spec.with_member done written)
+    → HaveRisingNames (fold spec.with_parameter done written)
 by_name_rising done [] rising = rising
 by_name_rising done (m ∷ written) rising =
-    by_name_rising (spec.with_member done m) written (with_rising done m rising)
+    by_name_rising (spec.with_parameter done m) written (with_rising done m rising)
 
 -- ---- the map of them
 

@@ -10,7 +10,7 @@ use Rattle.std.proofs.lemmas.Slice.Eq.{bytes_eq-Decides}
 use Rattle.ax_tree.specs.Document.{value_of}
 use Rattle.ax_tree.specs.declared.members.Member.{Member}
 use Rattle.ax_tree.specs.declared.tree.Tree.{Tree}
-use Rattle.ax_lines.specs.Bodies.{with_member, by_name}
+use Rattle.ax_lines.specs.Bodies.{with_parameter, by_name}
 
 -- the value of a name, where this one may come before others
 abbrev pub unless_it : List ℕ → List ℕ → Tree → Option Tree → Option Tree
@@ -49,15 +49,15 @@ apart_from_Greater a b name e first second =
     true≢false (sym ((bytes_eq-Decides a b).1 same) ∙ sym (is_eq-slice_cmp a b) ∙ ap is_eq e)
 
 pub found : (name : List ℕ) (ms : List (Member Tree)) (m : Member Tree)
-    → value_of name (with_member ms m) ≡ unless_it m.name name m.value (value_of name ms)
+    → value_of name (with_parameter ms m) ≡ unless_it m.name name m.value (value_of name ms)
 found name [] m = head name m []
 found name (first ∷ rest) m =
     by_order (slice_cmp nat_cmp m.name first.name) refl (found name rest m)
   where
     by_order : (o : Ordering) → slice_cmp nat_cmp m.name first.name ≡ o
-        → value_of name (with_member rest m) ≡ unless_it m.name name m.value (value_of name rest)
+        → value_of name (with_parameter rest m) ≡ unless_it m.name name m.value (value_of name rest)
         → value_of name (match_ordering o (m ∷ first ∷ rest)
-        (record { name = first.name; value = m.value } ∷ rest) (first ∷ with_member rest m))
+        (record { name = first.name; value = m.value } ∷ rest) (first ∷ with_parameter rest m))
         ≡ unless_it m.name name m.value (value_of name (first ∷ rest))
     by_order Less is later = head name m (first ∷ rest)
     by_order Equal is later =
@@ -70,7 +70,7 @@ found name (first ∷ rest) m =
         (same_from_Equal m.name first.name is)
         ∙ ap (unless_it m.name name m.value) (sym (head name first rest))
     by_order Greater is later =
-        head name first (with_member rest m)
+        head name first (with_parameter rest m)
         ∙ ap (unless_it first.name name first.value) later
         ∙ swapped (bytes_eq first.name name) (bytes_eq m.name name) (Some first.value)
         (Some m.value) (value_of name rest) (apart_from_Greater m.name first.name name is)
@@ -80,5 +80,5 @@ pub last_counts : (name : List ℕ) (written : List (Member Tree)) (m : Member T
     → value_of name (by_name (written ++ m ∷ []))
     ≡ unless_it m.name name m.value (value_of name (by_name written))
 last_counts name written m =
-    ap (value_of name) (fold-append with_member [] written (m ∷ []))
+    ap (value_of name) (fold-append with_parameter [] written (m ∷ []))
     ∙ found name (by_name written) m

@@ -15,7 +15,7 @@ use Rattle.ax_tree.specs.Rising.{is_rising}
 use Rattle.ax_tree.specs.declared.members.Member.{Member}
 use Rattle.ax_tree.specs.declared.tree.Tree.{Tree}
 use Rattle.ax_text.specs.TreeOf.{both}
-use Rattle.ax_lines.specs.Bodies.{parameter, parameters, with_member}
+use Rattle.ax_lines.specs.Bodies.{parameter, parameters, with_parameter}
 
 abbrev pub Entry : Type 0
 Entry = String Global × Tree
@@ -44,7 +44,7 @@ by_order Greater a b e c = refl
 
 pub inserted : (entries : List Entry) (k : String Global) (value : Tree)
     → members_of (insert_entry string_cmp entries k value)
-    ≡ with_member (members_of entries) (record { name = string_bytes k; value = value })
+    ≡ with_parameter (members_of entries) (record { name = string_bytes k; value = value })
 inserted [] k value = refl
 inserted (e ∷ entries) k value =
     by_order (string_cmp k e.0) ((k, value) ∷ e ∷ entries) ((e.0, value) ∷ entries) e
@@ -56,11 +56,11 @@ inserted (e ∷ entries) k value =
 
 -- the map of the parameters so far and of those that are written after them
 abbrev pub and_then_written : List Entry → Option (List (Member Tree)) → Option (List (Member Tree))
-and_then_written entries rest = option_map (fold with_member (members_of entries)) rest
+and_then_written entries rest = option_map (fold with_parameter (members_of entries)) rest
 
 one_more : (done : List (Member Tree)) (m : Member Tree) (rest : Option (List (Member Tree)))
-    → option_map (fold with_member done) (both (Some m) rest)
-    ≡ option_map (fold with_member (with_member done m)) rest
+    → option_map (fold with_parameter done) (both (Some m) rest)
+    ≡ option_map (fold with_parameter (with_parameter done m)) rest
 one_more done m None = refl
 one_more done m (Some l) = refl
 
@@ -68,12 +68,12 @@ one_more done m (Some l) = refl
 pub more : (all : Option (List (Member Tree))) (old new : List Entry) (items rest : List Tree)
     (item : Tree) (m : Member Tree)
     → and_then_written old (parameters items) ≡ all → items ≡ item ∷ rest
-    → parameter item ≡ Some m → members_of new ≡ with_member (members_of old) m
+    → parameter item ≡ Some m → members_of new ≡ with_parameter (members_of old) m
     → and_then_written new (parameters rest) ≡ all
 more all old new items rest item m made first is entries =
-    ap (λ l. option_map (fold with_member l) (parameters rest)) entries
+    ap (λ l. option_map (fold with_parameter l) (parameters rest)) entries
     ∙ sym (one_more (members_of old) m (parameters rest))
-    ∙ ap (λ o. option_map (fold with_member (members_of old)) (both o (parameters rest))) (sym is)
+    ∙ ap (λ o. option_map (fold with_parameter (members_of old)) (both o (parameters rest))) (sym is)
     ∙ ap (λ l. and_then_written old (parameters l)) (sym first)
     ∙ made
 

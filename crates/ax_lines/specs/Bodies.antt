@@ -73,17 +73,17 @@ written_parameters None = Some []
 written_parameters (Some tree) = option_and_then parameters (list_value tree)
 
 -- the members, whose names rise, and with them one more, which counts where its name is there
-abbrev pub with_member : List (Member Tree) → Member Tree → List (Member Tree)
-with_member [] m = m ∷ []
-with_member (first ∷ rest) m =
+abbrev pub with_parameter : List (Member Tree) → Member Tree → List (Member Tree)
+with_parameter [] m = m ∷ []
+with_parameter (first ∷ rest) m =
     match_ordering (slice_cmp nat_cmp m.name first.name)
     (m ∷ first ∷ rest)
     (record { name = first.name; value = m.value } ∷ rest)
-    (first ∷ with_member rest m)
+    (first ∷ with_parameter rest m)
 
 -- the map from names to values: of a repeated name the last counts
 abbrev pub by_name : List (Member Tree) → List (Member Tree)
-by_name written = fold with_member [] written
+by_name written = fold with_parameter [] written
 
 -- ---- the body
 

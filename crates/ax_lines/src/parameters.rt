@@ -35,7 +35,7 @@ pub(crate) fn parameters_from(
 fn put(values: &mut BTreeMap<String, Tree>, parameter: Member<Tree>) -> Result<(), Memory>
     ensures { OnOk result
         (map (λ e. record { name = string_bytes e.0; value = e.1 }) values.new.entries
-        ≡ spec.with_member
+        ≡ spec.with_parameter
         (map (λ e. record { name = string_bytes e.0; value = e.1 }) values.old.entries) parameter) }
 {
     let Member { name, value } = parameter;

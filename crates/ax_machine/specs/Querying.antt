@@ -8,7 +8,7 @@ use Rattle.ax_mean.specs.declared.query.Order.{Order}
 use Rattle.ax_mean.specs.declared.query.Query.{Query}
 use Rattle.ax_mean.specs.declared.query.Step.{Step}
 use Rattle.ax_mean.specs.declared.query.Step.TheVariants.{Name, Item}
-use Rattle.ax_answer.specs.Answers.{answer_of}
+use Rattle.ax_result.specs.Answers.{answer_of}
 use Rattle.ax_grammar.specs.Query.{query_in}
 use Rattle.ax_container.specs.Container.{Container}
 use Rattle.ax_lines.specs.declared.body.Body.{Body}

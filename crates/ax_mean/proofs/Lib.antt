@@ -1,2 +1,4 @@
+pub mod AggregateParts
+pub mod ByParts
 pub mod OneValue
 pub mod SameTrees

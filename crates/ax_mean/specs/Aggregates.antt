@@ -3,7 +3,7 @@ use Rattle.std.specs.Prelude.{List, [], ◌∷◌, Bool, true, false, ◌||◌}
 use Rattle.std.specs.List.{list_any}
 use Rattle.ax_tree.specs.declared.members.Member.{Member}
 use Rattle.ax_mean.specs.declared.expr.Chained.{Chained}
-use Rattle.ax_mean.specs.declared.expr.Expr.{Expr, fold-Expr}
+use Rattle.ax_mean.specs.declared.expr.Expr.{Expr, fold-Expr, out-Expr}
 use Rattle.ax_mean.specs.declared.expr.Expr.TheOpen.{Expr-F}
 use Rattle.ax_mean.specs.declared.query.Pick.{Pick}
 use Rattle.ax_mean.specs.declared.query.Pick.TheVariants as pick
@@ -43,6 +43,14 @@ aggregate_level (Expr-F.Object members) = any_value members
 
 abbrev pub has_aggregate : Expr → Bool
 has_aggregate = fold-Expr Bool aggregate_level
+
+-- the expression is itself an aggregate
+abbrev pub is_total_level : {X : Type 0} → Expr-F X → Bool
+is_total_level (Expr-F.Total aggregate a) = true
+is_total_level _ = false
+
+abbrev pub is_total : Expr → Bool
+is_total e = is_total_level (out-Expr e)
 
 -- an operand of a chain, and a member, with whether it has an aggregate in place of its expression
 abbrev pub operand_flag : Chained Expr → Chained Bool

@@ -17,6 +17,8 @@ pub mod ListFunctions
 pub mod Logic
 pub mod Meaning
 pub mod Operators
+pub mod Parts
+pub mod PartsLeft
 pub mod RowOrder
 pub mod Rows
 pub mod Sameness

@@ -1,5 +1,6 @@
 use crate::boxed::Boxed;
 use crate::operator::{Aggregate, BinaryOp, Func, UnaryOp};
+use crate::shared::Shared;
 use crate::value::Value;
 use ax_tree::{Items, Member, Text};
 
@@ -9,7 +10,7 @@ use ax_tree::{Items, Member, Text};
 #[cycle(expr)]
 #[derive(Debug, Drop)]
 pub enum Expr {
-    Literal(Value),
+    Literal(Shared<Value>),
     /// The value that FROM or JOIN binds to the name.
     Alias(Text),
     /// `e.name`, `e["name"]`, `e[3]`, one step after another.

@@ -5,11 +5,14 @@
 //! its one contract is the laws of the value order.
 #![tactic(auto)]
 
+mod aggregates;
 mod boxed;
 mod expr;
 pub mod laws;
 mod operator;
+mod parts;
 mod query;
+mod shared;
 mod value;
 
 pub use ax_tree::{
@@ -19,8 +22,10 @@ pub use ax_tree::{
 pub use boxed::Boxed;
 pub use expr::{Chained, Expr, ExprList, MemberList, OpChain, QueryStep, StepList};
 pub use operator::{Aggregate, BinaryOp, Func, UnaryOp};
+pub use parts::Parts;
 pub use query::{
     FromItem, FromList, KeyedRow, Named, NamedList, Order, OrderList, Path, Pick, PlaceList, Query,
     Step,
 };
+pub use shared::Shared;
 pub use value::{Value, ValueList};

@@ -1,4 +1,5 @@
 pub mod At
+pub mod Given
 pub mod Levels
 pub mod Names
 pub mod Seen

@@ -47,13 +47,13 @@ impl Parser<'_> {
         let (first, rest) = lexemes.split().ok_or(ParseFault::Text)?;
         match first {
             Lexeme::Name(word) => self.named(depth, word, rest),
-            Lexeme::Keyword(which, _) => constant(which, rest),
-            Lexeme::Parameter(word) => parameter(self.alloc, self.params, word, rest),
+            Lexeme::Keyword(which, _) => constant(self.alloc, which, rest),
+            Lexeme::Parameter(word) => parameter(self.params, word, rest),
             Lexeme::Text(text) => {
                 let value = text_of(self.alloc, text)?;
-                Ok((build::literal(Tree::Text(value)), rest))
+                Ok((build::literal(self.alloc, Tree::Text(value))?, rest))
             }
-            Lexeme::Number(digits) => number(digits, rest),
+            Lexeme::Number(digits) => number(self.alloc, digits, rest),
             Lexeme::Symbol(which) => self.bracketed(depth, which, rest),
             Lexeme::Nothing(_) => Err(ParseFault::Text),
         }

@@ -7,23 +7,35 @@ ghost use Rattle.ax_parse.specs.Levels.{chain_variant, operated_variant};
 
 use crate::level::{Chain, Operated};
 use ax_mean::{
-    Aggregate, BinaryOp, Boxed, Expr, ExprList, Items, Memory, OpChain, StepList, Tree, UnaryOp,
-    Value,
+    Aggregate, BinaryOp, Boxed, Expr, ExprList, Items, Memory, OpChain, Shared, StepList, Tree,
+    UnaryOp, Value,
 };
 use std::alloc::Global;
 
-pub(crate) fn literal(value: Tree) -> Expr
-    ensures { result ≡ literal value }
+pub(crate) fn literal(alloc: Global, value: Tree) -> Result<Expr, Memory>
+    ensures { IfOk result (λ built. built ≡ literal value) }
 {
-    Expr::Literal(Value::Defined(value))
+    Ok(Expr::Literal(Shared::new(alloc, Value::Defined(value))?))
 }
 
 pub(crate) fn choice(alloc: Global, test: Expr, first: Expr, second: Expr) -> Result<Expr, Memory>
     ensures { IfOk result (λ built. built ≡ expr.Choice test first second) }
 {
-    let test = Boxed::new(alloc, test)?;
-    let first = Boxed::new(alloc, first)?;
-    let second = Boxed::new(alloc, second)?;
+    let Ok(test) = Boxed::new(alloc, test) else {
+        drop(first);
+        drop(second);
+        return Err(Memory);
+    };
+    let Ok(first) = Boxed::new(alloc, first) else {
+        drop(test);
+        drop(second);
+        return Err(Memory);
+    };
+    let Ok(second) = Boxed::new(alloc, second) else {
+        drop(test);
+        drop(first);
+        return Err(Memory);
+    };
     Ok(Expr::Choice(test, first, second))
 }
 
@@ -36,8 +48,14 @@ pub(crate) fn not(alloc: Global, operand: Expr) -> Result<Expr, Memory>
 pub(crate) fn compare(alloc: Global, op: BinaryOp, left: Expr, right: Expr) -> Result<Expr, Memory>
     ensures { IfOk result (λ built. built ≡ expr.Compare op left right) }
 {
-    let left = Boxed::new(alloc, left)?;
-    let right = Boxed::new(alloc, right)?;
+    let Ok(left) = Boxed::new(alloc, left) else {
+        drop(right);
+        return Err(Memory);
+    };
+    let Ok(right) = Boxed::new(alloc, right) else {
+        drop(left);
+        return Err(Memory);
+    };
     Ok(Expr::Compare(op, left, right))
 }
 
@@ -49,7 +67,10 @@ pub(crate) fn among(
 ) -> Result<Expr, Memory>
     ensures { IfOk result (λ built. built ≡ expr.Among negated left items) }
 {
-    let left = Boxed::new(alloc, left)?;
+    let Ok(left) = Boxed::new(alloc, left) else {
+        drop(items);
+        return Err(Memory);
+    };
     Ok(Expr::Among {
         negated,
         left,
@@ -66,9 +87,21 @@ pub(crate) fn between(
 ) -> Result<Expr, Memory>
     ensures { IfOk result (λ built. built ≡ expr.Between negated left low high) }
 {
-    let left = Boxed::new(alloc, left)?;
-    let low = Boxed::new(alloc, low)?;
-    let high = Boxed::new(alloc, high)?;
+    let Ok(left) = Boxed::new(alloc, left) else {
+        drop(low);
+        drop(high);
+        return Err(Memory);
+    };
+    let Ok(low) = Boxed::new(alloc, low) else {
+        drop(left);
+        drop(high);
+        return Err(Memory);
+    };
+    let Ok(high) = Boxed::new(alloc, high) else {
+        drop(left);
+        drop(low);
+        return Err(Memory);
+    };
     Ok(Expr::Between {
         negated,
         left,
@@ -80,8 +113,14 @@ pub(crate) fn between(
 pub(crate) fn like(alloc: Global, negated: bool, left: Expr, pattern: Expr) -> Result<Expr, Memory>
     ensures { IfOk result (λ built. built ≡ expr.Like negated left pattern) }
 {
-    let left = Boxed::new(alloc, left)?;
-    let pattern = Boxed::new(alloc, pattern)?;
+    let Ok(left) = Boxed::new(alloc, left) else {
+        drop(pattern);
+        return Err(Memory);
+    };
+    let Ok(pattern) = Boxed::new(alloc, pattern) else {
+        drop(left);
+        return Err(Memory);
+    };
     Ok(Expr::Like {
         negated,
         left,
@@ -138,7 +177,10 @@ pub(crate) fn operated(
     if more.as_slice().is_empty() {
         return Ok(first);
     }
-    let first = Boxed::new(alloc, first)?;
+    let Ok(first) = Boxed::new(alloc, first) else {
+        drop(more);
+        return Err(Memory);
+    };
     match chain {
         Operated::Sum => Ok(Expr::Sum(first, more)),
         Operated::Product => Ok(Expr::Product(first, more)),

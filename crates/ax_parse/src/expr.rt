@@ -21,9 +21,10 @@ use crate::front::inside;
 use crate::level::{Chain, Level, Operated};
 use crate::lexeme::Rest;
 use crate::mark::{Mark, behind};
+use crate::params::Params;
 use crate::step::Parsed;
 use ax_lex::Symbol;
-use ax_mean::{Expr, Members, Tree};
+use ax_mean::Expr;
 use std::alloc::Global;
 
 /// What is passed on while a query is read.
@@ -31,7 +32,7 @@ use std::alloc::Global;
 pub(crate) struct Parser<'p> {
     pub(crate) alloc: Global,
     /// The parameters; their names have the `@`.
-    pub(crate) params: &'p Members<Tree>,
+    pub(crate) params: &'p Params,
 }
 
 impl Parser<'_> {

@@ -19,6 +19,7 @@ mod level;
 mod lexeme;
 mod lists;
 mod mark;
+mod params;
 mod parsing;
 mod pick;
 mod plain;

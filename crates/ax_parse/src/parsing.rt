@@ -12,9 +12,10 @@ ghost use Rattle.ax_parse.specs.Reads.{IsValue};
 use crate::expr::Parser;
 use crate::fault::ParseFault;
 use crate::lexeme::{Rest, lexemes};
+use crate::params::Params;
 use crate::query::written;
 use ax_lex::{Token, tokens};
-use ax_mean::{Members, Query, Tree};
+use ax_mean::{Members, Memory, Query, Tree};
 use ax_scope::{Written, made, obeys_rules};
 use std::alloc::Global;
 
@@ -49,7 +50,11 @@ fn from_tokens(
         (read_written params.now (lexemes_of text.now tokens.now))) }
 {
     let lexemes = lexemes(alloc, text, tokens)?;
-    let parser = Parser { alloc, params };
+    let params = Params::of(alloc, params)?;
+    let parser = Parser {
+        alloc,
+        params: &params,
+    };
     let written = written(&parser, Rest::of(&lexemes))?;
     allowed(alloc, written)
 }
@@ -58,8 +63,15 @@ fn from_tokens(
 fn allowed(alloc: Global, written: Written) -> Result<Query, ParseFault>
     ensures { IsValue result (query_written (Some (written_of written))) }
 {
-    if !obeys_rules(alloc, &written)? {
-        return Err(ParseFault::Text);
+    match obeys_rules(alloc, &written) {
+        Ok(true) => Ok(made(alloc, written)?),
+        Ok(false) => {
+            drop(written);
+            Err(ParseFault::Text)
+        }
+        Err(Memory) => {
+            drop(written);
+            Err(ParseFault::Memory)
+        }
     }
-    Ok(made(alloc, written)?)
 }

@@ -2,6 +2,8 @@
 
 ghost use Rattle.std.specs.Prelude.{◌≡◌, Some, map};
 ghost use Rattle.ax_lex.specs.declared.symbol.Symbol.TheVariants.{Comma};
+ghost use Rattle.ax_tree.specs.declared.tree.Tree.{Tree};
+ghost use Rattle.ax_mean.specs.declared.value.Value.TheVariants.{Defined};
 ghost use Rattle.ax_grammar.specs.ExprReader.{read_expr};
 ghost use Rattle.ax_grammar.specs.QueryReader.{may_name, read_count, read_distinct, read_item, read_naming, read_pick, read_top};
 ghost use Rattle.ax_grammar.specs.Reading.{all_turns, marked, parted, take_name};
@@ -19,9 +21,9 @@ use crate::level::Level;
 use crate::lexeme::{Lexeme, Rest};
 use crate::mark::{Mark, behind};
 use crate::step::{Parsed, Turned};
-use crate::value::{copy_of, count as count_in, parameter_of};
+use crate::value::{copy_of, count as count_in};
 use ax_lex::{Keyword, Symbol};
-use ax_mean::{Expr, Items, Text, Tree};
+use ax_mean::{Expr, Items, Text, Tree, Value};
 use ax_scope::{Item, ItemList, Picked};
 use std::alloc::Global;
 
@@ -45,8 +47,8 @@ pub(crate) fn count<'a>(parser: &Parser<'_>, lexemes: Rest<'a>) -> Parsed<'a, u3
             Ok((number, rest))
         }
         Some((Lexeme::Parameter(word), rest)) => {
-            let value = parameter_of(parser.params, word)?;
-            let number = count_of(value).ok_or(ParseFault::Text)?;
+            let value = parser.params.value_of(word)?;
+            let number = count_of(value.get()).ok_or(ParseFault::Text)?;
             Ok((number, rest))
         }
         _ => Err(ParseFault::Text),
@@ -54,11 +56,11 @@ pub(crate) fn count<'a>(parser: &Parser<'_>, lexemes: Rest<'a>) -> Parsed<'a, u3
 }
 
 /// The count that a value is.
-fn count_of(value: &Tree) -> Option<u32>
-    ensures { result ≡ count_of value.now }
+fn count_of(value: &Value) -> Option<u32>
+    ensures { (tree : Tree) → value.now ≡ Defined tree → result ≡ count_of tree }
 {
     match value {
-        Tree::Number(number) => u32::try_from(*number).ok(),
+        Value::Defined(Tree::Number(number)) => u32::try_from(*number).ok(),
         _ => None,
     }
 }
@@ -141,8 +143,13 @@ fn items<'a>(parser: &Parser<'_>, lexemes: Rest<'a>) -> Parsed<'a, ItemList>
         (read_item parser.now.params.now) (rest_said lexemes.entry)) }
 {
     let (first, rest) = item(parser, lexemes)?;
-    let (more, rest) = more_items(parser, rest)?;
-    Ok((build::joined(first, more)?, rest))
+    match more_items(parser, rest) {
+        Ok((more, rest)) => Ok((build::joined(first, more)?, rest)),
+        Err(fault) => {
+            drop(first);
+            Err(fault)
+        }
+    }
 }
 
 /// `{"," item}`
@@ -179,6 +186,11 @@ fn item<'a>(parser: &Parser<'_>, lexemes: Rest<'a>) -> Parsed<'a, Item>
         (read_item parser.now.params.now (rest_said lexemes.entry)) }
 {
     let (expr, rest) = expression(parser, lexemes)?;
-    let (name, rest) = naming(parser.alloc, rest)?;
-    Ok((Item { expr, name }, rest))
+    match naming(parser.alloc, rest) {
+        Ok((name, rest)) => Ok((Item { expr, name }, rest)),
+        Err(fault) => {
+            drop(expr);
+            Err(fault)
+        }
+    }
 }

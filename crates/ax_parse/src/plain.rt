@@ -16,10 +16,11 @@ use crate::build;
 use crate::fault::ParseFault;
 use crate::lexeme::Rest;
 use crate::mark::{Mark, expect};
+use crate::params::Params;
 use crate::step::{Parsed, steps};
-use crate::value::{constant_of, literal_number, parameter_of};
+use crate::value::{constant_of, literal_number};
 use ax_lex::Keyword;
-use ax_mean::{Expr, Members, Tree};
+use ax_mean::{Expr, Tree};
 use std::alloc::Global;
 
 /// The value, where the mark stands behind it.
@@ -35,6 +36,7 @@ pub(crate) fn alone<'a>(negated: bool, operand: Expr, lexemes: Rest<'a>) -> Pars
     ensures { Reads result (alone negated operand (rest_said lexemes.entry)) }
 {
     if negated {
+        drop(operand);
         return Err(ParseFault::Text);
     }
     Ok((operand, lexemes))
@@ -44,35 +46,35 @@ pub(crate) fn alone<'a>(negated: bool, operand: Expr, lexemes: Rest<'a>) -> Pars
 pub(crate) fn stepped<'a>(alloc: Global, first: Expr, lexemes: Rest<'a>) -> Parsed<'a, Expr>
     ensures { Reads result (changed (stepped_of first) (read_steps (rest_said lexemes.entry))) }
 {
-    let (steps, rest) = steps(alloc, lexemes)?;
-    Ok((build::stepped(alloc, first, steps)?, rest))
+    match steps(alloc, lexemes) {
+        Ok((steps, rest)) => Ok((build::stepped(alloc, first, steps)?, rest)),
+        Err(fault) => {
+            drop(first);
+            Err(fault)
+        }
+    }
 }
 
-pub(crate) fn constant<'a>(which: Keyword, lexemes: Rest<'a>) -> Parsed<'a, Expr>
+pub(crate) fn constant<'a>(alloc: Global, which: Keyword, lexemes: Rest<'a>) -> Parsed<'a, Expr>
     ensures { Reads result
         (option_map (λ x. (x, rest_said lexemes.entry)) (constant_of which)) }
 {
-    Ok((constant_of(which)?, lexemes))
+    Ok((constant_of(alloc, which)?, lexemes))
 }
 
 /// The value of a parameter, by the word behind its `@`.
-pub(crate) fn parameter<'a>(
-    alloc: Global,
-    params: &Members<Tree>,
-    word: &str,
-    lexemes: Rest<'a>,
-) -> Parsed<'a, Expr>
+pub(crate) fn parameter<'a>(params: &Params, word: &str, lexemes: Rest<'a>) -> Parsed<'a, Expr>
     ensures { Reads result (option_map (λ value. (literal value, rest_said lexemes.entry))
         (parameter_of params.now word.now)) }
 {
-    let value = parameter_of(params, word)?;
-    Ok((build::literal(value.copy(alloc)?), lexemes))
+    let value = params.value_of(word)?;
+    Ok((Expr::Literal(value.share()?), lexemes))
 }
 
-pub(crate) fn number<'a>(digits: &[u8], lexemes: Rest<'a>) -> Parsed<'a, Expr>
+pub(crate) fn number<'a>(alloc: Global, digits: &[u8], lexemes: Rest<'a>) -> Parsed<'a, Expr>
     ensures { Reads result (provided (nat_le (number_of digits.now) greatest_literal)
         (Some (literal (tree.Number (pos (number_of digits.now))), rest_said lexemes.entry))) }
 {
     let value = literal_number(digits)?;
-    Ok((build::literal(Tree::Number(value)), lexemes))
+    Ok((build::literal(alloc, Tree::Number(value))?, lexemes))
 }

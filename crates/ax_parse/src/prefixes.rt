@@ -86,7 +86,7 @@ impl Parser<'_> {
     {
         if begins_least(op, lexemes) {
             let (_, rest) = lexemes.split().ok_or(ParseFault::Text)?;
-            return Ok((build::literal(Tree::Number(i64::MIN)), rest));
+            return Ok((build::literal(self.alloc, Tree::Number(i64::MIN))?, rest));
         }
         let (operand, rest) = self.level(depth, Level::Sign, lexemes)?;
         Ok((build::sign(self.alloc, op, operand)?, rest))

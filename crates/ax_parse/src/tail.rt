@@ -28,7 +28,10 @@ pub(crate) fn to_the_end(parser: &Parser<'_>, lexemes: Rest<'_>) -> Result<Tail,
 {
     let (tail, rest) = behind_joins(parser, lexemes)?;
     match rest.split() {
-        Some(_) => Err(ParseFault::Text),
+        Some(_) => {
+            drop(tail);
+            Err(ParseFault::Text)
+        }
         None => Ok(tail),
     }
 }
@@ -39,9 +42,30 @@ fn behind_joins<'a>(parser: &Parser<'_>, lexemes: Rest<'a>) -> Parsed<'a, Tail>
         (read_tail parser.now.params.now head (rest_said lexemes.entry)) }
 {
     let (condition, rest) = condition(parser, lexemes)?;
-    let (groups, rest) = groups(parser, rest)?;
-    let (orders, rest) = orders(parser.alloc, rest)?;
-    let (window, rest) = window(parser, rest)?;
+    let (groups, rest) = match groups(parser, rest) {
+        Ok(read) => read,
+        Err(fault) => {
+            drop(condition);
+            return Err(fault);
+        }
+    };
+    let (orders, rest) = match orders(parser.alloc, rest) {
+        Ok(read) => read,
+        Err(fault) => {
+            drop(condition);
+            drop(groups);
+            return Err(fault);
+        }
+    };
+    let (window, rest) = match window(parser, rest) {
+        Ok(read) => read,
+        Err(fault) => {
+            drop(condition);
+            drop(groups);
+            drop(orders);
+            return Err(fault);
+        }
+    };
     let tail = Tail {
         condition,
         groups,

@@ -1,18 +1,16 @@
 //! The values of words, texts and numbers.
 
-ghost use Rattle.std.specs.Prelude.{◌≡◌, ◌≤◌, ◌==◌, ◌∷◌, Some, None, IfOk, Err, nat_le, pos, if◌then◌else◌};
-ghost use Rattle.std.specs.Str.{bytes_eq};
+ghost use Rattle.std.specs.Prelude.{◌≡◌, ◌≤◌, ◌==◌, Some, None, IfOk, Err, nat_le, pos, if◌then◌else◌};
 ghost use Rattle.ax_grammar.specs.ExprReader.{constant_of};
 ghost use Rattle.std.specs.Option.{SomeIff};
 ghost use Rattle.ax_lex.specs.Lexemes.{text_of};
 ghost use Rattle.ax_lex.specs.Tokens.{number_of};
-ghost use Rattle.ax_grammar.specs.Tables.{greatest_count, greatest_literal, least_magnitude, parameter_of};
-ghost use Rattle.ax_parse.specs.Reads.{IsValue, Values};
+ghost use Rattle.ax_grammar.specs.Tables.{greatest_u32, greatest_literal, least_magnitude};
+ghost use Rattle.ax_parse.specs.Reads.{IsValue};
 
-use crate::build;
 use crate::fault::ParseFault;
 use ax_lex::{Keyword, number, text_value};
-use ax_mean::{Expr, Members, Memory, Text, Tree, Value};
+use ax_mean::{Expr, Memory, Shared, Text, Tree, Value};
 use std::alloc::Global;
 
 /// The greatest number of a position or a count.
@@ -39,7 +37,7 @@ pub(crate) fn text_of(alloc: Global, bytes: &[u8]) -> Result<Text, ParseFault>
 
 /// The number that may be a position or a count.
 pub(crate) fn count(digits: &[u8]) -> Option<u32>
-    ensures { SomeIff result (number_of digits.now ≤ greatest_count) (number_of digits.now) }
+    ensures { SomeIff result (number_of digits.now ≤ greatest_u32) (number_of digits.now) }
 {
     let value = number(digits, GREATEST_COUNT)?;
     u32::try_from(value).ok()
@@ -67,39 +65,15 @@ pub(crate) fn is_least(digits: &[u8]) -> bool
 }
 
 /// The constant that a keyword is.
-pub(crate) fn constant_of(which: Keyword) -> Result<Expr, ParseFault>
+pub(crate) fn constant_of(alloc: Global, which: Keyword) -> Result<Expr, ParseFault>
     ensures { IsValue result (constant_of which) }
 {
-    match which {
-        Keyword::Null => Ok(build::literal(Tree::Null)),
-        Keyword::True => Ok(build::literal(Tree::Truth(true))),
-        Keyword::False => Ok(build::literal(Tree::Truth(false))),
-        Keyword::Undefined => Ok(Expr::Literal(Value::Undefined)),
-        _ => Err(ParseFault::Text),
-    }
-}
-
-/// The value of a parameter, by the word behind its `@`.
-pub(crate) fn parameter_of<'p>(
-    params: &'p Members<Tree>,
-    word: &str,
-) -> Result<&'p Tree, ParseFault>
-    ensures { Values result (parameter_of params.now word.now) }
-{
-    for member in params.as_slice() {
-        if is_parameter(member.name.as_str(), word) {
-            return Ok(&member.value);
-        }
-    }
-    Err(ParseFault::Text)
-}
-
-/// Is the name the `@` and the word?
-fn is_parameter(name: &str, word: &str) -> bool
-    ensures { result ≡ bytes_eq name.now (64 ∷ word.now) }
-{
-    match name.as_bytes().split_first() {
-        Some((b'@', rest)) => rest == word.as_bytes(),
-        _ => false,
-    }
+    let value = match which {
+        Keyword::Null => Value::Defined(Tree::Null),
+        Keyword::True => Value::Defined(Tree::Truth(true)),
+        Keyword::False => Value::Defined(Tree::Truth(false)),
+        Keyword::Undefined => Value::Undefined,
+        _ => return Err(ParseFault::Text),
+    };
+    Ok(Expr::Literal(Shared::new(alloc, value)?))
 }

@@ -1,2 +1,2 @@
 mod Parsed
-mod Turns
+mod Rising

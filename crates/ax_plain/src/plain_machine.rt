@@ -24,8 +24,8 @@ const MOST_DOCUMENTS: usize = 1_048_576;
 /// The greatest next number: no document takes it.
 const LAST_NUMBER: u32 = 4_294_967_295;
 
-/// A store that is a list of whole documents, copied at each replacement: slow, and easy to
-/// believe.
+/// A store that is a list of whole documents in the order of their numbers, copied at each
+/// replacement: slow, and easy to believe.
 #[derive(Drop)]
 pub struct PlainMachine {
     documents: Vec<PlainDocument>,
@@ -33,7 +33,7 @@ pub struct PlainMachine {
 }
 
 impl Model for PlainMachine {
-    ghost use Rattle.ax_container.specs.Container.{Container};
+    ghost use Rattle.ax_container.specs.Container.{Container, NumbersRise};
     ghost use Rattle.ax_container.specs.ContainerCode.{container_code};
 
     ghost Value = { Container };
@@ -45,6 +45,8 @@ impl Model for PlainMachine {
       next_number =
           machine.next_number;
     } };
+
+    ghost invariant = { λ machine. NumbersRise 0 machine.documents.items machine.next_number };
 }
 
 impl PlainMachine {

@@ -1,8 +1,10 @@
 //! The rows of a query over whole documents, each looked at in turn.
 ghost use Rattle.std.specs.Prelude.{◌≡◌, ◌<◌, ℕ, List, [], ◌∷◌, ◌++◌, map, IfOk, OnOk};
+ghost use Rattle.std.specs.List.Sorted.{IsStrictlySortedBy};
+ghost use Rattle.std.specs.Ordering.{nat_cmp};
 ghost use Rattle.ax_tree.specs.declared.tree.Tree as trees;
 ghost use Rattle.ax_mean.specs.declared.query.Query as queries;
-ghost use Rattle.ax_answer.specs.Answers.{answer_of};
+ghost use Rattle.ax_result.specs.Answers.{answer_of};
 ghost use Rattle.ax_answer.specs.Gathering.{Gathers};
 ghost use Rattle.ax_grammar.specs.Query.{query_in as query_of};
 
@@ -29,12 +31,13 @@ pub fn query_in(alloc: Global, body: &Body) -> Result<Option<Query>, Memory>
     }
 }
 
-/// The rows that the query answers over these documents.
+/// The rows that the query answers over these documents, which stand in the order of their numbers.
 pub fn answer_rows(
     alloc: Global,
     query: &Query,
     documents: &[PlainDocument],
 ) -> Result<Vec<KeyedRow>, Memory>
+    requires { IsStrictlySortedBy nat_cmp (map (λ entry. entry.number) documents.now) }
     ensures { IfOk result (λ rows. rows.items ≡ answer_of query.now
         (map (λ entry. (entry.number, entry.tree)) documents.now)) }
 {

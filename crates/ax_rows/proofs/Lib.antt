@@ -1,7 +1,12 @@
 pub mod DirectedKeys
+pub mod FrontKept
+pub mod InOrder
+pub mod LeastKept
+pub mod LeastOf
 pub mod Nowhere
 pub mod Places
 pub mod RowSort
 pub mod Seen
 pub mod StableSort
 pub mod Walking
+pub mod Windows

@@ -80,7 +80,7 @@ module _ (cmp : Directed → Directed → Ordering)
       ordering_then (same order.down (first_value xs) (first_value ys) i)
       (keys_same orders (later_values xs) (later_values ys) i)
 
-  ranked_same : (orders : List Order) (a b : KeyedRow)
+  pub ranked_same : (orders : List Order) (a b : KeyedRow)
       → ranked_cmp cmp (ranked orders a) (ranked orders b) ≡ key_cmp orders a b
   ranked_same orders a b =
       ap (λ o. ordering_then o

@@ -10,14 +10,14 @@ use Rattle.ax_tree.specs.CanonicalText.{canonical_text}
 use Rattle.ax_mean.specs.declared.query.KeyedRow.{KeyedRow}
 use Rattle.ax_mean.specs.Answer.{unseen}
 
-abbrev has : BTreeSet (List ℕ) → List ℕ → Bool
+abbrev pub has : BTreeSet (List ℕ) → List ℕ → Bool
 has set text = contains (slice_cmp nat_cmp) set text
 
 or_by : (a b : Bool) → cond a true b ≡ (a || b)
 or_by true b = refl
 or_by false b = refl
 
-has_more : (old new : BTreeSet (List ℕ)) (text other : List ℕ)
+pub has_more : (old new : BTreeSet (List ℕ)) (text other : List ℕ)
     → Updates (slice_cmp nat_cmp) old new text true → has new other ≡ (bytes_eq text other || has old other)
 has_more old new text other u =
     u.0 other ∙ or_by (is_eq (slice_cmp nat_cmp text other)) (has old other)

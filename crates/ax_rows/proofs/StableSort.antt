@@ -39,7 +39,7 @@ module _ {X : Type 0} (cmp : X → X → Ordering) (o : IsStrictWeakOrder (λ x 
   Rises [] = Unit {0}
   Rises (x ∷ xs) = NoneBelow x xs × Rises xs
 
-  lowered : (w x : X) (ys : List X) → lt x w ≡ false → NoneBelow x ys → NoneBelow w ys
+  pub lowered : (w x : X) (ys : List X) → lt x w ≡ false → NoneBelow x ys → NoneBelow w ys
   lowered w x [] h a = tt
   lowered w x (y ∷ ys) h a = (o.chain y x w a.0 h, lowered w x ys h a.1)
 
@@ -81,13 +81,13 @@ module _ {X : Type 0} (cmp : X → X → Ordering) (o : IsStrictWeakOrder (λ x 
   stable_put w x [] = refl
   stable_put w x (y ∷ ys) = stable_by w x y ys (lt y x) refl (stable_put w x ys)
 
-  stable_sorted : (w : X) (xs : List X) → filter (tied w) (sorted cmp xs) ≡ filter (tied w) xs
+  pub stable_sorted : (w : X) (xs : List X) → filter (tied w) (sorted cmp xs) ≡ filter (tied w) xs
   stable_sorted w [] = refl
   stable_sorted w (x ∷ xs) =
       stable_put w x (sorted cmp xs)
       ∙ ap (λ zs. cond (tied w x) (x ∷ zs) zs) (stable_sorted w xs)
 
-  irreflexive : (x : X) → lt x x ≡ false
+  pub irreflexive : (x : X) → lt x x ≡ false
   irreflexive x = irreflexive_by x (lt x x) refl where
     irreflexive_by : (x : X) (b : Bool) → lt x x ≡ b → lt x x ≡ false
     irreflexive_by x true e = o.one_way x x e

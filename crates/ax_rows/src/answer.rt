@@ -15,10 +15,18 @@ pub fn finish(alloc: Global, query: &Query, rows: Vec<KeyedRow>) -> Result<Vec<K
     ensures { IfOk result (λ answer. answer.items ≡ finished query.now rows.items) }
 {
     let rows = ordered(alloc, query, rows)?;
-    let mut rows = told_apart(alloc, query.distinct, rows)?;
-    leave_out(&mut rows, query.skip);
-    cut(&mut rows, query.limit);
-    Ok(rows)
+    let rows = told_apart(alloc, query.distinct, rows)?;
+    Ok(chosen(rows, query.skip, query.limit))
+}
+
+/// The rows that OFFSET and LIMIT choose.
+pub fn chosen(rows: Vec<KeyedRow>, skip: u32, limit: Option<u32>) -> Vec<KeyedRow>
+    ensures { result.items ≡ limited limit (drop skip rows.items) }
+{
+    let mut rows = rows;
+    leave_out(&mut rows, skip);
+    cut(&mut rows, limit);
+    rows
 }
 
 fn ordered(alloc: Global, query: &Query, rows: Vec<KeyedRow>) -> Result<Vec<KeyedRow>, Memory>

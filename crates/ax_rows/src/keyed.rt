@@ -3,6 +3,7 @@ ghost use Rattle.std.specs.Prelude.{◌≡◌, [], IfOk};
 ghost use Rattle.ax_mean.specs.Rows.{keyed_where, order_values as order_values_of};
 ghost use Rattle.ax_rows.specs.Collected.{Collected, none_collected, both_collected};
 
+use crate::flow::Flow;
 use crate::out_of_memory::Memory;
 use crate::parts::order_values;
 use crate::shown::{passes_in, shown_in};
@@ -41,11 +42,11 @@ impl<'a> Taker for KeyedTaker<'a> {
         (keyed_where new.query.now new.number (order_values_of new.query.now new.tree.now))
         new.rows.items };
 
-    fn take(&mut self, alloc: Global, scope: &Scope, place: &[u32]) -> Result<(), Memory> {
+    fn take(&mut self, alloc: Global, scope: &Scope, place: &[u32]) -> Result<Flow, Memory> {
         if let Some(row) = keyed_in(alloc, self.query, self.number, self.tree, scope, place)? {
             self.rows.push(row)?;
         }
-        Ok(())
+        Ok(Flow::More)
     }
 
     ghost none = { λ taker. none_collected _ _ };
@@ -54,7 +55,7 @@ impl<'a> Taker for KeyedTaker<'a> {
 }
 
 /// The row with its key, where it passes WHERE and what it shows is defined.
-fn keyed_in(
+pub fn keyed_in(
     alloc: Global,
     query: &Query,
     number: u32,
@@ -70,11 +71,41 @@ fn keyed_in(
     }
     match shown_in(alloc, &query.pick, scope)? {
         Value::Undefined => Ok(None),
-        Value::Defined(shown) => Ok(Some(KeyedRow {
-            values: order_values(alloc, &query.orders, tree)?,
-            number,
-            place: Items::from_vec(place.to_vec(alloc)?),
-            shown,
-        })),
+        Value::Defined(shown) => {
+            let row = with_key(alloc, query, number, tree, place, shown)?;
+            Ok(Some(row))
+        }
     }
+}
+
+fn with_key(
+    alloc: Global,
+    query: &Query,
+    number: u32,
+    tree: &Tree,
+    place: &[u32],
+    shown: Tree,
+) -> Result<KeyedRow, Memory>
+    ensures { IfOk result (λ row. row ≡ record {
+      values = order_values_of query.now tree.now;
+      number = number;
+      place = place.now;
+      shown = shown;
+    }) }
+{
+    let Ok(values) = order_values(alloc, &query.orders, tree) else {
+        drop(shown);
+        return Err(Memory);
+    };
+    let Ok(place) = place.to_vec(alloc) else {
+        drop(shown);
+        drop(values);
+        return Err(Memory);
+    };
+    Ok(KeyedRow {
+        values,
+        number,
+        place: Items::from_vec(place),
+        shown,
+    })
 }

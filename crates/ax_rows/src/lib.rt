@@ -9,9 +9,12 @@
 
 mod aggregates;
 mod answer;
+mod flow;
+mod front;
 mod key_bytes;
 mod keyed;
 pub mod laws;
+mod least;
 mod out_of_memory;
 mod parts;
 mod passed;
@@ -25,8 +28,13 @@ mod walk;
 
 pub use aggregates::has_groups;
 pub use answer::finish;
+pub use flow::Flow;
+pub use front::FrontRows;
+pub use least::LeastRows;
 pub use out_of_memory::Memory;
 pub use rows::{append_rows, envs_of, rows_of};
+pub use shown::passes_in;
+pub use walk::{Taker, walk_tree};
 
 #[cfg(test)]
 mod tests;

@@ -3,6 +3,7 @@ ghost use Rattle.std.specs.Prelude.{◌≡◌};
 ghost use Rattle.ax_mean.specs.Rows.{env_where};
 ghost use Rattle.ax_rows.specs.Collected.{Collected, none_collected, both_collected};
 
+use crate::flow::Flow;
 use crate::out_of_memory::Memory;
 use crate::shown::passes_in;
 use crate::walk::Taker;
@@ -31,11 +32,11 @@ impl<'a> Taker for EnvTaker<'a> {
         Collected (env_where old.condition.now) old.envs.items rows
         (env_where new.condition.now) new.envs.items };
 
-    fn take(&mut self, alloc: Global, scope: &Scope, _place: &[u32]) -> Result<(), Memory> {
+    fn take(&mut self, alloc: Global, scope: &Scope, _place: &[u32]) -> Result<Flow, Memory> {
         if passes_in(alloc, self.condition, scope)? {
             self.envs.push(scope.to_env(alloc)?)?;
         }
-        Ok(())
+        Ok(Flow::More)
     }
 
     ghost none = { λ taker. none_collected _ _ };

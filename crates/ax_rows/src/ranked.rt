@@ -1,6 +1,7 @@
-ghost use Rattle.std.specs.Prelude.{◌≡◌, IfOk};
+ghost use Rattle.std.specs.Prelude.{◌≡◌, Some, IfOk};
 ghost use Rattle.std.specs.Option.{option_copied};
 ghost use Rattle.ax_mean.specs.RowOrder.{first_value, later_values};
+ghost use Rattle.ax_rows.specs.Least.{is_below, place_cmp};
 ghost use Rattle.ax_rows.specs.SortKeys.{keys_of as keys_made, ranked, ranked_cmp, value_or_undefined};
 
 use crate::out_of_memory::Memory;
@@ -20,8 +21,13 @@ impl Ranked {
     pub fn new(alloc: Global, orders: &OrderList, row: KeyedRow) -> Result<Ranked, Memory>
         ensures { IfOk result (λ made. made ≡ ranked orders.now row) }
     {
-        let keys = keys_of(alloc, orders, &row.values)?;
-        Ok(Ranked { keys, row })
+        match keys_of(alloc, orders, &row.values) {
+            Ok(keys) => Ok(Ranked { keys, row }),
+            Err(fault) => {
+                drop(row);
+                Err(fault)
+            }
+        }
     }
 
     pub fn into_row(self) -> KeyedRow
@@ -36,19 +42,37 @@ impl Ranked {
     pub fn compare(&self, other: &Ranked) -> Ordering
         ensures { result ≡ ranked_cmp ⟦<Directed as Ord>⟧.cmp self.now other.now }
     {
-        match self.keys.as_slice().cmp(other.keys.as_slice()) {
+        other.place_of(&self.keys, self.row.number, self.row.place.as_slice())
+    }
+
+    /// Whether a row with these keys, number and place comes before this one.
+    pub fn follows(&self, keys: &Items<Directed>, number: u32, place: &[u32]) -> bool
+        ensures { result ≡ is_below keys.now number place.now (Some self.now) }
+    {
+        self.place_of(keys, number, place).is_lt()
+    }
+
+    /// How a row with these keys, number and place stands to this one.
+    fn place_of(&self, keys: &Items<Directed>, number: u32, place: &[u32]) -> Ordering
+        ensures { result ≡ place_cmp keys.now number place.now self.now }
+    {
+        match keys.as_slice().cmp(self.keys.as_slice()) {
             Ordering::Equal => {}
             order => return order,
         }
-        match self.row.number.cmp(&other.row.number) {
-            Ordering::Equal => self.row.place.as_slice().cmp(other.row.place.as_slice()),
+        match number.cmp(&self.row.number) {
+            Ordering::Equal => place.cmp(self.row.place.as_slice()),
             order => order,
         }
     }
 }
 
 /// One key for each order.
-fn keys_of(alloc: Global, orders: &OrderList, values: &ValueList) -> Result<Items<Directed>, Memory>
+pub fn keys_of(
+    alloc: Global,
+    orders: &OrderList,
+    values: &ValueList,
+) -> Result<Items<Directed>, Memory>
     ensures { IfOk result (λ keys. keys ≡ keys_made orders.now values.now) }
 {
     let orders = orders.as_slice();

@@ -1,5 +1,5 @@
 //! The rows of a document.
-ghost use Rattle.std.specs.Prelude.{◌≡◌, ◌+◌, [], ◌++◌, IfOk, OnOk, OnErr};
+ghost use Rattle.std.specs.Prelude.{◌≡◌, ◌+◌, ◌++◌, IfOk};
 ghost use Rattle.ax_mean.specs.Rows.{envs_of_tree, keyed_rows};
 
 use crate::keyed::KeyedTaker;
@@ -10,7 +10,6 @@ use ax_base::Steps;
 use ax_eval::Env;
 use ax_mean::{KeyedRow, Query, Tree};
 use std::alloc::Global;
-use std::mem;
 use std::sync::ledger::Ledger;
 
 /// The rows of a document that pass WHERE and show something, each with its key, in the order of
@@ -28,36 +27,28 @@ pub fn rows_of<L: Ledger>(
     ensures rows { IfOk result (λ rows. rows.items ≡ keyed_rows query.now number tree.now) }
     ensures steps { steps.new ≡ steps.old + 1 }
 {
-    let mut rows = Vec::new(alloc);
-    append_rows(alloc, query, number, tree, steps, &mut rows)?;
-    Ok(rows)
+    steps.tick();
+    append_rows(alloc, query, number, tree, Vec::new(alloc))
 }
 
-/// Appends the rows of a document, as `rows_of` gives them. Where memory runs out, `rows` has lost
-/// what it had.
-pub fn append_rows<L: Ledger>(
+/// The rows, and behind them those of a document, as `rows_of` gives them.
+pub fn append_rows(
     alloc: Global,
     query: &Query,
     number: u32,
     tree: &Tree,
-    steps: &mut Steps<L>,
-    rows: &mut Vec<KeyedRow>,
-) -> Result<(), Memory>
-    ensures rows { OnOk result
-        (rows.new.items ≡ rows.old.items ++ keyed_rows query.now number tree.now) }
-    ensures lost { OnErr result (rows.new.items ≡ []) }
-    ensures steps { steps.new ≡ steps.old + 1 }
+    rows: Vec<KeyedRow>,
+) -> Result<Vec<KeyedRow>, Memory>
+    ensures { IfOk result (λ all. all.items ≡ rows.items ++ keyed_rows query.now number tree.now) }
 {
-    steps.tick();
     let taker = KeyedTaker {
         query,
         number,
         tree,
-        rows: mem::replace(rows, Vec::new(alloc)),
+        rows,
     };
     let taker = walk_tree(alloc, &query.froms, tree, taker)?;
-    *rows = taker.into_rows();
-    Ok(())
+    Ok(taker.into_rows())
 }
 
 /// The environments of the rows of a document that pass WHERE, in the order of their places. It

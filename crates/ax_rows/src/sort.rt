@@ -66,7 +66,7 @@ fn all_ranked(alloc: Global, orders: &OrderList, rows: Vec<KeyedRow>) -> Result<
     Ok(ranked)
 }
 
-fn sort_ranked(ranked: &mut Vec<Ranked>) -> Result<(), Memory>
+pub fn sort_ranked(ranked: &mut Vec<Ranked>) -> Result<(), Memory>
     ensures { OnOk result
         (ranked.new.items ≡ in_order (ranked_cmp ⟦<Directed as Ord>⟧.cmp) ranked.old.items) }
 {
@@ -75,7 +75,7 @@ fn sort_ranked(ranked: &mut Vec<Ranked>) -> Result<(), Memory>
 }
 
 /// The rows without their keys.
-fn rows_of(alloc: Global, ranked: Vec<Ranked>) -> Result<Vec<KeyedRow>, Memory>
+pub fn rows_of(alloc: Global, ranked: Vec<Ranked>) -> Result<Vec<KeyedRow>, Memory>
     ensures { IfOk result (λ rows. rows.items ≡ map (λ r. r.row) ranked.items) }
 {
     let mut rows = Vec::with_capacity(alloc, ranked.len())?;

@@ -1,10 +1,13 @@
-//! The walk over what the sources of a query bind in a document. Nothing of the document is copied.
+//! The walk over what the sources of a query bind in a document. Nothing of the document is copied,
+//! and it stops at once where what takes the rows has enough.
 ghost use Rattle.std.specs.Prelude.{◌≡◌, List, [], ◌∷◌, ◌++◌, IfOk, OnOk};
 ghost use Rattle.std.specs.List.{flat_map};
 ghost use Rattle.ax_mean.specs.Rows.{Bound, choices, elements_from, rows_from, rows_of_tree, with_choice};
 ghost use Rattle.ax_mean.specs.Steps.{steps_from};
 ghost use Rattle.ax_mean.specs.declared.value.Value.TheVariants.{Defined};
+ghost use Rattle.ax_rows.specs.declared.flow.Flow.TheVariants.{Enough};
 
+use crate::flow::Flow;
 use crate::out_of_memory::Memory;
 use crate::parts::{items_of, part_at};
 use ax_eval::Scope;
@@ -16,10 +19,13 @@ pub trait Taker {
     /// What a taker is after it took some rows.
     ghost Took: { Self → List Bound → Self → Type 0 };
 
-    /// Takes the row whose aliases stand for what they do in `scope`.
-    fn take(&mut self, alloc: Global, scope: &Scope, place: &[u32]) -> Result<(), Memory>
-        ensures { OnOk result
-            (Took self.old (record { env = scope.now; place = place.now } ∷ []) self.new) };
+    /// Takes the row whose aliases stand for what they do in `scope`, and answers whether it wants
+    /// more.
+    fn take(&mut self, alloc: Global, scope: &Scope, place: &[u32]) -> Result<Flow, Memory>
+        ensures took { OnOk result
+            (Took self.old (record { env = scope.now; place = place.now } ∷ []) self.new) }
+        ensures enough { IfOk result (λ flow. flow ≡ Enough
+            → (rows : List Bound) → Took self.new rows self.new) };
 
     /// Taking no row leaves a taker as it is.
     ghost none: { (taker : Self) → Took taker [] taker };
@@ -56,16 +62,18 @@ pub fn walk_tree<'a, T: Taker + Drop>(
         place: Vec::new(alloc),
         taker,
     };
-    walk.choose(first, rest, tree)?;
+    let _flow = walk.choose(first, rest, tree)?;
     Ok(walk.into_taker())
 }
 
 impl<'a, T: Taker> Walk<'a, T> {
     /// The rows that the row so far grows to.
     #[cycle(walk)]
-    fn rows(&mut self, items: &'a [FromItem]) -> Result<(), Memory>
+    fn rows(&mut self, items: &'a [FromItem]) -> Result<Flow, Memory>
         ensures took { OnOk result (T.Took self.old.taker (rows_from items.now
             (record { env = self.old.scope; place = self.old.place.items })) self.new.taker) }
+        ensures enough { IfOk result (λ flow. flow ≡ Enough
+            → (rows : List Bound) → T.Took self.new.taker rows self.new.taker) }
         ensures scope { OnOk result (self.new.scope ≡ self.old.scope) }
         ensures place { OnOk result (self.new.place.items ≡ self.old.place.items) }
     {
@@ -76,7 +84,7 @@ impl<'a, T: Taker> Walk<'a, T> {
         };
         match self.scope.get(item.base.as_str()) {
             Some(tree) => self.choose(item, rest, tree),
-            None => Ok(()),
+            None => Ok(Flow::More),
         }
     }
 
@@ -87,23 +95,25 @@ impl<'a, T: Taker> Walk<'a, T> {
         item: &'a FromItem,
         rest: &'a [FromItem],
         tree: &'a Tree,
-    ) -> Result<(), Memory>
+    ) -> Result<Flow, Memory>
         ensures took { OnOk result (T.Took self.old.taker
             (flat_map (λ choice. rows_from rest.now (with_choice item.now.alias
             (record { env = self.old.scope; place = self.old.place.items }) choice))
             (choices item.now.each (steps_from (Defined tree.now) item.now.steps))) self.new.taker) }
+        ensures enough { IfOk result (λ flow. flow ≡ Enough
+            → (rows : List Bound) → T.Took self.new.taker rows self.new.taker) }
         ensures scope { OnOk result (self.new.scope ≡ self.old.scope) }
         ensures place { OnOk result (self.new.place.items ≡ self.old.place.items) }
     {
         let Some(part) = part_at(tree, &item.steps) else {
-            return Ok(());
+            return Ok(Flow::More);
         };
         if !item.each {
             return self.bind(&item.alias, part, rest);
         }
         match items_of(part) {
             Some(trees) => self.bind_each(&item.alias, trees, rest),
-            None => Ok(()),
+            None => Ok(Flow::More),
         }
     }
 
@@ -113,18 +123,22 @@ impl<'a, T: Taker> Walk<'a, T> {
         alias: &'a Text,
         trees: &'a Items<Tree>,
         rest: &'a [FromItem],
-    ) -> Result<(), Memory>
+    ) -> Result<Flow, Memory>
         ensures took { OnOk result (T.Took self.old.taker
             (flat_map (λ choice. rows_from rest.now (with_choice alias.now
             (record { env = self.old.scope; place = self.old.place.items }) choice))
             (elements_from 0 trees.now)) self.new.taker) }
+        ensures enough { IfOk result (λ flow. flow ≡ Enough
+            → (rows : List Bound) → T.Took self.new.taker rows self.new.taker) }
         ensures scope { OnOk result (self.new.scope ≡ self.old.scope) }
         ensures place { OnOk result (self.new.place.items ≡ self.old.place.items) }
     {
         for (at, tree) in trees.as_slice().iter().enumerate() {
-            self.bind_at(alias, tree, at, rest)?;
+            if let Flow::Enough = self.bind_at(alias, tree, at, rest)? {
+                return Ok(Flow::Enough);
+            }
         }
-        Ok(())
+        Ok(Flow::More)
     }
 
     /// Where a position needs more than 32 bits, no row can have it as its place: the answer is that
@@ -136,11 +150,13 @@ impl<'a, T: Taker> Walk<'a, T> {
         tree: &'a Tree,
         at: usize,
         rest: &'a [FromItem],
-    ) -> Result<(), Memory>
+    ) -> Result<Flow, Memory>
         ensures took { OnOk result (T.Took self.old.taker (rows_from rest.now (record {
           env = self.old.scope ++ (alias.now, Defined tree.now) ∷ [];
           place = self.old.place.items ++ at ∷ [];
         })) self.new.taker) }
+        ensures enough { IfOk result (λ flow. flow ≡ Enough
+            → (rows : List Bound) → T.Took self.new.taker rows self.new.taker) }
         ensures scope { OnOk result (self.new.scope ≡ self.old.scope) }
         ensures place { OnOk result (self.new.place.items ≡ self.old.place.items) }
     {
@@ -148,25 +164,32 @@ impl<'a, T: Taker> Walk<'a, T> {
             return Err(Memory);
         };
         self.place.push(position)?;
-        self.bind(alias, tree, rest)?;
+        let flow = self.bind(alias, tree, rest)?;
         let _ = self.place.pop();
-        Ok(())
+        Ok(flow)
     }
 
     /// The rows for one tree that a source binds.
     #[cycle(walk)]
-    fn bind(&mut self, alias: &'a Text, tree: &'a Tree, rest: &'a [FromItem]) -> Result<(), Memory>
+    fn bind(
+        &mut self,
+        alias: &'a Text,
+        tree: &'a Tree,
+        rest: &'a [FromItem],
+    ) -> Result<Flow, Memory>
         ensures took { OnOk result (T.Took self.old.taker (rows_from rest.now (record {
           env = self.old.scope ++ (alias.now, Defined tree.now) ∷ [];
           place = self.old.place.items;
         })) self.new.taker) }
+        ensures enough { IfOk result (λ flow. flow ≡ Enough
+            → (rows : List Bound) → T.Took self.new.taker rows self.new.taker) }
         ensures scope { OnOk result (self.new.scope ≡ self.old.scope) }
         ensures place { OnOk result (self.new.place.items ≡ self.old.place.items) }
     {
         self.scope.push(alias, tree)?;
-        self.rows(rest)?;
+        let flow = self.rows(rest)?;
         self.scope.pop();
-        Ok(())
+        Ok(flow)
     }
 
     fn into_taker(self) -> T

@@ -4,12 +4,11 @@ use Rattle.std.proofs.lemmas.Bool.{false≢true}
 use Rattle.std.proofs.lemmas.Bool.Decides.{Decides-eqb}
 use Rattle.ax_tree.specs.declared.tree.Tree.{Tree}
 use Rattle.ax_mean.proofs.SameTrees.{same_trees}
-use Rattle.ax_mean.specs.Comparison.{equality}
+use Rattle.ax_mean.specs.Comparison.{equality, is_same_value}
 use Rattle.ax_mean.specs.Sameness.{is_same}
 use Rattle.ax_mean.specs.Values.{kind, are_of_one_kind}
 use Rattle.ax_mean.specs.declared.value.Value.{Value}
 use Rattle.ax_mean.specs.declared.value.Value.TheVariants.{Undefined, Defined}
-use Rattle.ax_grammar.specs.SameExprs.{is_same_value}
 use Rattle.ax_scope.specs.SameOrBoth.{same_or_both}
 
 itself : (n : ℕ) → (n == n) ≡ true

@@ -33,7 +33,11 @@ pub fn made(alloc: Global, written: Written) -> Result<Query, Memory>
         orders,
         window,
     } = written;
-    let parts = parts_made(alloc, picked, source, joins, orders)?;
+    let Ok(parts) = parts_made(alloc, picked, source, joins, orders) else {
+        drop(condition);
+        drop(groups);
+        return Err(Memory);
+    };
     let Parts {
         pick,
         froms,
@@ -71,9 +75,22 @@ fn parts_made(
         ≡ first_from (source_of source) ∷ map joined_from (map joined_of joins)) }
     ensures orders { IfOk result (λ parts. parts.orders ≡ map order_of (map ordered_of orders)) }
 {
-    let pick = pick_made(alloc, picked)?;
-    let froms = froms_made(alloc, source, joins)?;
-    let orders = orders_made(alloc, orders)?;
+    let Ok(pick) = pick_made(alloc, picked) else {
+        drop(source);
+        drop(joins);
+        drop(orders);
+        return Err(Memory);
+    };
+    let Ok(froms) = froms_made(alloc, source, joins) else {
+        drop(pick);
+        drop(orders);
+        return Err(Memory);
+    };
+    let Ok(orders) = orders_made(alloc, orders) else {
+        drop(pick);
+        drop(froms);
+        return Err(Memory);
+    };
     Ok(Parts {
         pick,
         froms,
@@ -100,12 +117,19 @@ fn named_items(alloc: Global, items: ItemList) -> Result<NamedList, Memory>
     let mut number: usize = 1;
     for item in items.into_vec() {
         let Item { expr, name } = item;
-        match written_or_own(alloc, name, &expr)? {
-            Some(name) => named.push(Named { name, expr })?,
-            None => {
-                let name = numbered_name(alloc, number)?;
+        match written_or_own(alloc, name, &expr) {
+            Ok(Some(name)) => named.push(Named { name, expr })?,
+            Ok(None) => {
+                let Ok(name) = numbered_name(alloc, number) else {
+                    drop(expr);
+                    return Err(Memory);
+                };
                 named.push(Named { name, expr })?;
                 number += 1;
+            }
+            Err(Memory) => {
+                drop(expr);
+                return Err(Memory);
             }
         }
     }

@@ -15,7 +15,7 @@ pub(crate) fn same(a: &Expr, b: &Expr) -> bool
 {
     match a {
         Expr::Literal(left) => match b {
-            Expr::Literal(right) => same_value(left, right),
+            Expr::Literal(right) => same_value(left.get(), right.get()),
             _ => false,
         },
         Expr::Alias(left) => match b {

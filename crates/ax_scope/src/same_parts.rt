@@ -1,6 +1,7 @@
 //! Whether two parts of an expression that are no expressions are the same.
 ghost use Rattle.std.specs.Prelude.{◌≡◌, ◌==◌};
-ghost use Rattle.ax_grammar.specs.SameExprs.{is_same_value, is_same_step, all_steps_same, operator_number as number_of_operator, sign_number as number_of_sign, func_number as number_of_func, aggregate_number as number_of_aggregate};
+ghost use Rattle.ax_mean.specs.Comparison.{is_same_value};
+ghost use Rattle.ax_grammar.specs.SameExprs.{is_same_step, all_steps_same, operator_number as number_of_operator, sign_number as number_of_sign, func_number as number_of_func, aggregate_number as number_of_aggregate};
 ghost use Rattle.ax_scope.specs.SameOrBoth.{same_or_both as equal_or_undefined};
 
 use ax_func::{Seen, equality};

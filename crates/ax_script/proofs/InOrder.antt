@@ -40,12 +40,12 @@ all_above n before next (e ∷ es) le rise = stops n e es (omega (arith, rise.0)
 
 -- ---- pages
 
-found_here : (k : ℕ) (p : ℕ × List ℕ) (ps : List (ℕ × List ℕ)) → k ≡ p.0
+pub found_here : (k : ℕ) (p : ℕ × List ℕ) (ps : List (ℕ × List ℕ)) → k ≡ p.0
     → finite.find nat_cmp k (p ∷ ps) ≡ Some p.1
 found_here k p ps e = ap (λ b. if b then Some p.1 else finite.find nat_cmp k ps)
     (ap (eq_by_cmp nat_cmp k) (sym e) ∙ same_number k)
 
-found_later : (k : ℕ) (p : ℕ × List ℕ) (ps : List (ℕ × List ℕ)) → k ≢ p.0
+pub found_later : (k : ℕ) (p : ℕ × List ℕ) (ps : List (ℕ × List ℕ)) → k ≢ p.0
     → finite.find nat_cmp k (p ∷ ps) ≡ finite.find nat_cmp k ps
 found_later k p ps apart = ap (λ b. if b then Some p.1 else finite.find nat_cmp k ps)
     (other_number k p.0 apart)

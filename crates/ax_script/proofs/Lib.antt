@@ -1,10 +1,10 @@
 mod Answering
 mod Counting
 mod DiskMoments
-mod Dropped
 mod Endings
 mod Holding
 mod InOrder
+mod Numbers
 mod OnDisk
 mod Opened
 mod Outcomes
@@ -12,4 +12,5 @@ mod QueryTexts
 mod Replying
 mod RowLines
 mod ServedLines
+mod ShownTexts
 mod Writing

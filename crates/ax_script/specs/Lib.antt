@@ -2,6 +2,7 @@ pub mod CommandLine
 pub mod DiskScript
 pub mod Documents
 pub mod Opening
+pub mod Printing
 pub mod Progress
 pub mod Script
 pub mod Statuses

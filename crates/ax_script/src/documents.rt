@@ -155,6 +155,8 @@ impl Documents {
         ensures attached { D.attached disk.new ≡ D.attached disk.old }
         ensures honest { D.is_honest disk.new ≡ D.is_honest disk.old }
     {
+        // No allocation: the pages of a container have the policy now, and the document of each number
+        // that an id stands under.
         let Some(policy) = self.policy() else {
             return Err(UpsertFault::Memory);
         };
@@ -181,6 +183,7 @@ impl Documents {
             → number_under self.old.numbers id.now ≡ None
             → TellsUpsert (IsTrue (D.is_honest disk.old)) before id.now tree.now result self.new
             (D.history disk.old (D.attached disk.old)) (D.history disk.new (D.attached disk.new)) }
+        ensures full { is_full_of (contents_in self.old) ≡ true → result ≡ Err UpsertFault.Full }
         ensures works { WorksAfterUpsert (IsTrue (D.is_honest disk.old)) result self.new
             (D.history disk.new (D.attached disk.new)) }
         ensures cause { result ≡ Err UpsertFault.Disk → Rose (D.faults disk.old) (D.faults disk.new) }
@@ -191,6 +194,7 @@ impl Documents {
         if self.is_full() {
             return Err(UpsertFault::Full);
         }
+        // No allocation: the pages of a container have the policy now, and a next number from 1 on.
         let Some(policy) = self.policy() else {
             return Err(UpsertFault::Memory);
         };

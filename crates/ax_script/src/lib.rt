@@ -19,6 +19,7 @@ mod reply_lines;
 mod script_lines;
 mod script_run;
 mod serving;
+mod shown_documents;
 mod status;
 
 pub use documents::{Documents, UpsertFault};

@@ -1,34 +1,30 @@
 //! The rows of a query over all documents of an open store, and the reply that has them.
 
-ghost use Rattle.std.specs.Prelude.{◌≡◌, ◌≤◌, ◌+◌, ℕ, List, [], ◌∷◌, ◌++◌, length, Some, IfOk, OnOk};
-ghost use Rattle.ax_answer.specs.Answers.{answer_of};
-ghost use Rattle.ax_answer.specs.Gathering.{Gathers};
+ghost use Rattle.std.specs.Prelude.{◌≡◌, ◌≤◌, ◌+◌, ℕ, List, [], ◌∷◌, ◌++◌, length, Some, IfOk, OnOk, true};
+ghost use Rattle.ax_answer_text.specs.TextAnswers.{Answers};
 ghost use Rattle.ax_container.specs.Container.{Container};
 ghost use Rattle.ax_grammar.specs.Query.{query_in};
 ghost use Rattle.ax_machine.specs.Needs.{query_need};
-ghost use Rattle.ax_machine.specs.Querying.{numbered, query_reply, rows_or_refusal, rows_reply};
+ghost use Rattle.ax_machine.specs.Querying.{numbered, query_reply, rows_of, rows_or_refusal, rows_reply};
 ghost use Rattle.ax_machine.specs.ReplyTexts.{reply_text};
 ghost use Rattle.ax_mean.specs.declared.query.Query as queries;
+ghost use Rattle.ax_result.specs.Answers.{answer_of};
 ghost use Rattle.ax_script.specs.Documents.{Holds};
-ghost use Rattle.ax_sieve.specs.Conditions.{IsSieve};
-ghost use Rattle.ax_text.specs.Reading.{reading, Stands};
-ghost use Rattle.ax_tree.specs.CanonicalText.{canonical_text};
-ghost use Rattle.ax_tree.specs.declared.tree.Tree.{Tree as TreeOf};
+ghost use Rattle.ax_script.specs.Printing.{IsPrinted};
 
 use crate::documents::{Documents, next_text};
 use crate::reply_lines::{refusal_line, rows_lines};
-use ax_answer::Answer;
+use crate::shown_documents::{document_lines, keys_of};
+use ax_answer_text::TextAnswer;
 use ax_base::Steps;
+use ax_excerpt::{excerpt_for_keys, shows_document};
 use ax_lines::{Body, Refusal};
 use ax_machine::refusal_of;
 use ax_mean::{KeyedRow, Query};
 use ax_parse::{ParseFault, parse};
-use ax_sieve::Sieve;
-use ax_text::TreeReader;
 use ax_tree::Memory;
 use std::alloc::Global;
 use std::sync::ledger::Ledger;
-
 /// The text of the reply to a query, which changes nothing: a refusal where the body's text is no
 /// query, or one that is refused; else the rows of its answer over all documents, and how many
 /// there are. Each document that is evaluated takes one step of work.
@@ -45,7 +41,7 @@ pub(crate) fn reply_to_query<L: Ledger>(
     ensures never_falls { steps.old ≤ steps.new }
 {
     match query_of(alloc, body)? {
-        Some(query) => reply_to_read(alloc, documents, &query, steps),
+        Some(query) => reply_to_read(alloc, documents, query, steps),
         None => refusal_line(alloc, Refusal::Query),
     }
 }
@@ -66,20 +62,68 @@ fn query_of(alloc: Global, body: &Body) -> Result<Option<Query>, Memory>
 fn reply_to_read<L: Ledger>(
     alloc: Global,
     documents: &Documents,
-    query: &Query,
+    query: Query,
     steps: &mut Steps<L>,
 ) -> Result<Vec<u8>, Memory>
     ensures text { (container : Container) → Holds documents.now container → IfOk result (λ text. text.items
-        ≡ reply_text (rows_reply (rows_or_refusal (Some query.now) container))) }
+        ≡ reply_text (rows_reply (rows_or_refusal (Some query) container))) }
     ensures bound { (container : Container) → Holds documents.now container → steps.new ≤ steps.old
-        + query_need (rows_or_refusal (Some query.now) container) container }
+        + query_need (rows_or_refusal (Some query) container) container }
     ensures never_falls { steps.old ≤ steps.new }
 {
-    if let Some(refusal) = refusal_of(query) {
+    if let Some(refusal) = refusal_of(&query) {
+        drop(query);
         return refusal_line(alloc, refusal);
     }
-    let rows = answer_rows(alloc, documents, query, steps)?;
-    rows_lines(alloc, rows.as_slice())
+    let Ok(is_printed) = prints_documents(alloc, &query) else {
+        drop(query);
+        return Err(Memory);
+    };
+    if is_printed {
+        return reply_of_documents(alloc, documents, query, steps);
+    }
+    let rows = answer_rows(alloc, documents, &query, steps);
+    drop(query);
+    rows_lines(alloc, rows?.as_slice())
+}
+
+/// Whether the rows are documents that are printed as they are stored: where the query looks at all of
+/// a document to find its rows, they are written as any other rows are.
+fn prints_documents(alloc: Global, query: &Query) -> Result<bool, Memory>
+    ensures { IfOk result (λ yes. yes ≡ true → IsPrinted query.now) }
+{
+    if !shows_document(query) {
+        return Ok(false);
+    }
+    match excerpt_for_keys(alloc, query) {
+        Ok(Some(excerpt)) => {
+            drop(excerpt);
+            Ok(true)
+        }
+        Ok(None) => Ok(false),
+        Err(_) => Err(Memory),
+    }
+}
+
+/// The same of a query whose rows are documents: these are printed as they are stored, and read only as
+/// far as the keys of the rows ask for.
+fn reply_of_documents<L: Ledger>(
+    alloc: Global,
+    documents: &Documents,
+    query: Query,
+    steps: &mut Steps<L>,
+) -> Result<Vec<u8>, Memory>
+    requires printed { IsPrinted query }
+    ensures text { (container : Container) → Holds documents.now container → IfOk result (λ text. text.items
+        ≡ reply_text (rows_reply (Ok (rows_of query container)))) }
+    ensures bound { (container : Container) → Holds documents.now container
+        → steps.new ≤ steps.old + length container.entries }
+    ensures never_falls { steps.old ≤ steps.new }
+{
+    let keys = keys_of(alloc, query)?;
+    let rows = answer_rows(alloc, documents, &keys, steps);
+    drop(keys);
+    document_lines(alloc, documents, rows?.as_slice())
 }
 
 /// The rows of the answer over all documents.
@@ -95,70 +139,43 @@ fn answer_rows<L: Ledger>(
         → steps.new ≤ steps.old + length container.entries }
     ensures never_falls { steps.old ≤ steps.new }
 {
-    let Ok(sieve) = Sieve::of(alloc, query) else {
+    let Ok(mut answer) = TextAnswer::begin(alloc, query) else {
         return Err(Memory);
     };
-    let Ok(mut answer) = Answer::begin(alloc, query) else {
+    let Ok(()) = add_documents(alloc, documents, &mut answer, steps) else {
+        drop(answer);
         return Err(Memory);
     };
-    add_documents(alloc, documents, &sieve, &mut answer, steps)?;
     let Ok(rows) = answer.finish(alloc) else {
         return Err(Memory);
     };
     Ok(rows)
 }
 
-/// Takes all documents into the answer, in the order of their numbers, with the sieve of its query.
+/// Takes documents into the answer in the order of their numbers, all or as many as can change it. A
+/// text that is none of a document, which no container has, is answered as want of memory.
 fn add_documents<L: Ledger>(
     alloc: Global,
     documents: &Documents,
-    sieve: &Sieve<'_>,
-    answer: &mut Answer<'_>,
+    answer: &mut TextAnswer<'_>,
     steps: &mut Steps<L>,
 ) -> Result<(), Memory>
     ensures added { (container : Container) → (query : queries.Query)
-        → Holds documents.now container → IsSieve sieve.now query → Gathers answer.old query []
-        → OnOk result (Gathers answer.new query (numbered container)) }
+        → Holds documents.now container → Answers answer.old query []
+        → OnOk result (Answers answer.new query (numbered container)) }
     ensures bound { (container : Container) → Holds documents.now container
         → steps.new ≤ steps.old + length container.entries }
     ensures never_falls { steps.old ≤ steps.new }
 {
-    let mut reader = TreeReader::new(alloc);
     let mut number = 0;
     'texts: while let Some((next, text)) = next_text(&documents.store, number) {
+        if answer.is_done() {
+            return Ok(());
+        }
         number = next;
-        add_document(alloc, &mut reader, sieve, answer, number, text, steps)?;
+        let Ok(()) = answer.add(alloc, number, text, steps) else {
+            return Err(Memory);
+        };
     }
-    Ok(())
-}
-
-/// Takes the document whose text it is into the answer; one that the sieve of its query drops is not
-/// read, since it adds nothing. Where a text is no JSON, which no document's is, that is answered as
-/// want of memory.
-fn add_document<L: Ledger>(
-    alloc: Global,
-    reader: &mut TreeReader,
-    sieve: &Sieve<'_>,
-    answer: &mut Answer<'_>,
-    number: u32,
-    text: &[u8],
-    steps: &mut Steps<L>,
-) -> Result<(), Memory>
-    ensures added { (tree : TreeOf) → text.now ≡ canonical_text tree → reading text.now ≡ Stands tree
-        → OnOk result ((query : queries.Query) → (entries : List (ℕ × TreeOf))
-        → IsSieve sieve.now query → Gathers answer.old query entries
-        → Gathers answer.new query (entries ++ (number, tree) ∷ [])) }
-    ensures one { steps.new ≤ steps.old + 1 }
-    ensures never_falls { steps.old ≤ steps.new }
-{
-    if sieve.drops(text) {
-        return Ok(());
-    }
-    let Ok(tree) = reader.read(alloc, text) else {
-        return Err(Memory);
-    };
-    let Ok(()) = answer.add(alloc, number, &tree, steps) else {
-        return Err(Memory);
-    };
     Ok(())
 }

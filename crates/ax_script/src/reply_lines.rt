@@ -46,7 +46,7 @@ fn push_row(text: &mut Vec<u8>, row: &Tree) -> Result<(), Memory>
     Ok(())
 }
 
-fn push_end(alloc: Global, text: &mut Vec<u8>, count: usize) -> Result<(), Memory>
+pub(crate) fn push_end(alloc: Global, text: &mut Vec<u8>, count: usize) -> Result<(), Memory>
     ensures { OnOk result (text.new.items ≡ text.old.items ++ end_text reply.End count) }
 {
     let line = format!(in alloc; "end {count}\n")?;

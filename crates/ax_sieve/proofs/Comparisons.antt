@@ -7,7 +7,6 @@ use Rattle.std.specs.declared.cmp.Ordering.{Ordering}
 use Rattle.std.specs.declared.cmp.Ordering.TheVariants.{Less, Equal, Greater}
 use Rattle.std.proofs.lemmas.Map.Text.{is_eq-slice_cmp}
 use Rattle.std.specs.Ordering.{is_eq, ordering_then, int_eq, int_cmp}
-use Rattle.ax_tree.specs.Document.{member}
 use Rattle.ax_tree.specs.declared.tree.Tree as tree
 use Rattle.ax_tree.specs.declared.tree.Tree.{Tree}
 use Rattle.ax_tree.specs.declared.tree.Tree.TheOpen.{Tree-F}
@@ -16,6 +15,7 @@ use Rattle.ax_tree.specs.declared.tree.Tree.TheFolds.{ind-Tree}
 use Rattle.ax_tree.specs.declared.tree.Tree.TheVariants.{rolls-Null, rolls-Truth, rolls-Number, rolls-Text, rolls-List, rolls-Object}
 use Rattle.ax_mean.specs.declared.expr.Expr as expr
 use Rattle.ax_mean.specs.declared.expr.Expr.{Expr}
+use Rattle.ax_mean.specs.declared.expr.QueryStep.{QueryStep}
 use Rattle.ax_mean.specs.declared.operator.BinaryOp.{BinaryOp}
 use Rattle.ax_mean.specs.declared.operator.BinaryOp.TheVariants as op
 use Rattle.ax_mean.specs.declared.value.Value.{Value}
@@ -25,46 +25,48 @@ use Rattle.ax_mean.specs.Meaning.{Env, is_yes, meaning}
 use Rattle.ax_mean.specs.Operators.{binary}
 use Rattle.ax_mean.specs.Sameness.{is_same}
 use Rattle.ax_mean.specs.ValueOrder.{value_cmp}
-use Rattle.ax_mean.specs.Values.{of_tree, truth_of, of_truth}
+use Rattle.ax_mean.specs.Steps.{steps_from}
+use Rattle.ax_mean.specs.Values.{truth_of, of_truth}
 use Rattle.ax_sieve.specs.declared.literal.Literal.{Literal}
-use Rattle.ax_sieve.specs.declared.scalar.Scalar.{Scalar}
-use Rattle.ax_sieve.specs.declared.scalar.Scalar.TheVariants as scalar
+use Rattle.ax_skim.specs.declared.scalar.Scalar.TheVariants as scalar
+use Rattle.ax_sieve.specs.declared.found.Found.{Found}
+use Rattle.ax_sieve.specs.declared.found.Found.TheVariants as found
 use Rattle.ax_sieve.specs.Comparing.{scalar_order, passes, is_met}
 use Rattle.ax_sieve.specs.Literals.{literal_value}
 use Rattle.ax_sieve.specs.Operands.{document_env}
-use Rattle.ax_sieve.specs.Scalars.{value_of}
+use Rattle.ax_sieve.specs.FoundValues.{value_of}
 
 then_same : (o : Ordering) → ordering_then o Equal ≡ o
 then_same Less = refl
 then_same Equal = refl
 then_same Greater = refl
 
-pub numbers_ordered : (s : Scalar) (a b : ℤ) (o : Ordering) → s ≡ scalar.Number a → o ≡ int_cmp a b
+pub numbers_ordered : (s : Found) (a b : ℤ) (o : Ordering) → s ≡ found.Scalar (scalar.Number a) → o ≡ int_cmp a b
     → Some o ≡ scalar_order (value_of s) (Defined (tree.Number b))
 unfolding tree.out-Tree denote.Hole.Carrier.out
-numbers_ordered s a b o is found =
-    ap Some (found ∙ sym (then_same (int_cmp a b)))
+numbers_ordered s a b o is told =
+    ap Some (told ∙ sym (then_same (int_cmp a b)))
     ∙ ap (λ t. scalar_order (value_of t) (Defined (tree.Number b))) (sym is)
 
-pub of_two_kinds : (s : Scalar) (n : ℤ) → ((m : ℤ) → s ≡ scalar.Number m → ⊥)
+pub of_two_kinds : (s : Found) (n : ℤ) → ((m : ℤ) → s ≡ found.Scalar (scalar.Number m) → ⊥)
     → None ≡ scalar_order (value_of s) (Defined (tree.Number n))
 unfolding tree.out-Tree denote.Hole.Carrier.out
-of_two_kinds (scalar.Number m) n apart = absurd (apart m refl)
-of_two_kinds scalar.Undefined n apart = refl
-of_two_kinds scalar.Null n apart = refl
-of_two_kinds (scalar.Truth b) n apart = refl
-of_two_kinds (scalar.Text text) n apart = refl
+of_two_kinds (found.Scalar (scalar.Number m)) n apart = absurd (apart m refl)
+of_two_kinds found.Undefined n apart = refl
+of_two_kinds (found.Scalar scalar.Null) n apart = refl
+of_two_kinds (found.Scalar (scalar.Truth b)) n apart = refl
+of_two_kinds (found.Scalar (scalar.Text text)) n apart = refl
 
 compare_means : (env : Env) (op : BinaryOp) (left right : Expr)
     → meaning env (expr.Compare op left right) ≡ binary op (meaning env left) (meaning env right)
 compare_means env op left right = search (rules, expr.the_lemmas)
 
-pub member_compared : (alias name : List ℕ) (op : BinaryOp) (x left right : Expr) (b : Literal)
-    → x ≡ expr.Compare op left right
-    → ((tree : Tree) → meaning (document_env alias tree) left ≡ of_tree (member name tree))
+pub steps_compared : (alias : List ℕ) (steps : List QueryStep) (op : BinaryOp) (x left right : Expr)
+    (b : Literal) → x ≡ expr.Compare op left right
+    → ((tree : Tree) → meaning (document_env alias tree) left ≡ steps_from (Defined tree) steps)
     → ((env : Env) → meaning env right ≡ literal_value b) → (tree : Tree)
-    → meaning (document_env alias tree) x ≡ binary op (of_tree (member name tree)) (literal_value b)
-member_compared alias name op x left right b is first second tree =
+    → meaning (document_env alias tree) x ≡ binary op (steps_from (Defined tree) steps) (literal_value b)
+steps_compared alias steps op x left right b is first second tree =
     let env : Env = document_env alias tree in
     ap (meaning env) is ∙ compare_means env op left right
     ∙ ap₂ (binary op) (first tree) (second env)
@@ -84,7 +86,7 @@ compared : (test : Ordering → Bool) (a b : Value)
 compared test a b =
     ap is_yes (truth_again (comparison test a b)) ∙ order_tested test _ (value_cmp a b)
 
-abbrev IsTold : Scalar → Value → Type 0
+abbrev IsTold : Found → Value → Type 0
 IsTold s b = is_yes (equality (value_of s) b) ≡ passes is_eq (scalar_order (value_of s) b)
 
 -- the tree of a level
@@ -116,7 +118,7 @@ same_numbers a b = search (rules, tree.the_lemmas)
 same_texts : (a b : List ℕ) → is_same (tree.Text a) (tree.Text b) ≡ bytes_eq a b
 same_texts a b = search (rules, tree.the_lemmas)
 
-equal_truths : (a b : Bool) → IsTold (scalar.Truth a) (Defined (tree.Truth b))
+equal_truths : (a b : Bool) → IsTold (found.Scalar (scalar.Truth a)) (Defined (tree.Truth b))
 unfolding tree.out-Tree denote.Hole.Carrier.out
 equal_truths true true = same_truths true true
 equal_truths true false = same_truths true false
@@ -126,29 +128,29 @@ equal_truths false false = same_truths false false
 then_equal : (o : Ordering) → is_eq o ≡ is_eq (ordering_then o Equal)
 then_equal o = ap is_eq (sym (then_same o))
 
-equal_at : (s : Scalar) (x : Tree-F Tree) → IsTold s (Defined (tree_at x))
+equal_at : (s : Found) (x : Tree-F Tree) → IsTold s (Defined (tree_at x))
 unfolding tree.out-Tree denote.Hole.Carrier.out
-equal_at scalar.Null Tree-F.Null = same_nulls
-equal_at (scalar.Truth a) (Tree-F.Truth b) = equal_truths a b
-equal_at (scalar.Number a) (Tree-F.Number b) = same_numbers a b ∙ then_equal (int_cmp a b)
-equal_at (scalar.Text a) (Tree-F.Text b) = same_texts a.now b ∙ sym (is_eq-slice_cmp a.now b)
+equal_at (found.Scalar scalar.Null) Tree-F.Null = same_nulls
+equal_at (found.Scalar (scalar.Truth a)) (Tree-F.Truth b) = equal_truths a b
+equal_at (found.Scalar (scalar.Number a)) (Tree-F.Number b) = same_numbers a b ∙ then_equal (int_cmp a b)
+equal_at (found.Scalar (scalar.Text a)) (Tree-F.Text b) = same_texts a.now b ∙ sym (is_eq-slice_cmp a.now b)
 equal_at _ _ = refl
 
-equal_undefined : (s : Scalar) → IsTold s Undefined
+equal_undefined : (s : Found) → IsTold s Undefined
 unfolding tree.out-Tree denote.Hole.Carrier.out
-equal_undefined scalar.Undefined = refl
-equal_undefined scalar.Null = refl
-equal_undefined (scalar.Truth a) = refl
-equal_undefined (scalar.Number a) = refl
-equal_undefined (scalar.Text a) = refl
+equal_undefined found.Undefined = refl
+equal_undefined (found.Scalar scalar.Null) = refl
+equal_undefined (found.Scalar (scalar.Truth a)) = refl
+equal_undefined (found.Scalar (scalar.Number a)) = refl
+equal_undefined (found.Scalar (scalar.Text a)) = refl
 
-equal : (s : Scalar) (b : Value) → IsTold s b
+equal : (s : Found) (b : Value) → IsTold s b
 equal s Undefined = equal_undefined s
 equal s (Defined t) =
     ind-Tree (λ t. IsTold s (Defined t))
     (λ x y is. subst (λ t. IsTold s (Defined t)) (rolls x) (equal_at s x)) t
 
-pub not_met : (op : BinaryOp) (s : Scalar) (b : Value)
+pub not_met : (op : BinaryOp) (s : Found) (b : Value)
     → is_met op (scalar_order (value_of s) b) ≡ false
     → is_yes (truth_of (binary op (value_of s) b)) ≡ false
 not_met op.Equal s b h =

@@ -1,6 +1,5 @@
 pub mod Comparisons
 pub mod Conjunctions
-pub mod Decimals
+pub mod Paths
 pub mod PlainNames
-pub mod Shapes
 pub mod Signs

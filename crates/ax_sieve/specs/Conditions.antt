@@ -2,14 +2,15 @@
 -- not hold has no rows in it.
 use Rattle.std.specs.Prelude.{◌≡◌, ℕ, List, [], Bool, true, not}
 use Rattle.std.specs.List.{list_any}
-use Rattle.ax_tree.specs.Document.{member}
 use Rattle.ax_tree.specs.declared.tree.Tree.{Tree}
 use Rattle.ax_mean.specs.declared.query.Query.{Query}
 use Rattle.ax_mean.specs.declared.value.Value.{Value}
 use Rattle.ax_mean.specs.Meaning.{is_yes}
 use Rattle.ax_mean.specs.Operators.{binary}
 use Rattle.ax_mean.specs.Rows.{envs_of_tree, keyed_rows}
-use Rattle.ax_mean.specs.Values.{of_tree, truth_of}
+use Rattle.ax_mean.specs.Steps.{steps_from}
+use Rattle.ax_mean.specs.Values.{truth_of}
+use Rattle.ax_mean.specs.declared.value.Value.TheVariants.{Defined}
 use Rattle.ax_sieve.specs.declared.condition.Condition.{Condition}
 use Rattle.ax_sieve.specs.declared.sieve.Sieve.{Sieve}
 use Rattle.ax_sieve.specs.Literals.{literal_value}
@@ -17,7 +18,7 @@ use Rattle.ax_sieve.specs.Literals.{literal_value}
 -- the value of the comparison, in a document
 abbrev pub value : Condition → Tree → Value
 value condition tree =
-    binary condition.op (of_tree (member condition.name.now tree)) (literal_value condition.literal)
+    binary condition.op (steps_from (Defined tree) condition.steps.now) (literal_value condition.literal)
 
 abbrev pub holds : Condition → Tree → Bool
 holds condition tree = is_yes (truth_of (value condition tree))

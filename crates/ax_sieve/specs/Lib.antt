@@ -1,6 +1,6 @@
 pub mod Comparing
 pub mod Conditions
+pub mod FoundValues
 pub mod Literals
 pub mod Names
 pub mod Operands
-pub mod Scalars

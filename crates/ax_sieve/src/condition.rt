@@ -1,22 +1,22 @@
 //! A condition on a document, and the one that an expression is.
 ghost use Rattle.std.specs.Prelude.{◌≡◌, true, IfSome};
 ghost use Rattle.ax_mean.specs.declared.expr.Expr as exprs;
-ghost use Rattle.ax_sieve.specs.Names.{is_plain};
+ghost use Rattle.ax_sieve.specs.Names.{are_plain as plain_steps};
 
 use crate::comparing::may_be_true;
+use crate::found::find_value;
 use crate::literal::{Literal, literal_of};
-use crate::member::member_name;
-use crate::member_value::member_value;
-use crate::plain::is_plain;
-use ax_mean::{BinaryOp, Expr, Text};
+use crate::path::steps_of;
+use crate::plain::are_plain;
+use ax_mean::{BinaryOp, Expr, QueryStep, Text};
 
-/// That a member of a document compares so with a literal.
+/// That what the steps lead to in a document compares so with a literal.
 #[derive(Debug, Clone, Copy)]
 pub(crate) struct Condition<'a> {
-    pub(crate) name: &'a Text,
+    pub(crate) steps: &'a [QueryStep],
     pub(crate) op: BinaryOp,
     pub(crate) literal: Literal<'a>,
-    ghost plain: { is_plain name.now ≡ true },
+    ghost plain: { plain_steps steps.now ≡ true },
 }
 
 impl<'a> Condition<'a> {
@@ -35,11 +35,11 @@ impl<'a> Condition<'a> {
     {
         let (op, left, right) = comparison_of(expr)?;
         let literal = literal_of(right)?;
-        let name = member_name(alias, left)?;
-        if !is_plain(name.as_str().as_bytes()) {
+        let steps = steps_of(alias, left)?;
+        if !are_plain(steps) {
             return None;
         }
-        Some(Condition { name, op, literal })
+        Some(Condition { steps, op, literal })
     }
 
     /// Whether it does not hold in the document of a canonical text; only where that is told at
@@ -48,8 +48,8 @@ impl<'a> Condition<'a> {
         ensures { IsTrue result → (tree : Tree) → text.now ≡ canonical_text tree
             → holds self.now tree ≡ false }
     {
-        match member_value(text, self.name.as_str()) {
-            Some(scalar) => !may_be_true(self.op, &scalar, &self.literal),
+        match find_value(text, self.steps) {
+            Some(found) => !may_be_true(self.op, &found, &self.literal),
             None => false,
         }
     }

@@ -23,7 +23,7 @@ pub(crate) fn literal_of(expr: &Expr) -> Option<Literal>
     ensures { IfSome result (λ literal. (env : Env) → meaning env expr.now ≡ literal_value literal) }
 {
     match expr {
-        Expr::Literal(value) => Some(Literal::Value(value)),
+        Expr::Literal(value) => Some(Literal::Value(value.get())),
         expr => signed_number(expr),
     }
 }
@@ -36,7 +36,10 @@ fn signed_number(expr: &Expr) -> Option<Literal>
     let Expr::Sign(sign, operand) = expr else {
         return None;
     };
-    let Expr::Literal(Value::Defined(Tree::Number(number))) = operand.get() else {
+    let Expr::Literal(value) = operand.get() else {
+        return None;
+    };
+    let Value::Defined(Tree::Number(number)) = value.get() else {
         return None;
     };
     Some(Literal::Number(with_sign(*sign, *number)?))

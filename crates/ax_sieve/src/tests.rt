@@ -1,7 +1,7 @@
 use crate::Sieve;
 use ax_mean::{
-    BinaryOp, Boxed, Expr, ExprList, FromItem, Items, Memory, Pick, Query, QueryStep, Text, Tree,
-    Value,
+    BinaryOp, Boxed, Expr, ExprList, FromItem, Items, Memory, Pick, Query, QueryStep, Shared, Text,
+    Tree, Value,
 };
 use std::alloc::Global;
 use std::test::Fail;
@@ -10,19 +10,23 @@ fn text(alloc: Global, text: &str) -> Result<Text, Memory> {
     Ok(Text::from_string(String::from_str(alloc, text)?))
 }
 
-/// `c.name`
-fn member(alloc: Global, name: &str) -> Result<Expr, Memory> {
-    let name = text(alloc, name)?;
+/// `c.name`, `c.first.second`
+fn member(alloc: Global, path: &str) -> Result<Expr, Memory> {
     let mut steps = Items::new(alloc);
-    steps.push(QueryStep::Member(name))?;
+    for name in path.split('.') {
+        steps.push(QueryStep::Member(text(alloc, name)?))?;
+    }
     let base = Boxed::new(alloc, Expr::Alias(text(alloc, "c")?))?;
     Ok(Expr::Steps(base, steps))
 }
 
-/// `c.name op literal`
-fn comparison(alloc: Global, name: &str, op: BinaryOp, literal: Tree) -> Result<Expr, Memory> {
-    let literal = Boxed::new(alloc, Expr::Literal(Value::Defined(literal)))?;
-    let member = Boxed::new(alloc, member(alloc, name)?)?;
+/// `c.path op literal`
+fn comparison(alloc: Global, path: &str, op: BinaryOp, literal: Tree) -> Result<Expr, Memory> {
+    let literal = Boxed::new(
+        alloc,
+        Expr::Literal(Shared::new(alloc, Value::Defined(literal))?),
+    )?;
+    let member = Boxed::new(alloc, member(alloc, path)?)?;
     Ok(Expr::Compare(op, member, literal))
 }
 
@@ -75,6 +79,28 @@ fn documents_that_fail_a_condition_are_dropped(rt: HostRuntime) -> Result<(), Fa
         ("{\"id\":\"7\",\"kind\":\"a\",\"n\":-501}", true),
         ("{\"id\":\"8\",\"kind\":\"a\",\"n\":null}", true),
         ("{\"id\":\"9\",\"kind\":\"\\n\",\"n\":[501]}", false),
+    ] {
+        assert_eq!(rt; sieve.drops(text.as_bytes()), expected, "{text}");
+    }
+    Ok(())
+}
+
+#[test]
+fn documents_are_dropped_by_nested_members(rt: HostRuntime) -> Result<(), Fail> {
+    let alloc = rt.alloc();
+    let city = Tree::Text(text(alloc, "x")?);
+    let query = query(alloc, comparison(alloc, "a.b.city", BinaryOp::Equal, city)?)?;
+    let sieve = Sieve::of(alloc, &query)?;
+    for (text, expected) in [
+        ("{\"a\":{\"b\":{\"city\":\"x\"}},\"id\":\"1\"}", false),
+        ("{\"a\":{\"b\":{\"city\":\"y\"}},\"id\":\"2\"}", true),
+        ("{\"a\":{\"c\":{\"city\":\"x\"}},\"id\":\"3\"}", true),
+        (
+            "{\"a\":[{\"b\":{\"city\":\"x\"}}],\"city\":\"x\",\"id\":\"4\"}",
+            true,
+        ),
+        ("{\"a\":{\"b\":{\"city\":[\"x\"]}},\"id\":\"5\"}", false),
+        ("{\"city\":\"x\",\"id\":\"6\"}", true),
     ] {
         assert_eq!(rt; sieve.drops(text.as_bytes()), expected, "{text}");
     }

@@ -17,21 +17,21 @@ use Rattle.ax_skim.proofs.Passing.{member_passed, tree_passed}
 use Rattle.ax_skim.proofs.Prefixes.{past_prefix-append, past_prefix-found}
 
 -- what stands behind a member, with these after it
-abbrev tail : List (Member Tree) → List ℕ
+abbrev pub tail : List (Member Tree) → List ℕ
 tail [] = 125 ∷ []
 tail (m ∷ ms) = comma ∷ members_text (m ∷ ms)
 
-first_member : (m : Member Tree) (ms : List (Member Tree))
+pub first_member : (m : Member Tree) (ms : List (Member Tree))
     → members_text (m ∷ ms) ≡ member_text (with_text m) ++ tail ms
 first_member m [] = refl
 first_member m (n ∷ ms) = append_assoc (member_text (with_text m)) _ (125 ∷ [])
 
-tail_ends : (ms : List (Member Tree)) → past_value (tail ms) ≡ Some (tail ms)
+pub tail_ends : (ms : List (Member Tree)) → past_value (tail ms) ≡ Some (tail ms)
 unfolding role_of
 tail_ends [] = refl
 tail_ends (m ∷ ms) = refl
 
-passed : (m : Member Tree) (ms : List (Member Tree)) → past_value (members_text (m ∷ ms)) ≡ Some (tail ms)
+pub passed : (m : Member Tree) (ms : List (Member Tree)) → past_value (members_text (m ∷ ms)) ≡ Some (tail ms)
 passed m ms =
     ap past_value (first_member m ms)
     ∙ member_passed m.name (canonical_text m.value) (tree_passed m.value) 0 (tail ms) ∙ tail_ends ms
@@ -94,7 +94,7 @@ value_by : (has : Bool) (m : Member Tree) (rest : Option (Member Tree))
 value_by true m rest = refl
 value_by false m rest = refl
 
-front_of : (m : Member Tree) (ms : List (Member Tree))
+pub front_of : (m : Member Tree) (ms : List (Member Tree))
     → members_text (m ∷ ms) ≡ 34 ∷ (escape m.name ++ 34 ∷ 58 ∷ (canonical_text m.value ++ tail ms))
 front_of m ms = first_member m ms ∙ named_text m.name (canonical_text m.value) (tail ms)
 
@@ -130,7 +130,7 @@ pub at_first : (name rest : List ℕ) (those : List (Member Tree)) → rest ≡ 
     → IsLeft name rest those
 at_first name rest those is = record { left = those; stands = is; same = refl }
 
-member_behind : (m : Member Tree) (ms : List (Member Tree))
+pub member_behind : (m : Member Tree) (ms : List (Member Tree))
     → past_member (members_text (m ∷ ms)) ≡ after_comma (tail ms)
 member_behind m ms = ap (option_and_then after_comma) (passed m ms)
 

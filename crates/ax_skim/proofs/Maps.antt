@@ -16,13 +16,13 @@ use Rattle.ax_skim.specs.Members.{members_text, past_prefix}
 use Rattle.ax_skim.proofs.Passing.{AreOther, signed_other, text-roll}
 
 -- one level of a tree, whose children are seen as their texts
-abbrev level_text : Tree-F Tree → List ℕ
+abbrev pub level_text : Tree-F Tree → List ℕ
 level_text y = text_level (map-Tree Tree (List ℕ) canonical_text y)
 
-text_of_level : (t : Tree) → canonical_text t ≡ level_text (out-Tree t)
+pub text_of_level : (t : Tree) → canonical_text t ≡ level_text (out-Tree t)
 text_of_level t = ap canonical_text (sym (roll-out-Tree t)) ∙ text-roll (out-Tree t)
 
-abbrev past_bracket : List ℕ → Option (List ℕ)
+abbrev pub past_bracket : List ℕ → Option (List ℕ)
 past_bracket = past_prefix (123 ∷ [])
 
 no_opening : (x : ℕ) (b : Bool) (text : List ℕ) → (123 == x) ≡ b → role_of x ≡ Other
@@ -35,7 +35,7 @@ no_opening x true text is other =
     apart e = cc
 no_opening x false text is other = refl
 
-others_begin : (text : List ℕ) → AreOther text → past_bracket text ≡ None
+pub others_begin : (text : List ℕ) → AreOther text → past_bracket text ≡ None
 others_begin [] all = refl
 others_begin (x ∷ text) all = no_opening x (123 == x) text refl all.0
 
@@ -71,7 +71,7 @@ at_other name y none =
       some = λ members r is looked. absurd (some_none members is);
     }
 
-at_truth : (b : Bool) → past_bracket (level_text (Tree-F.Truth b)) ≡ None
+pub at_truth : (b : Bool) → past_bracket (level_text (Tree-F.Truth b)) ≡ None
 at_truth true = refl
 at_truth false = refl
 

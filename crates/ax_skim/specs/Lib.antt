@@ -1,3 +1,7 @@
+pub mod Blocks
 pub mod Members
+pub mod Nested
 pub mod Roles
+pub mod Scalars
 pub mod Skipping
+pub mod Walks

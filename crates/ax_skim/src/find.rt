@@ -1,6 +1,6 @@
 //! The member of a name, and the id, in the canonical text of a tree.
 
-ghost use Rattle.std.specs.Prelude.{◌≡◌, ◌<◌, ◌==◌, ◌∷◌, ◌++◌, [], ℕ, List, length, Some, IfSome};
+ghost use Rattle.std.specs.Prelude.{◌≡◌, ◌<◌, ◌==◌, ◌∷◌, ◌++◌, [], ℕ, List, length, Some, IfSome, IsSomeAnd};
 ghost use Rattle.std.specs.Option.{option_map};
 ghost use Rattle.std.specs.List.{list_any};
 ghost use Rattle.json.specs.Print.{quoted};
@@ -50,15 +50,17 @@ fn after_name<'a>(members: &'a [u8], name: &[u8]) -> Option<&'a [u8]>
     after_prefix(behind, b"\":")
 }
 
+/// What follows a prefix.
 #[tactic(auto, using(crate::proofs::Prefixes::stripped))]
-fn after_prefix<'a>(text: &'a [u8], prefix: &[u8]) -> Option<&'a [u8]>
+pub fn after_prefix<'a>(text: &'a [u8], prefix: &[u8]) -> Option<&'a [u8]>
     ensures { option_map (λ after. after.now) result ≡ past_prefix prefix.now text.now }
 {
     text.strip_prefix(prefix)
 }
 
-/// What follows the member at the front and its comma; `None` where it is the last one.
-fn after_member(members: &[u8]) -> Option<&[u8]>
+/// What follows the member at the front and its comma, from behind the bracket of a map on; `None`
+/// where it is the last one.
+pub fn after_member(members: &[u8]) -> Option<&[u8]>
     ensures after { option_map (λ after. after.now) result ≡ past_member members.now }
     ensures shorter { IfSome result (λ after. length after.now < length members.now) }
 {
@@ -66,13 +68,23 @@ fn after_member(members: &[u8]) -> Option<&[u8]>
     if byte == b',' { Some(after) } else { None }
 }
 
+/// The text of the value at the front, and what follows it.
+pub fn split_value(text: &[u8]) -> Option<(&[u8], &[u8])>
+    ensures { (value : List ℕ) → (after : List ℕ) → text.now ≡ value ++ after
+        → past_value text.now ≡ Some after
+        → IsSomeAnd result (λ parts. (parts.0.now ≡ value) × (parts.1.now ≡ after)) }
+{
+    let after = after_value(text)?;
+    Some((&text[..text.len() - after.len()], after))
+}
+
 /// The text of the value at the front.
 fn front_value(text: &[u8]) -> Option<&[u8]>
     ensures { (value : List ℕ) → (after : List ℕ) → text.now ≡ value ++ after
         → past_value text.now ≡ Some after → option_map (λ front. front.now) result ≡ Some value }
 {
-    let after = after_value(text)?;
-    Some(&text[..text.len() - after.len()])
+    let (value, _) = split_value(text)?;
+    Some(value)
 }
 
 /// The text of a JSON string that has no escape, without its quotes; `None` of one that has.

@@ -4,6 +4,7 @@ ghost use Rattle.std.specs.Prelude.{◌≡◌, ◌<◌, ◌≤◌, length, None,
 ghost use Rattle.std.specs.Option.{option_map};
 ghost use Rattle.ax_skim.specs.Skipping.{past_text, past_value};
 
+use crate::nested::after_nested;
 use crate::role::{ByteRole, role_of};
 use memchr::memchr2;
 
@@ -47,29 +48,13 @@ pub(crate) fn after_value(text: &[u8]) -> Option<&[u8]>
     ensures after { option_map (λ after. after.now) result ≡ past_value text.now }
     ensures within { IfSome result (λ after. length after.now ≤ length text.now) }
 {
-    let mut depth: usize = 0;
     let mut rest = text;
     while let Some((&byte, after)) = rest.split_first() {
         match role_of(byte) {
             ByteRole::Quote => rest = after_text(after)?,
-            ByteRole::Opening => {
-                depth += 1;
-                rest = after;
-            }
-            ByteRole::Closing => {
-                if depth == 0 {
-                    return Some(rest);
-                }
-                depth -= 1;
-                rest = after;
-            }
-            ByteRole::Comma => {
-                if depth == 0 {
-                    return Some(rest);
-                }
-                rest = after;
-            }
-            _ => rest = after,
+            ByteRole::Opening => rest = after_nested(after)?,
+            ByteRole::Closing | ByteRole::Comma => return Some(rest),
+            ByteRole::Backslash | ByteRole::Other => rest = after,
         }
     }
     None

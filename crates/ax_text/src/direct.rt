@@ -18,12 +18,13 @@ use std::alloc::Global;
 /// How deep lists and maps may nest.
 const MOST_NESTING: usize = 127;
 
-/// The most members of a map that are put in their places one by one.
-const MOST_MEMBERS: usize = 64;
+/// The most members that one is put before, of those that came earlier. Where the names rise, as in
+/// each canonical text, none is put before another.
+const MOST_PASSED: usize = 64;
 
 /// The tree that the bytes stand for as a JSON text. `None` says nothing of the bytes: they may be
-/// no JSON, have a number that is not whole, a name that stands twice in one map or a map of more
-/// than `MOST_MEMBERS`, or memory ran out.
+/// no JSON, have a number that is not whole, a name that stands twice in one map, a name that belongs
+/// before more than `MOST_PASSED` of those that stand before it, or memory ran out.
 pub(crate) fn read_directly(alloc: Global, bytes: &[u8], scratch: &mut Scratch) -> Option<Tree>
     ensures { IfSome result (λ tree. reading bytes.now ≡ Stands tree) }
 {
@@ -120,16 +121,16 @@ fn read_members(alloc: Global, reader: &mut Reader<'_>, depth: usize) -> Option<
 }
 
 /// Where a member of that name is put among members whose names rise; `None` where the name stands
-/// there, or where they are too many.
+/// there, or where too many are behind its place.
 fn place_for(members: &[Member<Tree>], name: &str) -> Option<usize>
     requires { HaveRisingNames members.now }
     ensures { IfSome result (λ place. IsPlace name.now (names members.now) place) }
 {
-    if members.len() >= MOST_MEMBERS {
-        return None;
-    }
     let mut place = members.len();
     'earlier: while place > 0 {
+        if members.len() - place > MOST_PASSED {
+            return None;
+        }
         let order = name.cmp(members[place - 1].name.as_str());
         if order.is_gt() {
             return Some(place);

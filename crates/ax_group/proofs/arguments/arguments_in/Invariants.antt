@@ -5,4 +5,4 @@ use Rattle.ax_group.specs.Walks.{asks_of}
 use Rattle.ax_group.proofs.arguments.arguments_in.Given as goal
 
 abbrev pub invariant-loop-one : goal.invariant-loop-one
-invariant-loop-one l = l.values.items ≡ arguments_in (asks_of (take l.one-index l.asked)) l.env
+invariant-loop-one l = l.values.items ≡ arguments_in (asks_of (take l.one-index l.asked)) l.scope

@@ -2,8 +2,8 @@ use Rattle.ax_group.specs.Walks.{asks_of}
 use Rattle.ax_group.proofs.Asking.{on_ok, sum_collected, product_collected}
 use Rattle.ax_group.proofs.asked.+collect.Goals as goal
 
-pub collect-returns-in_ok-collect-in-Sum : goal.collect-returns-in_ok-collect-in-Sum
-collect-returns-in_ok-collect-in-Sum t c =
+pub collect_within-returns-in_ok-collect-in-Sum : goal.collect_within-returns-in_ok-collect-in-Sum
+collect_within-returns-in_ok-collect-in-Sum t c =
     on_ok c.collect_operands.result
     (sum_collected c.args.expr.now c.in-Sum.first c.get-in-Sum.result.now c.in-Sum.rest
     (asks_of c.args.asked.now.items) (asks_of c.collect-in-Sum.new.asked.items)
@@ -11,8 +11,9 @@ collect-returns-in_ok-collect-in-Sum t c =
     c.in_ok-collect-in-Sum.ensures)
     c.collect_operands.ensures
 
-pub collect-returns-in_ok-collect-in-Product : goal.collect-returns-in_ok-collect-in-Product
-collect-returns-in_ok-collect-in-Product t c =
+pub collect_within-returns-in_ok-collect-in-Product :
+    goal.collect_within-returns-in_ok-collect-in-Product
+collect_within-returns-in_ok-collect-in-Product t c =
     on_ok c.collect_operands-in-Product.result
     (product_collected c.args.expr.now c.in-Product.first c.get-in-Product.result.now
     c.in-Product.rest (asks_of c.args.asked.now.items)

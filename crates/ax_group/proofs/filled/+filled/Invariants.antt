@@ -1,15 +1,15 @@
 -- What is made so far, with what the results that are left make of the children that are left, is the
 -- whole.
 use Rattle.std.proofs.Common.{◌≡◌, ◌++◌, drop, map}
-use Rattle.ax_group.specs.Walks.{fill, operand_fill, member_fill, all_filled, operands_filled, members_filled}
+use Rattle.ax_group.specs.Walks.{fill_pair, operand_fill, member_fill, all_filled, operands_filled, members_filled}
 use Rattle.ax_group.proofs.filled.+filled.Given as goal
 
 abbrev pub invariant-list_of-loop-item : goal.invariant-list_of-loop-item
 invariant-list_of-loop-item l = record {
-  made : l.made.items ++ (all_filled (map fill (drop l.item-index l.items)) l.results).0
-      ≡ (all_filled (map fill l.items) l.initial.results).0;
-  left : (all_filled (map fill (drop l.item-index l.items)) l.results).1
-      ≡ (all_filled (map fill l.items) l.initial.results).1;
+  made : l.made.items ++ (all_filled (map fill_pair (drop l.item-index l.items)) l.results).0
+      ≡ (all_filled (map fill_pair l.items) l.initial.results).0;
+  left : (all_filled (map fill_pair (drop l.item-index l.items)) l.results).1
+      ≡ (all_filled (map fill_pair l.items) l.initial.results).1;
 }
 
 abbrev pub invariant-chain_of-loop-chained : goal.invariant-chain_of-loop-chained

@@ -8,5 +8,5 @@ use Rattle.ax_group.proofs.shown.named_in.Given as goal
 abbrev pub invariant-loop-item : goal.invariant-loop-item
 invariant-loop-item l =
     all_put l.members
-    (map (named_member l.env) (items_filled (drop l.item-index l.item-items) l.results))
-    ≡ all_put [] (map (named_member l.env) (items_filled l.item-items l.fn.results))
+    (map (named_member []) (items_filled (drop l.item-index l.item-items) l.results))
+    ≡ all_put [] (map (named_member []) (items_filled l.item-items l.fn.results))

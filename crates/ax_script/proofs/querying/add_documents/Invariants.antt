@@ -3,9 +3,8 @@ use Rattle.std.proofs.Common.{◌≡◌, ◌-◌, ◌^◌, ◌+◌, ◌++◌, �
 use Rattle.ax_tree.specs.declared.tree.Tree.{Tree}
 use Rattle.ax_mean.specs.declared.query.Query.{Query}
 use Rattle.ax_container.specs.Container.{Container}
-use Rattle.ax_answer.specs.Gathering.{Gathers}
+use Rattle.ax_answer_text.specs.TextAnswers.{Answers}
 use Rattle.ax_script.specs.Documents.{Holds}
-use Rattle.ax_sieve.specs.Conditions.{IsSieve}
 use Rattle.ax_script.proofs.InOrder.{above, pairs}
 use Rattle.ax_script.proofs.querying.add_documents.Given as goal
 
@@ -15,9 +14,9 @@ decreases-texts g l = 2 ^ 32 - l.number
 abbrev pub invariant-texts : goal.invariant-texts
 invariant-texts g l = record {
   added : (container : Container) → (query : Query) → Holds l.documents container
-      → IsSieve l.sieve query → Gathers l.fn.answer query [] → (done : List (ℕ × Tree))
+      → Answers l.fn.answer query [] → (done : List (ℕ × Tree))
       × (done ++ pairs (above l.number container.entries) ≡ pairs container.entries)
-      × Gathers l.answer query done;
+      × Answers l.answer query done;
   bound : (container : Container) → Holds l.documents container
       → l.steps + length (above l.number container.entries)
       ≤ l.fn.steps + length container.entries;

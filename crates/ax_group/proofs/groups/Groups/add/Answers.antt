@@ -3,8 +3,8 @@ use Rattle.ax_group.proofs.Asking.{on_ok}
 use Rattle.ax_group.proofs.GroupLaws.{added}
 use Rattle.ax_group.proofs.groups.Groups.add.Goals as goal
 
-pub returns-in-Ok-clause-ok : goal.returns-in-Ok-clause-ok
-returns-in-Ok-clause-ok c =
+pub returns-clause-ok : goal.returns-clause-ok
+returns-clause-ok c =
     on_ok c.put.result
     (added c.args.self.now
     (record {
@@ -12,8 +12,8 @@ returns-in-Ok-clause-ok c =
       asked = c.args.self.now.asked;
       states = c.put.new.states;
     })
-    c.args.env c.in-Ok.row.key c.in-Ok.row.values c.in-Ok.row.arguments.items
-    c.as_slice.result.now c.as_slice-in-Ok.result.now c.as_slice.ensures.value
-    c.as_slice-in-Ok.ensures.value refl refl c.in-Ok.ensures.key c.in-Ok.ensures.values
-    c.in-Ok.ensures.arguments)
+    c.args.scope.now c.in_ok-row.row.key c.in_ok-row.row.values.items c.in_ok-row.row.arguments.items
+    c.as_slice.result.now c.as_slice-2.result.now c.as_slice.ensures.value
+    c.as_slice-2.ensures.value refl refl c.in_ok-row.ensures.key c.in_ok-row.ensures.values
+    c.in_ok-row.ensures.arguments)
     c.put.ensures.ok

@@ -1,5 +1,5 @@
 -- The laws of a taker: nothing is taken of nothing, and one row after another is taken.
-use Rattle.std.proofs.Common.{List, ap, subst, ◌∙◌, rules}
+use Rattle.std.proofs.Common.{◌+◌, List, ap, subst, ◌∙◌, rules}
 use Rattle.ax_tree.specs.declared.tree.Tree.{Tree}
 use Rattle.ax_mean.specs.Meaning.{bound}
 use Rattle.ax_mean.specs.Rows.{Bound}
@@ -39,3 +39,19 @@ bind_each-loop-at-preserved g t c = record {
       c.loop-at.invariant.place c.loop-at-test.true c.tree-item.is c.in_ok-bind_at.ensures.took
       others);
 }
+
+pub bind_each-returns-in-Enough-clause-took : goal.bind_each-returns-in-Enough-clause-took
+bind_each-returns-in-Enough-clause-took g t c =
+    subst (λ (trees : List Tree). g.T.Taker.Took c.args.self.now.taker
+    (rows_after c.args.rest.now c.args.alias.now c.args.self.now.scope c.args.self.now.place.items
+    0 trees) c.bind_at.new.self.taker)
+    c.as_slice-tree-items.ensures
+    (c.loop-at.invariant.goes c.bind_at.new.self.taker
+    (goes_on g.T.Taker.Took g.met.T.Taker.both c.args.rest.now c.args.alias.now
+    c.args.self.now.scope c.loop-at.self.scope c.args.self.now.place.items
+    c.loop-at.self.place.items c.as_slice-tree-items.result.now c.tree-item.result c.loop-at.at
+    c.loop-at.self.taker c.bind_at.new.self.taker c.bind_at.new.self.taker c.loop-at.invariant.scope
+    c.loop-at.invariant.place c.loop-at-test.true c.tree-item.is c.in_ok-bind_at.ensures.took
+    (c.in_ok-bind_at.ensures.enough (search rules)
+    (rows_after c.args.rest.now c.args.alias.now c.args.self.now.scope c.args.self.now.place.items
+    (c.loop-at.at + 1) c.as_slice-tree-items.result.now))))

@@ -1,0 +1,2 @@
+mod SameParts
+mod TextLaws

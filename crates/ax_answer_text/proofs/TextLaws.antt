@@ -1,0 +1,89 @@
+-- One document more, the end of a walk, and the answer.
+use Rattle.std.proofs.Common.{◌≡◌, ℕ, List, [], ◌∷◌, ◌++◌, map, true, Option, Some, None, refl, sym, ap, subst, ◌∙◌}
+use Rattle.std.specs.Option.{IfSome}
+use Rattle.std.specs.List.Sorted.{IsStrictlySortedBy}
+use Rattle.std.specs.Ordering.{nat_cmp}
+use Rattle.ax_tree.specs.declared.tree.Tree.{Tree}
+use Rattle.ax_mean.specs.declared.query.KeyedRow.{KeyedRow}
+use Rattle.ax_mean.specs.declared.query.Query.{Query}
+use Rattle.ax_excerpt.specs.declared.excerpt.Excerpt.{Excerpt}
+use Rattle.ax_excerpt.specs.Enough.{is_enough}
+use Rattle.ax_excerpt.specs.Plain.{are_plain}
+use Rattle.ax_sieve.specs.Conditions.{is_dropped}
+use Rattle.ax_result.specs.Answers.{answer_of}
+use Rattle.ax_answer.proofs.Rowless.{nothing_added}
+use Rattle.ax_answer.specs.Gathering.{Gathers}
+use Rattle.ax_answer_text.specs.declared.text_answer.TextAnswer.{TextAnswer}
+use Rattle.ax_answer_text.specs.Parts.{Suffices, is_plain, part_of, parts_of}
+use Rattle.ax_answer_text.specs.TextAnswers.{Answers}
+use Rattle.ax_answer_text.proofs.SameParts.{and_parts, no_envs, no_rows, same_answer, same_numbers}
+
+pub found_suffices : (found : Option Excerpt) (query : Query)
+    → IfSome found (λ excerpt. (is_enough excerpt query ≡ true) × (are_plain excerpt ≡ true))
+    → Suffices found query
+found_suffices None query given = tt
+found_suffices (Some excerpt) query given = given.0
+
+pub found_is_plain : (found : Option Excerpt) (query : Query)
+    → IfSome found (λ excerpt. (is_enough excerpt query ≡ true) × (are_plain excerpt ≡ true))
+    → is_plain found ≡ true
+found_is_plain None query given = refl
+found_is_plain (Some excerpt) query given = given.1
+
+-- a document that is dropped adds nothing
+pub dropped : (held : TextAnswer) (query : Query) (entries : List (ℕ × Tree)) (number : ℕ) (tree : Tree)
+    → is_dropped held.sieve tree ≡ true → Answers held query entries
+    → Answers held query (entries ++ (number, tree) ∷ [])
+dropped held query entries number tree is answers =
+    let none = answers.sifts tree is in
+    record {
+      sifts = answers.sifts;
+      enough = answers.enough;
+      gathers = subst (Gathers held.answer query)
+          (sym (and_parts held.excerpt entries ((number, tree) ∷ [])))
+          (nothing_added query (parts_of held.excerpt entries) number (part_of held.excerpt tree)
+          (no_envs held.excerpt query tree answers.enough none.0)
+          (no_rows held.excerpt query number tree answers.enough (none.1 number))
+          held.answer answers.gathers);
+    }
+
+-- what is read of a document is taken in
+pub taken : (old new : TextAnswer) (number : ℕ) (tree part : Tree) → new.sieve ≡ old.sieve
+    → new.excerpt ≡ old.excerpt → part ≡ part_of old.excerpt tree
+    → ((query : Query) (entries : List (ℕ × Tree)) → Gathers old.answer query entries
+    → Gathers new.answer query (entries ++ (number, part) ∷ []))
+    → (query : Query) (entries : List (ℕ × Tree)) → Answers old query entries
+    → Answers new query (entries ++ (number, tree) ∷ [])
+taken old new number tree part sieve excerpt is added query entries answers = record {
+  sifts = λ t dropped. answers.sifts t (ap (λ s. is_dropped s t) (sym sieve) ∙ dropped);
+  enough = subst (λ e. Suffices e query) (sym excerpt) answers.enough;
+  gathers = subst (Gathers new.answer query)
+      (ap (λ p. parts_of old.excerpt entries ++ (number, p) ∷ []) is
+      ∙ sym (and_parts old.excerpt entries ((number, tree) ∷ []))
+      ∙ ap (λ e. parts_of e (entries ++ (number, tree) ∷ [])) (sym excerpt))
+      (added query (parts_of old.excerpt entries) answers.gathers);
+}
+
+-- no further document changes the answer
+pub done : (held : TextAnswer)
+    → ((query : Query) (entries more : List (ℕ × Tree)) → Gathers held.answer query entries
+    → Gathers held.answer query (entries ++ more))
+    → (query : Query) (entries more : List (ℕ × Tree)) → Answers held query entries
+    → Answers held query (entries ++ more)
+done held sound query entries more answers = record {
+  sifts = answers.sifts;
+  enough = answers.enough;
+  gathers = subst (Gathers held.answer query) (sym (and_parts held.excerpt entries more))
+      (sound query (parts_of held.excerpt entries) (parts_of held.excerpt more) answers.gathers);
+}
+
+pub finished : (held : TextAnswer) (rows : List KeyedRow)
+    → ((query : Query) (entries : List (ℕ × Tree)) → Gathers held.answer query entries
+    → IsStrictlySortedBy nat_cmp (map (λ (e : ℕ × Tree). e.0) entries) → rows ≡ answer_of query entries)
+    → (query : Query) (entries : List (ℕ × Tree)) → Answers held query entries
+    → IsStrictlySortedBy nat_cmp (map (λ (e : ℕ × Tree). e.0) entries)
+    → rows ≡ answer_of query entries
+finished held rows gives query entries answers rise =
+    gives query (parts_of held.excerpt entries) answers.gathers
+    (subst (IsStrictlySortedBy nat_cmp) (sym (same_numbers held.excerpt entries)) rise)
+    ∙ same_answer held.excerpt query entries answers.enough

@@ -1,0 +1,26 @@
+-- What is read of documents for a query: parts that are enough for it, or all of them.
+use Rattle.std.specs.Prelude.{◌≡◌, ℕ, List, map, Bool, true, Option, Some, None}
+use Rattle.ax_tree.specs.declared.tree.Tree.{Tree}
+use Rattle.ax_mean.specs.declared.query.Query.{Query}
+use Rattle.ax_excerpt.specs.declared.excerpt.Excerpt.{Excerpt}
+use Rattle.ax_excerpt.specs.Enough.{is_enough}
+use Rattle.ax_excerpt.specs.Excerpts.{excerpt_of}
+use Rattle.ax_excerpt.specs.Plain.{are_plain}
+
+-- what is read of a document: what an excerpt leaves of it, and all of it without one
+abbrev pub part_of : Option Excerpt → Tree → Tree
+part_of None tree = tree
+part_of (Some excerpt) tree = excerpt_of excerpt tree
+
+abbrev pub parts_of : Option Excerpt → List (ℕ × Tree) → List (ℕ × Tree)
+parts_of excerpt entries = map (λ entry. (entry.0, part_of excerpt entry.1)) entries
+
+-- what is read is all that the query looks at
+abbrev pub Suffices : Option Excerpt → Query → Type 0
+Suffices None query = Unit {0}
+Suffices (Some excerpt) query = is_enough excerpt query ≡ true
+
+-- the names of an excerpt are written without an escape
+abbrev pub is_plain : Option Excerpt → Bool
+is_plain None = true
+is_plain (Some excerpt) = are_plain excerpt

@@ -1,0 +1,151 @@
+//! The answer of a query from texts that are added one by one.
+
+ghost use Rattle.std.specs.Prelude.{◌≡◌, ◌≢◌, true, Err, IfOk};
+ghost use Rattle.ax_tree.specs.CanonicalText.{canonical_text};
+ghost use Rattle.ax_tree.specs.declared.tree.Tree.{Tree as TreeOf};
+ghost use Rattle.ax_excerpt_text.specs.Left.{IsReadable};
+ghost use Rattle.ax_answer_text.specs.Parts.{is_plain, part_of};
+
+use crate::text_fault::{Memory, TextFault};
+use ax_answer::Answer;
+use ax_base::Steps;
+use ax_excerpt::{Excerpt, excerpt_for};
+use ax_excerpt_text::read_excerpt;
+use ax_mean::{KeyedRow, Query};
+use ax_sieve::Sieve;
+use ax_text::TreeReader;
+use ax_tree::Tree;
+use std::alloc::Global;
+use std::sync::ledger::Ledger;
+
+/// What a query answers from the texts of documents that are added one by one, in the order of their
+/// numbers. Of a text only that part is read which the query looks at, and nothing of a text that
+/// tells that its document has no rows.
+#[derive(Drop)]
+pub struct TextAnswer<'a> {
+    sieve: Sieve<'a>,
+    excerpt: Option<Excerpt>,
+    reader: TreeReader,
+    answer: Answer<'a>,
+    ghost plain: { is_plain excerpt ≡ true },
+}
+
+impl<'a> TextAnswer<'a> {
+    ghost use Rattle.std.specs.Prelude.{◌≡◌, ◌≢◌, ◌≤◌, ◌+◌, ℕ, List, [], ◌∷◌, ◌++◌, map, true, Err, IfOk, OnOk};
+    ghost use Rattle.std.specs.Ordering.{nat_cmp};
+    ghost use Rattle.std.specs.List.Sorted.{IsStrictlySortedBy};
+    ghost use Rattle.ax_tree.specs.CanonicalText.{canonical_text};
+    ghost use Rattle.ax_mean.specs.declared.query.Query as queries;
+    ghost use Rattle.ax_excerpt_text.specs.Left.{IsReadable};
+    ghost use Rattle.ax_result.specs.Answers.{answer_of};
+    ghost use Rattle.ax_answer_text.specs.TextAnswers.{Answers};
+
+    /// No document yet.
+    #[tactic(auto, using(crate::proofs::TextLaws::found_suffices, crate::proofs::TextLaws::found_is_plain))]
+    pub fn begin(alloc: Global, query: &'a Query) -> Result<TextAnswer<'a>, Memory>
+        ensures { IfOk result (λ held. Answers held query.now []) }
+    {
+        let Ok(excerpt) = excerpt_for(alloc, query) else {
+            return Err(Memory);
+        };
+        let Ok(sieve) = Sieve::of(alloc, query) else {
+            drop(excerpt);
+            return Err(Memory);
+        };
+        let Ok(answer) = Answer::begin(alloc, query) else {
+            drop(excerpt);
+            drop(sieve);
+            return Err(Memory);
+        };
+        Ok(TextAnswer {
+            sieve,
+            excerpt,
+            reader: TreeReader::new(alloc),
+            answer,
+        })
+    }
+
+    /// Takes in a document: its number and its canonical text. It takes at most one step of work. After
+    /// an error the answer is of no more use.
+    #[tactic(auto, using(crate::proofs::TextLaws::dropped, crate::proofs::TextLaws::taken))]
+    pub fn add<L: Ledger>(
+        &mut self,
+        alloc: Global,
+        number: u32,
+        text: &[u8],
+        steps: &mut Steps<L>,
+    ) -> Result<(), TextFault>
+        ensures added { (tree : TreeOf) → text.now ≡ canonical_text tree → IsReadable tree
+            → OnOk result ((query : queries.Query) → (entries : List (ℕ × TreeOf))
+            → Answers self.old query entries
+            → Answers self.new query (entries ++ (number, tree) ∷ [])) }
+        ensures inside { (tree : TreeOf) → text.now ≡ canonical_text tree → IsReadable tree
+            → result ≢ Err TextFault.Outside }
+        ensures one { steps.new ≤ steps.old + 1 }
+        ensures never_falls { steps.old ≤ steps.new }
+    {
+        if self.sieve.drops(text) {
+            return Ok(());
+        }
+        let tree = read_part(alloc, &mut self.reader, &self.excerpt, text)?;
+        match self.answer.add(alloc, number, &tree, steps) {
+            Ok(()) => Ok(()),
+            Err(_) => Err(TextFault::Memory),
+        }
+    }
+
+    /// Whether no further document can change the answer.
+    #[tactic(auto, using(crate::proofs::TextLaws::done))]
+    pub fn is_done(&self) -> bool
+        ensures { result ≡ true → (query : queries.Query) → (entries more : List (ℕ × TreeOf))
+            → Answers self.now query entries → Answers self.now query (entries ++ more) }
+    {
+        self.answer.is_done()
+    }
+
+    /// The rows of the answer, in their order.
+    pub fn finish(self, alloc: Global) -> Result<Vec<KeyedRow>, Memory>
+        ensures { IfOk result (λ rows. (query : queries.Query) → (entries : List (ℕ × TreeOf))
+            → Answers self.entry query entries
+            → IsStrictlySortedBy nat_cmp (map (λ e. e.0) entries)
+            → rows.items ≡ answer_of query entries) }
+    {
+        let TextAnswer {
+            sieve,
+            excerpt,
+            reader,
+            answer,
+        } = self;
+        drop(sieve);
+        drop(excerpt);
+        drop(reader);
+        match answer.finish(alloc) {
+            Ok(rows) => Ok(rows),
+            Err(_) => Err(Memory),
+        }
+    }
+}
+
+/// What is read of the document of a canonical text.
+fn read_part(
+    alloc: Global,
+    reader: &mut TreeReader,
+    excerpt: &Option<Excerpt>,
+    text: &[u8],
+) -> Result<Tree, TextFault>
+    requires plain { is_plain excerpt.now ≡ true }
+    ensures part { IfOk result (λ found. (tree : TreeOf) → text.now ≡ canonical_text tree
+        → IsReadable tree → found ≡ part_of excerpt.now tree) }
+    ensures inside { (tree : TreeOf) → text.now ≡ canonical_text tree → IsReadable tree
+        → result ≢ Err TextFault.Outside }
+{
+    let read = match excerpt {
+        Some(excerpt) => read_excerpt(alloc, reader, excerpt, text),
+        None => read_excerpt(alloc, reader, &Excerpt::Whole, text),
+    };
+    match read {
+        Ok(Some(tree)) => Ok(tree),
+        Ok(None) => Err(TextFault::Outside),
+        Err(_) => Err(TextFault::Memory),
+    }
+}

@@ -1,0 +1,10 @@
+pub mod GroupsAlike
+pub mod KeptSteps
+pub mod Meanings
+pub mod RisingParts
+pub mod RowsAlike
+pub mod SameRows
+pub mod ShownAnswers
+pub mod ShownRows
+pub mod UsesByParts
+pub mod Wholes

@@ -1,0 +1,19 @@
+use Rattle.std.proofs.Common.{◌∷◌, ap, ◌∙◌, drop, ◌+◌}
+use Rattle.ax_excerpt.proofs.KeptSteps.{step_here, no_part, next_part}
+use Rattle.ax_excerpt.proofs.keeping.keeps.Goals as goal
+
+pub returns-in_default-under : goal.returns-in_default-under
+returns-in_default-under c =
+    no_part c.loop-step.part.now c.in-Part.parts c.as_slice.result.now c.in-Member.name _ _ _
+    c.in-Part.is c.as_slice.ensures.members
+    (step_here c.loop-step.step-index c.args.steps.now c.step-item.result c.loop-step-test.true
+    c.step-item.is ∙ ap (λ s. s ∷ drop (c.loop-step.step-index + 1) c.args.steps.now) c.in-Member.is)
+    c.loop-step.invariant c.in_default-under.ensures
+
+pub loop-step-preserved : goal.loop-step-preserved
+loop-step-preserved c =
+    next_part c.loop-step.part.now c.in-Part.parts c.as_slice.result.now c.in-Member.name _ _ _
+    c.in-Part.is c.as_slice.ensures.members
+    (step_here c.loop-step.step-index c.args.steps.now c.step-item.result c.loop-step-test.true
+    c.step-item.is ∙ ap (λ s. s ∷ drop (c.loop-step.step-index + 1) c.args.steps.now) c.in-Member.is)
+    c.loop-step.invariant c.in-Some.next.now c.in-Some.ensures

@@ -1,0 +1,4 @@
+pub mod Distinct
+pub mod GroupRows
+pub mod Sorted
+pub mod Tuples

@@ -1,7 +1,0 @@
--- What the digits left add to the number so far is what all of them write.
-use Rattle.std.proofs.Common.{◌≡◌, drop}
-use Rattle.ax_sieve.proofs.Decimals.{read_on}
-use Rattle.ax_sieve.proofs.number.size_of.Given as goal
-
-abbrev pub invariant-loop-digit : goal.invariant-loop-digit
-invariant-loop-digit l = read_on l.number (drop l.digit-index l.digits) ≡ read_on 0 l.digits
