@@ -18,7 +18,8 @@ use Rattle.ax_lines.specs.Refusals.{number_of, word_of}
 use Rattle.ax_machine.specs.ReplyTexts.{reply_text, row_text, end_text}
 use Rattle.ax_machine.specs.Run.{Outcome, Exchange, after_line, after_lines, reply_to, after, texts, text_of}
 use Rattle.ax_script.specs.DiskScript.{StandsAfter, KeepsAcknowledged}
-use Rattle.ax_script.specs.Progress.{Shows, Reaches, Passes, BreaksOff}
+use Rattle.ax_engine.specs.Stores.{Shows}
+use Rattle.ax_script.specs.Progress.{Reaches, Passes, BreaksOff}
 
 up_to_or_after : (t m : ℕ) → (t ≤ m) ⊎ (m < t)
 up_to_or_after t m = grind arith

@@ -13,7 +13,8 @@ use Rattle.ax_disk.specs.model.Moments.{History}
 use Rattle.ax_disk.specs.model.Stays.{Rests}
 use Rattle.ax_machine.specs.Run.{text_of}
 use Rattle.ax_script.specs.Progress.{ServesLines, BeginsLines, ServesLast, BeginsLast, Progress}
-use Rattle.ax_script.specs.Progress.{Shows, BreaksOff, Ends, BreaksOffWith, EndsEarly, IsOfServing, outlets}
+use Rattle.ax_engine.specs.Stores.{Shows}
+use Rattle.ax_script.specs.Progress.{BreaksOff, Ends, BreaksOffWith, EndsEarly, IsOfServing, outlets}
 use Rattle.ax_script.specs.Script.{most_input, BeginsToAnswer, IsTextAt, Runs}
 use Rattle.ax_script.specs.Streams.{Streams}
 use Rattle.ax_script.proofs.Answering.{Answers-nil, Answers-append, BeginsToAnswer-append}

@@ -15,13 +15,15 @@ use Rattle.ax_image.specs.StandsFor.{StandsFor}
 use Rattle.ax_machine.specs.Run.{Exchange, after_lines}
 use Rattle.ax_script.specs.declared.status.Status.{Status}
 use Rattle.ax_script.specs.declared.status.Status.TheVariants as status
-use Rattle.ax_script.specs.DiskScript.{IsStore, StandsAfter, KeepsAcknowledged, RunsOnDisk}
+use Rattle.ax_engine.specs.Stores.{IsStore, Shows}
+use Rattle.ax_script.specs.DiskScript.{StandsAfter, KeepsAcknowledged, RunsOnDisk}
 use Rattle.ax_script.specs.Opening.{Refuses}
-use Rattle.ax_script.specs.Progress.{Shows, Reaches, EndsEarly, Ends, IsOfServing}
+use Rattle.ax_script.specs.Progress.{Reaches, EndsEarly, Ends, IsOfServing}
 use Rattle.ax_script.specs.Streams.{Streams}
 use Rattle.ax_script.proofs.DiskMoments.{reaches_keeps}
 use Rattle.ax_script.proofs.Endings.{EarlyRun}
-use Rattle.ax_script.proofs.Opened.{of_name, idle_since, not_damaged, not_newer}
+use Rattle.ax_engine.proofs.Opened.{not_damaged, not_newer}
+use Rattle.ax_script.proofs.Attached.{of_name, idle_since}
 
 -- ---- no line was served
 

@@ -1,72 +1,146 @@
 -- What the answer to a line and the writing of its reply make together.
-use Rattle.std.proofs.Common.{ℕ, ◌+◌, ◌≤◌, List, Option, Result, Ok, Err, OnOk, OnErr, refl, subst}
-use Rattle.std.specs.Global.{Vec}
+use Rattle.std.proofs.Common.{◌≡◌, inl, inr, ℕ, ◌+◌, ◌≤◌, List, Option, Some, None, Result, Ok, Err, OnOk, OnErr}
+use Rattle.std.proofs.Common.{refl, sym, ap, subst}
+use Rattle.std.specs.Prelude.{◌≢◌}
 use Rattle.ax_disk.specs.model.Moments.{History}
+use Rattle.ax_disk.specs.model.Stays.{Turns}
 use Rattle.ax_container.specs.Container.{Container}
+use Rattle.ax_container.specs.Upsert.{WriteRefusal, upserted}
+use Rattle.ax_tree.specs.Document.{document_id}
+use Rattle.ax_lines.specs.declared.line.Line.{Line}
+use Rattle.ax_lines.specs.declared.line.Line.TheVariants as line
+use Rattle.ax_lines.specs.declared.refusal.Refusal.{Refusal}
+use Rattle.ax_lines.specs.Lines.{line_of}
+use Rattle.ax_engine.specs.Engine.{Applies, Holds, Works, made_by}
+use Rattle.ax_engine.specs.Replies.{IsReply}
+use Rattle.ax_engine.specs.Stores.{Shows}
+use Rattle.ax_engine.specs.declared.engine.Engine.{Engine}
+use Rattle.ax_engine.specs.declared.engine.Fault.{Fault}
+use Rattle.ax_engine.specs.declared.engine.Fault.TheVariants as fault
+use Rattle.ax_engine.specs.declared.reply.Reply.{Reply}
+use Rattle.ax_engine.specs.declared.reply.Reply.TheVariants as given
 use Rattle.ax_machine.specs.Needs.{most_steps}
-use Rattle.ax_machine.specs.Run.{Served, OutOfMemory}
-use Rattle.ax_machine.specs.Step.{step}
-use Rattle.ax_script.specs.declared.documents.Documents.{Documents}
-use Rattle.ax_script.specs.declared.serving.AnswerFault.{AnswerFault}
-use Rattle.ax_script.specs.declared.serving.AnswerFault.TheVariants as answer
+use Rattle.ax_machine.specs.Reply as reply
+use Rattle.ax_machine.specs.ReplyTexts.{reply_text}
+use Rattle.ax_machine.specs.Run.{Outcome, Served, OutOfMemory, after_line, reply_to}
+use Rattle.ax_machine.specs.Step.{served, step, upsert_by, written}
 use Rattle.ax_script.specs.declared.status.Status.{Status}
-use Rattle.ax_script.specs.Documents.{Holds, Works, TellsBy, WorksAfterAnswer, WritesWhole, WritesPart}
 use Rattle.ax_script.specs.Progress.{Serves, BeginsToServe, outlets}
-use Rattle.ax_script.proofs.Holding.{serves_by, begins_by, begins_without}
+use Rattle.ax_script.specs.Replies.{IsTextOf, TellsLine, WritesPart, WritesWhole}
 use Rattle.ax_script.proofs.Outcomes.{OnOk-map, OnErr-map}
+use Rattle.ax_script.proofs.Written.{serves_by, begins_by, begins_without}
 
-pub works_of : (honest : Type 0) (answered : Result (Vec ℕ) AnswerFault) (documents : Documents)
-    (written now : Option (List ℕ)) (history : History) (result : Result (Unit {0}) Status)
-    → WorksAfterAnswer honest answered documents history
-    → OnOk result (WritesWhole answered written now) → OnOk result (Works honest documents history)
-works_of honest (Ok text) documents written now history result works whole =
-    OnOk-map result (λ _. works) whole
-works_of honest (Err answer.Memory) documents written now history result works whole =
-    OnOk-map result (λ _. works) whole
-works_of honest (Err answer.Disk) documents written now history result works whole =
-    OnOk-map result (λ none. absurd none) whole
+-- ---- a reply that is not the one to a write that was made changes nothing
 
-module _ (honest : Type 0) (before : Container) (line : List ℕ) (documents : Documents)
-    (written now : Option (List ℕ)) (old new : History) (steps later : ℕ)
-    (result : Result (Unit {0}) Status) where
-  pub whole_of : (answered : Result (Vec ℕ) AnswerFault)
-      → TellsBy honest before (step before line) answered documents old new
-      → WorksAfterAnswer honest answered documents new
-      → later ≤ steps + most_steps before line
+unwritten : (before : Container) (end : Result Container WriteRefusal) → (written before end).1 ≢ reply.Ok
+    → (written before end).0 ≡ before
+unwritten before (Ok after) not = absurd (not refl)
+unwritten before (Err why) not = refl
+
+unserved : (before : Container) (meant : Result Line Refusal) → (served before meant).1 ≢ reply.Ok
+    → (served before meant).0 ≡ before
+unserved before (Ok (line.Upsert tree)) not = by_id (document_id tree) not
+  where
+    by_id : (id : Option (List ℕ)) → (upsert_by id tree before).1 ≢ reply.Ok
+        → (upsert_by id tree before).0 ≡ before
+    by_id (Some id) not = unwritten before (upserted id tree before) not
+    by_id None not = refl
+unserved before (Ok (line.Query body)) not = refl
+unserved before (Err why) not = refl
+
+unchanged : (before : Container) (line : List ℕ) (outcome : Outcome)
+    → reply_to before line outcome ≢ reply.Ok → after_line before line outcome ≡ before
+unchanged before line Served not = unserved before (line_of line) not
+unchanged before line OutOfMemory not = refl
+
+-- it is not the reply to a write that was made
+not_ok : (made : Reply) (meant : reply.Reply) → IsReply made meant → made ≢ given.Ok → meant ≢ reply.Ok
+not_ok given.Ok meant is not = absurd (not refl)
+not_ok (given.Rows rows) meant is not = λ same. cc
+not_ok (given.Refused why) meant is not = λ same. cc
+
+-- ---- what is written for a line
+
+module _ (honest : Type 0) (before : Container) (line : List ℕ) (engine : Engine)
+    (written now : Option (List ℕ)) (old new : History) (steps later : ℕ) where
+  by_text : (made : Reply) (text : List ℕ) → IsTextOf made text
+      → TellsLine honest before line (Ok made) engine old new
+      → (outcome : Outcome) × (text ≡ reply_text (reply_to before line outcome))
+      × Holds engine (after_line before line outcome)
+      × (honest → Turns old new (Shows before) (Shows (after_line before line outcome)))
+  by_text made text (inl whole) told = (told.0, whole (reply_to before line told.0) told.1, told.2, told.3)
+  by_text made text (inr short) told =
+      let same = unchanged before line told.0 (not_ok made (reply_to before line told.0) told.1 short.0) in (
+        OutOfMemory,
+        short.1,
+        subst (Holds engine) same told.2,
+        subst (λ (after : Container). honest → Turns old new (Shows before) (Shows after)) same told.3,
+      )
+
+  pub whole_of : (result : Result (Unit {0}) Status) (answered : Result Reply Fault)
+      → TellsLine honest before line answered engine old new
+      → Works honest engine new → later ≤ steps + most_steps before line
       → OnOk result (WritesWhole answered written now)
-      → OnOk result ((after : Container) × Holds documents after
+      → OnOk result ((after : Container) × Holds engine after
       × Serves honest before line after (outlets written old steps) (outlets now new later))
-  whole_of (Ok text) told works bounded whole = OnOk-map result
-      (λ added. (
-        (step before line).0,
-        told.1,
-        serves_by honest documents before line Served (outlets written old steps)
-            (outlets now new later) text.items told.0 added works told.1 told.2 bounded,
-      )) whole
-  whole_of (Err answer.Memory) told works bounded whole = OnOk-map result
-      (λ added. (
-        before,
-        told.0,
-        serves_by honest documents before line OutOfMemory (outlets written old steps)
-            (outlets now new later) _ refl added works told.0 told.1 bounded,
-      )) whole
-  whole_of (Err answer.Disk) told works bounded whole =
-      OnOk-map result (λ none. absurd none) whole
+  whole_of result (Ok made) told works bounded whole = OnOk-map result
+      (λ added. (let by = by_text made added.0 added.1 told in (
+        after_line before line by.0,
+        by.2,
+        serves_by honest engine before line by.0 (outlets written old steps) (outlets now new later)
+            added.0 by.1 added.2 works by.2 by.3 bounded,
+      ))) whole
+  whole_of result (Err fault.Disk) told works bounded whole = OnOk-map result (λ none. absurd none) whole
 
-  pub part_of : (answered : Result (Vec ℕ) AnswerFault)
-      → TellsBy honest before (step before line) answered documents old new
-      → WorksAfterAnswer honest answered documents new
-      → later ≤ steps + most_steps before line
+  pub part_of : (result : Result (Unit {0}) Status) (answered : Result Reply Fault)
+      → TellsLine honest before line answered engine old new
+      → Works honest engine new → later ≤ steps + most_steps before line
       → OnErr result (WritesPart answered written now)
-      → OnErr result (BeginsToServe honest before line (outlets written old steps)
-      (outlets now new later))
-  part_of (Ok text) told works bounded part = OnErr-map result
-      (λ added. begins_by honest documents before line Served (outlets written old steps)
-      (outlets now new later) text.items told.0 added works told.1 told.2 bounded) part
-  part_of (Err answer.Memory) told works bounded part = OnErr-map result
-      (λ added. begins_by honest documents before line OutOfMemory (outlets written old steps)
-      (outlets now new later) _ refl added works told.0 told.1 bounded) part
-  part_of (Err answer.Disk) told works bounded part = OnErr-map result
+      → OnErr result (BeginsToServe honest before line (outlets written old steps) (outlets now new later))
+  part_of result (Ok made) told works bounded part = OnErr-map result
+      (λ added. (let by = by_text made added.0 added.1 told in
+      begins_by honest engine before line by.0 (outlets written old steps) (outlets now new later)
+      added.0 by.1 added.2 works by.2 by.3 bounded)) part
+  part_of result (Err fault.Disk) told works bounded part = OnErr-map result
       (λ same. subst (λ w. BeginsToServe honest before line (outlets written old steps)
       (outlets w new later)) same
       (begins_without honest before line Served written old new steps later told bounded)) part
+
+-- ---- the answer to a line
+
+-- what the engine tells of a line that was read is what it tells of its bytes
+pub tells_applied : (honest : Type 0) (before : Container) (bytes : List ℕ) (asked : Line)
+    (engine : Engine) (old new : History) (result : Result Reply Fault) → line_of bytes ≡ Ok asked
+    → Applies honest before asked result engine old new → TellsLine honest before bytes result engine old new
+tells_applied honest before bytes asked engine old new (Ok made) read told =
+    by told.0 told.1 told.2 told.3
+  where
+    is : step before bytes ≡ served before (Ok asked)
+    is = ap (served before) read
+
+    by : (outcome : Outcome) → IsReply made (made_by before asked outcome).1
+        → Holds engine (made_by before asked outcome).0
+        → (honest → Turns old new (Shows before) (Shows (made_by before asked outcome).0))
+        → TellsLine honest before bytes (Ok made) engine old new
+    by Served reply_is holds turns = (
+      Served,
+      subst (λ (m : Container × reply.Reply). IsReply made m.1) (sym is) reply_is,
+      subst (λ (m : Container × reply.Reply). Holds engine m.0) (sym is) holds,
+      subst (λ (m : Container × reply.Reply). honest → Turns old new (Shows before) (Shows m.0)) (sym is) turns,
+    )
+    by OutOfMemory reply_is holds turns = (OutOfMemory, reply_is, holds, turns)
+tells_applied honest before bytes asked engine old new (Err fault.Disk) read told =
+    subst (λ (m : Container × reply.Reply). honest → Turns old new (Shows before) (Shows m.0))
+    (sym (ap (served before) read)) told
+
+pub tells_refused : (honest : Type 0) (before : Container) (bytes : List ℕ) (why : Refusal)
+    (engine : Engine) (old new : History) → line_of bytes ≡ Err why → Holds engine before
+    → (honest → Turns old new (Shows before) (Shows before))
+    → TellsLine honest before bytes (Ok (given.Refused why)) engine old new
+tells_refused honest before bytes why engine old new read holds turns =
+    let is : step before bytes ≡ (before, reply.Refused why) = ap (served before) read in (
+      Served,
+      ap (λ (m : Container × reply.Reply). m.1) is,
+      subst (λ (m : Container × reply.Reply). Holds engine m.0) (sym is) holds,
+      subst (λ (m : Container × reply.Reply). honest → Turns old new (Shows before) (Shows m.0)) (sym is) turns,
+    )

@@ -13,7 +13,8 @@ use Rattle.ax_machine.proofs.Runs.{text_of-one}
 use Rattle.ax_disk.specs.model.Stays.{Rests, Turns}
 use Rattle.ax_script.specs.Script.{Answers, BeginsToAnswer}
 use Rattle.ax_script.specs.Progress.{Serves, BeginsToServe, ServesLines, BeginsLines, ServesLast}
-use Rattle.ax_script.specs.Progress.{BeginsLast, Shows, Passes, BreaksOff}
+use Rattle.ax_engine.specs.Stores.{Shows}
+use Rattle.ax_script.specs.Progress.{BeginsLast, Passes, BreaksOff}
 use Rattle.ax_script.specs.Streams.{Outlets}
 use Rattle.ax_script.proofs.Answering.{Answers-nil, answers_some, Answers-append}
 use Rattle.ax_script.proofs.Answering.{BeginsToAnswer-append, stands-append}

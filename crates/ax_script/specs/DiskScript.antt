@@ -13,12 +13,6 @@ use Rattle.ax_script.specs.Script.{Runs}
 use Rattle.ax_script.specs.Streams.{Streams}
 use Rattle.ax_script.specs.declared.status.Status.{Status}
 
--- Before a run each image that a crash may leave stands for some container, and what reads give
--- stands for this one. An empty store is such, and so is every store that an earlier run leaves.
-pub record IsStore (container : Container) (history : History) : Type 0 where
-  pub each : Rests history (λ image. (some : Container) × StandsFor image some)
-  pub reads : StandsFor history.reads container
-
 -- the image stands for the container after so many lines of the run, or after one more
 abbrev pub StandsAfter : Container → List Exchange → ℕ → Image → Type 0
 StandsAfter before run count image =

@@ -1,9 +1,8 @@
 pub mod CommandLine
 pub mod DiskScript
-pub mod Documents
 pub mod Opening
-pub mod Printing
 pub mod Progress
+pub mod Replies
 pub mod Script
 pub mod Statuses
 pub mod Streams

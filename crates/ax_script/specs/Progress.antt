@@ -9,6 +9,7 @@ use Rattle.ax_disk.specs.model.Moments.{History, Progresses}
 use Rattle.ax_disk.specs.model.Stays.{Rests, Turns}
 use Rattle.ax_container.specs.Container.{Container}
 use Rattle.ax_image.specs.StandsFor.{StandsFor}
+use Rattle.ax_engine.specs.Stores.{Shows}
 use Rattle.ax_lines.specs.ScriptLines.{AreLines, last_line}
 use Rattle.ax_machine.specs.Needs.{most_steps, most_steps_in}
 use Rattle.ax_machine.specs.ReplyTexts.{reply_text}
@@ -43,10 +44,6 @@ IsOfServing other = Unit {0}
 
 abbrev pub outlets : Option (List ℕ) → History → ℕ → Outlets
 outlets written history steps = record { written = written; history = history; steps = steps }
-
--- the image stands for the container
-abbrev pub Shows : Container → Image → Type 0
-Shows container image = StandsFor image container
 
 -- The image stands for the container after a prefix of the lines. The prefix has each line whose
 -- reply, behind those before it, ends within a text of this length.

@@ -1,48 +1,28 @@
-//! Opening a store, and finding under which number each id stands.
+//! Opening the store of a name.
 
-ghost use Rattle.std.specs.Prelude.{◌≡◌, ◌≤◌, Err, IsTrue, IfOk, IfErr, IfSome, OnOk, Some, cond};
+ghost use Rattle.std.specs.Prelude.{◌≡◌, ◌≤◌, Err, None, IsTrue, IfOk, IfErr, OnOk};
 ghost use Rattle.ax_faults.specs.Faults.{Rose};
 ghost use Rattle.ax_disk.specs.model.Stays.{SinceBarrier};
 ghost use Rattle.ax_container.specs.Container.{Container};
-ghost use Rattle.ax_image.specs.StandsFor.{ContentsStandFor};
-ghost use Rattle.ax_store.specs.Store.{store_contents};
-ghost use Rattle.std.specs.Prelude.{ℕ, List};
-ghost use Rattle.std.specs.Str.{bytes_eq};
-ghost use Rattle.ax_tree.specs.declared.tree.Tree.{Tree as TreeOf};
-ghost use Rattle.ax_tree.specs.CanonicalText.{canonical_text};
-ghost use Rattle.ax_tree.specs.Document.{document_id};
-ghost use Rattle.ax_ids.specs.Ids.{number_under};
-ghost use Rattle.ax_text.specs.Reading.{reading, Stands};
-ghost use Rattle.ax_script.specs.Documents.{number_in};
-ghost use Rattle.ax_script.specs.DiskScript.{IsStore};
-ghost use Rattle.ax_script.specs.Documents.{Holds, Works};
+ghost use Rattle.ax_engine.specs.Engine.{Holds, Works};
+ghost use Rattle.ax_engine.specs.Stores.{IsStore, Shows};
 ghost use Rattle.ax_script.specs.Opening.{Refuses};
-ghost use Rattle.ax_script.specs.Progress.{Shows, EndsEarly};
+ghost use Rattle.ax_script.specs.Progress.{EndsEarly};
 
-use crate::documents::{Documents, next_text};
 use crate::status::Status;
-use ax_cache::NoPages;
 use ax_disk::Disk;
-use ax_ids::{Ids, Memory};
-use ax_skim::find_id;
-use ax_store::{Store, StoreFault};
-use ax_text::{TextFault, TreeReader};
-use ax_tree::id_of;
+use ax_engine::Engine;
+use ax_store::StoreFault;
 use std::alloc::Global;
-use std::str;
 
-/// Opens the store of a name. Each document's id is looked for in its text; a text that is no
-/// document's is under any id or none.
-pub(crate) fn open_documents<D: Disk>(
-    alloc: Global,
-    disk: &mut D,
-    name: &str,
-) -> Result<Documents, Status>
-    ensures works { IfOk result (λ documents. Works (IsTrue (D.is_honest disk.old)) documents
+/// Attaches the store of a name, and opens it.
+pub(crate) fn open_named<D: Disk>(alloc: Global, disk: &mut D, name: &str) -> Result<Engine, Status>
+    ensures works { IfOk result (λ engine. Works (IsTrue (D.is_honest disk.old)) engine
         (D.history disk.new (D.attached disk.new))) }
+    ensures unfaulted { IfOk result (λ engine. engine.fault ≡ None) }
     ensures attached { OnOk result (D.attached disk.new ≡ D.store_named name.now) }
     ensures holds { IsTrue (D.is_honest disk.old) → (before : Container)
-        → IsStore before (D.history disk.old (D.store_named name.now)) → IfOk result (λ documents. Holds documents before) }
+        → IsStore before (D.history disk.old (D.store_named name.now)) → IfOk result (λ engine. Holds engine before) }
     ensures any_moment { IsTrue (D.is_honest disk.old) → (before : Container)
         → IsStore before (D.history disk.old (D.store_named name.now))
         → SinceBarrier (D.history disk.old (D.store_named name.now)) (D.history disk.new (D.store_named name.now)) (Shows before) }
@@ -56,85 +36,11 @@ pub(crate) fn open_documents<D: Disk>(
     let Ok(()) = disk.attach(name) else {
         return Err(Status::DiskFault);
     };
-    match Store::open_store(alloc, disk, NoPages) {
-        Ok(store) => number_all(alloc, store),
+    match Engine::open_engine(alloc, disk) {
+        Ok(engine) => Ok(engine),
         Err(StoreFault::Disk) => Err(Status::DiskFault),
         Err(StoreFault::Damaged { extent, at }) => Err(Status::Damaged { extent, at }),
         Err(StoreFault::Newer { version }) => Err(Status::Newer { version }),
         Err(StoreFault::Memory) => Err(Status::Memory),
     }
-}
-
-/// Finds under which number each id of an open store stands.
-fn number_all(alloc: Global, store: Store<NoPages>) -> Result<Documents, Status>
-    ensures store { IfOk result (λ documents. documents.store ≡ store) }
-    ensures numbers { (container : Container) → ContentsStandFor (store_contents store) container
-        → IfOk result (λ documents. (id : List ℕ) → number_under documents.numbers id ≡ number_in id container) }
-    ensures only { IfErr result (λ status. status ≡ Status.Memory) }
-{
-    let mut numbers = Ids::new(alloc);
-    let mut reader = TreeReader::new(alloc);
-    let mut number = 0;
-    'texts: while let Some((next, text)) = next_text(&store, number) {
-        number = next;
-        let Ok(()) = put_id(alloc, &mut reader, &mut numbers, number, text) else {
-            return Err(Status::Memory);
-        };
-    }
-    Ok(Documents {
-        store,
-        numbers,
-        alloc,
-    })
-}
-
-/// Puts the number under the id of the document whose canonical text it is.
-fn put_id(
-    alloc: Global,
-    reader: &mut TreeReader,
-    numbers: &mut Ids,
-    number: u32,
-    text: &[u8],
-) -> Result<(), Memory>
-    ensures { (tree : TreeOf) → (id : List ℕ) → text.now ≡ canonical_text tree
-        → reading text.now ≡ Stands tree → document_id tree ≡ Some id
-        → OnOk result ((other : List ℕ) → number_under numbers.new other
-        ≡ cond (bytes_eq id other) (Some number) (number_under numbers.old other)) }
-{
-    match id_at_once(text) {
-        Some(id) => numbers.insert(alloc, id, number),
-        None => put_read_id(alloc, reader, numbers, number, text),
-    }
-}
-
-/// The id of the document of that canonical text; `None` also where it is not told at once.
-fn id_at_once(text: &[u8]) -> Option<&str>
-    ensures { (tree : TreeOf) → (id : List ℕ) → text.now ≡ canonical_text tree
-        → document_id tree ≡ Some id → IfSome result (λ found. found.now ≡ id) }
-{
-    str::from_utf8(find_id(text)?).ok()
-}
-
-/// Puts the number under the id of the document that the text stands for.
-fn put_read_id(
-    alloc: Global,
-    reader: &mut TreeReader,
-    numbers: &mut Ids,
-    number: u32,
-    text: &[u8],
-) -> Result<(), Memory>
-    ensures { (tree : TreeOf) → (id : List ℕ) → reading text.now ≡ Stands tree → document_id tree ≡ Some id
-        → OnOk result ((other : List ℕ) → number_under numbers.new other
-        ≡ cond (bytes_eq id other) (Some number) (number_under numbers.old other)) }
-{
-    let tree = match reader.read(alloc, text) {
-        Ok(tree) => tree,
-        Err(TextFault::Memory) => return Err(Memory),
-        Err(_) => return Ok(()),
-    };
-    let Some(id) = id_of(&tree) else {
-        return Ok(());
-    };
-    numbers.insert(alloc, id.as_str(), number)?;
-    Ok(())
 }

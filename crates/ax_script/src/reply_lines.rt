@@ -1,11 +1,13 @@
-ghost use Rattle.std.specs.Prelude.{◌≡◌, ◌++◌, map, IfOk, OnOk};
-ghost use Rattle.ax_tree.specs.CanonicalText.{canonical_text};
-ghost use Rattle.ax_machine.specs.Reply as reply;
-ghost use Rattle.ax_machine.specs.ReplyTexts.{reply_text, row_text, end_text, refusal_text};
+//! The texts of replies.
 
+ghost use Rattle.std.specs.Prelude.{◌≡◌, ◌++◌, ℕ, List, IfOk, OnOk};
+ghost use Rattle.ax_engine.specs.Replies.{AreRows};
+ghost use Rattle.ax_machine.specs.Reply as reply;
+ghost use Rattle.ax_machine.specs.ReplyTexts.{reply_text, end_text, refusal_text};
+
+use ax_engine::Rows;
 use ax_lines::Refusal;
-use ax_mean::KeyedRow;
-use ax_tree::{Memory, Tree, append_tree};
+use ax_tree::Memory;
 use std::alloc::Global;
 
 /// The reply to a line that is not answered by its step because memory ran out. It takes none
@@ -16,37 +18,24 @@ pub fn out_of_memory_line() -> &'static [u8]
     b"err 9 memory\n"
 }
 
-/// The reply to a write that was made.
-pub fn ok_line(alloc: Global) -> Result<Vec<u8>, Memory>
-    ensures { IfOk result (λ text. text.items ≡ reply_text reply.Ok) }
+/// The reply to a write that was made. It takes no memory, since the change is on the disk by then.
+pub fn ok_line() -> &'static [u8]
+    ensures { result.now ≡ reply_text reply.Ok }
 {
-    Ok(Vec::from_slice(alloc, b"ok\n")?)
+    b"ok\n"
 }
 
-/// The reply to a query with these rows: a line for each, whose text is written straight into the
-/// reply, and a last line with their count.
-pub fn rows_lines(alloc: Global, rows: &[KeyedRow]) -> Result<Vec<u8>, Memory>
-    ensures { IfOk result (λ text. text.items
-        ≡ reply_text (reply.Rows (map (λ row. canonical_text row.shown) rows.now) reply.End)) }
+/// The reply to a query with these rows: a line for each, and a last line with their count.
+pub fn rows_text(alloc: Global, rows: Rows) -> Result<Vec<u8>, Memory>
+    ensures { (texts : List (List ℕ)) → AreRows rows texts
+        → IfOk result (λ text. text.items ≡ reply_text (reply.Rows texts reply.End)) }
 {
-    let mut text = Vec::new(alloc);
-    for row in rows {
-        push_row(&mut text, &row.shown)?;
-    }
-    push_end(alloc, &mut text, rows.len())?;
-    Ok(text)
+    let Rows { mut lines, count } = rows;
+    push_end(alloc, &mut lines, count)?;
+    Ok(lines)
 }
 
-fn push_row(text: &mut Vec<u8>, row: &Tree) -> Result<(), Memory>
-    ensures { OnOk result (text.new.items ≡ text.old.items ++ row_text (canonical_text row.now)) }
-{
-    text.extend_from_slice(b"row ")?;
-    append_tree(text, row)?;
-    text.push(b'\n')?;
-    Ok(())
-}
-
-pub(crate) fn push_end(alloc: Global, text: &mut Vec<u8>, count: usize) -> Result<(), Memory>
+fn push_end(alloc: Global, text: &mut Vec<u8>, count: usize) -> Result<(), Memory>
     ensures { OnOk result (text.new.items ≡ text.old.items ++ end_text reply.End count) }
 {
     let line = format!(in alloc; "end {count}\n")?;

@@ -1,15 +1,15 @@
-ghost use Rattle.std.specs.Prelude.{◌≡◌, ◌++◌, ◌^◌, ◌<◌, ◌≤◌, ◌⊎◌, [], length, OnOk, OnErr, Err, IsTrue, IfErr};
+ghost use Rattle.std.specs.Prelude.{◌≡◌, ◌++◌, ◌^◌, ◌<◌, ◌≤◌, ◌⊎◌, [], length, OnOk, OnErr, None, Err, IsTrue, IfErr};
 ghost use Rattle.ax_faults.specs.Faults.{Rose};
 ghost use Rattle.ax_container.specs.Container.{Container};
-ghost use Rattle.ax_script.specs.Documents.{Holds, Works};
+ghost use Rattle.ax_engine.specs.Engine.{Holds, Works};
 ghost use Rattle.ax_script.specs.Progress.{outlets, Serves, BeginsToServe, ServesLines, BeginsLines, ServesLast, BeginsLast, Ends, BreaksOffWith, IsOfServing};
 ghost use Rattle.ax_lines.specs.ScriptLines.{IsOneLine};
 
-use crate::documents::Documents;
 use crate::serving::serve_line;
 use crate::status::Status;
 use ax_base::{Sink, Source, Steps};
 use ax_disk::Disk;
+use ax_engine::Engine;
 use ax_lines::first_line;
 use std::alloc::{AllocError, Global};
 use std::sync::ledger::Ledger;
@@ -21,7 +21,7 @@ const MOST_INPUT: u64 = 1 << 40;
 /// newline has come, and the last piece at the end.
 pub fn serve_source<D: Disk, S: Source, K: Sink, L: Ledger>(
     alloc: Global,
-    documents: &mut Documents,
+    engine: &mut Engine,
     disk: &mut D,
     source: &mut S,
     sink: &mut K,
@@ -30,8 +30,9 @@ pub fn serve_source<D: Disk, S: Source, K: Sink, L: Ledger>(
 ) -> Status
     requires some { 0 < length buffer.old }
     requires few { length buffer.old ≤ 2 ^ 20 }
-    requires works { Works (IsTrue (D.is_honest disk.old)) documents.old (D.history disk.old (D.attached disk.old)) }
-    ensures script { (before : Container) → Holds documents.old before → Ends (IsTrue (D.is_honest disk.old)) before result
+    requires works { Works (IsTrue (D.is_honest disk.old)) engine.old (D.history disk.old (D.attached disk.old)) }
+    requires unfaulted { engine.old.fault ≡ None }
+    ensures script { (before : Container) → Holds engine.old before → Ends (IsTrue (D.is_honest disk.old)) before result
         (record { remaining = S.rest source.old; written = K.written sink.old; steps = steps.old })
         (record { remaining = S.rest source.new; written = K.written sink.new; steps = steps.new })
         (D.history disk.old (D.attached disk.old)) (D.history disk.new (D.attached disk.new)) }
@@ -55,7 +56,7 @@ pub fn serve_source<D: Disk, S: Source, K: Sink, L: Ledger>(
             return Status::ReadFault;
         };
         if count == 0 {
-            return serve_last(alloc, documents, disk, pending.as_slice(), sink, steps);
+            return serve_last(alloc, engine, disk, pending.as_slice(), sink, steps);
         }
         taken += count as u64;
         if taken > MOST_INPUT {
@@ -63,7 +64,7 @@ pub fn serve_source<D: Disk, S: Source, K: Sink, L: Ledger>(
         }
         let served = serve_piece(
             alloc,
-            documents,
+            engine,
             disk,
             &mut pending,
             &buffer[..count],
@@ -80,7 +81,7 @@ pub fn serve_source<D: Disk, S: Source, K: Sink, L: Ledger>(
 /// What follows the last newline is pending then.
 fn serve_piece<D: Disk, K: Sink, L: Ledger>(
     alloc: Global,
-    documents: &mut Documents,
+    engine: &mut Engine,
     disk: &mut D,
     pending: &mut Vec<u8>,
     piece: &[u8],
@@ -88,15 +89,17 @@ fn serve_piece<D: Disk, K: Sink, L: Ledger>(
     steps: &mut Steps<L>,
 ) -> Result<(), Status>
     requires line { IsOneLine pending.old.items }
-    requires works { Works (IsTrue (D.is_honest disk.old)) documents.old (D.history disk.old (D.attached disk.old)) }
-    ensures ok { (before : Container) → Holds documents.old before → OnOk result ((now : Container) × Holds documents.new now
+    requires works { Works (IsTrue (D.is_honest disk.old)) engine.old (D.history disk.old (D.attached disk.old)) }
+    requires unfaulted { engine.old.fault ≡ None }
+    ensures ok { (before : Container) → Holds engine.old before → OnOk result ((now : Container) × Holds engine.new now
         × ServesLines (IsTrue (D.is_honest disk.old)) before (pending.old.items ++ piece.now) now pending.new.items
         (outlets (K.written sink.old) (D.history disk.old (D.attached disk.old)) steps.old)
         (outlets (K.written sink.new) (D.history disk.new (D.attached disk.new)) steps.new)) }
-    ensures err { (before : Container) → Holds documents.old before → OnErr result (BeginsLines (IsTrue (D.is_honest disk.old)) before (pending.old.items ++ piece.now)
+    ensures err { (before : Container) → Holds engine.old before → OnErr result (BeginsLines (IsTrue (D.is_honest disk.old)) before (pending.old.items ++ piece.now)
         (outlets (K.written sink.old) (D.history disk.old (D.attached disk.old)) steps.old)
         (outlets (K.written sink.new) (D.history disk.new (D.attached disk.new)) steps.new)) }
-    ensures works { OnOk result (Works (IsTrue (D.is_honest disk.old)) documents.new (D.history disk.new (D.attached disk.new))) }
+    ensures works { OnOk result (Works (IsTrue (D.is_honest disk.old)) engine.new (D.history disk.new (D.attached disk.new))) }
+    ensures unfaulted { OnOk result (engine.new.fault ≡ None) }
     ensures line { OnOk result (IsOneLine pending.new.items) }
     ensures only { IfErr result BreaksOffWith }
     ensures disk_cause { result ≡ Err Status.DiskFault → Rose (D.faults disk.old) (D.faults disk.new) }
@@ -109,7 +112,7 @@ fn serve_piece<D: Disk, K: Sink, L: Ledger>(
 {
     let mut rest = piece;
     'lines: while let Some((head, tail)) = first_line(rest) {
-        if let Err(status) = serve_head(alloc, documents, disk, pending, head, sink, steps) {
+        if let Err(status) = serve_head(alloc, engine, disk, pending, head, sink, steps) {
             return Err(status);
         }
         rest = tail;
@@ -131,23 +134,25 @@ fn put_behind(pending: &mut Vec<u8>, part: &[u8]) -> Result<(), AllocError>
 /// nothing is pending is served where it stands.
 fn serve_head<D: Disk, K: Sink, L: Ledger>(
     alloc: Global,
-    documents: &mut Documents,
+    engine: &mut Engine,
     disk: &mut D,
     pending: &mut Vec<u8>,
     head: &[u8],
     sink: &mut K,
     steps: &mut Steps<L>,
 ) -> Result<(), Status>
-    requires works { Works (IsTrue (D.is_honest disk.old)) documents.old (D.history disk.old (D.attached disk.old)) }
-    ensures ok { (before : Container) → Holds documents.old before → OnOk result ((now : Container) × Holds documents.new now
+    requires works { Works (IsTrue (D.is_honest disk.old)) engine.old (D.history disk.old (D.attached disk.old)) }
+    requires unfaulted { engine.old.fault ≡ None }
+    ensures ok { (before : Container) → Holds engine.old before → OnOk result ((now : Container) × Holds engine.new now
         × Serves (IsTrue (D.is_honest disk.old)) before (pending.old.items ++ head.now) now
         (outlets (K.written sink.old) (D.history disk.old (D.attached disk.old)) steps.old)
         (outlets (K.written sink.new) (D.history disk.new (D.attached disk.new)) steps.new)) }
     ensures empty { OnOk result (pending.new.items ≡ []) }
-    ensures err { (before : Container) → Holds documents.old before → OnErr result (BeginsToServe (IsTrue (D.is_honest disk.old)) before (pending.old.items ++ head.now)
+    ensures err { (before : Container) → Holds engine.old before → OnErr result (BeginsToServe (IsTrue (D.is_honest disk.old)) before (pending.old.items ++ head.now)
         (outlets (K.written sink.old) (D.history disk.old (D.attached disk.old)) steps.old)
         (outlets (K.written sink.new) (D.history disk.new (D.attached disk.new)) steps.new)) }
-    ensures works { OnOk result (Works (IsTrue (D.is_honest disk.old)) documents.new (D.history disk.new (D.attached disk.new))) }
+    ensures works { OnOk result (Works (IsTrue (D.is_honest disk.old)) engine.new (D.history disk.new (D.attached disk.new))) }
+    ensures unfaulted { OnOk result (engine.new.fault ≡ None) }
     ensures only { IfErr result BreaksOffWith }
     ensures disk_cause { result ≡ Err Status.DiskFault → Rose (D.faults disk.old) (D.faults disk.new) }
     ensures sink_cause { result ≡ Err Status.WriteFault → Rose (K.faults sink.old) (K.faults sink.new) }
@@ -158,12 +163,12 @@ fn serve_head<D: Disk, K: Sink, L: Ledger>(
     ensures steps { steps.old ≤ steps.new }
 {
     if pending.is_empty() {
-        return serve_line(alloc, documents, disk, head, sink, steps);
+        return serve_line(alloc, engine, disk, head, sink, steps);
     }
     let Ok(()) = put_behind(pending, head) else {
         return Err(Status::Memory);
     };
-    let served = serve_line(alloc, documents, disk, pending.as_slice(), sink, steps);
+    let served = serve_line(alloc, engine, disk, pending.as_slice(), sink, steps);
     if let Err(status) = served {
         return Err(status);
     }
@@ -174,17 +179,18 @@ fn serve_head<D: Disk, K: Sink, L: Ledger>(
 /// Serves the last piece of the input, which is a line unless it is empty.
 fn serve_last<D: Disk, K: Sink, L: Ledger>(
     alloc: Global,
-    documents: &mut Documents,
+    engine: &mut Engine,
     disk: &mut D,
     pending: &[u8],
     sink: &mut K,
     steps: &mut Steps<L>,
 ) -> Status
-    requires works { Works (IsTrue (D.is_honest disk.old)) documents.old (D.history disk.old (D.attached disk.old)) }
-    ensures done { (before : Container) → Holds documents.old before → result ≡ Status.Done → ServesLast (IsTrue (D.is_honest disk.old)) before pending.now
+    requires works { Works (IsTrue (D.is_honest disk.old)) engine.old (D.history disk.old (D.attached disk.old)) }
+    requires unfaulted { engine.old.fault ≡ None }
+    ensures done { (before : Container) → Holds engine.old before → result ≡ Status.Done → ServesLast (IsTrue (D.is_honest disk.old)) before pending.now
         (outlets (K.written sink.old) (D.history disk.old (D.attached disk.old)) steps.old)
         (outlets (K.written sink.new) (D.history disk.new (D.attached disk.new)) steps.new) }
-    ensures prefix { (before : Container) → Holds documents.old before → BreaksOffWith result → BeginsLast (IsTrue (D.is_honest disk.old)) before pending.now
+    ensures prefix { (before : Container) → Holds engine.old before → BreaksOffWith result → BeginsLast (IsTrue (D.is_honest disk.old)) before pending.now
         (outlets (K.written sink.old) (D.history disk.old (D.attached disk.old)) steps.old)
         (outlets (K.written sink.new) (D.history disk.new (D.attached disk.new)) steps.new) }
     ensures only { (result ≡ Status.Done) ⊎ BreaksOffWith result }
@@ -199,7 +205,7 @@ fn serve_last<D: Disk, K: Sink, L: Ledger>(
     if pending.is_empty() {
         return Status::Done;
     }
-    match serve_line(alloc, documents, disk, pending, sink, steps) {
+    match serve_line(alloc, engine, disk, pending, sink, steps) {
         Ok(()) => Status::Done,
         Err(status) => status,
     }

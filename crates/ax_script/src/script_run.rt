@@ -2,11 +2,12 @@ ghost use Rattle.std.specs.Prelude.{◌≡◌, ◌≢◌, ◌↔◌, ◌≤◌, 
 ghost use Rattle.ax_faults.specs.Faults.{Rose};
 ghost use Rattle.ax_container.specs.Container.{Container};
 ghost use Rattle.ax_script.specs.CommandLine.{is_run as is_run_lem, store_word};
-ghost use Rattle.ax_script.specs.DiskScript.{IsStore, RunsOnDisk};
+ghost use Rattle.ax_engine.specs.Stores.{IsStore};
+ghost use Rattle.ax_script.specs.DiskScript.{RunsOnDisk};
 ghost use Rattle.ax_script.specs.Opening.{Refuses};
 
 use crate::command_line::{is_run, store_name};
-use crate::opening::open_documents;
+use crate::opening::open_named;
 use crate::script_lines::serve_source;
 use crate::status::Status;
 use ax_base::{Sink, Source, Steps};
@@ -118,11 +119,11 @@ fn serve<D: Disk, S: Source, K: Sink, L: Ledger>(
     let Ok(mut buffer) = vec![in alloc; 0u8; PIECE] else {
         return Status::Memory;
     };
-    match open_documents(alloc, disk, store_name(words)) {
-        Ok(mut documents) => {
+    match open_named(alloc, disk, store_name(words)) {
+        Ok(mut engine) => {
             serve_source(
                 alloc,
-                &mut documents,
+                &mut engine,
                 disk,
                 source,
                 sink,

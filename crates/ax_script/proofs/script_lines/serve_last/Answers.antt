@@ -2,7 +2,8 @@
 use Rattle.std.proofs.Common.{◌≡◌, List, [], ℕ, length, refl, IsTrue, ◌∙◌, sym, subst}
 use Rattle.ax_script.specs.Progress.{ServesLast, outlets}
 use Rattle.ax_script.proofs.ServedLines.{serves_last, serves_no_last, begins_last}
-use Rattle.ax_script.proofs.Holding.{empty_list, rests_of}
+use Rattle.ax_engine.proofs.Applying.{rests_over}
+use Rattle.ax_script.proofs.Written.{empty_list}
 use Rattle.ax_script.proofs.script_lines.serve_last.Goals as goal
 
 pub returns-in-Ok-clause-done : goal.returns-in-Ok-clause-done
@@ -21,4 +22,4 @@ returns-then-is_empty-clause-done g c = λ before holds _.
     let here = outlets (g.K.Sink.written c.args.sink.now)
     (g.D.Disk.history c.args.disk.now (g.D.Disk.attached c.args.disk.now)) c.args.steps.now in
     let P : List ℕ → Type 0 = λ last. ServesLast (IsTrue (g.D.Disk.is_honest c.args.disk.now)) before last here here in
-    subst P (sym none) (serves_no_last _ before here (rests_of _ c.args.documents.now _ before c.requires.works holds))
+    subst P (sym none) (serves_no_last _ before here (rests_over _ c.args.engine.now _ before c.requires.works holds))

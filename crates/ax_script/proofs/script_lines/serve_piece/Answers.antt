@@ -3,11 +3,11 @@ use Rattle.std.proofs.Common.{ℕ, ◌++◌, ◌∙◌, List, IsTrue, Bool, refl
 use Rattle.ax_container.specs.Container.{Container}
 use Rattle.ax_lines.specs.ScriptLines.{IsOneLine}
 use Rattle.ax_lines.proofs.Splits.{IsOneLine-append}
-use Rattle.ax_script.specs.Documents.{Holds, Works}
+use Rattle.ax_engine.specs.Engine.{Holds, Works}
 use Rattle.ax_script.specs.Progress.{outlets, Serves, BeginsToServe, ServesLines}
 use Rattle.ax_script.proofs.ServedLines.{InPiece, piece_begins, piece_goes_on, piece_fails}
 use Rattle.ax_script.proofs.ServedLines.{piece_ends, piece_breaks_off}
-use Rattle.ax_script.proofs.Holding.{rests_of}
+use Rattle.ax_engine.proofs.Applying.{rests_over}
 use Rattle.ax_script.proofs.script_lines.serve_piece.Goals as goal
 
 pub lines-init : goal.lines-init
@@ -16,10 +16,11 @@ lines-init g c = record {
     before,
     holds,
     piece_begins _ before _ c.args.piece.now _ c.requires.line
-        (rests_of _ c.args.documents.now _ before c.requires.works holds),
+        (rests_over _ c.args.engine.now _ before c.requires.works holds),
   );
   line = c.requires.line;
   works = c.requires.works;
+  unfaulted = c.requires.unfaulted;
   disk_faults = omega arith;
   sink_faults = omega arith;
   steps = omega arith;
@@ -31,7 +32,7 @@ pub lines-preserved : goal.lines-preserved
 lines-preserved g c = record {
   part = λ before holds.
       let p = c.lines.invariant.part before holds in
-      let S : Bool → Type 0 = λ honest. (now : Container) × Holds c.serve_head.new.documents now
+      let S : Bool → Type 0 = λ honest. (now : Container) × Holds c.serve_head.new.engine now
       × Serves (IsTrue honest) p.0 (c.lines.pending.items ++ c.in-Some.head.now) now
       (outlets (g.K.Sink.written c.lines.sink) (g.D.Disk.history c.lines.disk
       (g.D.Disk.attached c.lines.disk)) c.lines.steps)
@@ -53,9 +54,10 @@ lines-preserved g c = record {
             c.in-Some.tail.now _ c.in-Some.ensures.split c.in-Some.ensures.line served.2),
       );
   line = subst IsOneLine (sym c.in_default-serve_head.ensures.empty) refl;
-  works = subst (λ honest. Works (IsTrue honest) c.serve_head.new.documents
+  works = subst (λ honest. Works (IsTrue honest) c.serve_head.new.engine
       (g.D.Disk.history c.serve_head.new.disk (g.D.Disk.attached c.serve_head.new.disk)))
       (sym c.in_default-serve_head.ensures.honest) c.in_default-serve_head.ensures.works;
+  unfaulted = c.in_default-serve_head.ensures.unfaulted;
   disk_faults = omega (arith, c.lines.invariant.disk_faults, c.in_default-serve_head.ensures.disk_faults);
   sink_faults = omega (arith, c.lines.invariant.sink_faults, c.in_default-serve_head.ensures.sink_faults);
   steps = omega (arith, c.lines.invariant.steps, c.in_default-serve_head.ensures.steps);

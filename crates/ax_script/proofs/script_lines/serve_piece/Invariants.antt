@@ -1,16 +1,16 @@
 -- The lines in a prefix of the piece are served, and the rest is still to do.
-use Rattle.std.proofs.Common.{◌≡◌, ◌≤◌, length, IsTrue}
+use Rattle.std.proofs.Common.{◌≡◌, None, ◌≤◌, length, IsTrue}
 use Rattle.ax_container.specs.Container.{Container}
 use Rattle.ax_lines.specs.ScriptLines.{IsOneLine}
-use Rattle.ax_script.specs.Documents.{Holds, Works}
+use Rattle.ax_engine.specs.Engine.{Holds, Works}
 use Rattle.ax_script.specs.Progress.{outlets}
 use Rattle.ax_script.proofs.ServedLines.{InPiece}
 use Rattle.ax_script.proofs.script_lines.serve_piece.Given as goal
 
 abbrev pub invariant-lines : goal.invariant-lines
 invariant-lines g l = record {
-  part : (before : Container) → Holds l.fn.documents before
-      → (now : Container) × Holds l.documents now
+  part : (before : Container) → Holds l.fn.engine before
+      → (now : Container) × Holds l.engine now
       × InPiece (IsTrue (g.D.Disk.is_honest l.fn.disk)) before now l.fn.pending.items l.pending.items
       l.piece l.rest
       (outlets (g.K.Sink.written l.fn.sink)
@@ -18,8 +18,9 @@ invariant-lines g l = record {
       (outlets (g.K.Sink.written l.sink) (g.D.Disk.history l.disk
       (g.D.Disk.attached l.disk)) l.steps);
   line : IsOneLine l.pending.items;
-  works : Works (IsTrue (g.D.Disk.is_honest l.disk)) l.documents
+  works : Works (IsTrue (g.D.Disk.is_honest l.disk)) l.engine
       (g.D.Disk.history l.disk (g.D.Disk.attached l.disk));
+  unfaulted : l.engine.fault ≡ None;
   disk_faults : g.D.Disk.faults l.fn.disk ≤ g.D.Disk.faults l.disk;
   sink_faults : g.K.Sink.faults l.fn.sink ≤ g.K.Sink.faults l.sink;
   steps : l.fn.steps ≤ l.steps;

@@ -3,11 +3,11 @@ use Rattle.std.proofs.Common.{ℕ, List, [], Bool, ◌++◌, ◌∙◌, IsTrue, 
 use Rattle.std.specs.Io.KnownBytes.{Consumes}
 use Rattle.ax_container.specs.Container.{Container}
 use Rattle.ax_lines.specs.ScriptLines.{IsOneLine}
-use Rattle.ax_script.specs.Documents.{Holds, Works}
+use Rattle.ax_engine.specs.Engine.{Holds, Works}
 use Rattle.ax_script.specs.Progress.{outlets, ServesLines, BeginsLines, ServesLast, BeginsLast, Progress}
 use Rattle.ax_script.proofs.Endings.{streams, progress_begins, progress_goes_on, ends_by_read_fault}
 use Rattle.ax_script.proofs.Endings.{ends_long, ends_in_piece, ends_at_end}
-use Rattle.ax_script.proofs.Holding.{rests_of}
+use Rattle.ax_engine.proofs.Applying.{rests_over}
 use Rattle.ax_script.proofs.script_lines.serve_source.Goals as goal
 
 pub pieces-init : goal.pieces-init
@@ -22,10 +22,11 @@ pieces-init g c =
             before,
             holds,
             subst P (sym c.new-pending.ensures.items)
-                (progress_begins _ before here _ (rests_of _ c.args.documents.now _ before c.requires.works holds)),
+                (progress_begins _ before here _ (rests_over _ c.args.engine.now _ before c.requires.works holds)),
           );
       line = subst IsOneLine (sym c.new-pending.ensures.items) refl;
       works = c.requires.works;
+      unfaulted = c.requires.unfaulted;
       within = omega arith;
       disk_faults = omega arith;
       source_faults = omega arith;
@@ -102,7 +103,7 @@ pub pieces-preserved : goal.pieces-preserved
 pieces-preserved g c = record {
   progress = λ before holds.
       let p = c.pieces.invariant.progress before holds in
-      let S : Bool → Type 0 = λ honest. (now : Container) × Holds c.serve_piece-served.new.documents now
+      let S : Bool → Type 0 = λ honest. (now : Container) × Holds c.serve_piece-served.new.engine now
       × ServesLines (IsTrue honest) p.0
       (c.pieces.pending.items ++ take c.in-Ok.count c.read_some.new.buf) now c.serve_piece-served.new.pending.items
       (outlets (g.K.Sink.written c.pieces.sink)
@@ -118,9 +119,10 @@ pieces-preserved g c = record {
             (sym c.in-Ok.ensures.bound.1) more.2,
       );
   line = c.in_default-served.ensures.line;
-  works = subst (λ honest. Works (IsTrue honest) c.serve_piece-served.new.documents
+  works = subst (λ honest. Works (IsTrue honest) c.serve_piece-served.new.engine
       (g.D.Disk.history c.serve_piece-served.new.disk (g.D.Disk.attached c.serve_piece-served.new.disk)))
       (sym c.in_default-served.ensures.honest) c.in_default-served.ensures.works;
+  unfaulted = c.in_default-served.ensures.unfaulted;
   within = c.if-taken-gt-MOST_INPUT.false;
   disk_faults =
       omega (arith, c.pieces.invariant.disk_faults, c.serve_piece-served.ensures.disk_faults);

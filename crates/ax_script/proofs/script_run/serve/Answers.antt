@@ -1,7 +1,8 @@
 -- Each way to end, from whether the store was opened.
 use Rattle.std.proofs.Common.{IsTrue, Bool, List, ℕ, Err, subst, sym, ap, refl, inl, inr}
 use Rattle.ax_script.specs.declared.status.Status.TheVariants as status
-use Rattle.ax_script.specs.DiskScript.{IsStore, RunsOnDisk}
+use Rattle.ax_engine.specs.Stores.{IsStore}
+use Rattle.ax_script.specs.DiskScript.{RunsOnDisk}
 use Rattle.ax_script.specs.Progress.{Ends}
 use Rattle.ax_script.proofs.Endings.{streams, runs_early, complete_of}
 use Rattle.ax_script.proofs.OnDisk.{on_disk_untouched, on_disk_early, on_disk_named}
@@ -12,8 +13,8 @@ pub returns-in_default-clause-script : goal.returns-in_default-clause-script
 returns-in_default-clause-script g c = λ honest before store.
     on_disk_untouched before status.Memory _ _ (runs_early before status.Memory _ tt)
 
-pub returns-in-Ok-open_documents-clause-script : goal.returns-in-Ok-open_documents-clause-script
-returns-in-Ok-open_documents-clause-script g c = λ honest before store.
+pub returns-in-Ok-open_named-clause-script : goal.returns-in-Ok-open_named-clause-script
+returns-in-Ok-open_named-clause-script g c = λ honest before store.
     let old = streams (g.S.Source.rest c.args.source.now) (g.K.Sink.written c.args.sink.now)
     c.args.steps.now in
     let new = streams (g.S.Source.rest c.serve_source.new.source)
@@ -24,29 +25,29 @@ returns-in-Ok-open_documents-clause-script g c = λ honest before store.
     (g.D.Disk.history c.args.disk.now (g.D.Disk.store_named name))
     (g.D.Disk.history c.serve_source.new.disk (g.D.Disk.store_named name)) in
     let E : Bool → Type 0 = λ h. Ends (IsTrue h) before c.serve_source.result old new
-    (g.D.Disk.history c.open_documents.new.disk (g.D.Disk.attached c.open_documents.new.disk))
+    (g.D.Disk.history c.open_named.new.disk (g.D.Disk.attached c.open_named.new.disk))
     (g.D.Disk.history c.serve_source.new.disk (g.D.Disk.attached c.serve_source.new.disk)) in
     let named = subst S (sym c.store_name.ensures) store in
     subst R c.store_name.ensures
     (on_disk_named (IsTrue (g.D.Disk.is_honest c.args.disk.now)) before c.serve_source.result old
     new
-    (g.D.Disk.history c.args.disk.now) (g.D.Disk.history c.open_documents.new.disk)
+    (g.D.Disk.history c.args.disk.now) (g.D.Disk.history c.open_named.new.disk)
     (g.D.Disk.history c.serve_source.new.disk) (g.D.Disk.store_named c.store_name.result.now)
-    (g.D.Disk.attached c.open_documents.new.disk) (g.D.Disk.attached c.serve_source.new.disk)
-    c.in-Ok-open_documents.ensures.attached c.serve_source.ensures.attached honest
-    (c.open_documents.ensures.any_moment honest before named)
-    (subst E c.open_documents.ensures.honest
+    (g.D.Disk.attached c.open_named.new.disk) (g.D.Disk.attached c.serve_source.new.disk)
+    c.in-Ok-open_named.ensures.attached c.serve_source.ensures.attached honest
+    (c.open_named.ensures.any_moment honest before named)
+    (subst E c.open_named.ensures.honest
     (c.serve_source.ensures.script before
-    (c.in-Ok-open_documents.ensures.holds honest before named))))
+    (c.in-Ok-open_named.ensures.holds honest before named))))
 
 pub
-    returns-in-Ok-open_documents-clause-disk_fault
-    : goal.returns-in-Ok-open_documents-clause-disk_fault
-returns-in-Ok-open_documents-clause-disk_fault g c = λ is.
-    rose_since _ _ _ c.open_documents.ensures.never_falls (c.serve_source.ensures.disk_fault is)
+    returns-in-Ok-open_named-clause-disk_fault
+    : goal.returns-in-Ok-open_named-clause-disk_fault
+returns-in-Ok-open_named-clause-disk_fault g c = λ is.
+    rose_since _ _ _ c.open_named.ensures.never_falls (c.serve_source.ensures.disk_fault is)
 
-pub returns-in-Ok-open_documents-clause-refused : goal.returns-in-Ok-open_documents-clause-refused
-returns-in-Ok-open_documents-clause-refused g c = λ honest.
+pub returns-in-Ok-open_named-clause-refused : goal.returns-in-Ok-open_named-clause-refused
+returns-in-Ok-open_named-clause-refused g c = λ honest.
     serving_refuses c.serve_source.result _ _ c.serve_source.ensures.of_serving
 
 pub returns-clause-script : goal.returns-clause-script
@@ -57,23 +58,23 @@ returns-clause-script g c = λ honest before store.
     (g.D.Disk.history c.args.disk.now (g.D.Disk.store_named name)) in
     let R : List ℕ → Type 0 = λ name. RunsOnDisk before c.in-Err.status at at
     (g.D.Disk.history c.args.disk.now (g.D.Disk.store_named name))
-    (g.D.Disk.history c.open_documents.new.disk (g.D.Disk.store_named name)) in
+    (g.D.Disk.history c.open_named.new.disk (g.D.Disk.store_named name)) in
     let named = subst S (sym c.store_name.ensures) store in
     subst R c.store_name.ensures
     (on_disk_early before c.in-Err.status at _ _
     (runs_early before c.in-Err.status at c.in-Err.ensures.only)
-    (c.open_documents.ensures.any_moment honest before named))
+    (c.open_named.ensures.any_moment honest before named))
 
 pub returns-in_default-clause-complete : goal.returns-in_default-clause-complete
 returns-in_default-clause-complete g c = λ honest before store no_disk no_read no_write. inr
     (inl refl)
 
 pub
-    returns-in-Ok-open_documents-clause-complete
-    : goal.returns-in-Ok-open_documents-clause-complete
-returns-in-Ok-open_documents-clause-complete g c = λ honest before store no_disk no_read no_write.
+    returns-in-Ok-open_named-clause-complete
+    : goal.returns-in-Ok-open_named-clause-complete
+returns-in-Ok-open_named-clause-complete g c = λ honest before store no_disk no_read no_write.
     complete_of _ _ _ c.serve_source.result
-    (λ is. rose_since _ _ _ c.open_documents.ensures.never_falls
+    (λ is. rose_since _ _ _ c.open_named.ensures.never_falls
     (c.serve_source.ensures.disk_fault is))
     c.serve_source.ensures.read_fault c.serve_source.ensures.write_fault
     c.serve_source.ensures.of_serving no_disk no_read no_write

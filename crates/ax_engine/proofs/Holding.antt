@@ -1,0 +1,114 @@
+-- What holds of open documents: what a crash leaves of them, and what changes them.
+use Rattle.std.proofs.Common.{◌≡◌, ℕ, List, Option, Some, None, refl, sym, subst, ◌∙◌}
+use Rattle.std.specs.Prelude.{IsSome}
+use Rattle.std.proofs.lemmas.Bool.{false≢true}
+use Rattle.ax_ids.specs.Ids.{number_under}
+use Rattle.ax_disk.specs.model.Image.{Image}
+use Rattle.ax_disk.specs.model.Moments.{History}
+use Rattle.ax_disk.specs.model.Stays.{Rests, Turns}
+use Rattle.ax_disk.specs.laws.StaysLaws.{rests_weaken, stays_start, stays_turn, turns_weaken}
+use Rattle.ax_container.specs.Container.{Container}
+use Rattle.ax_frame.specs.Part.{PartValue}
+use Rattle.ax_pages.specs.Contents.{Contents}
+use Rattle.ax_pages.specs.AfterPart.{after_parts}
+use Rattle.ax_pages.specs.HasContents.{HasContents}
+use Rattle.ax_image.specs.StandsFor.{ContentsStandFor}
+use Rattle.ax_cache.specs.declared.no_pages.NoPages.{NoPages}
+use Rattle.ax_store.specs.declared.store.Store.{Store}
+use Rattle.ax_store.specs.Store.{SameButRoom}
+use Rattle.ax_store.proofs.StoreLemmas.{agrees_rests, agrees_same}
+use Rattle.ax_engine.specs.declared.documents.Documents.{Documents}
+use Rattle.ax_engine.specs.Documents.{contents_in, DocumentsHold, DocumentsWork}
+use Rattle.ax_engine.specs.Stores.{Shows}
+
+shows_by : (contents : Contents) (container : Container) → ContentsStandFor contents container
+    → (image : Image) → HasContents contents image → Shows container image
+shows_by contents container stand image has =
+    record { contents = contents; has = has; stand = stand }
+
+module _ (honest : Type 0) where
+  -- what a crash now leaves stands for the container
+  pub rests_of : (documents : Documents) (history : History) (before : Container)
+      → DocumentsWork honest documents history → DocumentsHold documents before
+      → honest → Rests history (Shows before)
+  rests_of documents history before works holds h =
+      rests_weaken history (HasContents (contents_in documents)) (Shows before)
+      (shows_by (contents_in documents) before holds.stand)
+      (agrees_rests documents.store history (works.agrees h))
+
+  -- nothing has happened
+  pub still : (documents : Documents) (history : History) (before other : Container)
+      → DocumentsWork honest documents history → DocumentsHold documents before
+      → honest → Turns history history (Shows before) (Shows other)
+  still documents history before other works holds h =
+      stays_turn history history (Shows before) (Shows other)
+      (stays_start history (Shows before) (rests_of documents history before works holds h))
+
+  -- room was made
+  pub works_room : (documents : Documents) (store : Store NoPages) (history : History)
+      → SameButRoom documents.store store
+      → DocumentsWork honest documents history → DocumentsWork honest (record documents { store = store }) history
+  works_room documents store history same works = record {
+    unfailed = same.failed ∙ works.unfailed;
+    agrees = λ h. agrees_same documents.store store history same (works.agrees h);
+  }
+
+pub holds_room : (documents : Documents) (store : Store NoPages) (before : Container)
+    → SameButRoom documents.store store
+    → DocumentsHold documents before → DocumentsHold (record documents { store = store }) before
+holds_room documents store before same holds = record {
+  stand = subst (λ contents. ContentsStandFor contents before) (sym same.contents) holds.stand;
+  numbers = holds.numbers;
+}
+
+-- the contents and the numbers are as they were
+pub holds_same : (old new : Documents) (before : Container) → contents_in new ≡ contents_in old
+    → ((id : List ℕ) → number_under new.numbers id ≡ number_under old.numbers id)
+    → DocumentsHold old before → DocumentsHold new before
+holds_same old new before contents numbers holds = record {
+  stand = subst (λ c. ContentsStandFor c before) (sym contents) holds.stand;
+  numbers = λ id. numbers id ∙ holds.numbers id;
+}
+
+-- ---- parts that lead from a container to another
+
+pub record LeadsTo (contents : Contents) (parts : List PartValue) (after : Container) : Type 0 where
+  pub new : Contents
+  pub lead : after_parts parts contents ≡ Some new
+  pub stand : ContentsStandFor new after
+
+pub turns_by : (contents : Contents) (parts : List PartValue) (before after : Container)
+    (old new : History) → ContentsStandFor contents before
+    → (leads : LeadsTo contents parts after)
+    → Turns old new (HasContents contents) (HasContents leads.new)
+    → Turns old new (Shows before) (Shows after)
+turns_by contents parts before after old new stand leads turns =
+    turns_weaken old new (HasContents contents) (Shows before) (HasContents leads.new) (Shows after)
+    (shows_by contents before stand) (shows_by leads.new after leads.stand) turns
+
+same_some : (x y : Contents) → Some x ≡ Some y → x ≡ y
+same_some x y e = cc
+
+-- after a commit of these parts
+pub made_by : (contents roomy now : Contents) (parts meant : List PartValue) (after : Container)
+    → LeadsTo contents meant after → parts ≡ meant → roomy ≡ contents
+    → after_parts parts roomy ≡ Some now → ContentsStandFor now after
+made_by contents roomy now parts meant after leads are same done =
+    let is : Some leads.new ≡ Some now =
+    sym leads.lead ∙ (λ i. after_parts (sym are i) (sym same i)) ∙ done in
+    subst (λ c. ContentsStandFor c after) (same_some leads.new now is) leads.stand
+
+pub turned_by : (contents roomy : Contents) (parts meant : List PartValue) (before after : Container)
+    (old new : History) → ContentsStandFor contents before → LeadsTo contents meant after
+    → parts ≡ meant → roomy ≡ contents
+    → ((now : Contents) → after_parts parts roomy ≡ Some now
+    → Turns old new (HasContents roomy) (HasContents now))
+    → Turns old new (Shows before) (Shows after)
+turned_by contents roomy parts meant before after old new stand leads are same turns =
+    turns_by contents meant before after old new stand leads
+    (subst (λ c. Turns old new (HasContents c) (HasContents leads.new)) same
+    (turns leads.new ((λ i. after_parts (are i) (same i)) ∙ leads.lead)))
+
+pub some_id : (o : Option (List ℕ)) → IsSome o → (id : List ℕ) × (o ≡ Some id)
+some_id (Some id) is = (id, refl)
+some_id None is = absurd (false≢true is)

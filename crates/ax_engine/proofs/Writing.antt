@@ -1,0 +1,221 @@
+-- The parts of an upsert: they are within the format, and they lead to the upserted container.
+use Rattle.std.proofs.Common.{◌≡◌, ℕ, ◌+◌, ◌<◌, ◌≤◌, Bool, true, false, cond, List, [], ◌∷◌, ◌++◌, map, length}
+use Rattle.std.proofs.Common.{find, Option, Some, None, is_some, Ok, Err, refl, sym, ap, subst, ◌∙◌, arith}
+use Rattle.std.specs.Prelude.{option_map, option_and_then, if◌then◌else◌, ◌||◌, nat_le, nat_lt}
+use Rattle.std.specs.List.{list_any}
+use Rattle.std.specs.Option.{option_map_or}
+use Rattle.std.specs.Str.{bytes_eq}
+use Rattle.std.specs.FinMap as finite
+use Rattle.std.proofs.lemmas.Bool.{lt-ltb, leb-false}
+use Rattle.ax_tree.specs.declared.tree.Tree.{Tree}
+use Rattle.ax_tree.specs.Document.{document_id}
+use Rattle.ax_tree.specs.Nesting.{nesting}
+use Rattle.ax_tree.specs.WellFormed.{IsWellFormed}
+use Rattle.ax_container.specs.Container.{Entry, Container, has_id, entry_of, most_documents, last_number}
+use Rattle.ax_container.specs.Upsert.{Full, with_tree, replaced, created, creation, is_full, upserted}
+use Rattle.ax_container.proofs.Ids.{same_from_eq, bytes_eq-false_sym}
+use Rattle.ax_container.proofs.Upserts.{or_none, upsert_keeps_soundness}
+use Rattle.ax_frame.specs.Part.{PartValue}
+use Rattle.ax_pages.specs.Contents.{Contents, meta_bytes, next_number, policy_now, is_given}
+use Rattle.ax_pages.specs.AfterPart.{after_parts, last_policy}
+use Rattle.ax_image.specs.StandsFor.{ContentsStandFor}
+use Rattle.ax_image.specs.UpsertParts.{document_part, replacing_parts, creating_parts, upsert_parts}
+use Rattle.ax_image.proofs.Shown.{as_many}
+use Rattle.ax_image.proofs.Upserting.{Written, written, first_or, second_or, meta_fits, after_document}
+use Rattle.ax_image.proofs.Upserting.{with_document, any_found}
+use Rattle.ax_store.specs.Putting.{AreWithin}
+use Rattle.ax_engine.specs.Documents.{number_in, is_full_of}
+use Rattle.ax_engine.proofs.Holding.{LeadsTo}
+
+-- ---- within the format
+
+pub within_replacing : (number policy : ℕ) (tree : Tree) (contents : Contents) → 0 < number
+    → is_given policy contents ≡ true → finite.contains_key contents.documents number ≡ true
+    → AreWithin (replacing_parts number policy tree) contents
+within_replacing number policy tree contents some given held = (
+  with_document contents number policy tree,
+  ap (option_and_then (after_parts []))
+      (after_document number policy tree contents some given (first_or _ _ held)),
+)
+
+pub within_creating : (next policy : ℕ) (tree : Tree) (contents : Contents) → 0 < next
+    → is_full_of contents ≡ false → next ≡ next → policy ≤ last_policy
+    → is_given policy contents ≡ true → finite.len contents.documents < most_documents
+    → next < last_number → AreWithin (creating_parts next policy tree) contents
+within_creating next policy tree contents some full _ small given few left =
+    let with_meta : Contents = record contents { meta = Some (meta_bytes (next + 1) policy) } in
+    let fits = meta_fits (next + 1) policy contents (omega arith) (omega (arith, left)) small given in
+    let room = second_or (finite.contains_key contents.documents next)
+    (nat_lt (finite.len contents.documents) most_documents)
+    (lt-ltb (finite.len contents.documents) most_documents few) in (
+      with_document with_meta next policy tree,
+      ap (λ b. option_and_then (after_parts (document_part next policy tree ∷ []))
+          (if b then Some with_meta else None)) fits
+          ∙ ap (option_and_then (after_parts []))
+          (after_document next policy tree with_meta some given room),
+    )
+
+-- ---- what leads to the upserted container
+
+leads : (contents : Contents) (before after : Container) (tree : Tree) (id : List ℕ)
+    → ContentsStandFor contents before → document_id tree ≡ Some id → IsWellFormed tree
+    → nesting tree ≤ 127 → upserted id tree before ≡ Ok after → Written contents id tree before after
+leads contents before after tree id stand doc formed shallow =
+    written contents before id tree stand after (λ container. upsert_keeps_soundness before container id tree
+    (λ number own same. record { own_id = doc ∙ ap Some (sym same); well_formed = formed; shallow = shallow }) stand.sound)
+
+by_parts : (contents : Contents) (before after : Container) (tree : Tree) (id : List ℕ)
+    (parts : List PartValue) → upsert_parts id tree (policy_now contents) before ≡ parts
+    → Written contents id tree before after → LeadsTo contents parts after
+by_parts contents before after tree id parts are w = record {
+  new = w.0;
+  lead = subst (λ ps. after_parts ps contents ≡ Some w.0) are w.1;
+  stand = w.2;
+}
+
+-- what a line may nest, a text may nest
+pub within_text : {n : ℕ} → n ≤ 100 → n ≤ 127
+within_text low = omega (arith, low)
+
+some_entry : (o : Option Entry) (number : ℕ) → option_map (λ (e : Entry). e.number) o ≡ Some number
+    → (e : Entry) × (o ≡ Some e) × (e.number ≡ number)
+some_entry None number is = absurd cc
+some_entry (Some e) number is = (e, refl, cc)
+
+no_entry : (o : Option Entry) → option_map (λ (e : Entry). e.number) o ≡ None → o ≡ None
+no_entry None is = refl
+no_entry (Some e) is = absurd cc
+
+module _ (contents : Contents) (before : Container) (tree : Tree) (id : List ℕ)
+    (stand : ContentsStandFor contents before) (doc : document_id tree ≡ Some id)
+    (formed : IsWellFormed tree) (shallow : nesting tree ≤ 127) where
+  pub replaces : (number : ℕ) → number_in id before ≡ Some number
+      → upserted id tree before ≡ Ok (replaced id tree before)
+  replaces number at =
+      let e = some_entry (entry_of id before) number at in
+      ap (λ b. if b then Ok (replaced id tree before) else creation id tree before)
+      (any_found id before.entries ∙ ap is_some e.1)
+
+  pub replaced_leads : (number policy : ℕ) → number_in id before ≡ Some number → policy ≡ policy_now contents
+      → LeadsTo contents (replacing_parts number policy tree) (replaced id tree before)
+  replaced_leads number policy at now =
+      let e = some_entry (entry_of id before) number at in
+      by_parts contents before (replaced id tree before) tree id (replacing_parts number policy tree)
+      (ap (λ found. option_map_or (λ (entry : Entry). replacing_parts entry.number (policy_now contents) tree) found
+      (creating_parts before.next_number (policy_now contents) tree)) e.1
+      ∙ (λ i. replacing_parts (e.2 i) (sym now i) tree))
+      (leads contents before (replaced id tree before) tree id stand doc formed shallow (replaces number at))
+
+  full_same : is_full_of contents ≡ is_full before
+  full_same =
+      let count : finite.len contents.documents ≡ length before.entries =
+      finite.len-entries contents.documents ∙ as_many (finite.entries contents.documents) before.entries stand.shown in
+      λ i. nat_le most_documents (count i) || nat_le last_number (stand.next i)
+
+  created_or_full : number_in id before ≡ None
+      → upserted id tree before ≡ (if is_full_of contents then Err Full else Ok (created id tree before))
+  created_or_full at =
+      ap (λ b. if b then Ok (replaced id tree before) else creation id tree before)
+      (any_found id before.entries ∙ ap is_some (no_entry (entry_of id before) at))
+      ∙ ap (λ b. if b then Err Full else Ok (created id tree before)) (sym full_same)
+
+  pub is_refused : number_in id before ≡ None → is_full_of contents ≡ true
+      → upserted id tree before ≡ Err Full
+  is_refused at full = created_or_full at
+      ∙ ap (λ b. if b then Err Full else Ok (created id tree before)) full
+
+  pub creates : number_in id before ≡ None → is_full_of contents ≡ false
+      → upserted id tree before ≡ Ok (created id tree before)
+  creates at full = created_or_full at
+      ∙ ap (λ b. if b then Err Full else Ok (created id tree before)) full
+
+  pub created_leads : (number policy : ℕ) → number_in id before ≡ None → is_full_of contents ≡ false
+      → number ≡ before.next_number → policy ≡ policy_now contents
+      → LeadsTo contents (creating_parts number policy tree) (created id tree before)
+  created_leads number policy at full next now =
+      by_parts contents before (created id tree before) tree id (creating_parts number policy tree)
+      (ap (λ found. option_map_or (λ (entry : Entry). replacing_parts entry.number (policy_now contents) tree) found
+      (creating_parts before.next_number (policy_now contents) tree)) (no_entry (entry_of id before) at)
+      ∙ (λ i. creating_parts (sym next i) (sym now i) tree))
+      (leads contents before (created id tree before) tree id stand doc formed shallow (creates at full))
+
+-- ---- the numbers of ids
+
+number_step : (other : List ℕ) (e x : Entry) (o p : Option Entry) → x.id ≡ e.id → x.number ≡ e.number
+    → option_map (λ (e : Entry). e.number) o ≡ option_map (λ (e : Entry). e.number) p
+    → option_map (λ (e : Entry). e.number) (if has_id other x then Some x else o)
+    ≡ option_map (λ (e : Entry). e.number) (if has_id other e then Some e else p)
+number_step other e x o p id number rest =
+    ap (λ i. option_map (λ (e : Entry). e.number) (if bytes_eq i other then Some x else o)) id
+    ∙ elim (bytes_eq e.id other) as (λ b. option_map (λ (e : Entry). e.number) (if b then Some x else o)
+    ≡ option_map (λ (e : Entry). e.number) (if b then Some e else p)) [
+      | true ↦ ap Some number
+      | false ↦ rest
+    ]
+
+tree_keeps_id : (id : List ℕ) (tree : Tree) (e : Entry) (b : Bool)
+    → (if b then record { number = e.number; id = e.id; tree = tree } else e).id ≡ e.id
+tree_keeps_id id tree e true = refl
+tree_keeps_id id tree e false = refl
+
+tree_keeps_number : (id : List ℕ) (tree : Tree) (e : Entry) (b : Bool)
+    → (if b then record { number = e.number; id = e.id; tree = tree } else e).number ≡ e.number
+tree_keeps_number id tree e true = refl
+tree_keeps_number id tree e false = refl
+
+numbers_stay : (other id : List ℕ) (tree : Tree) (es : List Entry)
+    → option_map (λ (e : Entry). e.number) (find (has_id other) (map (with_tree id tree) es))
+    ≡ option_map (λ (e : Entry). e.number) (find (has_id other) es)
+numbers_stay other id tree [] = refl
+numbers_stay other id tree (e ∷ es) =
+    number_step other e (with_tree id tree e) (find (has_id other) (map (with_tree id tree) es))
+    (find (has_id other) es) (tree_keeps_id id tree e (has_id id e))
+    (tree_keeps_number id tree e (has_id id e)) (numbers_stay other id tree es)
+
+pub numbers_replaced : (other id : List ℕ) (tree : Tree) (before : Container)
+    → number_in other (replaced id tree before) ≡ number_in other before
+numbers_replaced other id tree before = numbers_stay other id tree before.entries
+
+created_step : (b new : Bool) (n : ℕ) (e : Entry) (o p : Option Entry) → (b ≡ true → new ≡ false)
+    → option_map (λ (e : Entry). e.number) o ≡ cond new (Some n) (option_map (λ (e : Entry). e.number) p)
+    → option_map (λ (e : Entry). e.number) (if b then Some e else o)
+    ≡ cond new (Some n) (option_map (λ (e : Entry). e.number) (if b then Some e else p))
+created_step true false n e o p other rest = refl
+created_step true true n e o p other rest = absurd (let same : true ≡ false = other refl in cc)
+created_step false new n e o p other rest = rest
+
+last_number_is : (b : Bool) (new : Entry)
+    → option_map (λ (e : Entry). e.number) (if b then Some new else None) ≡ cond b (Some new.number) None
+last_number_is true new = refl
+last_number_is false new = refl
+
+numbers_behind : (other : List ℕ) (new : Entry) (es : List Entry) → list_any (has_id new.id) es ≡ false
+    → option_map (λ (e : Entry). e.number) (find (has_id other) (es ++ new ∷ []))
+    ≡ cond (bytes_eq new.id other) (Some new.number)
+    (option_map (λ (e : Entry). e.number) (find (has_id other) es))
+numbers_behind other new [] none = last_number_is (has_id other new) new
+numbers_behind other new (e ∷ es) none =
+    let parts = or_none (has_id new.id e) (list_any (has_id new.id) es) none in
+    created_step (has_id other e) (bytes_eq new.id other) new.number e
+    (find (has_id other) (es ++ new ∷ [])) (find (has_id other) es)
+    (λ own. ap (bytes_eq new.id) (sym (same_from_eq e.id other own))
+    ∙ bytes_eq-false_sym e.id new.id parts.0)
+    (numbers_behind other new es parts.1)
+
+pub numbers_created : (other id : List ℕ) (tree : Tree) (before : Container)
+    → number_in id before ≡ None
+    → number_in other (created id tree before)
+    ≡ cond (bytes_eq id other) (Some before.next_number) (number_in other before)
+numbers_created other id tree before at =
+    numbers_behind other (record { number = before.next_number; id = id; tree = tree }) before.entries
+    (any_found id before.entries ∙ ap is_some (no_entry (entry_of id before) at))
+
+pub within_next : (next policy : ℕ) (tree : Tree) (contents : Contents) → 0 < next
+    → is_full_of contents ≡ false → next ≡ next_number contents → policy ≤ 8
+    → is_given policy contents ≡ true → AreWithin (creating_parts next policy tree) contents
+within_next next policy tree contents some full is small given =
+    let parts = or_none (nat_le most_documents (finite.len contents.documents))
+    (nat_le last_number (next_number contents)) full in
+    within_creating next policy tree contents some full refl small given
+    (leb-false most_documents (finite.len contents.documents) parts.0)
+    (omega (arith, leb-false last_number (next_number contents) parts.1, is))

@@ -1,0 +1,126 @@
+-- The parts lead from the container to the one in which the document is created.
+use Rattle.std.proofs.Common.{◌≡◌, ◌<◌, List, ℕ, Some, cond, sym, subst, ◌∙◌, arith}
+use Rattle.std.specs.Str.{bytes_eq}
+use Rattle.ax_container.specs.Upsert.{created}
+use Rattle.ax_frame.specs.Part.{PartValue}
+use Rattle.ax_image.specs.UpsertParts.{creating_parts}
+use Rattle.ax_pages.specs.Contents.{Contents}
+use Rattle.ax_store.specs.Store.{store_contents}
+use Rattle.ax_store.specs.Batch.{batch_parts}
+use Rattle.ax_store.specs.Putting.{AreWithin}
+use Rattle.ax_store.proofs.StoreLemmas.{agrees_same}
+use Rattle.ax_engine.specs.Documents.{contents_in}
+use Rattle.ax_engine.proofs.Holding.{still, holds_room, holds_same, works_room, made_by, turned_by}
+use Rattle.ax_engine.proofs.Writing.{within_text, within_next, is_refused, creates, created_leads, numbers_created}
+use Rattle.ax_engine.proofs.documents.Documents.create.Goals as goal
+
+pub returns-then-is_full-clause-tells : goal.returns-then-is_full-clause-tells
+returns-then-is_full-clause-tells g c = λ before holds doc at. (
+  is_refused (contents_in c.args.self.now) before c.args.tree.now c.args.id.now holds.stand doc
+      c.requires.storable.well_formed (within_text c.requires.storable.shallow) (sym (holds.numbers c.args.id.now) ∙ at)
+      (sym c.is_full.ensures ∙ c.if-is_full.true),
+  holds,
+  still _ c.args.self.now _ before before c.requires.works holds,
+)
+
+pub returns-in_default-clause-tells : goal.returns-in_default-clause-tells
+returns-in_default-clause-tells g c = λ before holds doc at.
+    (holds, still _ c.args.self.now _ before before c.requires.works holds)
+
+pub returns-then-number-eq0-clause-tells : goal.returns-then-number-eq0-clause-tells
+returns-then-number-eq0-clause-tells g c = λ before holds doc at.
+    (holds, still _ c.args.self.now _ before before c.requires.works holds)
+
+pub returns-in_default-creating-clause-tells : goal.returns-in_default-creating-clause-tells
+returns-in_default-creating-clause-tells g c = λ before holds doc at.
+    (holds, still _ c.args.self.now _ before before c.requires.works holds)
+
+pub returns-in_default-reserve-clause-tells : goal.returns-in_default-reserve-clause-tells
+returns-in_default-reserve-clause-tells g c = λ before holds doc at. (
+  holds_room c.args.self.now c.reserve.new.self before c.reserve.ensures.same holds,
+  still _ c.args.self.now _ before before c.requires.works holds,
+)
+
+pub returns-in_default-reserve-clause-works : goal.returns-in_default-reserve-clause-works
+returns-in_default-reserve-clause-works g c =
+    works_room _ c.args.self.now c.reserve.new.self _ c.reserve.ensures.same c.requires.works
+
+pub returns-in_default-insert-clause-tells : goal.returns-in_default-insert-clause-tells
+returns-in_default-insert-clause-tells g c = λ before holds doc at. (
+  holds_same c.args.self.now _ before c.reserve.ensures.same.contents
+      c.in_default-insert.ensures.err holds,
+  still _ c.args.self.now _ before before c.requires.works holds,
+)
+
+pub returns-in_default-insert-clause-works : goal.returns-in_default-insert-clause-works
+returns-in_default-insert-clause-works g c =
+    let works = works_room _ c.args.self.now c.reserve.new.self _ c.reserve.ensures.same c.requires.works in
+    record { unfailed = works.unfailed; agrees = works.agrees }
+
+pub commit-requires-clause-agrees : goal.commit-requires-clause-agrees
+commit-requires-clause-agrees g c = λ honest _.
+    agrees_same c.args.self.now.store c.reserve.new.self _ c.reserve.ensures.same
+    (c.requires.works.agrees honest)
+
+pub commit-requires-clause-within : goal.commit-requires-clause-within
+commit-requires-clause-within g c =
+    let next : ℕ = c.next_number-number.result in
+    let some : 0 < next = omega (arith, c.if-number-eq0.false) in
+    let P : List PartValue → Type 0 = λ parts. AreWithin parts (store_contents c.reserve.new.self) in
+    let Q : Contents → Type 0 = λ contents. AreWithin
+    (creating_parts next c.in-Some.policy c.args.tree.now) contents in
+    subst P (sym c.in-Ok.ensures.parts)
+    (subst Q (sym c.reserve.ensures.same.contents)
+    (within_next next c.in-Some.policy c.args.tree.now (contents_in c.args.self.now) some
+    (sym c.is_full.ensures ∙ c.if-is_full.false) c.next_number-number.ensures
+    c.in-Some.ensures.small
+    c.in-Some.ensures.given))
+
+pub returns-in-Ok-commit-clause-tells : goal.returns-in-Ok-commit-clause-tells
+returns-in-Ok-commit-clause-tells g c = λ before holds doc at.
+    let id : List ℕ = c.args.id.now in
+    let placed = sym (holds.numbers id) ∙ at in
+    let full = sym c.is_full.ensures ∙ c.if-is_full.false in
+    let next : c.next_number-number.result ≡ before.next_number =
+    c.next_number-number.ensures ∙ holds.stand.next in
+    let leads = created_leads (contents_in c.args.self.now) before c.args.tree.now id holds.stand doc
+    c.requires.storable.well_formed (within_text c.requires.storable.shallow)
+    c.next_number-number.result c.in-Some.policy
+    placed full next c.in-Some.ensures.now in (
+      created id c.args.tree.now before,
+      creates (contents_in c.args.self.now) before c.args.tree.now id holds.stand doc
+          c.requires.storable.well_formed (within_text c.requires.storable.shallow) placed full,
+      record {
+        stand = made_by (contents_in c.args.self.now) (store_contents c.reserve.new.self)
+            (store_contents c.commit.new.self) (batch_parts c.in-Ok.batch) _ (created id c.args.tree.now before)
+            leads c.in-Ok.ensures.parts c.reserve.ensures.same.contents c.in-Ok-commit.ensures.ok;
+        numbers = λ other.
+            c.in-Ok-insert.ensures.ok other
+            ∙ (λ i. cond (bytes_eq id other) (Some (next i)) (holds.numbers other i))
+            ∙ sym (numbers_created other id c.args.tree.now before placed);
+      },
+      λ honest. turned_by (contents_in c.args.self.now) (store_contents c.reserve.new.self) (batch_parts c.in-Ok.batch) _
+          before (created id c.args.tree.now before) _ _ holds.stand leads c.in-Ok.ensures.parts
+          c.reserve.ensures.same.contents
+          (c.commit.ensures.any_moment honest (c.reserve.ensures.same.failed ∙ c.requires.works.unfailed)),
+    )
+
+pub returns-in-Err-clause-tells : goal.returns-in-Err-clause-tells
+returns-in-Err-clause-tells g c = λ before holds doc at.
+    let id : List ℕ = c.args.id.now in
+    let placed = sym (holds.numbers id) ∙ at in
+    let full = sym c.is_full.ensures ∙ c.if-is_full.false in
+    let next : c.next_number-number.result ≡ before.next_number =
+    c.next_number-number.ensures ∙ holds.stand.next in
+    let leads = created_leads (contents_in c.args.self.now) before c.args.tree.now id holds.stand doc
+    c.requires.storable.well_formed (within_text c.requires.storable.shallow)
+    c.next_number-number.result c.in-Some.policy
+    placed full next c.in-Some.ensures.now in (
+      created id c.args.tree.now before,
+      creates (contents_in c.args.self.now) before c.args.tree.now id holds.stand doc
+          c.requires.storable.well_formed (within_text c.requires.storable.shallow) placed full,
+      λ honest. turned_by (contents_in c.args.self.now) (store_contents c.reserve.new.self) (batch_parts c.in-Ok.batch) _
+          before (created id c.args.tree.now before) _ _ holds.stand leads c.in-Ok.ensures.parts
+          c.reserve.ensures.same.contents
+          (c.commit.ensures.any_moment honest (c.reserve.ensures.same.failed ∙ c.requires.works.unfailed)),
+    )

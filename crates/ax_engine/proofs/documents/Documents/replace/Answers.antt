@@ -1,0 +1,88 @@
+-- The parts lead from the container to the one in which the document is replaced.
+use Rattle.std.proofs.Common.{List, sym, subst, ◌∙◌}
+use Rattle.ax_container.specs.Upsert.{replaced}
+use Rattle.ax_frame.specs.Part.{PartValue}
+use Rattle.ax_image.specs.UpsertParts.{replacing_parts}
+use Rattle.ax_pages.specs.Contents.{Contents}
+use Rattle.ax_store.specs.Store.{store_contents}
+use Rattle.ax_store.specs.Batch.{batch_parts}
+use Rattle.ax_store.specs.Putting.{AreWithin}
+use Rattle.ax_store.proofs.StoreLemmas.{agrees_same}
+use Rattle.ax_engine.specs.Documents.{contents_in}
+use Rattle.ax_engine.proofs.Holding.{still, holds_room, works_room, made_by, turned_by}
+use Rattle.ax_engine.proofs.Writing.{within_text, within_replacing, replaces, replaced_leads, numbers_replaced}
+use Rattle.ax_engine.proofs.documents.Documents.replace.Goals as goal
+
+pub returns-in_default-clause-tells : goal.returns-in_default-clause-tells
+returns-in_default-clause-tells g c = λ before id holds doc at.
+    (holds, still _ c.args.self.now _ before before c.requires.works holds)
+
+pub returns-then-not-is_held-clause-tells : goal.returns-then-not-is_held-clause-tells
+returns-then-not-is_held-clause-tells g c = λ before id holds doc at.
+    (holds, still _ c.args.self.now _ before before c.requires.works holds)
+
+pub returns-in_default-replacing-clause-tells : goal.returns-in_default-replacing-clause-tells
+returns-in_default-replacing-clause-tells g c = λ before id holds doc at.
+    (holds, still _ c.args.self.now _ before before c.requires.works holds)
+
+pub returns-in_default-reserve-clause-tells : goal.returns-in_default-reserve-clause-tells
+returns-in_default-reserve-clause-tells g c = λ before id holds doc at. (
+  holds_room c.args.self.now c.reserve.new.self before c.reserve.ensures.same holds,
+  still _ c.args.self.now _ before before c.requires.works holds,
+)
+
+pub returns-in_default-reserve-clause-works : goal.returns-in_default-reserve-clause-works
+returns-in_default-reserve-clause-works g c =
+    works_room _ c.args.self.now c.reserve.new.self _ c.reserve.ensures.same c.requires.works
+
+pub commit-requires-clause-agrees : goal.commit-requires-clause-agrees
+commit-requires-clause-agrees g c = λ honest _.
+    agrees_same c.args.self.now.store c.reserve.new.self _ c.reserve.ensures.same
+    (c.requires.works.agrees honest)
+
+pub commit-requires-clause-within : goal.commit-requires-clause-within
+commit-requires-clause-within g c =
+    let P : List PartValue → Type 0 = λ parts. AreWithin parts (store_contents c.reserve.new.self) in
+    let Q : Contents → Type 0 = λ contents. AreWithin
+    (replacing_parts c.args.number c.in-Some.policy c.args.tree.now) contents in
+    subst P (sym c.in-Ok.ensures.parts)
+    (subst Q (sym c.reserve.ensures.same.contents)
+    (within_replacing c.args.number c.in-Some.policy c.args.tree.now (contents_in c.args.self.now)
+    (c.is_held.ensures.some c.if-not-is_held.false) c.in-Some.ensures.given
+    (c.is_held.ensures.held c.if-not-is_held.false)))
+
+pub returns-in-Ok-commit-clause-tells : goal.returns-in-Ok-commit-clause-tells
+returns-in-Ok-commit-clause-tells g c = λ before id holds doc at.
+    let placed = sym (holds.numbers id) ∙ at in
+    let leads = replaced_leads (contents_in c.args.self.now) before c.args.tree.now id holds.stand doc
+    c.requires.storable.well_formed (within_text c.requires.storable.shallow) c.args.number c.in-Some.policy placed
+    c.in-Some.ensures.now in (
+      replaced id c.args.tree.now before,
+      replaces (contents_in c.args.self.now) before c.args.tree.now id holds.stand doc
+          c.requires.storable.well_formed (within_text c.requires.storable.shallow) c.args.number placed,
+      record {
+        stand = made_by (contents_in c.args.self.now) (store_contents c.reserve.new.self)
+            (store_contents c.commit.new.self) (batch_parts c.in-Ok.batch) _ (replaced id c.args.tree.now before)
+            leads c.in-Ok.ensures.parts c.reserve.ensures.same.contents c.in-Ok-commit.ensures.ok;
+        numbers = λ other. holds.numbers other ∙ sym (numbers_replaced other id c.args.tree.now before);
+      },
+      λ honest. turned_by (contents_in c.args.self.now) (store_contents c.reserve.new.self) (batch_parts c.in-Ok.batch) _
+          before (replaced id c.args.tree.now before) _ _ holds.stand leads c.in-Ok.ensures.parts
+          c.reserve.ensures.same.contents
+          (c.commit.ensures.any_moment honest (c.reserve.ensures.same.failed ∙ c.requires.works.unfailed)),
+    )
+
+pub returns-in-Err-clause-tells : goal.returns-in-Err-clause-tells
+returns-in-Err-clause-tells g c = λ before id holds doc at.
+    let placed = sym (holds.numbers id) ∙ at in
+    let leads = replaced_leads (contents_in c.args.self.now) before c.args.tree.now id holds.stand doc
+    c.requires.storable.well_formed (within_text c.requires.storable.shallow) c.args.number c.in-Some.policy placed
+    c.in-Some.ensures.now in (
+      replaced id c.args.tree.now before,
+      replaces (contents_in c.args.self.now) before c.args.tree.now id holds.stand doc
+          c.requires.storable.well_formed (within_text c.requires.storable.shallow) c.args.number placed,
+      λ honest. turned_by (contents_in c.args.self.now) (store_contents c.reserve.new.self) (batch_parts c.in-Ok.batch) _
+          before (replaced id c.args.tree.now before) _ _ holds.stand leads c.in-Ok.ensures.parts
+          c.reserve.ensures.same.contents
+          (c.commit.ensures.any_moment honest (c.reserve.ensures.same.failed ∙ c.requires.works.unfailed)),
+    )

@@ -1,0 +1,52 @@
+-- An engine at work: which container it has, and what it answers to a line.
+use Rattle.std.specs.Prelude.{◌≡◌, None, Result, Ok, Err}
+use Rattle.ax_disk.specs.model.Moments.{History}
+use Rattle.ax_disk.specs.model.Stays.{Turns}
+use Rattle.ax_container.specs.Container.{Container}
+use Rattle.ax_lines.specs.declared.line.Line.{Line}
+use Rattle.ax_machine.specs.Reply as reply
+use Rattle.ax_machine.specs.Run.{Outcome, Served, OutOfMemory}
+use Rattle.ax_machine.specs.Step.{served}
+use Rattle.ax_engine.specs.Documents.{DocumentsHold, DocumentsWork}
+use Rattle.ax_engine.specs.Replies.{IsReply}
+use Rattle.ax_engine.specs.Stores.{Shows}
+use Rattle.ax_engine.specs.declared.documents.Documents.{Documents}
+use Rattle.ax_engine.specs.declared.engine.Engine.{Engine}
+use Rattle.ax_engine.specs.declared.engine.Fault.{Fault}
+use Rattle.ax_engine.specs.declared.engine.Fault.TheVariants as fault
+use Rattle.ax_engine.specs.declared.reply.Reply.{Reply}
+
+-- it has answered no fault, and its documents are those of the container
+pub record Holds (engine : Engine) (container : Container) : Type 0 where
+  pub unfaulted : engine.fault ≡ None
+  pub documents : DocumentsHold engine.documents container
+
+-- until it answers a fault its store has not failed, and agrees with the disk where that is honest
+pub record Works (honest : Type 0) (engine : Engine) (history : History) : Type 0 where
+  pub documents : engine.fault ≡ None → DocumentsWork honest engine.documents history
+
+-- the container after a line that was read, and its reply: by its step, or unchanged for want of memory
+abbrev pub made_by : Container → Line → Outcome → Container × reply.Reply
+made_by before line Served = served before (Ok line)
+made_by before line OutOfMemory = (before, reply.out_of_memory)
+
+-- What a line is answered: its step, or that memory ran out, which changes nothing; or that the disk
+-- failed while the step was made.
+abbrev pub TellsOf : Type 0 → Container → Line → Result Reply Fault → (Container → Type 0) → History
+    → History → Type 0
+TellsOf honest before line (Ok given) Has old new =
+    (outcome : Outcome) × IsReply given (made_by before line outcome).1
+    × Has (made_by before line outcome).0
+    × (honest → Turns old new (Shows before) (Shows (made_by before line outcome).0))
+TellsOf honest before line (Err fault.Disk) Has old new =
+    honest → Turns old new (Shows before) (Shows (served before (Ok line)).0)
+
+-- the same of documents
+abbrev pub Tells : Type 0 → Container → Line → Result Reply Fault → Documents → History → History → Type 0
+Tells honest before line result held old new =
+    TellsOf honest before line result (DocumentsHold held) old new
+
+-- the same of an engine
+abbrev pub Applies : Type 0 → Container → Line → Result Reply Fault → Engine → History → History → Type 0
+Applies honest before line result engine old new =
+    TellsOf honest before line result (Holds engine) old new

@@ -1,0 +1,187 @@
+//! An engine over an open store.
+
+ghost use Rattle.std.specs.Prelude.{◌≡◌, ◌≤◌, ◌+◌, ℕ, List, Ok, Err, Some, None, IsTrue, IfOk, IfErr, OnOk};
+ghost use Rattle.ax_faults.specs.Faults.{Rose};
+ghost use Rattle.ax_disk.specs.model.Stays.{SinceBarrier};
+ghost use Rattle.ax_container.specs.Container.{Container};
+ghost use Rattle.ax_tree.specs.Document.{document_id};
+ghost use Rattle.ax_lines.specs.Asked.{IsAsked, IsStorable};
+ghost use Rattle.ax_lines.specs.declared.line.Line.TheVariants as line;
+ghost use Rattle.ax_machine.specs.Needs.{most_steps_of};
+ghost use Rattle.ax_engine.specs.Documents.{DocumentsHold, DocumentsWork};
+ghost use Rattle.ax_engine.specs.Engine.{Applies, Holds, Tells, Works, made_by};
+ghost use Rattle.ax_engine.specs.Opening.{RefusesBy};
+ghost use Rattle.ax_engine.specs.Replies.{IsReply};
+ghost use Rattle.ax_engine.specs.Stores.{IsStore, Shows};
+ghost use Rattle.ax_machine.specs.Run.{Outcome};
+
+use crate::documents::{Documents, UpsertFault};
+use crate::opening::open_documents;
+use crate::querying::reply_to_query;
+use crate::reply::Reply;
+use ax_base::Steps;
+use ax_disk::Disk;
+use ax_lines::{Body, Line, Refusal};
+use ax_store::StoreFault;
+use ax_tree::Tree;
+use std::alloc::Global;
+use std::sync::ledger::Ledger;
+
+/// Why an engine answers no reply.
+#[derive(Clone, Copy, Debug, PartialEq, Eq)]
+pub enum Fault {
+    /// A call on the disk failed, and its count of faults rose.
+    Disk,
+}
+
+/// The documents of a container on a disk. After a fault it is to be opened again.
+#[derive(Drop)]
+pub struct Engine {
+    pub(crate) documents: Documents,
+    /// The fault that was answered first.
+    pub(crate) fault: Option<Fault>,
+}
+
+impl Engine {
+    /// Opens the store attached, or forms one where it is fresh.
+    ///
+    /// It begins with a sync, the barrier: until that succeeds a crash leaves what it might have left
+    /// before, and from then on the documents that reads gave. The errors are those of the store:
+    /// `Disk` only where a call on the disk failed, `Damaged` and `Newer` only where the store is
+    /// outside the format at that offset, or of that later version, and it is as it was; `Memory`.
+    pub fn open_engine<D: Disk>(alloc: Global, disk: &mut D) -> Result<Engine, StoreFault>
+        ensures works { IfOk result (λ engine. Works (IsTrue (D.is_honest disk.old)) engine
+            (D.history disk.new (D.attached disk.new))) }
+        ensures unfaulted { IfOk result (λ engine. engine.fault ≡ None) }
+        ensures holds { IsTrue (D.is_honest disk.old) → (before : Container)
+            → IsStore before (D.history disk.old (D.attached disk.old)) → IfOk result (λ engine. Holds engine before) }
+        ensures any_moment { IsTrue (D.is_honest disk.old) → (before : Container)
+            → IsStore before (D.history disk.old (D.attached disk.old))
+            → SinceBarrier (D.history disk.old (D.attached disk.old)) (D.history disk.new (D.attached disk.new)) (Shows before) }
+        ensures refused { IsTrue (D.is_honest disk.old) → IfErr result (λ fault. RefusesBy fault
+            (D.history disk.old (D.attached disk.old)) (D.history disk.new (D.attached disk.new))) }
+        ensures cause { result ≡ Err StoreFault.Disk → Rose (D.faults disk.old) (D.faults disk.new) }
+        ensures never_falls { D.faults disk.old ≤ D.faults disk.new }
+        ensures attached { D.attached disk.new ≡ D.attached disk.old }
+        ensures honest { D.is_honest disk.new ≡ D.is_honest disk.old }
+    {
+        match open_documents(alloc, disk) {
+            Ok(documents) => Ok(Engine {
+                documents,
+                fault: None,
+            }),
+            Err(fault) => Err(fault),
+        }
+    }
+
+    /// Makes the step of a line, durable where the disk is honest, and answers with its reply; or is
+    /// refused for want of memory, with no change. After a fault every line is answered by it.
+    pub fn apply<D: Disk, L: Ledger>(
+        &mut self,
+        disk: &mut D,
+        line: Line,
+        steps: &mut Steps<L>,
+    ) -> Result<Reply, Fault>
+        requires asked { IsAsked line }
+        requires works { Works (IsTrue (D.is_honest disk.old)) self.old (D.history disk.old (D.attached disk.old)) }
+        ensures applies { (before : Container) → Holds self.old before
+            → Applies (IsTrue (D.is_honest disk.old)) before line result self.new
+            (D.history disk.old (D.attached disk.old)) (D.history disk.new (D.attached disk.new)) }
+        ensures works { Works (IsTrue (D.is_honest disk.old)) self.new (D.history disk.new (D.attached disk.new)) }
+
+        // A fault that was answered is kept, and answered again, with no call on the disk.
+        ensures keeps { IfErr result (λ fault. self.new.fault ≡ Some fault) }
+        ensures unfaulted { OnOk result (self.new.fault ≡ None) }
+        ensures again { (fault : Fault) → self.old.fault ≡ Some fault
+            → (result ≡ Err fault) × (self.new ≡ self.old) × (disk.new ≡ disk.old) × (steps.new ≡ steps.old) }
+
+        ensures cause { self.old.fault ≡ None → result ≡ Err Fault.Disk → Rose (D.faults disk.old) (D.faults disk.new) }
+        ensures never_falls { D.faults disk.old ≤ D.faults disk.new }
+        ensures attached { D.attached disk.new ≡ D.attached disk.old }
+        ensures honest { D.is_honest disk.new ≡ D.is_honest disk.old }
+        ensures bound { (before : Container) → Holds self.old before
+            → steps.new ≤ steps.old + most_steps_of before (Ok line) }
+        ensures steps { steps.old ≤ steps.new }
+    {
+        if let Some(fault) = self.fault {
+            return Err(fault);
+        }
+        let answered = answer(&mut self.documents, disk, &line, steps);
+        self.fault = fault_of(&answered);
+        answered
+    }
+}
+
+/// The fault that an answer is.
+fn fault_of(answered: &Result<Reply, Fault>) -> Option<Fault>
+    ensures fault { IfErr answered.now (λ fault. result ≡ Some fault) }
+    ensures none { OnOk answered.now (result ≡ None) }
+{
+    match answered {
+        Ok(_) => None,
+        Err(fault) => Some(*fault),
+    }
+}
+
+/// The reply to a line, and its change to the documents.
+fn answer<D: Disk, L: Ledger>(
+    documents: &mut Documents,
+    disk: &mut D,
+    line: &Line,
+    steps: &mut Steps<L>,
+) -> Result<Reply, Fault>
+    requires asked { IsAsked line.now }
+    requires works { DocumentsWork (IsTrue (D.is_honest disk.old)) documents.old (D.history disk.old (D.attached disk.old)) }
+    ensures tells { (before : Container) → DocumentsHold documents.old before
+        → Tells (IsTrue (D.is_honest disk.old)) before line.now result documents.new
+        (D.history disk.old (D.attached disk.old)) (D.history disk.new (D.attached disk.new)) }
+    ensures works { OnOk result (DocumentsWork (IsTrue (D.is_honest disk.old)) documents.new
+        (D.history disk.new (D.attached disk.new))) }
+    ensures cause { result ≡ Err Fault.Disk → Rose (D.faults disk.old) (D.faults disk.new) }
+    ensures never_falls { D.faults disk.old ≤ D.faults disk.new }
+    ensures attached { D.attached disk.new ≡ D.attached disk.old }
+    ensures honest { D.is_honest disk.new ≡ D.is_honest disk.old }
+    ensures bound { (before : Container) → DocumentsHold documents.old before
+        → steps.new ≤ steps.old + most_steps_of before (Ok line.now) }
+    ensures steps { steps.old ≤ steps.new }
+{
+    match line {
+        Line::Upsert(tree) => upsert(documents, disk, tree),
+        Line::Query(body) => Ok(query(documents, body, steps)),
+    }
+}
+
+fn upsert<D: Disk>(documents: &mut Documents, disk: &mut D, tree: &Tree) -> Result<Reply, Fault>
+    requires storable { IsStorable tree.now }
+    requires works { DocumentsWork (IsTrue (D.is_honest disk.old)) documents.old (D.history disk.old (D.attached disk.old)) }
+    ensures tells { (before : Container) → DocumentsHold documents.old before
+        → Tells (IsTrue (D.is_honest disk.old)) before (line.Upsert tree.now) result documents.new
+        (D.history disk.old (D.attached disk.old)) (D.history disk.new (D.attached disk.new)) }
+    ensures works { OnOk result (DocumentsWork (IsTrue (D.is_honest disk.old)) documents.new
+        (D.history disk.new (D.attached disk.new))) }
+    ensures cause { result ≡ Err Fault.Disk → Rose (D.faults disk.old) (D.faults disk.new) }
+    ensures never_falls { D.faults disk.old ≤ D.faults disk.new }
+    ensures attached { D.attached disk.new ≡ D.attached disk.old }
+    ensures honest { D.is_honest disk.new ≡ D.is_honest disk.old }
+{
+    match documents.upsert(disk, tree) {
+        Ok(()) => Ok(Reply::Ok),
+        Err(UpsertFault::Full) => Ok(Reply::Refused(Refusal::Full)),
+        Err(UpsertFault::Memory) => Ok(Reply::Refused(Refusal::Memory)),
+        Err(UpsertFault::Disk) => Err(Fault::Disk),
+    }
+}
+
+/// The reply to a query, which changes nothing.
+fn query<L: Ledger>(documents: &Documents, body: &Body, steps: &mut Steps<L>) -> Reply
+    ensures answers { (container : Container) → DocumentsHold documents.now container
+        → (outcome : Outcome) × IsReply result (made_by container (line.Query body.now) outcome).1 }
+    ensures bound { (container : Container) → DocumentsHold documents.now container → steps.new ≤ steps.old
+        + most_steps_of container (Ok (line.Query body.now)) }
+    ensures steps { steps.old ≤ steps.new }
+{
+    match reply_to_query(documents.alloc, documents, body, steps) {
+        Ok(reply) => reply,
+        Err(_) => Reply::Refused(Refusal::Memory),
+    }
+}

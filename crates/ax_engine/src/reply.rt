@@ -1,0 +1,16 @@
+//! What a line is answered, as data.
+
+use crate::rows::Rows;
+use ax_lines::Refusal;
+
+/// What a line is answered.
+#[derive(Drop)]
+pub enum Reply {
+    /// The write was made.
+    Ok,
+    /// The rows of a query's answer, which is whole.
+    Rows(Rows),
+    /// The line was refused, and nothing has changed: by its first cause of refusal, or because memory
+    /// ran out.
+    Refused(Refusal),
+}

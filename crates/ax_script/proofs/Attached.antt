@@ -1,0 +1,96 @@
+-- A store that is attached by its name, and then opened.
+use Rattle.std.proofs.Common.{◌≡◌, ◌⊎◌, inl, ℕ, List, sym, subst, ap, ◌∙◌, arith}
+use Rattle.ax_disk.specs.model.Image.{Image}
+use Rattle.ax_disk.specs.model.Pending.{Unsynced, MayLeave}
+use Rattle.ax_disk.specs.model.Moments.{History, Progresses}
+use Rattle.ax_disk.specs.model.Calls.{Idles}
+use Rattle.ax_disk.specs.model.Stays.{Rests, Stays, BarrierStage, SinceBarrier}
+use Rattle.ax_disk.specs.laws.MomentLaws.{progress_stays, progress_within, progress_join}
+use Rattle.ax_disk.specs.laws.CallLaws.{idles_leave}
+use Rattle.ax_disk.specs.laws.StaysLaws.{idles_stay, stays_join}
+use Rattle.ax_pages.specs.Image.{IsNewer}
+use Rattle.ax_log.specs.Opening.{Keeps}
+use Rattle.ax_store.specs.Store.{IsDamagedStore}
+use Rattle.ax_store.specs.declared.fault.StoreFault.{StoreFault}
+use Rattle.ax_store.specs.declared.fault.StoreFault.TheVariants as fault
+use Rattle.ax_container.specs.Container.{Container}
+use Rattle.ax_image.specs.StandsFor.{StandsFor}
+use Rattle.ax_engine.specs.Opening.{RefusesBy}
+use Rattle.ax_engine.specs.Stores.{IsStore, Shows}
+
+-- ---- a barrier, behind a call that changes nothing
+
+-- the barrier is still to come
+pub idle_since : (old new : History) (P : Image → Type 0) → Idles old new → SinceBarrier old new P
+idle_since old new P idle = record {
+  stages = progress_within old new 0 0 0 1 (BarrierStage old.unsynced (λ _ image. P image))
+      (omega arith) (omega arith)
+      (progress_stays old new 0 (BarrierStage old.unsynced (λ _ image. P image)) idle.time);
+  rests = inl (record { each = λ image may. idles_leave old new idle image may });
+}
+
+pub since_idle : (old mid new : History) (P : Image → Type 0) → Idles old mid
+    → SinceBarrier mid new P → SinceBarrier old new P
+since_idle old mid new P idle since = record {
+  stages = progress_join old mid new 0 0 1 (BarrierStage old.unsynced (λ _ image. P image))
+      (progress_stays old mid 0 (BarrierStage old.unsynced (λ _ image. P image)) idle.time)
+      (subst (λ (u : Unsynced). Progresses mid new 0 1 (BarrierStage u (λ _ image. P image)))
+      idle.unsynced since.stages);
+  rests = subst (λ (u : Unsynced). Rests new (MayLeave u) ⊎ Rests new P) idle.unsynced since.rests;
+}
+
+pub keeps_since : (old mid new : History) → Idles old mid → Keeps mid new → Keeps old new
+keeps_since old mid new idle keeps = record {
+  reads = keeps.reads ∙ idle.reads;
+  stays = stays_join old mid new (MayLeave old.unsynced)
+      (idles_stay old mid (MayLeave old.unsynced) (record { each = λ image may. may }) idle)
+      (subst (λ (u : Unsynced). Stays mid new (MayLeave u)) idle.unsynced keeps.stays);
+}
+
+-- ---- the store of a name was attached, and opened
+
+-- what holds of the store attached holds of the one of the name
+pub of_name : (T : History → History → Type 0) (mid new : List ℕ → History) (name there now : List ℕ)
+    → there ≡ name → now ≡ there → T (mid there) (new now) → T (mid name) (new name)
+of_name T mid new name there now is still t =
+    subst (λ (s : List ℕ). T (mid s) (new s)) is
+    (subst (λ (s : List ℕ). T (mid there) (new s)) still t)
+
+module _ (old mid new : List ℕ → History) (name there now : List ℕ) (is : there ≡ name)
+    (still : now ≡ there) (idle : Idles (old name) (mid name)) where
+  reads_are : (mid there).reads ≡ (old name).reads
+  reads_are = ap (λ (s : List ℕ). (mid s).reads) is ∙ idle.reads
+
+  unsynced_are : (mid there).unsynced ≡ (old name).unsynced
+  unsynced_are = ap (λ (s : List ℕ). (mid s).unsynced) is ∙ idle.unsynced
+
+  -- the store attached is the one that was named
+  pub store_there : (before : Container) → IsStore before (old name) → IsStore before (mid there)
+  store_there before store = record {
+    each = record {
+      each = λ image may. store.each.each image
+          (subst (λ (u : Unsynced). MayLeave u image) unsynced_are may);
+    };
+    reads = subst (λ (image : Image). StandsFor image before) (sym reads_are) store.reads;
+  }
+
+  pub since_named : (before : Container) → SinceBarrier (mid there) (new now) (Shows before)
+      → SinceBarrier (old name) (new name) (Shows before)
+  since_named before since =
+      since_idle (old name) (mid name) (new name) (Shows before) idle
+      (of_name (λ x y. SinceBarrier x y (Shows before)) mid new name there now is still since)
+
+  pub refuses_named : (why : StoreFault) → RefusesBy why (mid there) (new now)
+      → RefusesBy why (old name) (new name)
+  refuses_named (fault.Damaged extent at) refused = (
+    subst (λ (image : Image). IsDamagedStore image extent at) reads_are refused.0,
+    keeps_since (old name) (mid name) (new name) idle
+        (of_name Keeps mid new name there now is still refused.1),
+  )
+  refuses_named (fault.Newer version) refused = (
+    subst (λ (image : Image). IsNewer image version) reads_are refused.0,
+    keeps_since (old name) (mid name) (new name) idle
+        (of_name Keeps mid new name there now is still refused.1),
+  )
+  refuses_named fault.Disk refused = tt
+  refuses_named fault.Memory refused = tt

@@ -1,0 +1,52 @@
+-- What is written for what an engine answers to a line.
+use Rattle.std.specs.Prelude.{◌≡◌, ◌≢◌, ◌⊎◌, ℕ, List, Option, Result, Ok, Err}
+use Rattle.std.specs.Global.{Vec}
+use Rattle.std.specs.Io.KnownBytes.{Appends}
+use Rattle.ax_base.specs.Appends.{AppendsPrefix}
+use Rattle.ax_disk.specs.model.Moments.{History}
+use Rattle.ax_disk.specs.model.Stays.{Turns}
+use Rattle.ax_container.specs.Container.{Container}
+use Rattle.ax_engine.specs.Engine.{Holds}
+use Rattle.ax_engine.specs.Replies.{IsReply}
+use Rattle.ax_engine.specs.Stores.{Shows}
+use Rattle.ax_engine.specs.declared.engine.Engine.{Engine}
+use Rattle.ax_engine.specs.declared.engine.Fault.{Fault}
+use Rattle.ax_engine.specs.declared.engine.Fault.TheVariants as fault
+use Rattle.ax_engine.specs.declared.reply.Reply.{Reply}
+use Rattle.ax_engine.specs.declared.reply.Reply.TheVariants as given
+use Rattle.ax_tree.specs.declared.out_of_memory.Memory.{Memory}
+use Rattle.ax_machine.specs.Reply as reply
+use Rattle.ax_machine.specs.ReplyTexts.{reply_text}
+use Rattle.ax_machine.specs.Run.{Outcome, after_line, reply_to}
+use Rattle.ax_machine.specs.Step.{step}
+
+-- The text of the reply; of one by which nothing has changed also that of out of memory, where no
+-- memory is left to write it.
+abbrev pub IsTextOf : Reply → List ℕ → Type 0
+IsTextOf made text =
+    ((meant : reply.Reply) → IsReply made meant → text ≡ reply_text meant)
+    ⊎ ((made ≢ given.Ok) × (text ≡ reply_text reply.out_of_memory))
+
+-- such a text was written whole; none is where the disk failed
+abbrev pub WritesWhole : Result Reply Fault → Option (List ℕ) → Option (List ℕ) → Type 0
+WritesWhole (Ok made) old new = (text : List ℕ) × IsTextOf made text × Appends old new text
+WritesWhole (Err fault.Disk) old new = ⊥
+
+-- a prefix of it was written
+abbrev pub WritesPart : Result Reply Fault → Option (List ℕ) → Option (List ℕ) → Type 0
+WritesPart (Ok made) old new = (text : List ℕ) × IsTextOf made text × AppendsPrefix old new text
+WritesPart (Err fault.Disk) old new = old ≡ new
+
+-- what the answer to a line's bytes is
+abbrev pub TellsLine : Type 0 → Container → List ℕ → Result Reply Fault → Engine → History → History → Type 0
+TellsLine honest before line (Ok made) engine old new =
+    (outcome : Outcome) × IsReply made (reply_to before line outcome)
+    × Holds engine (after_line before line outcome)
+    × (honest → Turns old new (Shows before) (Shows (after_line before line outcome)))
+TellsLine honest before line (Err fault.Disk) engine old new =
+    honest → Turns old new (Shows before) (Shows (step before line).0)
+
+-- a text that was made, or that of out of memory
+abbrev pub text_or_memory : Result (Vec ℕ) Memory → List ℕ
+text_or_memory (Ok text) = text.items
+text_or_memory (Err memory) = reply_text reply.out_of_memory
