@@ -1,3 +1,5 @@
+pub mod AggregatesFit
+pub mod CallsFit
 pub mod CompleteAtoms
 pub mod CompleteClauses
 pub mod CompleteExpr
@@ -15,6 +17,8 @@ pub mod FrontsMarks
 pub mod InText
 pub mod Marks
 pub mod Openings
+pub mod PartsMapped
+pub mod Scoping
 pub mod Sound
 pub mod SoundAtoms
 pub mod SoundClauses

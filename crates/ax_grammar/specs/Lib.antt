@@ -14,5 +14,6 @@ pub mod SameExprs
 pub mod Parts
 pub mod Names
 pub mod Scope
+pub mod Scoped
 pub mod Made
 pub mod Query

@@ -1,21 +1,14 @@
 -- The names that items and sources have where none is written.
-use Rattle.std.specs.Prelude.{ℕ, ◌+◌, List, [], ◌∷◌, map, length, Bool, false, ◌&&◌, nat_le, Option, Some, None, is_none, if◌then◌else◌}
+use Rattle.std.specs.Prelude.{ℕ, ◌+◌, List, [], ◌∷◌, map, Bool, ◌&&◌, Option, Some, None, is_none, if◌then◌else◌}
 use Rattle.std.specs.Fmt.{decimal}
-use Rattle.std.specs.List.{list_all}
-use Rattle.ax_lex.specs.Bytes.{is_letter, is_word_byte}
 use Rattle.ax_lex.specs.Keywords.{keyword_of}
-use Rattle.ax_lex.specs.Tokens.{most_of_a_word}
+use Rattle.ax_lex.specs.Tokens.{is_word}
 use Rattle.ax_mean.specs.declared.expr.Expr.{Expr, out-Expr}
 use Rattle.ax_mean.specs.declared.expr.Expr.TheOpen.{Expr-F}
 use Rattle.ax_mean.specs.declared.expr.QueryStep.{QueryStep}
 use Rattle.ax_mean.specs.declared.expr.QueryStep.TheVariants.{Member, Position}
 use Rattle.ax_mean.specs.declared.query.Named.{Named}
 use Rattle.ax_grammar.specs.Written.{Item, Source}
-
-abbrev pub is_word : List ℕ → Bool
-is_word [] = false
-is_word (first ∷ rest) =
-    is_letter first && list_all is_word_byte rest && nat_le (length (first ∷ rest)) most_of_a_word
 
 -- a word that is no keyword
 abbrev pub is_name : List ℕ → Bool

@@ -3,8 +3,9 @@ use Rattle.std.specs.Prelude.{ℕ, List, [], ◌∷◌, map, length, Bool, true,
 use Rattle.std.specs.List.{list_all, list_any}
 use Rattle.std.specs.Str.{bytes_eq}
 use Rattle.ax_mean.specs.declared.expr.Expr.{Expr}
+use Rattle.ax_mean.specs.Aggregates.{has_aggregate}
 use Rattle.ax_grammar.specs.Names.{alias_of, item_names}
-use Rattle.ax_grammar.specs.Parts.{has, are_declared, aggregates_fit, has_aggregate, is_built}
+use Rattle.ax_grammar.specs.Parts.{has, are_declared, aggregates_fit, is_built}
 use Rattle.ax_grammar.specs.Tables.{most_items}
 use Rattle.ax_grammar.specs.Written.{Picked, Source, Joined, Written}
 use Rattle.ax_grammar.specs.Written.Picked.{the_star, the_value, the_items}

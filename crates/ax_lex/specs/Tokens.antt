@@ -2,7 +2,8 @@
 -- its first on) and what is after it. A token is the longest that may stand at its place, so what
 -- may not follow is said with it. The words of the language are those of queries of Azure Cosmos DB
 -- for NoSQL.
-use Rattle.std.specs.Prelude.{◌≡◌, ℕ, ◌+◌, ◌-◌, ◌*◌, ◌≤◌, Bool, true, false, ◌&&◌, ◌||◌, ◌==◌, List, [], ◌∷◌, length, fold, Some, None}
+use Rattle.std.specs.Prelude.{◌≡◌, ℕ, ◌+◌, ◌-◌, ◌*◌, ◌≤◌, Bool, true, false, ◌&&◌, ◌||◌, ◌==◌, nat_le, List, [], ◌∷◌, length, fold, Some, None}
+use Rattle.std.specs.List.{list_all}
 use Rattle.std.specs.Str.{IsUtf8}
 use Rattle.ax_lex.specs.declared.class.ByteClass.TheVariants as class
 use Rattle.ax_lex.specs.declared.keyword.Keyword.{Keyword}
@@ -28,6 +29,12 @@ pub data IsStretch (is_in : ℕ → Bool) : (stretch before after : List ℕ) �
 
 abbrev pub most_of_a_word : ℕ
 most_of_a_word = 255
+
+-- the whole text is a word: a letter or `_`, then letters, digits and `_`
+abbrev pub is_word : List ℕ → Bool
+is_word [] = false
+is_word (first ∷ rest) =
+    is_letter first && list_all is_word_byte rest && nat_le (length (first ∷ rest)) most_of_a_word
 
 -- word = letter {letter | digit}, of at most 255 bytes
 pub data IsWord : (word before after : List ℕ) → Type 0 where

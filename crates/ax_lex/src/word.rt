@@ -1,15 +1,35 @@
 //! Words and stretches of digits.
 
 ghost use Rattle.std.specs.Prelude.{◌≡◌, ◌≤◌, length, nat_lt};
+ghost use Rattle.std.specs.List.{list_all};
 ghost use Rattle.std.specs.Option.{option_map};
 ghost use Rattle.ax_lex.specs.Bytes.{is_digit, is_word_byte};
 ghost use Rattle.ax_lex.specs.Reading.{after_stretch, read_word};
-ghost use Rattle.ax_lex.specs.Tokens.{most_of_a_word, spoils_number};
+ghost use Rattle.ax_lex.specs.Tokens.{is_word, most_of_a_word, spoils_number};
 
 use crate::class::{is_digit, is_letter, is_word_byte};
 
 /// The most bytes that a word has.
 const MOST_OF_A_WORD: usize = 255;
+
+/// Whether the whole text is a word, which may be a keyword: a letter or `_`, then letters, digits
+/// and `_`, 255 bytes at most.
+pub fn is_word(text: &[u8]) -> bool
+    ensures { result ≡ is_word text.now }
+{
+    match text.split_first() {
+        Some((first, rest)) => {
+            is_letter(*first) && are_word_bytes(rest) && text.len() <= MOST_OF_A_WORD
+        }
+        None => false,
+    }
+}
+
+fn are_word_bytes(bytes: &[u8]) -> bool
+    ensures { result ≡ list_all is_word_byte bytes.now }
+{
+    bytes.iter().all(|byte| is_word_byte(*byte))
+}
 
 /// Takes the word at the front off: its bytes, and those after it.
 #[inline]

@@ -5,7 +5,7 @@
 use Rattle.std.specs.Prelude.{ℕ, List, [], ◌∷◌, length, Bool, false, ◌&&◌, ◌==◌, nat_le}
 use Rattle.std.specs.Prelude.{if◌then◌else◌, Option, Some, None, option_map, option_and_then, codes}
 use Rattle.std.specs.Cmp.Lexicographic.{slice_cmp}
-use Rattle.std.specs.List.{list_all, fold}
+use Rattle.std.specs.List.{fold}
 use Rattle.std.specs.Ordering.{nat_cmp, match_ordering}
 use Rattle.ax_tree.specs.CanonicalText.{canonical_text}
 use Rattle.ax_tree.specs.Document.{member, text_member}
@@ -14,17 +14,10 @@ use Rattle.ax_tree.specs.declared.tree.Tree.{Tree, out-Tree}
 use Rattle.ax_tree.specs.declared.tree.Tree.TheOpen.{Tree-F}
 use Rattle.ax_tree.specs.declared.tree.Tree.TheVariants as tree
 use Rattle.ax_text.specs.TreeOf.{both}
-use Rattle.ax_lex.specs.Bytes.{is_letter, is_word_byte}
-use Rattle.ax_lex.specs.Tokens.{most_of_a_word}
+use Rattle.ax_lex.specs.Tokens.{is_word}
 use Rattle.ax_lines.specs.declared.body.Body.{Body}
 
 -- ---- one parameter
-
--- a letter or `_`, then letters, digits and `_`
-abbrev pub is_word : List ℕ → Bool
-is_word [] = false
-is_word (first ∷ rest) =
-    is_letter first && list_all is_word_byte rest && nat_le (length (first ∷ rest)) most_of_a_word
 
 abbrev pub at_sign : ℕ
 at_sign = 64

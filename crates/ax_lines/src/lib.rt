@@ -1,8 +1,8 @@
 //! The lines of a script: where its bytes are split, what each line asks for, and why a line is
 //! refused that asks for nothing.
 //!
-//! Stands on `ax_text`, which reads the JSON in a line, on `ax_tree`, and on the definitions of
-//! `ax_lex` for what a word is. Its one contract: `read_line` answers exactly what the line is, or
+//! Stands on `ax_text`, which reads the JSON in a line, on `ax_tree`, and on `ax_lex`, which
+//! knows what a word is. Its one contract: `read_line` answers exactly what the line is, or
 //! its refusal, out of memory aside.
 #![tactic(auto)]
 

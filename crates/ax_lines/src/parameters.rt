@@ -1,16 +1,12 @@
 ghost use Rattle.std.specs.Prelude.{◌≡◌, IfOk, OnOk, map, option_map, string_bytes};
-ghost use Rattle.std.specs.List.{list_all};
 ghost use Rattle.std.specs.Option.{option_copied};
 ghost use Rattle.ax_tree.specs.Document.{member as member_of, value_of as value_in};
-ghost use Rattle.ax_lex.specs.Bytes.{is_letter as is_letter_of, is_word_byte as goes_on};
 ghost use Rattle.ax_lines.specs.Bodies as spec;
 
+use ax_lex::is_word;
 use ax_tree::{Items, Member, Members, Memory, Text, Tree};
 use std::alloc::Global;
 use std::collections::BTreeMap;
-
-/// The most bytes of a word, which is what follows the `@` of a parameter's name.
-const MOST_WORD_BYTES: usize = 255;
 
 /// The map of the parameters that the items are; `None` where one of them is no parameter. Of a
 /// repeated name the last counts.
@@ -90,38 +86,6 @@ fn is_parameter_name(name: &[u8]) -> bool
         Some((first, word)) => *first == b'@' && is_word(word),
         None => false,
     }
-}
-
-fn is_word(word: &[u8]) -> bool
-    ensures { result ≡ spec.is_word word.now }
-{
-    match word.split_first() {
-        Some((first, rest)) => {
-            is_letter(*first) && are_word_bytes(rest) && word.len() <= MOST_WORD_BYTES
-        }
-        None => false,
-    }
-}
-
-fn are_word_bytes(bytes: &[u8]) -> bool
-    ensures { result ≡ list_all goes_on bytes.now }
-{
-    bytes.iter().all(|byte| is_word_byte(*byte))
-}
-
-fn is_letter(byte: u8) -> bool
-    ensures { result ≡ is_letter_of byte }
-{
-    match byte {
-        b'A'..=b'Z' | b'a'..=b'z' | b'_' => true,
-        _ => false,
-    }
-}
-
-fn is_word_byte(byte: u8) -> bool
-    ensures { result ≡ goes_on byte }
-{
-    is_letter(byte) || byte.is_ascii_digit()
 }
 
 /// The value of the member of that name, moved out of the tree.

@@ -9,6 +9,8 @@ use Rattle.ax_tree.specs.declared.tree.Tree.{Tree}
 use Rattle.ax_mean.specs.declared.query.Query.{Query}
 use Rattle.ax_grammar.specs.Query.{IsQuery, most_bytes, query_of, query_written}
 use Rattle.ax_grammar.specs.QueryReader.{read_written}
+use Rattle.ax_grammar.specs.Scoped.{IsScoped}
+use Rattle.ax_grammar.proofs.Scoping.{query_scoped}
 use Rattle.ax_grammar.proofs.SoundText.{query_of_sound}
 use Rattle.ax_grammar.proofs.CompleteText.{query_of_complete}
 use Rattle.ax_parse.specs.declared.fault.ParseFault.{ParseFault}
@@ -39,6 +41,12 @@ module _ (text : List ℕ) (params : List (Member Tree)) (tokens : List Token)
       → IfOk result (λ query. IsQuery text params query)
   is_found (Ok query) e = query_of_sound params text tokens lexemes query are (short_enough ∙ e)
   is_found (Err fault) e = tt
+
+  pub is_scoped : (result : Result Query ParseFault)
+      → IsValue result (query_written (read_written params lexemes)) → IfOk result IsScoped
+  is_scoped (Ok query) e =
+      query_scoped (query_of_sound params text tokens lexemes query are (short_enough ∙ e))
+  is_scoped (Err fault) e = tt
 
   pub is_refused : (result : Result Query ParseFault)
       → IsValue result (query_written (read_written params lexemes))

@@ -35,6 +35,7 @@ pub(crate) fn may_take(func: Func, args: ExprList) -> Result<ExprList, ParseFaul
     ensures { IsValue result (limited_args func args) }
 {
     if !takes(func, args.as_slice().len()) {
+        drop(args);
         return Err(ParseFault::Text);
     }
     Ok(args)

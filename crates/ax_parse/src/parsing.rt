@@ -4,6 +4,7 @@ ghost use Rattle.std.specs.Prelude.{◌≡◌, IfOk, Err, Some};
 ghost use Rattle.ax_mean.specs.declared.query.Query.{Query};
 ghost use Rattle.ax_grammar.specs.Query.{IsQuery, query_written};
 ghost use Rattle.ax_grammar.specs.QueryReader.{read_written};
+ghost use Rattle.ax_grammar.specs.Scoped.{IsScoped};
 ghost use Rattle.ax_lex.specs.Lexemes.{lexemes_of};
 ghost use Rattle.ax_lex.specs.Tokens.{AreTokens};
 ghost use Rattle.ax_scope.specs.AsWritten.{written_of};
@@ -22,11 +23,12 @@ use std::alloc::Global;
 /// The most bytes of a query.
 const MOST_BYTES: usize = 16_384;
 
-/// The query that a text is, with parameters whose names have their `@`. `ParseFault::Text` where it
-/// is none.
+/// The query that a text is, with parameters whose names have their `@`, in which the rules of scope
+/// hold. `ParseFault::Text` where it is none.
 #[tactic(auto, using(crate::proofs::Whole::too_long, crate::proofs::Whole::is_found, crate::proofs::Whole::is_refused))]
 pub fn parse(alloc: Global, text: &[u8], params: &Members<Tree>) -> Result<Query, ParseFault>
     ensures found { IfOk result (λ query. IsQuery text.now params.now query) }
+    ensures scoped { IfOk result (λ query. IsScoped query) }
     ensures refused { result ≡ Err ParseFault.Text
         → (query : Query) → ¬ (IsQuery text.now params.now query) }
 {

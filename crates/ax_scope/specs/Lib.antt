@@ -1,5 +1,6 @@
 pub mod AsWritten
-pub mod Built
 pub mod EachPart
+pub mod Forms
+pub mod Neighbours
 pub mod SameOrBoth
 pub mod StepNames

@@ -33,7 +33,7 @@ pub(crate) fn first_alias(source: &Source) -> &Text
     }
 }
 
-/// Whether no name stands twice.
+/// Whether no name of a few stands twice.
 pub(crate) fn are_distinct(names: &[Text]) -> bool
     ensures { result ≡ distinct names.now }
 {

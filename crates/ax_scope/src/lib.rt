@@ -10,6 +10,7 @@ mod aggregates;
 mod aliases;
 mod built;
 mod declared;
+mod distinct;
 mod make;
 mod names;
 mod picks;

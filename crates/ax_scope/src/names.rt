@@ -1,18 +1,14 @@
 //! The names that sources and items have where none is written.
 ghost use Rattle.std.specs.Prelude.{◌≡◌, IfOk, map};
-ghost use Rattle.std.specs.List.{list_all};
 ghost use Rattle.std.specs.Option.{option_copied};
-ghost use Rattle.ax_lex.specs.Bytes.{is_letter as letter, is_word_byte as word_byte};
-ghost use Rattle.ax_grammar.specs.Names.{is_word as word, is_name as name_text, last_name as last_step_name, as_name as where_name, default_alias as alias_by_default, alias_of as source_alias, own_name as name_of_expr, name_of as item_name, numbered_name as name_by_number, written_or, item_names as names_of_items};
+ghost use Rattle.ax_grammar.specs.Names.{is_name as name_text, last_name as last_step_name, as_name as where_name, default_alias as alias_by_default, alias_of as source_alias, own_name as name_of_expr, name_of as item_name, numbered_name as name_by_number, written_or, item_names as names_of_items};
 ghost use Rattle.ax_scope.specs.AsWritten.{item_of, source_of};
 ghost use Rattle.ax_scope.specs.StepNames.{step_name as name_of_step};
 
 use crate::written::{Item, ItemList, NameList, Source};
-use ax_lex::Keyword;
+use ax_lex::{Keyword, is_word};
 use ax_mean::{Expr, Items, Memory, QueryStep, Text};
 use std::alloc::Global;
-
-const MOST_WORD_BYTES: usize = 255;
 
 /// The alias of the first source, where it has one.
 pub(crate) fn alias_of(source: &Source) -> Option<&Text>
@@ -76,40 +72,6 @@ fn is_name(text: &[u8]) -> bool
     ensures { result ≡ name_text text.now }
 {
     is_word(text) && Keyword::of(text).is_none()
-}
-
-fn is_word(text: &[u8]) -> bool
-    ensures { result ≡ word text.now }
-{
-    match text {
-        [] => false,
-        [first, rest @ ..] => {
-            is_letter(*first) && are_word_bytes(rest) && text.len() <= MOST_WORD_BYTES
-        }
-    }
-}
-
-fn are_word_bytes(bytes: &[u8]) -> bool
-    ensures { result ≡ list_all word_byte bytes.now }
-{
-    for byte in bytes {
-        if !is_word_byte(*byte) {
-            return false;
-        }
-    }
-    true
-}
-
-fn is_word_byte(byte: u8) -> bool
-    ensures { result ≡ word_byte byte }
-{
-    is_letter(byte) || matches!(byte, b'0'..=b'9')
-}
-
-fn is_letter(byte: u8) -> bool
-    ensures { result ≡ letter byte }
-{
-    matches!(byte, b'A'..=b'Z' | b'a'..=b'z' | b'_')
 }
 
 /// The last property of a property expression, or an alias that stands alone.

@@ -1,11 +1,12 @@
 //! What holds of the expressions that are picked.
 ghost use Rattle.std.specs.Prelude.{◌≡◌, map, true};
 ghost use Rattle.std.specs.List.{list_all, list_any};
-ghost use Rattle.ax_grammar.specs.Parts.{are_declared as declared_in, aggregates_fit as fit_in, has_aggregate as aggregate_in, is_built as built_in};
+ghost use Rattle.ax_grammar.specs.Parts.{are_declared as declared_in, aggregates_fit as fit_in, is_built as built_in};
+ghost use Rattle.ax_mean.specs.Aggregates.{has_aggregate as aggregate_in};
 ghost use Rattle.ax_grammar.specs.Scope.{exprs_picked};
 ghost use Rattle.ax_scope.specs.AsWritten.{item_of, picked_of};
 
-use crate::aggregates::{aggregates_fit, has_aggregate};
+use crate::aggregates::aggregates_fit;
 use crate::built::is_built;
 use crate::declared::are_declared;
 use crate::written::{ItemList, NameList, Picked};
@@ -60,7 +61,7 @@ pub(crate) fn one_picked_has_aggregate(picked: &Picked) -> bool
 {
     match picked {
         Picked::Star => false,
-        Picked::Value(expr) => has_aggregate(expr),
+        Picked::Value(expr) => expr.has_aggregate(),
         Picked::Items(items) => one_item_has_aggregate(items),
     }
 }
@@ -69,7 +70,7 @@ fn one_item_has_aggregate(items: &ItemList) -> bool
     ensures { result ≡ list_any aggregate_in (map (λ item. item.expr) (map item_of items.now)) }
 {
     for item in items.as_slice() {
-        if has_aggregate(&item.expr) {
+        if item.expr.has_aggregate() {
             return true;
         }
     }

@@ -10,6 +10,7 @@ use crate::aggregates::aggregates_fit;
 use crate::aliases::{
     aliases_of, are_distinct, bases_declared, condition_declared, first_alias, groups_declared,
 };
+use crate::distinct::are_all_distinct;
 use crate::names::{alias_of, item_names};
 use crate::picks::{
     aggregates_fit_in_picked, one_picked_has_aggregate, picked_built, picked_declared,
@@ -30,12 +31,14 @@ const MOST_ITEMS: usize = 256;
 pub fn obeys_rules(alloc: Global, written: &Written) -> Result<bool, Memory>
     ensures { IfOk result (λ obeys. obeys ≡ rules_obeyed (written_of written.now)) }
 {
+    if !limits_fit(written) {
+        return Ok(false);
+    }
     let aliases = aliases_of(alloc, written)?;
     let sources = sources_fit(alloc, written, &aliases)?;
     let pick = pick_fits(alloc, written)?;
     Ok(
-        limits_fit(written)
-            && window_fits(written)
+        window_fits(written)
             && sources
             && aliases_fit(written, &aliases)
             && pick
@@ -94,8 +97,7 @@ fn pick_fits(alloc: Global, written: &Written) -> Result<bool, Memory>
             if items.as_slice().len() > MOST_ITEMS {
                 return Ok(false);
             }
-            let names = item_names(alloc, items)?;
-            Ok(are_distinct(names.as_slice()))
+            Ok(are_all_distinct(item_names(alloc, items)?))
         }
     }
 }

@@ -1,7 +1,7 @@
 -- What is left decides the whole.
 use Rattle.std.proofs.Common.{◌≡◌, drop, map}
 use Rattle.std.specs.List.{list_any}
-use Rattle.ax_grammar.specs.Parts.{has_aggregate}
+use Rattle.ax_mean.specs.Aggregates.{has_aggregate}
 use Rattle.ax_scope.specs.AsWritten.{item_of}
 use Rattle.ax_scope.proofs.picks.one_item_has_aggregate.Given as goal
 

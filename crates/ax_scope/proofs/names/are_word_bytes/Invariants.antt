@@ -1,9 +1,0 @@
--- What is left decides the whole.
-use Rattle.std.proofs.Common.{◌≡◌, drop}
-use Rattle.std.specs.List.{list_all}
-use Rattle.ax_lex.specs.Bytes.{is_word_byte}
-use Rattle.ax_scope.proofs.names.are_word_bytes.Given as goal
-
-abbrev pub invariant-loop-byte : goal.invariant-loop-byte
-invariant-loop-byte l =
-    list_all is_word_byte (drop l.byte-index l.bytes) ≡ list_all is_word_byte l.bytes
