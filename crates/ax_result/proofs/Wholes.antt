@@ -1,6 +1,6 @@
 -- An expression that is seen beside what it comes to is the expression itself; and what the values of
 -- its aggregates make of it is the expression with its totals.
-use Rattle.std.proofs.Common.{◌≡◌, ℕ, List, [], ◌∷◌, map, refl, ap, ap₂, ◌∙◌, subst}
+use Rattle.std.proofs.Common.{◌≡◌, ℕ, List, [], ◌∷◌, map, refl, sym, ap, ap₂, ◌∙◌, subst}
 use Rattle.ax_tree.specs.declared.members.Member.{Member}
 use Rattle.ax_mean.specs.declared.expr.Chained.{Chained}
 use Rattle.ax_mean.specs.declared.expr.Expr.{Expr}
@@ -8,7 +8,7 @@ use Rattle.ax_mean.specs.declared.expr.Expr.TheOpen.{Expr-F}
 use Rattle.ax_mean.specs.declared.expr.Expr.TheViews.{roll-Expr}
 use Rattle.ax_mean.specs.declared.expr.Expr.TheFolds.{map-Expr, fold-roll-Expr, ind-Expr}
 use Rattle.ax_mean.specs.declared.operator.BinaryOp.{BinaryOp}
-use Rattle.ax_result.specs.Totals.{beside, pair_by}
+use Rattle.ax_result.specs.Totals.{as_it_is, beside, pair_by}
 
 abbrev pub chained : {X : Type 0} → BinaryOp → X → Chained X
 chained op operand = record { op = op; operand = operand }
@@ -105,3 +105,7 @@ module _ {X : Type 0} (f : Expr-F (Expr × X) → X) where
   pub comes_to : (x : Expr-F Expr)
       → (pair_by f (roll-Expr x)).1 ≡ f (map-Expr Expr (Expr × X) (pair_by f) x)
   comes_to x = ap (λ p. p.1) (pair_roll x)
+
+  pub as_is : (x : Expr-F Expr)
+      → as_it_is (map-Expr Expr (Expr × X) (pair_by f) x) ≡ roll-Expr x
+  as_is x = sym (ap (λ p. p.0) (pair_roll x)) ∙ whole (roll-Expr x)
