@@ -1,4 +1,5 @@
--- A query has the same answer over what an excerpt leaves that is enough for it.
+-- A query has the same answer, with groups or without, over what an excerpt leaves of documents that
+-- is enough for it.
 use Rattle.std.proofs.Common.{◌≡◌, ℕ, List, [], ◌∷◌, ◌++◌, map, cond, Bool, true, false, refl, sym, ap, ap₂, ◌∙◌}
 use Rattle.std.specs.List.{list_all, flat_map, filter_map}
 use Rattle.std.proofs.lemmas.Bool.{and_parts}
@@ -18,7 +19,7 @@ use Rattle.ax_excerpt.proofs.SameRows.{document_rows, part_rows, same_tree, same
 use Rattle.ax_result.specs.Answers.{answer_of}
 use Rattle.ax_result.specs.Groups.{group_rows, group_answer}
 use Rattle.ax_excerpt.proofs.EnvsAlike.{EnvsAlike, envs_append, filtered_alike}
-use Rattle.ax_excerpt.proofs.GroupsAlike.{all_alike, before_alike, rows_shown}
+use Rattle.ax_excerpt.proofs.AlikeInGroups.{all_alike, before_alike, rows_shown}
 
 abbrev Entries : Type 0
 Entries = List (ℕ × Tree)

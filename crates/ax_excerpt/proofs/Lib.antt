@@ -1,4 +1,4 @@
-pub mod AnswersAlike
+pub mod AlikeInGroups
 pub mod EnvsAlike
 pub mod FormMeanings
 pub mod GroupsAlike

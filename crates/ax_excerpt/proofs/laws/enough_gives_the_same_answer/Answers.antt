@@ -1,4 +1,4 @@
-use Rattle.ax_excerpt.proofs.AnswersAlike.{same_answer}
+use Rattle.ax_excerpt.proofs.GroupsAlike.{same_answer}
 use Rattle.ax_excerpt.proofs.laws.enough_gives_the_same_answer.Goals as goal
 
 pub returns : goal.returns
