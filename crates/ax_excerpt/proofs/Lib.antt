@@ -1,3 +1,6 @@
+pub mod AlikeInGroups
+pub mod EnvsAlike
+pub mod FormMeanings
 pub mod GroupsAlike
 pub mod KeptSteps
 pub mod Meanings
@@ -6,5 +9,5 @@ pub mod RowsAlike
 pub mod SameRows
 pub mod ShownAnswers
 pub mod ShownRows
+pub mod TotalsAlike
 pub mod UsesByParts
-pub mod Wholes

@@ -12,7 +12,7 @@ use Rattle.ax_excerpt.specs.Excerpts.{excerpt_of, keeps}
 use Rattle.ax_excerpt.specs.Uses.{Uses}
 use Rattle.ax_excerpt.specs.Enough.{within, sources_within, condition_within, rest_within, is_document, sources_enough, is_enough}
 use Rattle.ax_excerpt.proofs.SameRows.{document_rows, part_rows}
-use Rattle.ax_excerpt.proofs.GroupsAlike.{EnvsAlike, filtered_alike}
+use Rattle.ax_excerpt.proofs.EnvsAlike.{EnvsAlike, filtered_alike}
 
 as_many : (uses : Uses) (es fs : List Env) → EnvsAlike uses es fs → length es ≡ length fs
 as_many uses [] [] alike = refl

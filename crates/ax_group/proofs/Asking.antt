@@ -1,23 +1,26 @@
 -- What an expression asks for, and what it becomes: as a whole or by its children.
-use Rattle.std.proofs.Common.{◌≡◌, List, [], ◌∷◌, ◌++◌, map, true, false, Result, Ok, Err, IfOk, OnOk, sym, ap, ◌∙◌, subst, append_assoc}
+use Rattle.std.proofs.Common.{◌≡◌, List, [], ◌∷◌, ◌++◌, true, false, Result, Ok, Err, IfOk, OnOk, OnErr, sym, ap, ◌∙◌, subst}
 use Rattle.std.proofs.lemmas.List.{map-append}
-use Rattle.ax_mean.specs.declared.expr.Chained.{Chained}
 use Rattle.ax_mean.specs.declared.expr.Expr.{Expr, out-Expr}
 use Rattle.ax_mean.specs.declared.expr.Expr.TheFolds.{map-Expr}
 use Rattle.ax_mean.specs.declared.expr.Expr.TheOpen.{Expr-F}
 use Rattle.ax_mean.specs.declared.expr.Expr.TheVariants as expr
-use Rattle.ax_mean.specs.declared.expr.Expr.TheVariants.{rolls-Sum, rolls-Product, rolls-Total}
+use Rattle.ax_mean.specs.declared.expr.Expr.TheVariants.{rolls-Total}
 use Rattle.ax_mean.specs.declared.expr.Expr.TheViews.{roll-Expr, roll-out-Expr}
 use Rattle.ax_mean.specs.declared.operator.Aggregate.{Aggregate}
 use Rattle.ax_mean.specs.declared.value.Value.{Value}
 use Rattle.ax_mean.specs.RowOrder.{first_value, later_values}
 use Rattle.ax_group.specs.declared.asked.Asked.{Asked}
-use Rattle.ax_group.specs.Walks.{Ask, TotalOf, PartOf, Asks, Child, Fill, Fills, ask_of, asks_of, asks_where, operands_asked, asked_level, asks_level, asked_in, asked_within, asked_pair, operand_pair, is_part, fill, fill_within, fill_pair, fill_level, fills_level, filled_where}
-use Rattle.ax_group.proofs.Wholes.{whole, as_is, comes_to}
+use Rattle.ax_group.specs.Walks.{Ask, TotalOf, PartOf, Asks, Child, Fill, Fills, ask_of, asks_of, asks_where, asked_level, asks_level, asked_in, asked_within, asked_pair, is_part, fill, fill_within, fill_pair, fill_level, fills_level, filled_where}
+use Rattle.ax_result.proofs.Wholes.{whole, as_is, comes_to}
 
 pub on_ok : {T E A B : Type 0} (r : Result T E) → (A → B) → OnOk r A → OnOk r B
 on_ok (Ok x) f a = f a
 on_ok (Err e) f a = a
+
+pub on_err : {T E A B : Type 0} (r : Result T E) → (A → B) → OnErr r A → OnErr r B
+on_err (Ok x) f a = a
+on_err (Err e) f a = f a
 
 pub if_ok : {T E : Type 0} {P Q : T → Type 0} (r : Result T E) → ((x : T) → P x → Q x) → IfOk r P
     → IfOk r Q
@@ -81,43 +84,11 @@ pub within_filled : (x : Expr) (values : List Value) → is_part x ≡ false
 within_filled x values h =
     ap (λ (f : Fill). f values) (fill_splits x ∙ ap (λ b. filled_where b (fill_within x)) h)
 
-asked_of_sum : (first : Expr) (rest : List (Chained Expr)) → asked_within (expr.Sum first rest)
-    ≡ asked_in first ++ operands_asked (map operand_pair rest)
-asked_of_sum first rest =
-    ap asked_within (sym (rolls-Sum first rest)) ∙ within_at (Expr-F.Sum first rest)
-
-asked_of_product : (first : Expr) (rest : List (Chained Expr))
-    → asked_within (expr.Product first rest)
-    ≡ asked_in first ++ operands_asked (map operand_pair rest)
-asked_of_product first rest =
-    ap asked_within (sym (rolls-Product first rest)) ∙ within_at (Expr-F.Product first rest)
-
 asked_of_total : (which : Aggregate) (argument : Expr)
     → asked_within (expr.Total which argument) ≡ TotalOf which argument ∷ []
 asked_of_total which argument =
     ap asked_within (sym (rolls-Total which argument)) ∙ within_at (Expr-F.Total which argument)
     ∙ ap (λ x. TotalOf which x ∷ []) (whole asks_level argument)
-
-behind : (x first got : Expr) (others old mid new : List Ask)
-    → asked_within x ≡ asked_in first ++ others → got ≡ first → mid ≡ old ++ asked_in got
-    → new ≡ mid ++ others → new ≡ old ++ asked_within x
-behind x first got others old mid new e g m n =
-    n ∙ ap (λ asks. asks ++ others) (m ∙ ap (λ y. old ++ asked_in y) g)
-    ∙ append_assoc old (asked_in first) others ∙ ap (λ asks. old ++ asks) (sym e)
-
-pub sum_collected : (x first got : Expr) (rest : List (Chained Expr)) (old mid new : List Ask)
-    → x ≡ expr.Sum first rest → got ≡ first → mid ≡ old ++ asked_in got
-    → new ≡ mid ++ operands_asked (map operand_pair rest) → new ≡ old ++ asked_within x
-sum_collected x first got rest old mid new e =
-    behind x first got (operands_asked (map operand_pair rest)) old mid new
-    (ap asked_within e ∙ asked_of_sum first rest)
-
-pub product_collected : (x first got : Expr) (rest : List (Chained Expr)) (old mid new : List Ask)
-    → x ≡ expr.Product first rest → got ≡ first → mid ≡ old ++ asked_in got
-    → new ≡ mid ++ operands_asked (map operand_pair rest) → new ≡ old ++ asked_within x
-product_collected x first got rest old mid new e =
-    behind x first got (operands_asked (map operand_pair rest)) old mid new
-    (ap asked_within e ∙ asked_of_product first rest)
 
 pub total_collected : (which : Aggregate) (argument : Expr) (old new : List Asked) (asked : Asked)
     → ask_of asked ≡ TotalOf which argument → new ≡ old ++ asked ∷ []

@@ -22,7 +22,7 @@ use Rattle.ax_result.specs.Groups.{first_env, item_over, shown_over}
 use Rattle.ax_result.specs.Totals.{as_it_becomes, total_over, become, operands_become, members_become}
 use Rattle.ax_group.specs.Walks.{Ask, Asks, Child, Fill, Fills, answer_over, answers_over, all_asked, operands_asked, members_asked, asked_level, asks_level, asks_where, asked_pair, asked_in, operand_pair, member_pair, items_asked, asked_by, all_filled, operands_filled, members_filled, fill_level, fills_level, filled_where, fill, fill_pair, operand_fill, member_fill, is_part, items_filled, shown_by}
 use Rattle.ax_group.proofs.Standing.{stood_level, stood, standing, stands_where, stood_at, same}
-use Rattle.ax_group.proofs.Wholes.{chained, member, whole, as_is, comes_to}
+use Rattle.ax_result.proofs.Wholes.{chained, member, whole, as_is, comes_to}
 
 -- a thing made of values, with the values that are left
 abbrev Made : Type 0 → Type 0

@@ -1,6 +1,7 @@
 -- What each call of `Groups` does to the groups that it holds.
 use Rattle.std.proofs.Common.{◌≡◌, List, [], ◌∷◌, ◌++◌, map, filter_map, true, false, ◌||◌, BTreeMap, MutBor, Option, Some, None, refl, sym, ap, ◌∙◌, subst}
 use Rattle.std.proofs.lemmas.Bool.{or_parts, false≢true}
+use Rattle.std.proofs.lemmas.Map.Steps.{set_value_same}
 use Rattle.std.specs.declared.cmp.Ordering.{Ordering}
 use Rattle.std.specs.declared.cmp.Ordering.TheVariants.{Less, Equal, Greater}
 use Rattle.std.specs.BTreeMap.{get_by, is_at, insert_entry, IsOrdered}
@@ -193,6 +194,15 @@ puts_there asks values arguments env key old new r slot w is value up v t writte
     (same_group asks values env key k groups old.entries arguments slot.now w a
     (record { values = v; tallies = t }) up are
     (sym value ∙ ap option_copied_mut is))
+
+-- a state that is left as it was leaves the map as it was
+pub stays_there : (key : GroupKey) (old new : States) (r : Option (MutBor State)) (slot : MutBor State)
+    (w : State) → r ≡ Some slot → option_copied_mut r ≡ get_by (key_order key) old → w ≡ slot.now
+    → new.entries ≡ set_value (is_at (key_order key)) old.entries w → new.entries ≡ old.entries
+stays_there key old new r slot w is value same written =
+    written
+    ∙ set_value_same (is_at (key_order key)) old.entries w
+    (sym value ∙ ap option_copied_mut is ∙ ap (λ (state : State). Some state) (sym same))
 
 pub not_there : (key : GroupKey) (old : States) (r : Option (MutBor State)) → r ≡ None
     → option_copied_mut r ≡ get_by (key_order key) old

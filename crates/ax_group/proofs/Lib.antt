@@ -1,10 +1,11 @@
+pub mod AskedParts
 pub mod Asking
 pub mod Comparing
 pub mod Entries
 pub mod Filling
 pub mod GroupLaws
+pub mod Needs
 pub mod Standing
 pub mod StateLaws
 pub mod TallyLaws
 pub mod Unaggregated
-pub mod Wholes

@@ -23,7 +23,7 @@ use Rattle.ax_result.specs.Groups.{first_env}
 use Rattle.ax_result.specs.Totals.{as_it_is, pair_by, as_it_becomes, with_totals, total_over, become, operands_become, members_become}
 use Rattle.ax_group.specs.Walks.{is_literal, literal_level, is_part}
 use Rattle.ax_group.proofs.Unaggregated.{has_roll, stays}
-use Rattle.ax_group.proofs.Wholes.{chained, member, whole, as_is, comes_to}
+use Rattle.ax_result.proofs.Wholes.{chained, member, whole, as_is, comes_to}
 
 three : {A : Type 0} (f : Value → Value → Value → A) {a b c x y z : Value}
     → a ≡ x → b ≡ y → c ≡ z → f a b c ≡ f x y z

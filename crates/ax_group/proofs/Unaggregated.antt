@@ -11,7 +11,7 @@ use Rattle.ax_mean.specs.declared.expr.Expr.TheFolds.{map-Expr, fold-roll-Expr, 
 use Rattle.ax_mean.specs.Aggregates.{any_of, any_operand, any_value, aggregate_level, has_aggregate, operand_flag, member_flag}
 use Rattle.ax_mean.specs.Meaning.{Env}
 use Rattle.ax_result.specs.Totals.{pair_by, as_it_becomes, with_totals, become, operands_become, members_become}
-use Rattle.ax_group.proofs.Wholes.{chained, member, comes_to}
+use Rattle.ax_result.proofs.Wholes.{chained, member, comes_to}
 
 pub has_roll : (x : Expr-F Expr)
     → has_aggregate (roll-Expr x) ≡ aggregate_level (map-Expr Expr Bool has_aggregate x)

@@ -18,12 +18,12 @@ use ax_mean::{Expr, ExprList, Items, Value, ValueList};
 use std::alloc::Global;
 
 /// What a row adds: the values that tell its group, with their key, and one value for each thing
-/// asked for.
+/// asked for. A value that stands in a document is not copied.
 #[derive(Drop)]
 pub struct Row<'a> {
     pub key: GroupKey,
     pub values: Vec<Seen<'a>>,
-    pub arguments: Vec<Value>,
+    pub arguments: Vec<Seen<'a>>,
 }
 
 impl<'a> Row<'a> {
@@ -90,7 +90,7 @@ fn arguments_in<'a>(
     alloc: Global,
     asked: &[Asked<'a>],
     scope: &Scope<'a>,
-) -> Result<Vec<Value>, Memory>
+) -> Result<Vec<Seen<'a>>, Memory>
     ensures { IfOk result (λ values. values.items ≡ arguments_of (asks_of asked.now) scope.now) }
 {
     let mut values = Vec::with_capacity(alloc, asked.len())?;
@@ -101,13 +101,13 @@ fn arguments_in<'a>(
 }
 
 /// The row's value for what is asked for; nothing more where it is of the first row.
-fn argument_in<'a>(alloc: Global, asked: &Asked<'a>, scope: &Scope<'a>) -> Result<Value, Memory>
+fn argument_in<'a>(alloc: Global, asked: &Asked<'a>, scope: &Scope<'a>) -> Result<Seen<'a>, Memory>
     ensures { IfOk result (λ value. value ≡ argument_of scope.now (ask_of asked.now)) }
 {
     match asked {
-        Asked::Total(_, argument) => value_in(alloc, argument, scope),
-        Asked::Part(_) => Ok(Value::Undefined),
-        Asked::FirstAlias => Ok(Value::Undefined),
+        Asked::Total(_, argument) => Ok(eval_in(alloc, argument, scope)?),
+        Asked::Part(_) => Ok(Seen::undefined()),
+        Asked::FirstAlias => Ok(Seen::undefined()),
     }
 }
 

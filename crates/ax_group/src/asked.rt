@@ -1,10 +1,11 @@
 //! What a pick asks of the rows of a group, in the order of a walk over it.
 ghost use Rattle.std.specs.Prelude.{◌≡◌, ◌++◌, map, IfOk, OnOk};
-ghost use Rattle.ax_group.specs.Walks.{all_asked, asked_in, asked_pair, asked_within, asks_of, items_asked, member_pair, members_asked, operand_pair, operands_asked, asked_by as asked_of};
+ghost use Rattle.ax_mean.specs.Parts.{parts_of};
+ghost use Rattle.ax_group.specs.Walks.{all_asked, asked_in, asked_pair, asked_within, asks_of, items_asked, asked_by as asked_of};
 
 use crate::out_of_memory::Memory;
 use crate::part::is_part;
-use ax_mean::{Aggregate, Expr, ExprList, MemberList, NamedList, OpChain, Pick};
+use ax_mean::{Aggregate, Expr, NamedList, Pick};
 use std::alloc::Global;
 
 /// What is asked for.
@@ -62,54 +63,8 @@ fn collect_within<'a>(asked: &mut Vec<Asked<'a>>, expr: &'a Expr) -> Result<(), 
         (asks_of asked.new.items ≡ asks_of asked.old.items ++ asked_within expr.now) }
 {
     match expr {
-        Expr::Literal(_) => Ok(()),
-        Expr::Alias(_) => Ok(()),
-        Expr::Steps(base, _) => collect(asked, base.get()),
-        Expr::Choice(test, a, b) => {
-            collect(asked, test.get())?;
-            collect(asked, a.get())?;
-            collect(asked, b.get())
-        }
-        Expr::Coalesce(items) => collect_all(asked, items),
-        Expr::Or(items) => collect_all(asked, items),
-        Expr::And(items) => collect_all(asked, items),
-        Expr::Not(a) => collect(asked, a.get()),
-        Expr::Compare(_, a, b) => {
-            collect(asked, a.get())?;
-            collect(asked, b.get())
-        }
-        Expr::Among { left, items, .. } => {
-            collect(asked, left.get())?;
-            collect_all(asked, items)
-        }
-        Expr::Between {
-            left,
-            low,
-            high,
-            ..
-        } => {
-            collect(asked, left.get())?;
-            collect(asked, low.get())?;
-            collect(asked, high.get())
-        }
-        Expr::Like { left, pattern, .. } => {
-            collect(asked, left.get())?;
-            collect(asked, pattern.get())
-        }
-        Expr::Join(items) => collect_all(asked, items),
-        Expr::Sum(first, rest) => {
-            collect(asked, first.get())?;
-            collect_operands(asked, rest)
-        }
-        Expr::Product(first, rest) => {
-            collect(asked, first.get())?;
-            collect_operands(asked, rest)
-        }
-        Expr::Sign(_, a) => collect(asked, a.get()),
-        Expr::Call(_, args) => collect_all(asked, args),
         Expr::Total(which, argument) => collect_total(asked, *which, argument.get()),
-        Expr::List(items) => collect_all(asked, items),
-        Expr::Object(members) => collect_members(asked, members),
+        _ => collect_parts(asked, expr),
     }
 }
 
@@ -126,35 +81,14 @@ fn collect_total<'a>(
     Ok(())
 }
 
+/// Appends what the parts of an expression ask for.
 #[cycle(collect)]
-fn collect_all<'a>(asked: &mut Vec<Asked<'a>>, items: &'a ExprList) -> Result<(), Memory>
+fn collect_parts<'a>(asked: &mut Vec<Asked<'a>>, expr: &'a Expr) -> Result<(), Memory>
     ensures { OnOk result (asks_of asked.new.items
-        ≡ asks_of asked.old.items ++ all_asked (map asked_pair items.now)) }
+        ≡ asks_of asked.old.items ++ all_asked (map asked_pair (parts_of expr.now))) }
 {
-    for item in items.as_slice() {
-        collect(asked, item)?;
-    }
-    Ok(())
-}
-
-#[cycle(collect)]
-fn collect_operands<'a>(asked: &mut Vec<Asked<'a>>, chain: &'a OpChain) -> Result<(), Memory>
-    ensures { OnOk result (asks_of asked.new.items
-        ≡ asks_of asked.old.items ++ operands_asked (map operand_pair chain.now)) }
-{
-    for chained in chain.as_slice() {
-        collect(asked, &chained.operand)?;
-    }
-    Ok(())
-}
-
-#[cycle(collect)]
-fn collect_members<'a>(asked: &mut Vec<Asked<'a>>, members: &'a MemberList) -> Result<(), Memory>
-    ensures { OnOk result (asks_of asked.new.items
-        ≡ asks_of asked.old.items ++ members_asked (map member_pair members.now)) }
-{
-    for member in members.as_slice() {
-        collect(asked, &member.value)?;
+    for part in expr.parts() {
+        collect(asked, part)?;
     }
     Ok(())
 }

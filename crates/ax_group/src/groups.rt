@@ -135,19 +135,17 @@ fn put<'a>(
     ensures err { OnErr result (states.new.entries ≡ states.old.entries) }
 {
     match states.get_mut(&row.key) {
-        Some(state) => {
-            add_row(state, row);
-            Ok(())
-        }
+        Some(state) => add_row(alloc, state, row),
         None => put_new(alloc, states, asked, row, scope),
     }
 }
 
-/// Adds a row to the state of its group.
-fn add_row(state: &mut State, row: Row)
+/// Adds a row to the state of its group. Unchanged where memory runs out.
+fn add_row(alloc: Global, state: &mut State, row: Row) -> Result<(), Memory>
     ensures values { state.new.values ≡ state.old.values }
-    ensures tallies { state.new.tallies.items
-        ≡ tallies_with state.old.tallies.items row.entry.arguments.items }
+    ensures tallies { OnOk result (state.new.tallies.items
+        ≡ tallies_with state.old.tallies.items row.entry.arguments.items) }
+    ensures err { OnErr result (state.new ≡ state.old) }
 {
     let Row {
         key,
@@ -156,7 +154,7 @@ fn add_row(state: &mut State, row: Row)
     } = row;
     drop(key);
     drop(values);
-    state.add(arguments);
+    state.add(alloc, arguments.as_slice())
 }
 
 /// Puts a row into a group of its own.
@@ -186,7 +184,7 @@ fn put_new<'a>(
         drop(arguments);
         return Err(Memory);
     };
-    let Ok(state) = State::of_row(alloc, asked, values, scope, arguments) else {
+    let Ok(state) = State::of_row(alloc, asked, values, scope, arguments.as_slice()) else {
         drop(key);
         return Err(Memory);
     };

@@ -13,6 +13,7 @@ mod exact_sum;
 mod filled;
 mod groups;
 mod key;
+mod needed;
 mod out_of_memory;
 mod part;
 mod results;

@@ -1,13 +1,15 @@
-ghost use Rattle.std.specs.Prelude.{◌≡◌, ◌<◌, length, [], IfOk};
+ghost use Rattle.std.specs.Prelude.{◌≡◌, ◌<◌, length, [], IfOk, OnOk, OnErr};
 ghost use Rattle.ax_group.specs.States.{start_in as tally_start_in, started as tallies_started, tallies_with, with_one};
 ghost use Rattle.ax_group.specs.Tallies.{tally_with};
 ghost use Rattle.ax_group.specs.Walks.{ask_of, asks_of};
 
 use crate::arguments::{first_in, value_in};
 use crate::asked::Asked;
+use crate::needed::needed_all;
 use crate::out_of_memory::Memory;
 use crate::tally::Tally;
 use ax_eval::Scope;
+use ax_func::Seen;
 use ax_mean::{Items, Value, ValueList};
 use std::alloc::Global;
 use std::mem;
@@ -40,39 +42,29 @@ impl State {
         asked: &[Asked<'a>],
         values: ValueList,
         scope: &Scope<'a>,
-        arguments: Vec<Value>,
+        arguments: &[Seen],
     ) -> Result<State, Memory>
         ensures values { IfOk result (λ state. state.values ≡ values) }
         ensures tallies { IfOk result (λ state. state.tallies.items
-            ≡ tallies_with (tallies_started (asks_of asked.now) scope.now) arguments.items) }
+            ≡ tallies_with (tallies_started (asks_of asked.now) scope.now) arguments.now) }
     {
-        match started(alloc, asked, scope) {
-            Ok(tallies) => Ok(State { values, tallies }.with_row(arguments)),
+        match started_with(alloc, asked, scope, arguments) {
+            Ok(tallies) => Ok(State { values, tallies }),
             Err(fault) => {
                 drop(values);
-                drop(arguments);
                 Err(fault)
             }
         }
     }
 
-    fn with_row(self, arguments: Vec<Value>) -> State
-        ensures values { result.values ≡ self.values }
-        ensures tallies { result.tallies.items
-            ≡ tallies_with self.tallies.items arguments.items }
-    {
-        let mut state = self;
-        state.add(arguments);
-        state
-    }
-
-    /// One row more, by its values for what is asked for.
-    pub fn add(&mut self, arguments: Vec<Value>)
+    /// One row more, by its values for what is asked for. Unchanged where memory runs out.
+    pub fn add(&mut self, alloc: Global, arguments: &[Seen]) -> Result<(), Memory>
         ensures values { self.new.values ≡ self.old.values }
-        ensures tallies { self.new.tallies.items
-            ≡ tallies_with self.old.tallies.items arguments.items }
+        ensures tallies { OnOk result (self.new.tallies.items
+            ≡ tallies_with self.old.tallies.items arguments.now) }
+        ensures err { OnErr result (self.new ≡ self.old) }
     {
-        add_all(&mut self.tallies, arguments);
+        add_seen(alloc, &mut self.tallies, arguments)
     }
 }
 
@@ -88,6 +80,21 @@ fn started<'a>(alloc: Global, asked: &[Asked<'a>], scope: &Scope<'a>) -> Result<
     Ok(tallies)
 }
 
+/// The tallies of a group with one row.
+fn started_with<'a>(
+    alloc: Global,
+    asked: &[Asked<'a>],
+    scope: &Scope<'a>,
+    arguments: &[Seen],
+) -> Result<Vec<Tally>, Memory>
+    ensures { IfOk result (λ tallies. tallies.items
+        ≡ tallies_with (tallies_started (asks_of asked.now) scope.now) arguments.now) }
+{
+    let mut tallies = started(alloc, asked, scope)?;
+    add_seen(alloc, &mut tallies, arguments)?;
+    Ok(tallies)
+}
+
 fn start_in<'a>(alloc: Global, asked: &Asked<'a>, scope: &Scope<'a>) -> Result<Tally, Memory>
     ensures { IfOk result (λ tally. tally ≡ tally_start_in scope.now (ask_of asked.now)) }
 {
@@ -96,6 +103,16 @@ fn start_in<'a>(alloc: Global, asked: &Asked<'a>, scope: &Scope<'a>) -> Result<T
         Asked::Part(part) => Ok(Tally::First(value_in(alloc, part, scope)?)),
         Asked::FirstAlias => Ok(Tally::First(first_in(alloc, scope)?)),
     }
+}
+
+/// One value more for each tally, as it is seen. Unchanged where memory runs out.
+fn add_seen(alloc: Global, tallies: &mut Vec<Tally>, values: &[Seen]) -> Result<(), Memory>
+    ensures ok { OnOk result (tallies.new.items ≡ tallies_with tallies.old.items values.now) }
+    ensures err { OnErr result (tallies.new ≡ tallies.old) }
+{
+    let needed = needed_all(alloc, tallies.as_slice(), values)?;
+    add_all(tallies, needed);
+    Ok(())
 }
 
 /// One value more for each tally.

@@ -2,3 +2,4 @@ pub mod Distinct
 pub mod GroupRows
 pub mod Sorted
 pub mod Tuples
+pub mod Wholes
