@@ -1,5 +1,6 @@
 -- The images that were worked out by hand are what they were worked out to be.
-use Rattle.std.proofs.Common.{◌≡◌, ◌≢◌, ℕ, ◌==◌, ◌+◌, ◌<◌, arith, inl, inr, refl, sym, ap, ◌∙◌, get_or}
+use Rattle.std.proofs.Common.{◌≡◌, ◌≢◌, ℕ, ◌==◌, ◌+◌, ◌<◌, arith, inl, inr, refl, sym, ap, ◌∙◌}
+use Rattle.std.proofs.Common.{get_or}
 use Rattle.std.proofs.Common.{Bool, true, false, nat_lt, List, [], ◌∷◌, ◌++◌, length, length-append}
 use Rattle.std.specs.Prelude.{◌||◌, ◌&&◌, Some, None, Option, if◌then◌else◌, option_and_then}
 use Rattle.std.proofs.lemmas.Bool.{and_from}
@@ -25,7 +26,8 @@ use Rattle.ax_area.specs.Told.{Lead}
 use Rattle.ax_area.specs.Image.{IsLive, Says, IsNewer, IsDamaged}
 use Rattle.ax_area.specs.Sample.{sample, sample_root, sample_area, sample_frame, sample_told}
 use Rattle.ax_area.specs.Sample.{sample_text, sample_delta, spoiled_frame, spoiled_sample}
-use Rattle.ax_area.specs.Sample.{broken_sample, newer_sample, second_sample, twin_sample, worn_sample}
+use Rattle.ax_area.specs.Sample.{broken_sample, newer_sample, second_sample, twin_sample}
+use Rattle.ax_area.specs.Sample.{worn_sample}
 use Rattle.ax_area.specs.Sample.{mixed_sample, mixed_frame, plain_meta_part, versioned_told}
 use Rattle.ax_area.proofs.EveryRoot.{second_or}
 
@@ -39,11 +41,10 @@ can_name = record {
   generation_fits = omega arith;
 }
 
-pub slot : Counting
+abbrev pub slot : Counting
 slot = record { which = First; version = 1; area = A; generation = 1 }
 
 pub sample_counts : IsRoot sample_root (Counts slot)
-unfolding slot
 sample_counts = inr (record {
   first = Live 1 1 1;
   second = Closed;
@@ -54,11 +55,9 @@ sample_counts = inr (record {
 })
 
 pub slot_known : IsKnown 1 slot
-unfolding slot
 slot_known = record { known = omega arith; rises = λ older. omega (arith, older) }
 
 live : IsLive 1 slot (sample_frame ∷ []) sample
-unfolding slot
 live = record {
   counts = sample_counts;
   known = slot_known;
@@ -72,7 +71,6 @@ live = record {
 
 pub sample_says : (contents : Contents) → Lead sample_told no_contents contents
     → Says 1 1 sample_told contents sample
-unfolding slot
 sample_says contents lead = inr (record {
   slot = slot;
   version_is = refl;
@@ -122,7 +120,7 @@ sample_says contents lead = inr (record {
 })
 
 -- one document may be held
-some_room : (map.contains_key no_contents.documents 1
+pub some_room : (map.contains_key no_contents.documents 1
     || nat_lt (map.len no_contents.documents) most_documents) ≡ true
 some_room =
     second_or (map.contains_key no_contents.documents 1) _
@@ -152,7 +150,6 @@ no_such_kind item follows spelled =
     ap (λ kind. change_by (kind_in 1 kind) item.first item.pieces) is
 
 pub sample_spoiled : IsDamaged 1 spoiled_sample A 9
-unfolding slot
 sample_spoiled = inr (record {
   slot = slot;
   area_is = refl;
@@ -188,7 +185,6 @@ one_byte byte span rest is e =
     omega (arith, is.some, ap length e, length-append (open_frame span) rest)
 
 pub sample_broken : IsDamaged 1 broken_sample A 63
-unfolding slot
 sample_broken = inl (record {
   slot = slot;
   area_is = refl;
@@ -341,7 +337,7 @@ refused_meta item follows spelled =
     (change_by (kind_in 2 kind) item.first item.pieces)) is
     ∙ by_test
     (item.first.key == 0 && length item.first.payload == 8
-        && nat_lt 0 (number_at 0 item.first.payload))
+    && nat_lt 0 (number_at 0 item.first.payload))
     (number_at 0 item.first.payload) (number_at 4 item.first.payload)
 
 pub sample_mixed : IsDamaged 2 mixed_sample A 37

@@ -1,17 +1,21 @@
 -- What is written says what it was to say.
-use Rattle.std.proofs.Common.{◌≡◌, ℕ, zero, suc, arith, ◌+◌, ◌-◌, ◌<◌, ◌≤◌, ◌^◌, ◌==◌, nat_lt, nat_le, Bool, true, false, List, [], ◌∷◌, ◌++◌, length, take, drop, refl, sym, ap, subst, ◌∙◌, length-append}
+use Rattle.std.proofs.Common.{◌≡◌, ℕ, zero, suc, arith, ◌+◌, ◌-◌, ◌<◌, ◌≤◌, ◌^◌, ◌==◌, nat_lt}
+use Rattle.std.proofs.Common.{nat_le, Bool, true, false, List, [], ◌∷◌, ◌++◌, length, take, drop}
+use Rattle.std.proofs.Common.{refl, sym, ap, subst, ◌∙◌, length-append}
 use Rattle.std.specs.Prelude.{◌&&◌, Some, None, Option, is_some, if◌then◌else◌, min}
 use Rattle.std.specs.List.{flat_map, AllByRecursion}
 use Rattle.std.specs.Int.{w32, w64, to_le_bytes, from_le_bytes}
 use Rattle.std.proofs.lemmas.Bool.{lt-ltb, le-leb, and_from, leb-true, leb-false, eq-eqb}
-use Rattle.std.proofs.lemmas.List.{length-take, length-drop, length-take-le, take-append-drop, append-nil}
+use Rattle.std.proofs.lemmas.List.{length-take, length-drop, length-take-le, take-append-drop}
+use Rattle.std.proofs.lemmas.List.{append-nil}
 use Rattle.std.proofs.lemmas.Nat.{from_le_bytes-to_le_bytes_4, from_le_bytes-to_le_bytes_8}
 use Rattle.ax_leaf.specs.Low.{low_in}
 use Rattle.ax_frame.specs.Part.{PartValue, Fits, AllFit}
 use Rattle.ax_area.specs.declared.kind.Kind.{Kind}
 use Rattle.ax_area.specs.declared.kind.Kind.TheVariants as kind
 use Rattle.ax_area.specs.Kinds.{kind_in}
-use Rattle.ax_area.specs.Items.{Item, IsItem, IsPiece, ArePieces, single, item_bytes, item_parts, first_bytes, piece_bytes, number_at, long_number_at}
+use Rattle.ax_area.specs.Items.{Item, IsItem, IsPiece, ArePieces, single, item_bytes, item_parts}
+use Rattle.ax_area.specs.Items.{first_bytes, piece_bytes, number_at, long_number_at}
 use Rattle.ax_area.specs.Changes.{Change, Written, Numbers, most_short, change_by, change_of}
 use Rattle.ax_area.specs.Changes as change
 use Rattle.ax_area.specs.Told.{Told, told_bytes, changes_of, IsTold, AreTold, Begins}
@@ -21,25 +25,34 @@ use Rattle.ax_area.specs.Writing.{CanHave, CanWrite, written_bytes, told_from}
 
 -- ---- pieces
 
-are_pieces : (most key : ℕ) (text : List ℕ) → length text ≤ most → ArePieces key (length text) (pieces_within most key text)
+are_pieces : (most key : ℕ) (text : List ℕ) → length text ≤ most
+    → ArePieces key (length text) (pieces_within most key text)
 are_pieces zero key [] within = refl
 are_pieces zero key (byte ∷ text) within = absurd (omega arith)
 are_pieces (suc most) key [] within = refl
 are_pieces (suc most) key (byte ∷ text) within =
     let all : List ℕ = byte ∷ text in
-    let less : length (drop piece_bytes all) ≡ length all - piece_bytes = length-drop piece_bytes all in (
-      record { due = omega arith; kind = refl; key_is = refl; length_is = length-take piece_bytes all },
+    let less : length (drop piece_bytes all)
+    ≡ length all - piece_bytes = length-drop piece_bytes all in (
+      record {
+        due = omega arith;
+        kind = refl;
+        key_is = refl;
+        length_is = length-take piece_bytes all;
+      },
       subst (λ n. ArePieces key n (pieces_within most key (drop piece_bytes all))) less
           (are_pieces most key (drop piece_bytes all) (omega (arith, less))),
     )
 
-pieces_text : (most key : ℕ) (text : List ℕ) → length text ≤ most → flat_map (λ (piece : PartValue). piece.payload) (pieces_within most key text) ≡ text
+pieces_text : (most key : ℕ) (text : List ℕ) → length text ≤ most
+    → flat_map (λ (piece : PartValue). piece.payload) (pieces_within most key text) ≡ text
 pieces_text zero key [] within = refl
 pieces_text zero key (byte ∷ text) within = absurd (omega arith)
 pieces_text (suc most) key [] within = refl
 pieces_text (suc most) key (byte ∷ text) within =
     let all : List ℕ = byte ∷ text in
-    ap (λ (more : List ℕ). take piece_bytes all ++ more) (pieces_text most key (drop piece_bytes all) (omega (arith, length-drop piece_bytes all)))
+    ap (λ (more : List ℕ). take piece_bytes all ++ more)
+    (pieces_text most key (drop piece_bytes all) (omega (arith, length-drop piece_bytes all)))
     ∙ take-append-drop piece_bytes all
 
 short_front : (n : ℕ) (text : List ℕ) → length (take n text) ≤ n
@@ -48,8 +61,10 @@ short_front n text = omega (arith, length-take n text)
 pieces_fit : (most key : ℕ) (text : List ℕ) → key < 2 ^ 32 → AllFit (pieces_within most key text)
 pieces_fit zero key text fits = tt
 pieces_fit (suc most) key [] fits = tt
-pieces_fit (suc most) key (byte ∷ text) fits =
-    (record { key_fits = fits; payload_fits = short_front piece_bytes (byte ∷ text) }, pieces_fit most key (drop piece_bytes (byte ∷ text)) fits)
+pieces_fit (suc most) key (byte ∷ text) fits = (
+  record { key_fits = fits; payload_fits = short_front piece_bytes (byte ∷ text) },
+  pieces_fit most key (drop piece_bytes (byte ∷ text)) fits,
+)
 
 -- ---- what is said
 
@@ -86,7 +101,8 @@ module _ (area : ℕ) (first : 1 ≤ area) where
         alone (part 1 0 payload) (omega arith) (omega arith) refl,
         known 1 kind.PlainMeta (part 1 0 payload) [] first
             ∙ said _ _ _
-            (and_from _ _ refl (lt-ltb 0 (number_at 0 payload) (omega (arith, number.some, next_is))))
+            (and_from _ _ refl (lt-ltb 0 (number_at 0 payload)
+            (omega (arith, number.some, next_is))))
             (λ i. change.Meta (record { next = next_is i; policy = policy_is i; version = None })),
       )
   says_meta next policy (Some v) number small can =
@@ -98,7 +114,8 @@ module _ (area : ℕ) (first : 1 ≤ area) where
         known 2 kind.Meta (part 8 0 payload) [] can.known
             ∙ said _ _ _
             (and_from _ _
-            (and_from _ _ refl (lt-ltb 0 (number_at 0 payload) (omega (arith, number.some, next_is))))
+            (and_from _ _ refl (lt-ltb 0 (number_at 0 payload)
+            (omega (arith, number.some, next_is))))
             (lt-ltb 0 (long_number_at 8 payload) (omega (arith, can.some, version_is))))
             (λ i. change.Meta
             (record { next = next_is i; policy = policy_is i; version = Some (version_is i) })),
@@ -182,7 +199,8 @@ module _ (area : ℕ) (first : 1 ≤ area) where
       → CanSay area version → CanHave area version (length text)
       → SaysDocument n policy version text (document_item n policy version text)
   says_document n policy None text number is can = says_plain n policy text number can
-  says_document n policy (Some v) text number is can = by_test (nat_le (length text) most_short) refl
+  says_document n policy (Some v) text number is can =
+      by_test (nat_le (length text) most_short) refl
     where
       by_test : (b : Bool) → nat_le (length text) most_short ≡ b
           → SaysDocument n policy (Some v) text

@@ -1,6 +1,7 @@
 -- What an item says, in no version's words: a change of what the store has.
 -- From the store's own file format (docs/FORMAT.md, "Parts"); no other document has it.
-use Rattle.std.specs.Prelude.{ℕ, Bool, ◌==◌, ◌&&◌, nat_lt, nat_le, if◌then◌else◌, List, ◌++◌, length}
+use Rattle.std.specs.Prelude.{ℕ, Bool, ◌==◌, ◌&&◌, nat_lt, nat_le, if◌then◌else◌, List, ◌++◌}
+use Rattle.std.specs.Prelude.{length}
 use Rattle.std.specs.Prelude.{drop, slice_index, Option, Some, None, is_some}
 use Rattle.std.specs.List.{flat_map}
 use Rattle.ax_leaf.specs.Low.{low_in}
@@ -11,7 +12,8 @@ use Rattle.ax_area.specs.Kinds.{kind_in}
 use Rattle.ax_area.specs.declared.kind.Kind.TheVariants as kind
 use Rattle.ax_area.specs.Items.{Item, number_at, long_number_at, piece_bytes}
 
--- a document as it is written: the number of its policy, its version where it says one, and its text
+-- a document as it is written: the number of its policy, its version where it says one, and its
+-- text
 pub record Written : Type 0 where
   pub policy : ℕ
   pub version : Option ℕ

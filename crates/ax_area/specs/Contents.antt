@@ -1,6 +1,6 @@
--- What a store has, in the subject's words, and how changes lead from contents to contents. No version
--- of the format stands here.
--- From the store's own file format (docs/FORMAT.md, "Parts"); no other document has it.
+-- What a store has, in the subject's words, and how changes lead from contents to contents. No
+-- version of the format stands here. From the store's own file format (docs/FORMAT.md, "Parts"); no
+-- other document has it.
 use Rattle.std.specs.Prelude.{ℕ, Bool, true, false, not, ◌||◌, ◌&&◌, ◌==◌, nat_lt, if◌then◌else◌}
 use Rattle.std.specs.Prelude.{List, [], ◌∷◌, Option, Some, None, is_some, option_and_then}
 use Rattle.std.specs.Ordering.{nat_cmp}

@@ -1,7 +1,7 @@
--- What opening finds of an image, where a newest version is known: that it is fresh or live, with what
--- it tells and the contents to which that leads; that it is of a later version; or that it is damaged
--- at one place.
--- From the store's own file format (docs/FORMAT.md); no other document has it.
+-- What opening finds of an image, where a newest version is known: that it is fresh or live, with
+-- what it tells and the contents to which that leads; that it is of a later version; or that it is
+-- damaged at one place. From the store's own file format (docs/FORMAT.md); no other document has
+-- it.
 use Rattle.std.specs.Prelude.{◌≡◌, ◌⊎◌, ℕ, ◌<◌, ◌≤◌, List, []}
 use Rattle.ax_disk.specs.declared.extent.Extent.{Extent}
 use Rattle.ax_disk.specs.declared.extent.Extent.TheVariants.{Root, A, B}
@@ -18,13 +18,14 @@ abbrev pub IsFresh : Image → Type 0
 IsFresh image = IsRoot image.root Fresh
 
 -- A live store: the slot counts, and the area that it names has these log frames.
-pub record IsLive (newest : ℕ) (slot : Counting) (frames : List (List ℕ)) (image : Image) : Type 0 where
+pub record IsLive (newest : ℕ) (slot : Counting) (frames : List (List ℕ))
+    (image : Image) : Type 0 where
   pub counts : IsRoot image.root (Counts slot)
   pub known : IsKnown newest slot
   pub has : IsArea (list_of slot.area image) frames
 
--- The image is live, its area tells this in its version, in order, and that leads from nothing to these
--- contents.
+-- The image is live, its area tells this in its version, in order, and that leads from nothing to
+-- these contents.
 pub record IsLiveWith (newest version : ℕ) (told : List Told) (contents : Contents)
     (image : Image) : Type 0 where
   pub slot : Counting
@@ -78,8 +79,8 @@ pub record IsSpoiledArea (newest : ℕ) (area : Extent) (at : ℕ) (image : Imag
   pub live : IsLive newest slot frames image
   pub spoiled : AreSpoiled slot.version frames 0 no_contents at
 
--- Opening finds the image damaged at this place of this list. A frame that is broken goes before a part
--- that is spoiled, wherever the two stand: frames are told before parts.
+-- Opening finds the image damaged at this place of this list. A frame that is broken goes before a
+-- part that is spoiled, wherever the two stand: frames are told before parts.
 abbrev pub IsDamaged : ℕ → Image → Extent → ℕ → Type 0
 IsDamaged newest image Root at = IsRoot image.root (Damaged at) ⊎ IsWorn newest at image
 IsDamaged newest image A at =

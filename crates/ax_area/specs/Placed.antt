@@ -1,4 +1,5 @@
--- What stands in an area at the places of the parts that count: the texts and payloads of the contents.
+-- What stands in an area at the places of the parts that count: the texts and payloads of the
+-- contents.
 -- From the store's own file format (docs/FORMAT.md, "Parts"); no other document has it.
 use Rattle.std.specs.Prelude.{◌≡◌, ℕ, ◌+◌, ◌==◌, if◌then◌else◌, List, [], ◌∷◌, ◌++◌, length}
 use Rattle.std.specs.Prelude.{take, drop, map, slice_index_or, Some}

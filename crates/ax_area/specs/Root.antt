@@ -77,8 +77,8 @@ IsClosedBeside root slot = IsSlot (slot_in (other slot.which) root) Closed
 abbrev pub last_generation : ℕ
 last_generation = 2 ^ 64 - 1
 
--- The slot can be opened: its version is known, and where that is not the newest, its generation can
--- rise, as it does when the store is raised to the newest.
+-- The slot can be opened: its version is known, and where that is not the newest, its generation
+-- can rise, as it does when the store is raised to the newest.
 pub record IsKnown (newest : ℕ) (slot : Counting) : Type 0 where
   pub known : slot.version ≤ newest
   pub rises : slot.version < newest → slot.generation < last_generation

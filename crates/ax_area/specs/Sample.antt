@@ -1,6 +1,7 @@
--- Files byte by byte, worked out by hand from the document of the format: a store with one document,
--- the meta behind it and a delta of the first term page; and images that differ from it at one place.
--- From the store's own file format (docs/FORMAT.md, "An example"); no other document has it.
+-- Files byte by byte, worked out by hand from the document of the format: a store with one
+-- document, the meta behind it and a delta of the first term page; and images that differ from it
+-- at one place. From the store's own file format (docs/FORMAT.md, "An example"); no other document
+-- has it.
 use Rattle.std.specs.Prelude.{ℕ, List, [], ◌∷◌, ◌++◌, replicate, drop, Some, None}
 use Rattle.ax_disk.specs.model.Image.{Image}
 use Rattle.ax_area.specs.Items.{Item, single}

@@ -1,6 +1,6 @@
--- What frames tell: a list of changes, each by an item that stands at an offset of the area; and where
--- bytes are spoiled.
--- From the store's own file format (docs/FORMAT.md, "Frames" and "Parts"); no other document has it.
+-- What frames tell: a list of changes, each by an item that stands at an offset of the area; and
+-- where bytes are spoiled. From the store's own file format (docs/FORMAT.md, "Frames" and "Parts");
+-- no other document has it.
 use Rattle.std.specs.Prelude.{◌≡◌, ◌≢◌, ◌⊎◌, ℕ, ◌+◌, List, [], ◌∷◌, ◌++◌, length, map}
 use Rattle.std.specs.Prelude.{Some, None, option_and_then}
 use Rattle.std.specs.List.{flat_map}
@@ -59,8 +59,8 @@ IsRefused version bytes contents =
     → option_and_then (λ change. after_change change contents) (change_of version item)
     ≡ None
 
--- Some items lead up to the place, and there something stands that is no item, or an item that is outside
--- the format.
+-- Some items lead up to the place, and there something stands that is no item, or an item that is
+-- outside the format.
 pub record IsSpoiled (version : ℕ) (bytes : List ℕ) (at : ℕ) (before : Contents)
     (place : ℕ) : Type 0 where
   pub told : List Told
@@ -72,7 +72,8 @@ pub record IsSpoiled (version : ℕ) (bytes : List ℕ) (at : ℕ) (before : Con
   pub refused : IsRefused version rest reached
   pub place_is : place ≡ at + length (told_bytes told)
 
--- Of frames, the first of which stands at an offset, one is spoiled, and those before it lead up to it.
+-- Of frames, the first of which stands at an offset, one is spoiled, and those before it lead up to
+-- it.
 abbrev pub AreSpoiled : ℕ → List (List ℕ) → ℕ → Contents → ℕ → Type 0
 AreSpoiled version [] at before place = ⊥
 AreSpoiled version (frame ∷ frames) at before place =

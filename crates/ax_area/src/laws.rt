@@ -1,6 +1,7 @@
 //! Laws of the grammar, each the contract of a function that does nothing.
 
-ghost use Rattle.std.specs.Prelude.{◌≡◌, ◌⊎◌, ℕ, ◌+◌, ◌<◌, ◌≤◌, true, List, [], ◌∷◌, ◌++◌, length, Some};
+ghost use Rattle.std.specs.Prelude.{◌≡◌, ◌⊎◌, ℕ, ◌+◌, ◌<◌, ◌≤◌, true};
+ghost use Rattle.std.specs.Prelude.{List, [], ◌∷◌, ◌++◌, length, Some};
 ghost use Rattle.ax_disk.specs.declared.extent.Extent.{Extent};
 ghost use Rattle.ax_disk.specs.declared.extent.Extent.TheVariants.{Root, A};
 ghost use Rattle.ax_disk.specs.model.Image.{Image, list_of};

@@ -1,4 +1,5 @@
-use Rattle.ax_area.proofs.OneOutcome.{one_told, one_contents, one_extent, one_place, says_not_damaged, damaged_not_newer}
+use Rattle.ax_area.proofs.OneOutcome.{one_told, one_contents, one_extent, one_place}
+use Rattle.ax_area.proofs.OneOutcome.{says_not_damaged, damaged_not_newer}
 use Rattle.ax_area.proofs.laws.one_outcome.Goals as goal
 
 pub returns-clause-told : goal.returns-clause-told
