@@ -1,6 +1,8 @@
 -- A root says one thing alone.
 use Rattle.std.proofs.Common.{◌≡◌, ◌≢◌, inl, inr, ℕ, ◌<◌, ◌≤◌, ◌==◌, nat_lt, Bool, true, false}
 use Rattle.std.proofs.Common.{if◌then◌else◌, List, take, drop, refl, sym, ◌∙◌, ap, subst, arith}
+use Rattle.std.proofs.Common.{◌⊎◌, ⊎_elim}
+use Rattle.std.proofs.lemmas.Bool.{ltb-true, ltb-false, eqb-false, cases_lt}
 use Rattle.ax_disk.specs.declared.extent.Extent.{Extent}
 use Rattle.ax_disk.specs.declared.extent.Extent.TheVariants.{Root, A, B}
 use Rattle.ax_frame.specs.declared.root_slot.RootSlot.{RootSlot}
@@ -13,6 +15,7 @@ use Rattle.ax_area.specs.declared.root.RootChoice.{RootChoice}
 use Rattle.ax_area.specs.declared.root.Which.TheVariants.{First, Second}
 use Rattle.ax_area.specs.declared.root.RootChoice.TheVariants.{Fresh, Counts, Damaged}
 use Rattle.ax_area.specs.Root.{area_numbered, named, slot_in, chosen, IsRoot, IsWholeRoot}
+use Rattle.ax_area.specs.Root.{IsClosedBeside, IsLesserBeside}
 
 pub one_root : (root : List ℕ) (one other : RootChoice) → IsRoot root one → IsRoot root other → one
     ≡ other
@@ -137,3 +140,67 @@ counts_from root s (inl short) = absurd (cc short.1)
 counts_from root s (inr whole) =
     by_slots s whole.first whole.second (slot_in First root) (slot_in Second root) whole.first_slot
     whole.second_slot whole.choice_is
+
+-- ---- the slot beside the one that counts
+
+abbrev Beside : List ℕ → Counting → Type 0
+Beside root slot = IsClosedBeside root slot ⊎ IsLesserBeside root slot
+
+-- what is so beside a slot is so beside the one that counts
+here : (root : List ℕ) (choice : RootChoice) (s t : Counting) → slot_or choice s ≡ t
+    → Counts s ≡ choice → Beside root t → Beside root s
+unfolding slot_or
+here root choice s t is e beside =
+    subst (Beside root) (sym (ap (λ says. slot_or says s) e ∙ is)) beside
+
+abbrev named_slot : Which → ℕ → ℕ → ℕ → Counting
+named_slot which version area generation = record {
+  which = which;
+  version = version;
+  area = area_numbered area;
+  generation = generation;
+}
+
+beside_slots : (root : List ℕ) (s : Counting) (a b : RootSlot) → IsSlot (slot_in First root) a
+    → IsSlot (slot_in Second root) b → Counts s ≡ chosen a b → Beside root s
+unfolding slot_or
+beside_slots root s Bad b ia ib e = absurd (cc e)
+beside_slots root s Closed Bad ia ib e = absurd (cc e)
+beside_slots root s Closed Closed ia ib e = absurd (cc e)
+beside_slots root s Closed (Live v a g) ia ib e =
+    here root (named Second v a g) s (named_slot Second v a g) refl e (inl ia)
+beside_slots root s (Live v a g) Bad ia ib e = absurd (cc e)
+beside_slots root s (Live v a g) Closed ia ib e =
+    here root (named First v a g) s (named_slot First v a g) refl e (inl ib)
+beside_slots root s (Live v a g) (Live w b h) ia ib e =
+    by_generation (g == h) (nat_lt h g) refl refl e
+  where
+    by_generation : (same less : Bool) → (g == h) ≡ same → nat_lt h g ≡ less
+        → Counts s ≡ (if same then Damaged 16 else (if less then named First v a g
+        else named Second w b h)) → Beside root s
+    by_generation true less equal lower is = absurd (cc is)
+    by_generation false true equal lower is =
+        here root (named First v a g) s (named_slot First v a g) refl is
+        (inr (record {
+          version = w;
+          area = b;
+          generation = h;
+          is_open = ib;
+          lesser = ltb-true h g lower;
+        }))
+    by_generation false false equal lower is =
+        here root (named Second w b h) s (named_slot Second w b h) refl is
+        (inr (record {
+          version = v;
+          area = a;
+          generation = g;
+          is_open = ia;
+          lesser = ⊎_elim (λ (low : g < h). low)
+              (λ (high : h ≤ g). absurd (eqb-false g h equal
+              (omega (arith, high, ltb-false h g lower)))) (cases_lt g h);
+        }))
+
+pub beside : (root : List ℕ) (s : Counting) → IsRoot root (Counts s) → Beside root s
+beside root s (inl short) = absurd (cc short.1)
+beside root s (inr whole) =
+    beside_slots root s whole.first whole.second whole.first_slot whole.second_slot whole.choice_is

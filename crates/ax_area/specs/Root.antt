@@ -71,6 +71,14 @@ IsRoot root choice = ((length root < 33) × (choice ≡ Fresh)) ⊎ IsWholeRoot 
 abbrev pub IsClosedBeside : List ℕ → Counting → Type 0
 IsClosedBeside root slot = IsSlot (slot_in (other slot.which) root) Closed
 
+-- or it is open, and has a lesser generation
+pub record IsLesserBeside (root : List ℕ) (slot : Counting) : Type 0 where
+  pub version : ℕ
+  pub area : ℕ
+  pub generation : ℕ
+  pub is_open : IsSlot (slot_in (other slot.which) root) (Live version area generation)
+  pub lesser : generation < slot.generation
+
 -- ---- with a newest version
 
 -- a slot of this generation could not be raised to a newer version

@@ -7,7 +7,8 @@ ghost use Rattle.ax_disk.specs.declared.extent.Extent.TheVariants.{Root, A};
 ghost use Rattle.ax_disk.specs.model.Image.{Image, list_of};
 ghost use Rattle.ax_area.specs.declared.root.Counting.{Counting};
 ghost use Rattle.ax_area.specs.declared.root.RootChoice.{RootChoice};
-ghost use Rattle.ax_area.specs.Root.{IsRoot};
+ghost use Rattle.ax_area.specs.declared.root.RootChoice.TheVariants.{Counts};
+ghost use Rattle.ax_area.specs.Root.{IsRoot, IsClosedBeside, IsLesserBeside};
 ghost use Rattle.std.specs.List.{Contains, AllByRecursion};
 ghost use Rattle.ax_area.specs.Changes.{Change, Base, Delta};
 ghost use Rattle.ax_area.specs.Contents.{Contents, no_contents, after_changes};
@@ -28,6 +29,12 @@ ghost use Rattle.ax_area.specs.Image.{IsLive, Says, IsNewer, IsDamaged};
 /// A root says one thing alone.
 pub fn one_root()
     ensures { (root : List ℕ) (one other : RootChoice) → IsRoot root one → IsRoot root other → one ≡ other }
+{}
+
+/// Beside the root slot that counts the other one is closed, or open with a lesser generation.
+pub fn the_other_slot()
+    ensures { (root : List ℕ) (slot : Counting) → IsRoot root (Counts slot)
+        → IsClosedBeside root slot ⊎ IsLesserBeside root slot }
 {}
 
 /// Opening finds one thing alone of an image: what it tells and the contents of that, a later version, or
