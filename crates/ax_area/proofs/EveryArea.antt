@@ -41,7 +41,10 @@ unfolding is_frame
 frame_is span rest bytes e =
     let one = and_parts (nat_lt 0 (length span)) _ e in
     let two = and_parts (nat_lt (length span) (2 ^ 64)) _ one.1 in (
-      record { some = ltb-true 0 (length span) one.0; fits = ltb-true (length span) (2 ^ 64) two.0 },
+      record {
+        some = ltb-true 0 (length span) one.0;
+        fits = ltb-true (length span) (2 ^ 64) two.0;
+      },
       (bytes_eq-Decides bytes (open_frame span ++ rest)).0 two.1,
     )
 

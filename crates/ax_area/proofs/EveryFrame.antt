@@ -165,7 +165,8 @@ module _ (version : ℕ) where
         told = first.told ++ others.told;
         after = others.after;
         tell = (first.told, others.told, refl, first.begins, others.tell);
-        lead = lead_on first.told others.told before first.after others.after first.lead others.lead;
+        lead = lead_on first.told others.told before first.after others.after first.lead
+            others.lead;
       })
       by_others first (inr (place, spoiled)) =
           inr (place, inr (first.told, first.after, first.begins, first.lead, spoiled))

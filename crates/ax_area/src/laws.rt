@@ -126,7 +126,8 @@ pub fn some_outcome()
 /// The example of the format, worked out by hand, says what it should; with another kind of its first part it is
 /// spoiled there.
 pub fn the_example()
-    ensures says { (contents : Contents) → Lead sample_told no_contents contents → Says 1 1 sample_told contents sample }
+    ensures says { (contents : Contents) → Lead sample_told no_contents contents
+        → Says 1 1 sample_told contents sample }
     ensures leads { (contents : Contents) × Lead sample_told no_contents contents }
     ensures spoiled { IsDamaged 1 spoiled_sample A 9 }
 {}
