@@ -1,7 +1,7 @@
 -- Every area has frames up to a closed gate, or is broken at a place.
 use Rattle.std.proofs.Common.{◌≡◌, ◌⊎◌, inl, inr, ⊎_elim, ℕ, zero, suc, ◌+◌, ◌<◌, ◌≤◌, ◌^◌, nat_lt}
-use Rattle.std.proofs.Common.{arith, Bool, true, false, List, [], ◌∷◌, ◌++◌, length, get_or, take}
-use Rattle.std.proofs.Common.{drop, refl, sym, ap, subst, ◌∙◌, length-append}
+use Rattle.std.proofs.Common.{arith, Bool, true, false, List, [], ◌∷◌, ◌++◌, length, take}
+use Rattle.std.proofs.Common.{drop, refl, sym, ap, ◌∙◌, length-append}
 use Rattle.std.specs.Prelude.{◌&&◌}
 use Rattle.std.specs.Int.{w64, from_le_bytes}
 use Rattle.std.specs.Str.{bytes_eq}
@@ -10,7 +10,7 @@ use Rattle.std.proofs.lemmas.List.{append_assoc, take_at, drop_at}
 use Rattle.std.proofs.lemmas.Nat.{from_le_bytes-to_le_bytes_8}
 use Rattle.std.proofs.lemmas.Slice.Eq.{bytes_eq-Decides}
 use Rattle.ax_frame.specs.LogFrame.{open_frame}
-use Rattle.ax_pages.specs.Area.{IsSpan, AreSpans, frames_bytes, IsClosed, IsNoLogFrame, IsArea}
+use Rattle.ax_pages.specs.Area.{IsSpan, frames_bytes, IsClosed, IsNoLogFrame, IsArea}
 use Rattle.ax_pages.specs.Area.{IsBroken}
 
 -- what an open head would span, and what would follow

@@ -1,8 +1,8 @@
 -- Frames tell changes that lead on, or are spoiled at a place.
 use Rattle.std.proofs.Common.{◌≡◌, ◌⊎◌, inl, inr, ⊎_elim, ℕ, zero, suc, ◌+◌, ◌≤◌, arith, List, []}
-use Rattle.std.proofs.Common.{◌∷◌, ◌++◌, Option, length, refl, sym, ap, subst, ◌∙◌, length-append}
-use Rattle.std.specs.Prelude.{◌≢◌, Some, None, option_and_then, unwrap_or}
-use Rattle.std.proofs.lemmas.List.{append_assoc, append-nil}
+use Rattle.std.proofs.Common.{◌∷◌, ◌++◌, Option, length, refl, sym, ap, ◌∙◌, length-append}
+use Rattle.std.specs.Prelude.{◌≢◌, Some, None, option_and_then}
+use Rattle.std.proofs.lemmas.List.{append_assoc}
 use Rattle.ax_area.specs.Items.{Item, item_bytes}
 use Rattle.ax_area.specs.ItemTexts.{BeginsWithItem}
 use Rattle.ax_area.specs.Changes.{Change, change_of}
@@ -11,7 +11,7 @@ use Rattle.ax_area.specs.Told.{Told, changes_of, told_bytes, Begins, TellOn, Lea
 use Rattle.ax_area.specs.Told.{IsSpoiled, AreSpoiled}
 use Rattle.ax_area.proofs.OneItem.{one_item}
 use Rattle.ax_area.proofs.OneMore.{lead_on}
-use Rattle.ax_area.proofs.EveryItem.{ItemOrNone, item_or_none}
+use Rattle.ax_area.proofs.EveryItem.{item_or_none}
 
 module _ (version : ℕ) where
   -- what the bytes tell, and where that leads

@@ -1,5 +1,5 @@
 -- Opening finds something of every image.
-use Rattle.std.proofs.Common.{◌≡◌, ◌≢◌, ◌⊎◌, inl, inr, ⊎_elim, ℕ, ◌<◌, ◌≤◌, arith, List, [], refl}
+use Rattle.std.proofs.Common.{◌≢◌, ◌⊎◌, inl, inr, ⊎_elim, ℕ, ◌<◌, ◌≤◌, arith, List, [], refl}
 use Rattle.std.proofs.lemmas.Bool.{cases_lt}
 use Rattle.ax_disk.specs.declared.extent.Extent.{Extent}
 use Rattle.ax_disk.specs.declared.extent.Extent.TheVariants.{Root, A, B}
@@ -11,7 +11,7 @@ use Rattle.ax_area.specs.declared.root.RootChoice.TheVariants.{Fresh, Counts, Da
 use Rattle.ax_area.specs.Root.{IsRoot, slot_offset}
 use Rattle.ax_area.specs.Contents.{Contents, no_contents}
 use Rattle.ax_area.specs.Told.{Told, AreSpoiled}
-use Rattle.ax_area.specs.Image.{IsLive, Says, IsNewer, IsWorn, IsBrokenArea, IsSpoiledArea}
+use Rattle.ax_area.specs.Image.{IsLive, Says, IsNewer, IsBrokenArea, IsSpoiledArea}
 use Rattle.ax_area.specs.Image.{IsDamaged}
 use Rattle.ax_area.specs.Root.{last_generation, IsKnown}
 use Rattle.ax_area.proofs.OneRoot.{counts_named}

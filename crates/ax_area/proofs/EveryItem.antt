@@ -1,13 +1,13 @@
 -- An item stands first in bytes, or none does.
-use Rattle.std.proofs.Common.{◌≡◌, ◌⊎◌, inl, inr, ⊎_elim, ℕ, zero, suc, ◌-◌, ◌<◌, ◌≤◌, ◌^◌, ◌==◌}
+use Rattle.std.proofs.Common.{◌≡◌, ◌⊎◌, inl, inr, ⊎_elim, ℕ, zero, suc, ◌-◌, ◌≤◌, ◌^◌, ◌==◌}
 use Rattle.std.proofs.Common.{nat_lt, nat_le, arith, Bool, true, false, List, [], ◌∷◌, ◌++◌, length}
-use Rattle.std.proofs.Common.{refl, sym, ap, subst, ◌∙◌, length-append}
+use Rattle.std.proofs.Common.{refl, sym, ap, ◌∙◌, length-append}
 use Rattle.std.specs.Prelude.{◌&&◌, min}
 use Rattle.std.specs.Str.{bytes_eq}
 use Rattle.std.proofs.lemmas.Bool.{and_parts, and_from, ltb-true, lt-ltb, leb-true, le-leb}
-use Rattle.std.proofs.lemmas.Bool.{eqb-true, eq-eqb, cases_Bool, cases_eq}
+use Rattle.std.proofs.lemmas.Bool.{eqb-true, eq-eqb, cases_Bool}
 use Rattle.std.proofs.lemmas.Slice.Eq.{bytes_eq-Decides}
-use Rattle.ax_frame.specs.Part.{PartValue, Fits, part_bytes, BeginsWithPart, NoPart}
+use Rattle.ax_frame.specs.Part.{PartValue, part_bytes, BeginsWithPart, NoPart}
 use Rattle.ax_frame.specs.View.{first_part}
 use Rattle.ax_frame.proofs.Parts.{first_part_again}
 use Rattle.ax_area.specs.Items.{Item, IsPiece, missing_behind, piece_bytes}

@@ -1,6 +1,6 @@
 -- Every root says something.
-use Rattle.std.proofs.Common.{◌≡◌, ◌≢◌, ◌⊎◌, inl, inr, ⊎_elim, ℕ, ◌<◌, ◌≤◌, ◌^◌, ◌==◌, nat_lt}
-use Rattle.std.proofs.Common.{nat_le, arith, Bool, true, false, List, length, get_or, take, drop}
+use Rattle.std.proofs.Common.{◌≡◌, ◌⊎◌, inl, inr, ⊎_elim, ℕ, ◌<◌, ◌≤◌, ◌^◌, ◌==◌, nat_lt}
+use Rattle.std.proofs.Common.{nat_le, Bool, true, false, List, length, get_or, take, drop}
 use Rattle.std.proofs.Common.{refl, sym, ap, ◌∙◌}
 use Rattle.std.specs.Prelude.{◌&&◌, ◌||◌}
 use Rattle.std.specs.Int.{w16, w64, from_le_bytes}
@@ -11,7 +11,7 @@ use Rattle.std.proofs.lemmas.Nat.{from_le_bytes-to_le_bytes_2, from_le_bytes-to_
 use Rattle.std.proofs.lemmas.Slice.Eq.{bytes_eq-Decides}
 use Rattle.ax_frame.specs.declared.root_slot.RootSlot.{RootSlot}
 use Rattle.ax_frame.specs.declared.root_slot.RootSlot.TheVariants.{Closed, Live, Bad}
-use Rattle.ax_frame.specs.RootSlot.{slot_bytes, CanName, IsOpenSlot, IsSlot}
+use Rattle.ax_frame.specs.RootSlot.{slot_bytes, IsOpenSlot, IsSlot}
 use Rattle.ax_area.specs.declared.root.RootChoice.{RootChoice}
 use Rattle.ax_area.specs.declared.root.Which.TheVariants.{First, Second}
 use Rattle.ax_area.specs.declared.root.RootChoice.TheVariants.{Fresh}

@@ -1,6 +1,6 @@
 -- What holds of each change that is told holds of what the contents have.
-use Rattle.std.proofs.Common.{◌≡◌, ℕ, zero, suc, arith, ◌<◌, Bool, true, false, List, [], ◌∷◌, ◌++◌}
-use Rattle.std.proofs.Common.{Option, length, refl, sym, ap, subst, ◌∙◌, ⊎_elim}
+use Rattle.std.proofs.Common.{◌≡◌, ℕ, zero, suc, arith, Bool, true, false, List, [], ◌∷◌, ◌++◌}
+use Rattle.std.proofs.Common.{length, refl, sym, ap, subst, ◌∙◌, ⊎_elim}
 use Rattle.std.specs.Prelude.{◌≢◌, Some, None, if◌then◌else◌}
 use Rattle.std.proofs.lemmas.Bool.{cases_eq, ltb-true}
 use Rattle.std.proofs.lemmas.List.{get_or-set_same, get_or_past, append_assoc}
@@ -9,13 +9,13 @@ use Rattle.std.proofs.lemmas.List.Elements.{Contains-append_right}
 use Rattle.std.specs.Ordering.{nat_cmp}
 use Rattle.std.specs.FinMap as map
 use Rattle.ax_pages.specs.Contents.{TermPage, no_term_page, term_page}
-use Rattle.ax_pages.specs.AfterPart.{is_base, is_delta, with_base, with_delta, after_base}
+use Rattle.ax_pages.specs.AfterPart.{with_base, with_delta, after_base}
 use Rattle.ax_pages.specs.AfterPart.{after_delta}
 use Rattle.ax_pages.proofs.TermLists.{put_there, put_other, set_other, base_place}
 use Rattle.ax_pages.proofs.LastPart.{get_inserted, get_not_inserted, get_removed, get_not_removed}
 use Rattle.ax_area.specs.Changes.{Change, Written, Numbers}
 use Rattle.ax_area.specs.Changes as change
-use Rattle.ax_area.specs.Contents.{Contents, Stored, stored, no_contents, is_allowed, with_change}
+use Rattle.ax_area.specs.Contents.{Contents, stored, no_contents, is_allowed, with_change}
 use Rattle.ax_area.specs.Contents.{after_change, after_changes}
 use Rattle.ax_area.specs.Kept.{IsWritten, HoldsOfAll}
 use Rattle.ax_area.proofs.OneTelling.{same_some, some_or_none, first_step}

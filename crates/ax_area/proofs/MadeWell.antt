@@ -1,24 +1,22 @@
 -- Changes lead from well made contents to well made ones.
-use Rattle.std.proofs.Common.{◌≡◌, ℕ, zero, suc, arith, ◌+◌, ◌-◌, ◌<◌, ◌≤◌, nat_lt, Bool, true}
-use Rattle.std.proofs.Common.{false, List, [], ◌∷◌, Option, length, refl, sym, ap, subst, ◌∙◌}
+use Rattle.std.proofs.Common.{◌≡◌, ℕ, arith, ◌+◌, ◌-◌, ◌≤◌, nat_lt, Bool, true}
+use Rattle.std.proofs.Common.{false, List, [], ◌∷◌, refl, sym, ap, subst, ◌∙◌}
 use Rattle.std.proofs.Common.{⊎_elim}
-use Rattle.std.specs.Prelude.{Some, None, ◌||◌, ◌&&◌, ◌==◌, not, if◌then◌else◌, is_some}
+use Rattle.std.specs.Prelude.{Some, ◌||◌, ◌&&◌, ◌==◌, if◌then◌else◌, is_some}
 use Rattle.std.proofs.lemmas.Bool.{cases_eq, ltb-true, and_parts, or_cases}
 use Rattle.std.specs.Ordering.{nat_cmp}
 use Rattle.std.specs.Cmp.{nat_cmp_total}
 use Rattle.std.specs.FinMap as map
-use Rattle.ax_pages.specs.Contents.{TermPage, term_page}
-use Rattle.ax_pages.specs.AfterPart.{most_documents, is_base, is_delta, after_base, after_delta}
-use Rattle.ax_pages.specs.TermPages.{AreApart, KeepsLow}
-use Rattle.ax_pages.proofs.ToldApart.{GoOn, base_goes_on, delta_goes_on, apart_after, at_first}
+use Rattle.ax_pages.specs.AfterPart.{most_documents, after_base, after_delta}
+use Rattle.ax_pages.proofs.ToldApart.{base_goes_on, delta_goes_on, apart_after, at_first}
 use Rattle.ax_pages.proofs.LastPart.{get_inserted, get_not_inserted, get_removed, get_not_removed}
 use Rattle.ax_area.specs.Changes.{Change, Written, Numbers}
 use Rattle.ax_area.specs.Changes as change
 use Rattle.ax_area.specs.Contents.{Contents, Stored, stored, no_contents, is_given, has_room}
-use Rattle.ax_area.specs.Contents.{may_follow, is_allowed, with_change, after_change, after_changes}
+use Rattle.ax_area.specs.Contents.{may_follow, is_allowed, with_change, after_changes}
 use Rattle.ax_area.specs.WellMade.{IsWellMade}
 use Rattle.ax_area.proofs.OneTelling.{same_some, some_or_none, first_step}
-use Rattle.ax_area.proofs.KeptSo.{IsMade, made}
+use Rattle.ax_area.proofs.KeptSo.{made}
 
 -- a policy that was given stays so
 still_given : (policy number : ℕ) (text : List ℕ) (before : Contents) → is_given policy before

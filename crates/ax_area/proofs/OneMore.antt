@@ -1,14 +1,13 @@
 -- A frame more at the end of an area: what it tells is told behind the rest.
 use Rattle.std.proofs.Common.{◌≡◌, ℕ, ◌+◌, arith, List, [], ◌∷◌, ◌++◌, length, inr, refl, sym, ap}
 use Rattle.std.proofs.Common.{subst, ◌∙◌, length-append}
-use Rattle.std.specs.Prelude.{Some, option_and_then, unwrap_or}
+use Rattle.std.specs.Prelude.{option_and_then, unwrap_or}
 use Rattle.std.proofs.lemmas.List.{append_assoc, append-nil}
 use Rattle.ax_disk.specs.model.Image.{Image}
 use Rattle.ax_frame.specs.LogFrame.{open_frame}
 use Rattle.ax_pages.specs.Area.{frames_bytes}
 use Rattle.ax_area.specs.declared.root.Counting.{Counting}
-use Rattle.ax_area.specs.Changes.{Change}
-use Rattle.ax_area.specs.Contents.{Contents, no_contents, after_change, after_changes}
+use Rattle.ax_area.specs.Contents.{Contents, no_contents, after_changes}
 use Rattle.ax_area.specs.Told.{Told, changes_of, Begins, TellOn, Lead}
 use Rattle.ax_area.specs.Image.{IsLive, Says}
 use Rattle.ax_area.proofs.OneTelling.{first_step}

@@ -1,18 +1,18 @@
 -- Opening finds one thing alone of an image.
-use Rattle.std.proofs.Common.{◌≡◌, ℕ, ◌<◌, ◌≤◌, ◌⊎◌, List, [], inl, inr, refl, sym, ap, subst, ◌∙◌}
+use Rattle.std.proofs.Common.{◌≡◌, ℕ, ◌<◌, ◌≤◌, ◌⊎◌, List, inl, inr, refl, sym, ap, subst, ◌∙◌}
 use Rattle.std.proofs.Common.{arith}
 use Rattle.std.specs.Prelude.{Some}
 use Rattle.ax_disk.specs.declared.extent.Extent.{Extent}
 use Rattle.ax_disk.specs.declared.extent.Extent.TheVariants.{Root, A, B}
 use Rattle.ax_disk.specs.model.Image.{Image, list_of}
-use Rattle.ax_pages.specs.Area.{IsArea, IsBroken}
+use Rattle.ax_pages.specs.Area.{IsArea}
 use Rattle.ax_pages.specs.laws.AreaLaws.{one_area, area_not_broken, one_broken_place}
 use Rattle.ax_area.specs.declared.root.Counting.{Counting}
-use Rattle.ax_area.specs.declared.root.RootChoice.TheVariants.{Fresh, Counts, Damaged}
+use Rattle.ax_area.specs.declared.root.RootChoice.TheVariants.{Counts, Damaged}
 use Rattle.ax_area.specs.Root.{IsRoot, slot_offset}
 use Rattle.ax_area.specs.Contents.{Contents, no_contents, after_changes}
 use Rattle.ax_area.specs.Told.{Told, changes_of, TellOn, Lead, AreSpoiled}
-use Rattle.ax_area.specs.Image.{IsFresh, IsLive, IsLiveWith, IsFreshWith, Says, IsNewer, IsWorn}
+use Rattle.ax_area.specs.Image.{IsLive, Says, IsNewer, IsWorn}
 use Rattle.ax_area.specs.Image.{IsBrokenArea, IsSpoiledArea, IsDamaged}
 use Rattle.ax_area.specs.Root.{last_generation, IsKnown}
 use Rattle.ax_area.proofs.OneRoot.{one_slot_counts, one_damaged_slot, fresh_counts, fresh_damaged}

@@ -1,9 +1,8 @@
 -- A root says one thing alone.
 use Rattle.std.proofs.Common.{◌≡◌, ◌≢◌, inl, inr, ℕ, ◌<◌, ◌≤◌, ◌==◌, nat_lt, Bool, true, false}
-use Rattle.std.proofs.Common.{if◌then◌else◌, List, take, drop, refl, sym, ◌∙◌, ap, subst, arith}
+use Rattle.std.proofs.Common.{if◌then◌else◌, List, refl, sym, ◌∙◌, ap, subst, arith}
 use Rattle.std.proofs.Common.{◌⊎◌, ⊎_elim}
 use Rattle.std.proofs.lemmas.Bool.{ltb-true, ltb-false, eqb-false, cases_lt}
-use Rattle.ax_disk.specs.declared.extent.Extent.{Extent}
 use Rattle.ax_disk.specs.declared.extent.Extent.TheVariants.{Root, A, B}
 use Rattle.ax_frame.specs.declared.root_slot.RootSlot.{RootSlot}
 use Rattle.ax_frame.specs.declared.root_slot.RootSlot.TheVariants.{Closed, Live, Bad}
@@ -14,7 +13,7 @@ use Rattle.ax_area.specs.declared.root.Counting.{Counting}
 use Rattle.ax_area.specs.declared.root.RootChoice.{RootChoice}
 use Rattle.ax_area.specs.declared.root.Which.TheVariants.{First, Second}
 use Rattle.ax_area.specs.declared.root.RootChoice.TheVariants.{Fresh, Counts, Damaged}
-use Rattle.ax_area.specs.Root.{area_numbered, named, slot_in, chosen, IsRoot, IsWholeRoot}
+use Rattle.ax_area.specs.Root.{area_numbered, named, slot_in, chosen, IsRoot}
 use Rattle.ax_area.specs.Root.{IsClosedBeside, IsLesserBeside}
 
 pub one_root : (root : List ℕ) (one other : RootChoice) → IsRoot root one → IsRoot root other → one

@@ -1,9 +1,9 @@
 -- Frames tell one list, or are spoiled at one place, and not both.
 use Rattle.std.proofs.Common.{◌≡◌, ℕ, ◌+◌, List, [], ◌∷◌, ◌++◌, length, inl, inr, refl, sym, ap}
 use Rattle.std.proofs.Common.{subst, ◌∙◌}
-use Rattle.std.specs.Prelude.{◌≢◌, Some, None, Option, option_and_then, unwrap_or}
-use Rattle.std.proofs.lemmas.List.{append_assoc, append-nil}
-use Rattle.ax_area.specs.Items.{Item, IsItem, item_bytes}
+use Rattle.std.specs.Prelude.{◌≢◌, Some, None, option_and_then, unwrap_or}
+use Rattle.std.proofs.lemmas.List.{append_assoc}
+use Rattle.ax_area.specs.Items.{item_bytes}
 use Rattle.ax_area.specs.Changes.{Change, change_of}
 use Rattle.ax_area.specs.Contents.{Contents, after_change, after_changes}
 use Rattle.ax_area.specs.Told.{Told, changes_of, told_bytes, IsTold, AreTold, Begins, TellOn, Lead}

@@ -1,10 +1,10 @@
 -- Pieces are read one after another.
-use Rattle.std.proofs.Common.{◌≡◌, ℕ, ◌+◌, ◌-◌, ◌<◌, ◌≤◌, arith, List, [], ◌∷◌, ◌++◌, length}
+use Rattle.std.proofs.Common.{◌≡◌, ℕ, ◌-◌, ◌<◌, arith, List, [], ◌∷◌, ◌++◌, length}
 use Rattle.std.proofs.Common.{length-append, take, drop, refl, sym, ap, subst, ◌∙◌}
 use Rattle.std.proofs.lemmas.List.{append_assoc, append_cancel_right, drop_at, take-append-drop}
 use Rattle.ax_frame.specs.Part.{PartValue, part_bytes, parts_bytes, BeginsWithPart, NoPart, AllFit}
 use Rattle.ax_frame.proofs.Parts.{one_part}
-use Rattle.ax_area.specs.Items.{Item, IsItem, IsPiece, ArePieces, piece_bytes, missing_behind}
+use Rattle.ax_area.specs.Items.{Item, IsPiece, ArePieces, piece_bytes, missing_behind}
 use Rattle.ax_area.specs.ItemTexts.{HasPieces, BeginsWithItem, IsPiecedTo}
 
 pub not_begun : (bytes : List ℕ) (key missing : ℕ) → IsPiecedTo bytes key missing bytes missing

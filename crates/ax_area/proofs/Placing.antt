@@ -3,7 +3,7 @@ use Rattle.std.proofs.Common.{◌≡◌, ℕ, zero, suc, ◌+◌, ◌<◌, ◌�
 use Rattle.std.proofs.Common.{false, List, [], ◌∷◌, ◌++◌, map, Option, length, drop, get_or}
 use Rattle.std.proofs.Common.{slice_set, ◌⊎◌, inl, inr, ⊎_elim, refl, sym, ap, subst, ◌∙◌}
 use Rattle.std.proofs.Common.{length-append}
-use Rattle.std.specs.Prelude.{◌≢◌, Some, None, if◌then◌else◌, slice_index_or, option_and_then}
+use Rattle.std.specs.Prelude.{◌≢◌, Some, None, if◌then◌else◌}
 use Rattle.std.specs.Option.{option_to_list}
 use Rattle.std.specs.List.{flat_map, AllByRecursion}
 use Rattle.std.specs.Ordering.{nat_cmp}
@@ -21,7 +21,7 @@ use Rattle.ax_pages.proofs.LastPart.{get_inserted, get_not_inserted, get_removed
 use Rattle.ax_area.specs.declared.kind.Kind.{Kind}
 use Rattle.ax_area.specs.Kinds.{kind_in}
 use Rattle.ax_area.specs.declared.kind.Kind.TheVariants as kind
-use Rattle.ax_area.specs.Items.{Item, item_parts, item_bytes}
+use Rattle.ax_area.specs.Items.{item_parts, item_bytes}
 use Rattle.ax_area.specs.Changes.{Change, Written, change_by, change_of}
 use Rattle.ax_area.specs.Changes as change
 use Rattle.ax_area.specs.Contents.{Contents, Stored, stored, no_contents, is_allowed, with_change}

@@ -1,22 +1,18 @@
 -- What an area tells in one version it tells in each later one: so a store is raised by its slot
 -- alone.
-use Rattle.std.proofs.Common.{◌≡◌, ℕ, ◌+◌, ◌<◌, ◌≤◌, nat_le, arith, Bool, true, false, List, []}
-use Rattle.std.proofs.Common.{◌∷◌, ◌++◌, Option, length, inl, inr, refl, sym, ap, subst, ◌∙◌}
+use Rattle.std.proofs.Common.{◌≡◌, ℕ, ◌+◌, ◌≤◌, nat_le, arith, Bool, true, false, List, []}
+use Rattle.std.proofs.Common.{◌∷◌, Option, length, inr, refl, ap, ◌∙◌}
 use Rattle.std.specs.Prelude.{Some, None, find, ◌==◌, if◌then◌else◌, option_and_then}
 use Rattle.std.proofs.lemmas.Bool.{leb-true, le-leb}
-use Rattle.ax_disk.specs.model.Image.{Image, list_of}
-use Rattle.ax_pages.specs.Area.{IsArea}
+use Rattle.ax_disk.specs.model.Image.{Image}
 use Rattle.ax_area.specs.declared.root.Counting.{Counting}
-use Rattle.ax_area.specs.declared.root.RootChoice.TheVariants.{Counts}
-use Rattle.ax_area.specs.Root.{IsRoot}
 use Rattle.ax_area.specs.declared.kind.Kind.{Kind}
 use Rattle.ax_area.specs.Kinds.{Row, kinds, known_in, kind_in}
 use Rattle.ax_area.specs.Items.{Item, item_bytes}
 use Rattle.ax_area.specs.Changes.{Change, change_by, change_of}
 use Rattle.ax_area.specs.Contents.{Contents, no_contents}
-use Rattle.ax_area.specs.Told.{Told, IsTold, AreTold, Begins, TellOn, Lead}
-use Rattle.ax_area.specs.Image.{IsLive, IsLiveWith, Says}
-use Rattle.ax_area.specs.Root.{IsKnown}
+use Rattle.ax_area.specs.Told.{Told, AreTold, TellOn, Lead}
+use Rattle.ax_area.specs.Image.{IsLive, Says}
 use Rattle.ax_area.proofs.OneTelling.{some_or_none}
 
 module _ (v w : ℕ) (later : v ≤ w) where

@@ -1,13 +1,12 @@
 -- The images that were worked out by hand are what they were worked out to be.
-use Rattle.std.proofs.Common.{◌≡◌, ◌≢◌, ℕ, ◌==◌, ◌+◌, ◌<◌, arith, inl, inr, refl, sym, ap, ◌∙◌}
+use Rattle.std.proofs.Common.{◌≡◌, ℕ, ◌==◌, arith, inl, inr, refl, sym, ap, ◌∙◌}
 use Rattle.std.proofs.Common.{get_or}
 use Rattle.std.proofs.Common.{Bool, true, false, nat_lt, List, [], ◌∷◌, ◌++◌, length, length-append}
-use Rattle.std.specs.Prelude.{◌||◌, ◌&&◌, Some, None, Option, if◌then◌else◌, option_and_then}
+use Rattle.std.specs.Prelude.{◌||◌, ◌&&◌, Some, None, if◌then◌else◌, option_and_then}
 use Rattle.std.proofs.lemmas.Bool.{and_from}
 use Rattle.std.specs.Ordering.{nat_cmp}
 use Rattle.std.specs.FinMap as map
 use Rattle.ax_disk.specs.declared.extent.Extent.TheVariants.{Root, A, B}
-use Rattle.ax_disk.specs.model.Image.{Image}
 use Rattle.ax_frame.specs.declared.root_slot.RootSlot.TheVariants.{Closed, Live}
 use Rattle.ax_frame.specs.RootSlot.{CanName}
 use Rattle.ax_frame.specs.LogFrame.{open_frame}
@@ -20,11 +19,11 @@ use Rattle.ax_area.specs.Root.{IsRoot, IsKnown, last_generation}
 use Rattle.ax_area.specs.Items.{Item, item_bytes, number_at}
 use Rattle.ax_area.specs.Kinds.{kind_in}
 use Rattle.ax_area.specs.Changes.{Change, Meta, Document, Delta, change_by, change_of}
-use Rattle.ax_area.specs.Contents.{Contents, Stored, no_contents, is_allowed, with_change}
+use Rattle.ax_area.specs.Contents.{Contents, Stored, no_contents, with_change}
 use Rattle.ax_area.specs.Contents.{after_change, after_changes}
 use Rattle.ax_area.specs.Told.{Lead}
 use Rattle.ax_area.specs.Image.{IsLive, Says, IsNewer, IsDamaged}
-use Rattle.ax_area.specs.Sample.{sample, sample_root, sample_area, sample_frame, sample_told}
+use Rattle.ax_area.specs.Sample.{sample, sample_root, sample_frame, sample_told}
 use Rattle.ax_area.specs.Sample.{sample_text, sample_delta, spoiled_frame, spoiled_sample}
 use Rattle.ax_area.specs.Sample.{broken_sample, newer_sample, second_sample, twin_sample}
 use Rattle.ax_area.specs.Sample.{worn_sample}

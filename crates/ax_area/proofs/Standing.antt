@@ -1,5 +1,5 @@
 -- Where items stand in an area, and what stands at the places of their parts.
-use Rattle.std.proofs.Common.{◌≡◌, ℕ, zero, suc, ◌+◌, ◌-◌, ◌<◌, ◌==◌, nat_le, arith, Bool, true}
+use Rattle.std.proofs.Common.{◌≡◌, ℕ, ◌+◌, ◌-◌, ◌==◌, nat_le, arith, Bool, true}
 use Rattle.std.proofs.Common.{false, List, [], ◌∷◌, ◌++◌, map, Option, length, take, drop, refl}
 use Rattle.std.proofs.Common.{sym, ap, subst, ◌∙◌, length-append}
 use Rattle.std.specs.Prelude.{Some, None, find, ◌&&◌, if◌then◌else◌, option_and_then}
@@ -13,13 +13,13 @@ use Rattle.ax_pages.specs.Area.{frames_bytes}
 use Rattle.ax_area.specs.declared.kind.Kind.{Kind}
 use Rattle.ax_area.specs.Kinds.{Row, kinds, known_in, kind_in}
 use Rattle.ax_area.specs.declared.kind.Kind.TheVariants as kind
-use Rattle.ax_area.specs.Items.{Item, IsItem, ArePieces, item_bytes, item_parts, missing_behind}
+use Rattle.ax_area.specs.Items.{Item, IsItem, ArePieces, item_bytes}
 use Rattle.ax_area.specs.Items.{number_at, first_bytes, piece_bytes}
 use Rattle.ax_area.specs.Changes.{Change, change_by, change_of}
 use Rattle.ax_area.specs.Changes as change
 use Rattle.ax_area.specs.Places.{Place, places_from}
-use Rattle.ax_area.specs.Placed.{payload_at, text_front, text_at}
-use Rattle.ax_area.specs.Told.{Told, told_bytes, IsTold, AreTold, Begins, TellOn}
+use Rattle.ax_area.specs.Placed.{payload_at, text_at}
+use Rattle.ax_area.specs.Told.{Told, told_bytes, AreTold, TellOn}
 use Rattle.ax_area.proofs.OneTelling.{same_some, some_or_none}
 
 -- the item stands where it is said

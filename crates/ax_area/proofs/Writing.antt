@@ -1,24 +1,22 @@
 -- What is written says what it was to say.
-use Rattle.std.proofs.Common.{◌≡◌, ℕ, zero, suc, arith, ◌+◌, ◌-◌, ◌<◌, ◌≤◌, ◌^◌, ◌==◌, nat_lt}
+use Rattle.std.proofs.Common.{◌≡◌, ℕ, zero, suc, arith, ◌+◌, ◌-◌, ◌<◌, ◌≤◌, ◌^◌, ◌==◌}
 use Rattle.std.proofs.Common.{nat_le, Bool, true, false, List, [], ◌∷◌, ◌++◌, length, take, drop}
-use Rattle.std.proofs.Common.{refl, sym, ap, subst, ◌∙◌, length-append}
-use Rattle.std.specs.Prelude.{◌&&◌, Some, None, Option, is_some, if◌then◌else◌, min}
+use Rattle.std.proofs.Common.{refl, sym, ap, subst, ◌∙◌}
+use Rattle.std.specs.Prelude.{◌&&◌, Some, None, Option, if◌then◌else◌}
 use Rattle.std.specs.List.{flat_map, AllByRecursion}
-use Rattle.std.specs.Int.{w32, w64, to_le_bytes, from_le_bytes}
+use Rattle.std.specs.Int.{w32, w64, to_le_bytes}
 use Rattle.std.proofs.lemmas.Bool.{lt-ltb, le-leb, and_from, leb-true, leb-false, eq-eqb}
 use Rattle.std.proofs.lemmas.List.{length-take, length-drop, length-take-le, take-append-drop}
 use Rattle.std.proofs.lemmas.List.{append-nil}
 use Rattle.std.proofs.lemmas.Nat.{from_le_bytes-to_le_bytes_4, from_le_bytes-to_le_bytes_8}
-use Rattle.ax_leaf.specs.Low.{low_in}
-use Rattle.ax_frame.specs.Part.{PartValue, Fits, AllFit}
+use Rattle.ax_frame.specs.Part.{PartValue, AllFit}
 use Rattle.ax_area.specs.declared.kind.Kind.{Kind}
 use Rattle.ax_area.specs.declared.kind.Kind.TheVariants as kind
-use Rattle.ax_area.specs.Kinds.{kind_in}
-use Rattle.ax_area.specs.Items.{Item, IsItem, IsPiece, ArePieces, single, item_bytes, item_parts}
+use Rattle.ax_area.specs.Items.{Item, IsItem, ArePieces, single, item_bytes}
 use Rattle.ax_area.specs.Items.{first_bytes, piece_bytes, number_at, long_number_at}
 use Rattle.ax_area.specs.Changes.{Change, Written, Numbers, most_short, change_by, change_of}
 use Rattle.ax_area.specs.Changes as change
-use Rattle.ax_area.specs.Told.{Told, told_bytes, changes_of, IsTold, AreTold, Begins}
+use Rattle.ax_area.specs.Told.{told_bytes, changes_of, AreTold, Begins}
 use Rattle.ax_area.specs.Writing.{part, numbers_bytes, pieces_within, pieces_of, front, long_item}
 use Rattle.ax_area.specs.Writing.{document_item, item_of, IsVersion, IsNumber, CanSay, CanBeLong}
 use Rattle.ax_area.specs.Writing.{CanHave, CanWrite, written_bytes, told_from}

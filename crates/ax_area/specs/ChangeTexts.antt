@@ -1,5 +1,5 @@
 -- Changes as bytes have them. Only clauses of calls that read bytes cite these.
-use Rattle.std.specs.Prelude.{ℕ, List, ◌++◌}
+use Rattle.std.specs.Prelude.{List, ◌++◌}
 use Rattle.std.specs.List.{flat_map}
 use Rattle.ax_frame.specs.Part.{PartValue}
 use Rattle.ax_area.specs.Changes.{Change, Written, Numbers}

@@ -3,7 +3,7 @@
 use Rattle.std.specs.Prelude.{◌≡◌, ℕ, List, Some}
 use Rattle.std.specs.List.{AllByRecursion}
 use Rattle.std.specs.FinMap as map
-use Rattle.ax_pages.specs.Contents.{TermPage, term_page}
+use Rattle.ax_pages.specs.Contents.{term_page}
 use Rattle.ax_area.specs.Changes.{Change, Written}
 use Rattle.ax_area.specs.Changes as change
 use Rattle.ax_area.specs.Contents.{Contents, Stored, stored}

@@ -3,9 +3,9 @@
 -- So a writer of any version has its own form, by the changes that it makes.
 -- From the store's own file format (docs/FORMAT.md, "Parts"); no other document has it.
 use Rattle.std.specs.Prelude.{◌≡◌, ℕ, zero, suc, ◌+◌, ◌<◌, ◌≤◌, ◌^◌, nat_le, if◌then◌else◌}
-use Rattle.std.specs.Prelude.{List, [], ◌∷◌, ◌++◌, length, map, take, drop, is_some, true}
+use Rattle.std.specs.Prelude.{List, [], ◌∷◌, ◌++◌, length, take, drop, is_some, true}
 use Rattle.std.specs.Prelude.{Option, Some, None}
-use Rattle.std.specs.List.{flat_map, AllByRecursion}
+use Rattle.std.specs.List.{flat_map}
 use Rattle.std.specs.Int.{w32, w64, to_le_bytes}
 use Rattle.ax_leaf.specs.Low.{low_in}
 use Rattle.ax_frame.specs.Part.{PartValue}

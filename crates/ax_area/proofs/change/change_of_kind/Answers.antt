@@ -1,5 +1,5 @@
-use Rattle.std.proofs.Common.{◌≡◌, List, Some, sym, ap, ◌∙◌}
-use Rattle.ax_frame.specs.Part.{PartValue, part_value}
+use Rattle.std.proofs.Common.{Some, sym, ap, ◌∙◌}
+use Rattle.ax_frame.specs.Part.{part_value}
 use Rattle.ax_area.specs.Changes.{change_by}
 use Rattle.ax_area.proofs.change.change_of_kind.Goals as goal
 

@@ -1,6 +1,6 @@
-use Rattle.std.proofs.Common.{rules, ◌≡◌, ◌<◌, arith, sym, subst}
+use Rattle.std.proofs.Common.{rules, sym, subst}
 use Rattle.ax_area.specs.ItemTexts.{IsPiecedTo}
-use Rattle.ax_area.proofs.Pieces.{not_begun, none_missing, none_first, other_first, one_piece_more}
+use Rattle.ax_area.proofs.Pieces.{not_begun, none_first, other_first, one_piece_more}
 use Rattle.ax_area.proofs.item.behind_pieces.Goals as goal
 
 pub loop-left-init : goal.loop-left-init

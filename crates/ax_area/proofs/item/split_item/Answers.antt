@@ -1,4 +1,4 @@
-use Rattle.std.proofs.Common.{◌≡◌, refl, sym, subst, ap, ◌∙◌}
+use Rattle.std.proofs.Common.{sym, subst, ◌∙◌}
 use Rattle.ax_area.specs.ItemTexts.{HasPieces}
 use Rattle.ax_area.proofs.Pieces.{item_found, item_refused, rest_is, whole_is}
 use Rattle.ax_area.proofs.item.split_item.Goals as goal
