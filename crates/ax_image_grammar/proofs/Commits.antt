@@ -1,5 +1,5 @@
 -- A commit keeps the grammar, and a write of documents keeps policies apart.
-use Rattle.std.proofs.Common.{◌≡◌, ℕ, ◌+◌, Bool, List, [], ◌∷◌, ◌++◌, length, inl, inr, ⊎_elim}
+use Rattle.std.proofs.Common.{◌≡◌, ℕ, ◌+◌, List, [], ◌∷◌, ◌++◌, length, inl, inr, ⊎_elim}
 use Rattle.std.proofs.Common.{refl, sym, ap, subst, ◌∙◌}
 use Rattle.std.specs.Prelude.{Some}
 use Rattle.std.specs.List.{AllByRecursion}
@@ -16,7 +16,7 @@ use Rattle.ax_area.specs.Contents.{Contents, Stored, stored, no_contents, with_c
 use Rattle.ax_area.specs.Contents.{after_changes}
 use Rattle.ax_area.specs.Told.{Told, changes_of, TellOn, Begins, Lead}
 use Rattle.ax_area.specs.Image.{IsLive}
-use Rattle.ax_area.specs.Writing.{CanWrite, written_bytes, told_from}
+use Rattle.ax_area.specs.Writing.{written_bytes, told_from}
 use Rattle.ax_area.proofs.OneTelling.{same_some, some_or_none, first_step}
 use Rattle.ax_area.proofs.KeptSo.{made}
 use Rattle.ax_area.proofs.Writing.{written_tells, same_changes}

@@ -1,5 +1,5 @@
 -- What payloads cannot be: a text that begins as no map does, and a delta of no term.
-use Rattle.std.proofs.Common.{◌≡◌, ℕ, ◌+◌, ◌<◌, arith, List, [], ◌∷◌, ◌++◌, length, Option, refl}
+use Rattle.std.proofs.Common.{◌≡◌, ℕ, ◌<◌, arith, List, [], ◌∷◌, ◌++◌, length, Option, refl}
 use Rattle.std.proofs.Common.{sym, ap, subst, ◌∙◌, rules, get_or}
 use Rattle.std.specs.Prelude.{Some, None, IsSome, codes, if◌then◌else◌, option_and_then}
 use Rattle.ax_gap.specs.Reading.{first_varint}
@@ -9,13 +9,13 @@ use Rattle.ax_tree.specs.declared.tree.Tree as tree
 use Rattle.ax_tree.specs.declared.tree.Tree.{Tree}
 use Rattle.ax_tree.specs.declared.tree.Tree.TheOpen.{Tree-F}
 use Rattle.ax_tree.specs.declared.tree.Tree.TheVariants as trees
-use Rattle.ax_tree.specs.declared.tree.Tree.TheViews.{roll-Tree, out-roll-Tree}
+use Rattle.ax_tree.specs.declared.tree.Tree.TheViews.{out-roll-Tree}
 use Rattle.ax_tree.specs.declared.tree.Tree.TheFolds.{map-Tree, ind-Tree, fold-roll-Tree}
 use Rattle.ax_tree.specs.declared.members.Member.{Member}
 use Rattle.ax_tree.specs.CanonicalText.{canonical_text, text_level}
-use Rattle.ax_tree.specs.Document.{document_id, member_level, text_value, is_id, IsDocument}
+use Rattle.ax_tree.specs.Document.{member_level, text_value, is_id, IsDocument}
 use Rattle.ax_delta.specs.Payload.{delta, list_after}
-use Rattle.ax_policy.specs.Normal.{normal_text, normal_tree}
+use Rattle.ax_policy.specs.Normal.{normal_text}
 use Rattle.ax_image_grammar.specs.Payloads.{IsPolicyText, IsDocumentText, IsDeltaPayload}
 use Rattle.ax_image_grammar.specs.Rows.{junk}
 

@@ -6,3 +6,4 @@ pub mod Fresh
 pub mod Junk
 pub mod RowsSay
 pub mod SampleReads
+pub mod DefaultReads

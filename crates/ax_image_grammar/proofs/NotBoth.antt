@@ -1,18 +1,14 @@
 -- An image in the grammar is outside it nowhere.
-use Rattle.std.proofs.Common.{◌≡◌, ℕ, zero, suc, arith, Bool, List, [], ◌∷◌, map, inl, inr, refl}
-use Rattle.std.proofs.Common.{sym, ap, subst, ◌∙◌}
-use Rattle.std.specs.Prelude.{Some}
+use Rattle.std.proofs.Common.{◌≡◌, ℕ, zero, suc, arith, List, [], ◌∷◌, inl, inr}
+use Rattle.std.proofs.Common.{sym, subst}
 use Rattle.std.specs.List.{AllByRecursion, Contains}
-use Rattle.std.proofs.lemmas.List.Elements.{All-contains}
 use Rattle.ax_disk.specs.declared.extent.Extent.{Extent}
 use Rattle.ax_disk.specs.model.Image.{Image}
-use Rattle.ax_tree.specs.declared.tree.Tree.{Tree}
 use Rattle.ax_area.specs.Contents.{Contents}
-use Rattle.ax_area.specs.Told.{Told, changes_of}
-use Rattle.ax_area.specs.Image.{Says, IsLiveWith}
+use Rattle.ax_area.specs.Told.{Told}
 use Rattle.ax_area.proofs.OneOutcome.{one_told, one_contents, says_not_damaged}
 use Rattle.ax_image_grammar.specs.Payloads.{IsReadable}
-use Rattle.ax_image_grammar.specs.Table.{AreApart, IsTaken, policy_text}
+use Rattle.ax_image_grammar.specs.Table.{AreApart}
 use Rattle.ax_image_grammar.specs.Grammar.{AreReadable, IsGrammatical, IsOutside}
 
 one_of : (P : Told → Type 0) (told : List Told) (t : Told) → AllByRecursion P told → Contains told t

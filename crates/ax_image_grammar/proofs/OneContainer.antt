@@ -1,9 +1,7 @@
 -- An image stands for one thing at most.
-use Rattle.std.proofs.Common.{◌≡◌, ℕ, Bool, List, [], ◌∷◌, refl, sym, ap, subst, ◌∙◌}
-use Rattle.std.specs.Prelude.{Some}
+use Rattle.std.proofs.Common.{◌≡◌, ℕ, List, [], ◌∷◌, refl, sym, ap, subst, ◌∙◌}
 use Rattle.std.specs.FinMap as map
 use Rattle.ax_disk.specs.model.Image.{Image}
-use Rattle.ax_tree.specs.declared.tree.Tree.{Tree}
 use Rattle.ax_tree.specs.Document.{document_id}
 use Rattle.ax_tree.proofs.OneText.{one_text}
 use Rattle.ax_tree.proofs.Fitting.{numbers_fit-well_formed}

@@ -1,35 +1,25 @@
 -- Over an image in the grammar everything that is held can be read.
-use Rattle.std.proofs.Common.{◌≡◌, ℕ, Bool, List, [], ◌∷◌, Option, refl, sym, ap, subst, ◌∙◌}
+use Rattle.std.proofs.Common.{◌≡◌, ℕ, List, [], ◌∷◌, Option, refl, sym, subst}
 use Rattle.std.specs.Prelude.{Some, None}
-use Rattle.std.specs.Option.{unwrap_or}
 use Rattle.std.specs.List.{AllByRecursion}
 use Rattle.std.specs.FinMap as map
 use Rattle.ax_disk.specs.model.Image.{Image}
-use Rattle.ax_tree.specs.declared.tree.Tree.{Tree}
 use Rattle.ax_leaf.specs.declared.pair.Pair.{Pair}
 use Rattle.ax_leaf.specs.Pairs.{Rise, pairs_of}
 use Rattle.ax_leaf.proofs.FromLow.{pairs_rise}
 use Rattle.ax_delta.specs.Changes.{TermChange, changes_of}
 use Rattle.ax_delta.specs.Merge.{AreMerged}
 use Rattle.ax_delta.specs.Pass.{merged}
-use Rattle.ax_delta.specs.Payload.{IsDelta}
 use Rattle.ax_delta.proofs.Ascending.{merged_is}
-use Rattle.ax_policy.specs.Default.{default_policy}
-use Rattle.ax_policy.specs.Normal.{normal_text, normal_tree}
-use Rattle.ax_policy.specs.Policies.{policy_of}
 use Rattle.ax_pages.specs.Contents.{TermPage, term_page}
-use Rattle.ax_pairs.specs.PagePairs.{IsBase, AreOfBase, AreDeltas, HasPairs}
-use Rattle.ax_area.specs.Changes.{Change}
-use Rattle.ax_area.specs.Changes as change
-use Rattle.ax_area.specs.Contents.{Contents, Stored, no_contents, after_changes}
+use Rattle.ax_pairs.specs.PagePairs.{AreOfBase, AreDeltas, HasPairs}
+use Rattle.ax_area.specs.Contents.{Contents, Stored}
 use Rattle.ax_area.specs.Kept.{HoldsOfAll}
 use Rattle.ax_area.specs.Told as told
-use Rattle.ax_area.specs.Image.{Says}
 use Rattle.ax_area.proofs.KeptSo.{told_so}
 use Rattle.ax_area.proofs.OneOutcome.{lead_of}
 use Rattle.ax_image_grammar.specs.Payloads.{IsReadable, IsPolicyText, IsDocumentText, IsBasePayload}
 use Rattle.ax_image_grammar.specs.Payloads.{IsDeltaPayload}
-use Rattle.ax_image_grammar.specs.Table.{policy_text}
 use Rattle.ax_image_grammar.specs.Grammar.{IsGrammatical}
 
 -- ---- a term page

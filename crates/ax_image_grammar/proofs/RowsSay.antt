@@ -1,18 +1,17 @@
 -- The images that were worked out by hand are outside the grammar where they were worked out to be.
-use Rattle.std.proofs.Common.{◌≡◌, ℕ, zero, arith, ◌<◌, ◌^◌, inl, inr, refl, sym, ap, nat_lt, true}
-use Rattle.std.proofs.Common.{List, [], ◌∷◌, ◌++◌, length}
-use Rattle.std.specs.Prelude.{◌||◌, ◌&&◌, Some, None, if◌then◌else◌, option_and_then}
+use Rattle.std.proofs.Common.{zero, arith, inl, inr, refl, ap, true}
+use Rattle.std.proofs.Common.{[], ◌∷◌}
+use Rattle.std.specs.Prelude.{Some, None, if◌then◌else◌, option_and_then}
 use Rattle.std.proofs.lemmas.Bool.{and_from}
 use Rattle.ax_disk.specs.declared.extent.Extent.TheVariants.{A}
-use Rattle.ax_disk.specs.model.Image.{Image}
 use Rattle.ax_area.specs.Changes.{Change, Document, Gone, Policy, Delta}
 use Rattle.ax_area.specs.Contents.{Contents, no_contents, with_change, after_changes}
 use Rattle.ax_area.specs.Image.{IsLiveWith}
 use Rattle.ax_area.specs.Items.{single}
-use Rattle.ax_area.specs.Told.{Told, Lead}
+use Rattle.ax_area.specs.Told.{Lead}
 use Rattle.ax_area.proofs.SampleSays.{slot, sample_counts, slot_known, some_room}
 use Rattle.ax_image_grammar.specs.Grammar.{IsOutside}
-use Rattle.ax_image_grammar.specs.Rows.{junk, with_frame, text_frame, text_row, text_told}
+use Rattle.ax_image_grammar.specs.Rows.{junk, text_frame, text_row, text_told}
 use Rattle.ax_image_grammar.specs.Rows.{policy_frame, policy_row, policy_told, delta_frame}
 use Rattle.ax_image_grammar.specs.Rows.{delta_row, delta_told}
 use Rattle.ax_image_grammar.proofs.Junk.{no_document, no_policy, no_delta}

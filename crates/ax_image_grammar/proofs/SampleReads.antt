@@ -1,7 +1,7 @@
 -- The example of the format is in the grammar: its document can be stored, and its delta is one.
-use Rattle.std.proofs.Common.{◌≡◌, ℕ, zero, suc, ◌<◌, ◌≤◌, ◌^◌, arith, List, [], ◌∷◌, ◌++◌, map}
-use Rattle.std.proofs.Common.{length, Option}
-use Rattle.std.proofs.Common.{Bool, true, false, refl, sym, ap, subst, ◌∙◌, rules}
+use Rattle.std.proofs.Common.{◌≡◌, ℕ, zero, suc, ◌<◌, ◌^◌, arith, List, [], ◌∷◌, ◌++◌}
+use Rattle.std.proofs.Common.{length}
+use Rattle.std.proofs.Common.{true, refl, sym, ap, ◌∙◌, rules}
 use Rattle.std.specs.Prelude.{◌&&◌, codes, slice_index, slice_index_or}
 use Rattle.std.specs.Str.{is_utf8}
 use Rattle.std.proofs.lemmas.Bool.{and_from}
@@ -13,11 +13,10 @@ use Rattle.ax_tree.specs.declared.tree.Tree as tree
 use Rattle.ax_tree.specs.declared.tree.Tree.{Tree}
 use Rattle.ax_tree.specs.declared.tree.Tree.TheVariants as trees
 use Rattle.ax_tree.specs.CanonicalText.{canonical_text, in_brackets}
-use Rattle.ax_tree.specs.Document.{document_id, IsDocument}
+use Rattle.ax_tree.specs.Document.{IsDocument}
 use Rattle.ax_tree.specs.Nesting.{nesting}
 use Rattle.ax_tree.specs.WellFormed.{IsWellFormed, is_well_formed}
 use Rattle.ax_lines.specs.ShortNames.{has_short_names}
-use Rattle.ax_lines.specs.Asked.{IsStorable}
 use Rattle.ax_gap.specs.Gaps.{gaps, gaps_from}
 use Rattle.ax_gap.specs.Varint.{varint, groups}
 use Rattle.ax_leaf.specs.Payload.{term_after}

@@ -6,6 +6,7 @@ use Rattle.std.specs.List.{list_any, AllByRecursion}
 use Rattle.std.specs.Str.{bytes_eq}
 use Rattle.ax_tree.specs.declared.tree.Tree.{Tree}
 use Rattle.ax_policy.specs.declared.policy.Policy.{Policy}
+use Rattle.ax_policy.specs.Default.{default_policy}
 
 pub record Entry : Type 0 where
   pub number : ℕ
@@ -19,6 +20,15 @@ pub record Container : Type 0 where
   pub next_number : ℕ
   pub next_version : ℕ
   pub policy_now : Policy
+
+-- a container of no documents
+abbrev pub fresh : Container
+fresh = record {
+  entries = [];
+  next_number = 1;
+  next_version = 1;
+  policy_now = default_policy;
+}
 
 -- each has another id and another version than those behind it
 abbrev pub AreDistinct : List Entry → Type 0

@@ -1,7 +1,7 @@
 -- When an image is in the grammar, whole: what opening sees, the payload of everything that was
 -- told, superseded or not, and the policies in use or now. And where an image is outside it. From
 -- the store's own file format (docs/FORMAT.md); no other document has it.
-use Rattle.std.specs.Prelude.{◌≡◌, ◌≢◌, ◌⊎◌, ℕ, List, map}
+use Rattle.std.specs.Prelude.{◌≡◌, ◌≢◌, ◌⊎◌, ℕ, List}
 use Rattle.std.specs.List.{AllByRecursion, Contains}
 use Rattle.ax_disk.specs.declared.extent.Extent.{Extent}
 use Rattle.ax_disk.specs.model.Image.{Image}

@@ -1,6 +1,6 @@
 //! Laws of what images stand for, each the contract of a function that does nothing.
 
-ghost use Rattle.std.specs.Prelude.{◌≡◌, ℕ, ◌+◌, List, [], ◌∷◌, ◌++◌, length, Some};
+ghost use Rattle.std.specs.Prelude.{◌≡◌, ℕ, ◌+◌, List, [], ◌∷◌, ◌++◌, length, Some, false};
 ghost use Rattle.std.specs.List.{AllByRecursion};
 ghost use Rattle.std.specs.FinMap as map;
 ghost use Rattle.ax_disk.specs.declared.extent.Extent.{Extent};
@@ -18,7 +18,7 @@ ghost use Rattle.ax_area.specs.Image.{IsFresh, IsLive};
 ghost use Rattle.ax_area.specs.Sample.{sample, sample_told};
 ghost use Rattle.ax_area.specs.Told.{Told, TellOn, Lead};
 ghost use Rattle.ax_area.specs.Writing.{written_bytes, told_from};
-ghost use Rattle.ax_image_grammar.specs.Container.{Container};
+ghost use Rattle.ax_image_grammar.specs.Container.{Container, fresh};
 ghost use Rattle.ax_image_grammar.specs.Grammar.{AreReadable, IsGrammatical, IsOutside};
 ghost use Rattle.ax_image_grammar.specs.Payloads.{IsDocumentText, IsPolicyText};
 ghost use Rattle.ax_image_grammar.specs.Rows.{text_row, policy_row, delta_row};
@@ -35,6 +35,12 @@ pub fn not_in_and_outside()
 /// A fresh image is in the grammar, tells nothing, and has no contents.
 pub fn a_fresh_image_is_in_the_grammar()
     ensures { (newest : ℕ) (image : Image) → IsFresh image → IsGrammatical newest newest [] no_contents image }
+{}
+
+/// A fresh image stands for the container of no documents, whose index is empty.
+pub fn a_fresh_image_stands_for_the_fresh_container()
+    ensures { (newest : ℕ) (pairs : Container → PairSet) (image : Image) → IsFresh image
+        → ((p : Pair) → pairs fresh p ≡ false) → StandsFor newest pairs image fresh }
 {}
 
 /// Over an image in the grammar everything that is held can be read.
