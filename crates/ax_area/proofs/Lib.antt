@@ -17,3 +17,4 @@ pub mod EveryItem
 pub mod EveryFrame
 pub mod EveryImage
 pub mod SampleSays
+pub mod LogWords

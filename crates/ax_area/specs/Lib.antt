@@ -14,3 +14,4 @@ pub mod Placed
 pub mod ItemTexts
 pub mod Sample
 pub mod ChangeTexts
+pub mod FirstVersion

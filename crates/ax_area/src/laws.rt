@@ -24,7 +24,10 @@ ghost use Rattle.ax_area.specs.Sample.{sample, sample_told, spoiled_sample, brok
 ghost use Rattle.ax_area.specs.Sample.{second_sample, twin_sample, worn_sample, mixed_sample};
 ghost use Rattle.ax_area.specs.Kept.{HoldsOfAll};
 ghost use Rattle.ax_area.specs.Told.{Told, changes_of, Begins, TellOn, Lead, IsSpoiled, AreSpoiled};
-ghost use Rattle.ax_area.specs.Image.{IsLive, Says, IsNewer, IsDamaged};
+ghost use Rattle.ax_area.specs.FirstVersion.{seen_by_log, IsLiveFirst};
+ghost use Rattle.ax_area.specs.Image.{IsFresh, IsLive, Says, IsNewer, IsDamaged};
+ghost use Rattle.ax_pages.specs.Image as log_image;
+ghost use Rattle.ax_pages.specs.Root as log_root;
 
 /// A root says one thing alone.
 pub fn one_root()
@@ -35,6 +38,21 @@ pub fn one_root()
 pub fn the_other_slot()
     ensures { (root : List ℕ) (slot : Counting) → IsRoot root (Counts slot)
         → IsClosedBeside root slot ⊎ IsLesserBeside root slot }
+{}
+
+/// What the log says of roots and images, in words of one version, is so in the words of all: a store that has gone
+/// over to these can stand on a log that has not.
+pub fn what_the_log_says()
+    ensures root { (root : List ℕ) (choice : RootChoice) → IsRoot root choice
+        → log_root.IsRoot root (seen_by_log choice) }
+    ensures fresh { (image : Image) → log_image.IsFresh image → IsFresh image }
+    ensures live { (area : Extent) (generation : ℕ) (frames : List (List ℕ)) (image : Image)
+        → log_image.IsLive area generation frames image → IsLiveFirst area generation frames image }
+    ensures back { (slot : Counting) (frames : List (List ℕ)) (image : Image)
+        → IsLive 1 slot frames image → log_image.IsLive slot.area slot.generation frames image }
+    ensures newer { (version : ℕ) (image : Image) → log_image.IsNewer image version → IsNewer 1 version image }
+    ensures damaged { (extent : Extent) (at : ℕ) (image : Image)
+        → log_image.IsDamaged image extent at → IsDamaged 1 image extent at }
 {}
 
 /// Opening finds one thing alone of an image: what it tells and the contents of that, a later version, or
