@@ -26,15 +26,17 @@ use Rattle.ax_image_grammar.specs.Table.{policy_text, IsUsed, IsTaken, AreApart}
 use Rattle.ax_image_grammar.specs.Grammar.{AreReadable, IsGrammatical}
 use Rattle.ax_image_grammar.specs.Writes.{MayCommit, KeepsTo}
 
-all_joined : (told more : List Told) → AreReadable told → AreReadable more
-    → AreReadable (told ++ more)
-all_joined [] more all others = others
-all_joined (t ∷ told) more all others = (all.0, all_joined told more all.1 others)
+all_joined : (newest : ℕ) (told more : List Told) → AreReadable newest told
+    → AreReadable newest more → AreReadable newest (told ++ more)
+all_joined newest [] more all others = others
+all_joined newest (t ∷ told) more all others =
+    (all.0, all_joined newest told more all.1 others)
 
 pub commits : (newest : ℕ) (slot : Counting) (frames : List (List ℕ)) (told : List Told)
     (changes : List Change) (before after : Contents) (new : Image)
-    → TellOn slot.version frames 0 told → Lead told no_contents before → AreReadable told
-    → MayCommit slot.version changes before after
+    → TellOn slot.version frames 0 told → Lead told no_contents before
+    → AreReadable newest told
+    → MayCommit newest slot.version changes before after
     → IsLive newest slot (frames ++ written_bytes changes ∷ []) new
     → IsGrammatical newest slot.version
     (told ++ told_from (length (frames_bytes frames) + 9) changes) after new
@@ -47,8 +49,8 @@ commits newest slot frames told changes before after new tell lead readable may 
     record {
       says = one_frame_more newest slot frames (written_bytes changes) told more before after new
           tell lead begins (subst (λ cs. after_changes cs before ≡ Some after) same may.lead) live;
-      readable = all_joined told more readable
-          (subst (AllByRecursion IsReadable) same may.readable);
+      readable = all_joined newest told more readable
+          (subst (AllByRecursion (IsReadable newest)) same may.readable);
       apart = may.apart;
     }
 

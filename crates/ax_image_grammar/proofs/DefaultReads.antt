@@ -2,6 +2,13 @@
 use Rattle.std.proofs.Common.{◌≡◌, ℕ, List, [], ◌∷◌, ◌++◌, map, length, Option, Bool, true, false}
 use Rattle.std.proofs.Common.{ap, ◌∙◌, rules, nat_le}
 use Rattle.std.specs.Prelude.{◌&&◌, Some, None, codes, if◌then◌else◌, option_and_then}
+use Rattle.std.proofs.Common.{◌<◌, arith, zero, suc, nat_lt, refl}
+use Rattle.std.specs.Prelude.{slice_index}
+use Rattle.std.specs.List.{list_all}
+use Rattle.std.specs.Str.{is_utf8}
+use Rattle.std.proofs.lemmas.Bool.{and_parts, ltb-true}
+use Rattle.std.proofs.lemmas.Str.{IsUtf8-from_ascii, is_utf8-from_IsUtf8}
+use Rattle.ax_tree.specs.WellFormed.{IsWellFormed, is_well_formed}
 use Rattle.json.specs.Print.{quoted, escape_byte}
 use Rattle.ax_mean.specs.declared.query.Step.TheVariants.{Name}
 use Rattle.ax_tree.specs.declared.members.Member.{Member}
@@ -196,3 +203,60 @@ default_reads =
     (record { mode = Consistent; automatic = true; rules = default_rules; composites = c })) c)
     composites_read
     ∙ short
+
+-- ---- its texts are UTF-8
+
+low : (bytes : List ℕ) → list_all (λ byte. nat_lt byte 128) bytes ≡ true
+    → (i : ℕ) → slice_index bytes i < 128
+low [] h i = omega arith
+low (byte ∷ bytes) h zero = ltb-true byte 128 ((and_parts _ _ h).0)
+low (byte ∷ bytes) h (suc i) = low bytes ((and_parts _ _ h).1) i
+
+utf8 : (bytes : List ℕ) → list_all (λ byte. nat_lt byte 128) bytes ≡ true → is_utf8 bytes ≡ true
+utf8 bytes h = is_utf8-from_IsUtf8 bytes (IsUtf8-from_ascii bytes (low bytes h))
+
+automatic_fits : is_utf8 (codes "automatic") ≡ true
+automatic_fits = utf8 (codes "automatic") refl
+
+composites_fits : is_utf8 (codes "compositeIndexes") ≡ true
+composites_fits = utf8 (codes "compositeIndexes") refl
+
+excluded_fits : is_utf8 (codes "excludedPaths") ≡ true
+excluded_fits = utf8 (codes "excludedPaths") refl
+
+included_fits : is_utf8 (codes "includedPaths") ≡ true
+included_fits = utf8 (codes "includedPaths") refl
+
+mode_fits : is_utf8 (codes "indexingMode") ≡ true
+mode_fits = utf8 (codes "indexingMode") refl
+
+path_fits : is_utf8 (codes "path") ≡ true
+path_fits = utf8 (codes "path") refl
+
+consistent_fits : is_utf8 (codes "consistent") ≡ true
+consistent_fits = utf8 (codes "consistent") refl
+
+etag_fits : is_utf8 (etag) ≡ true
+etag_fits = utf8 (etag) refl
+
+all_fits : is_utf8 (all) ≡ true
+all_fits = utf8 (all) refl
+
+path_fine : (text : List ℕ) → is_utf8 text ≡ true → is_well_formed (text_tree text) ≡ true
+path_fine text fits = search (rules, tree.the_lemmas, path_fits, fits)
+
+pub default_fine : IsWellFormed (normal_tree default_policy)
+default_fine =
+    search (
+      rules,
+      tree.the_lemmas,
+      automatic_fits,
+      composites_fits,
+      excluded_fits,
+      included_fits,
+      mode_fits,
+      path_fits,
+      consistent_fits,
+      etag_fits,
+      all_fits,
+    )

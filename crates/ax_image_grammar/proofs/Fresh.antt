@@ -14,7 +14,7 @@ use Rattle.ax_image_grammar.specs.Container.{Container, fresh}
 use Rattle.ax_image_grammar.specs.Payloads.{IsTextOf}
 use Rattle.ax_image_grammar.specs.StandsFor.{AreShown, ContentsStandFor, StandsFor}
 use Rattle.ax_image_grammar.specs.Table.{policy_text, IsTaken, IsUsed, AreApart}
-use Rattle.ax_image_grammar.proofs.DefaultReads.{default_reads}
+use Rattle.ax_image_grammar.proofs.DefaultReads.{default_reads, default_fine}
 use Rattle.ax_leaf.specs.declared.pair.Pair.{Pair}
 use Rattle.ax_pairs.specs.Index.{IsIndex}
 use Rattle.ax_pairs.specs.PairSets.{PairSet}
@@ -53,6 +53,7 @@ no_element (x ∷ xs) e = absurd (omega (arith, e))
 
 default_now : IsTextOf (policy_text 0 no_contents) default_policy
 default_now = record {
+  well_formed = default_fine;
   is_policy = default_reads;
   spelled = ap (λ found. unwrap_or found (normal_text default_policy))
       (map.get-empty nat_cmp 0);

@@ -50,9 +50,9 @@ other_first text is e =
     let same : 123 ≡ 125 = ap (λ (bytes : List ℕ). get_or bytes 0 0) (sym is.is ∙ e) in
     omega (arith, same)
 
-pub no_document : IsDocumentText junk → ⊥
-no_document is =
-    other_first (canonical_text is.tree) (document_text is.tree is.storable.document)
+pub no_document : (newest : ℕ) → IsDocumentText newest junk → ⊥
+no_document newest is =
+    other_first (canonical_text is.tree) (document_text is.tree is.document)
     (sym is.spelled)
 
 map_text : (members : List (Member Tree)) → IsMapText (canonical_text (trees.Object members))

@@ -17,9 +17,10 @@ one_of P [] t all (k, within, is) = absurd (omega arith)
 one_of P (s ∷ told) t all (zero, within, is) = subst P is all.0
 one_of P (s ∷ told) t all (suc k, within, is) = one_of P told t all.1 (k, omega arith, is)
 
-of_told : (told : List Told) → AreReadable told → AllByRecursion (λ t. IsReadable t.change) told
-of_told [] all = tt
-of_told (t ∷ told) all = (all.0, of_told told all.1)
+of_told : (newest : ℕ) (told : List Told) → AreReadable newest told
+    → AllByRecursion (λ t. IsReadable newest t.change) told
+of_told newest [] all = tt
+of_told newest (t ∷ told) all = (all.0, of_told newest told all.1)
 
 pub not_in_and_outside : (newest : ℕ) (version : ℕ) (told : List Told) (contents : Contents)
     (area : Extent) (at : ℕ) (image : Image)
@@ -30,7 +31,7 @@ not_in_and_outside newest version told contents area at image is (inr (inl bad))
     let same : bad.told
     ≡ told = one_told newest image bad.version version bad.told told bad.contents contents
     (inr bad.live) is.says in
-    bad.bad (one_of (λ t. IsReadable t.change) told bad.one (of_told told is.readable)
+    bad.bad (one_of (λ t. IsReadable newest t.change) told bad.one (of_told newest told is.readable)
     (subst (λ all. Contains all bad.one) same bad.is_told))
 not_in_and_outside newest version told contents area at image is (inr (inr twins)) =
     let same : twins.contents

@@ -82,15 +82,15 @@ page_pairs page base deltas =
 
 module _ (newest : ℕ) (version : ℕ) (all : List told.Told) (contents : Contents) (image : Image)
     (is : IsGrammatical newest version all contents image) where
-  holds : HoldsOfAll IsReadable contents
-  holds = told_so IsReadable (told.changes_of all) contents
+  holds : HoldsOfAll (IsReadable newest) contents
+  holds = told_so (IsReadable newest) (told.changes_of all) contents
       (lead_of newest image version all contents is.says) is.readable
 
   pub documents_read : (number : ℕ) (document : Stored) → map.get contents.documents number
-      ≡ Some document → IsDocumentText document.text
+      ≡ Some document → IsDocumentText newest document.text
   documents_read number document found =
       let written = holds.documents number document found in
-      subst (λ (d : Stored). IsDocumentText d.text) (sym written.is) written.so
+      subst (λ (d : Stored). IsDocumentText newest d.text) (sym written.is) written.so
 
   pub policies_read : (number : ℕ) (text : List ℕ) → map.get contents.policies number ≡ Some text
       → IsPolicyText text

@@ -93,7 +93,7 @@ text_outside = inr (inl (record {
   };
   is_told = (zero, omega arith, refl);
   place = refl;
-  bad = no_document;
+  bad = no_document 1;
 }))
 
 -- ---- the text of a policy that no document is indexed by

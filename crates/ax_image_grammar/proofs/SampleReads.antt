@@ -93,16 +93,14 @@ short_names : has_short_names sample_tree ≡ true
 unfolding sample_tree members
 short_names = search (rules, tree.the_lemmas)
 
-pub sample_document : IsDocumentText sample_text
+pub sample_document : IsDocumentText 1 sample_text
 sample_document = record {
   tree = sample_tree;
-  storable = record {
-    document = is_document;
-    well_formed = is_fine;
-    shallow = omega (arith, nests_once);
-    named = short_names;
-    small = omega (arith, ap length text_is);
-  };
+  document = is_document;
+  well_formed = is_fine;
+  shallow = omega (arith, nests_once);
+  named = short_names;
+  small = omega arith;
   spelled = sym text_is;
 }
 

@@ -12,13 +12,13 @@ use Rattle.ax_image_grammar.specs.Payloads.{IsReadable}
 use Rattle.ax_image_grammar.specs.Table.{AreApart, IsTaken, policy_text}
 
 -- each payload that was told can be read, also of what later changes took the place of
-abbrev pub AreReadable : List Told → Type 0
-AreReadable told = AllByRecursion IsReadable (changes_of told)
+abbrev pub AreReadable : ℕ → List Told → Type 0
+AreReadable newest told = AllByRecursion (IsReadable newest) (changes_of told)
 
 pub record IsGrammatical (newest version : ℕ) (told : List Told) (contents : Contents)
     (image : Image) : Type 0 where
   pub says : Says newest version told contents image
-  pub readable : AreReadable told
+  pub readable : AreReadable newest told
   pub apart : AreApart contents
 
 -- ---- outside it, where opening finds no damage
@@ -33,7 +33,7 @@ pub record IsUnreadable (newest : ℕ) (area : Extent) (at : ℕ) (image : Image
   pub one : Told
   pub is_told : Contains told one
   pub place : one.at ≡ at
-  pub bad : IsReadable one.change → ⊥
+  pub bad : IsReadable newest one.change → ⊥
 
 -- two numbers in use or now have one text: at offset 0 of the area
 pub record HasTwins (newest : ℕ) (area : Extent) (at : ℕ) (image : Image) : Type 0 where

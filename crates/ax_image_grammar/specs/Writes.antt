@@ -12,9 +12,10 @@ use Rattle.ax_image_grammar.specs.Payloads.{IsReadable}
 use Rattle.ax_image_grammar.specs.Table.{AreApart}
 
 -- the changes may be committed where an area of this version has these contents, and lead to those
-pub record MayCommit (version : ℕ) (changes : List Change) (before after : Contents) : Type 0 where
+pub record MayCommit (newest version : ℕ) (changes : List Change)
+    (before after : Contents) : Type 0 where
   pub can : AllByRecursion (CanWrite version) changes
-  pub readable : AllByRecursion IsReadable changes
+  pub readable : AllByRecursion (IsReadable newest) changes
   pub lead : after_changes changes before ≡ Some after
   pub apart : AreApart after
 

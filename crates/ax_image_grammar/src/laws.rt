@@ -48,7 +48,7 @@ pub fn what_is_held_can_be_read()
     ensures documents { (newest version : ℕ) (told : List Told) (contents : Contents) (image : Image)
         → IsGrammatical newest version told contents image
         → (number : ℕ) (document : Stored) → map.get contents.documents number ≡ Some document
-        → IsDocumentText document.text }
+        → IsDocumentText newest document.text }
     ensures policies { (newest version : ℕ) (told : List Told) (contents : Contents) (image : Image)
         → IsGrammatical newest version told contents image
         → (number : ℕ) (text : List ℕ) → map.get contents.policies number ≡ Some text → IsPolicyText text }
@@ -67,8 +67,8 @@ pub fn one_container()
 pub fn a_commit_keeps_the_grammar()
     ensures { (newest : ℕ) (slot : Counting) (frames : List (List ℕ)) (told : List Told) (changes : List Change)
         (before after : Contents) (new : Image)
-        → TellOn slot.version frames 0 told → Lead told no_contents before → AreReadable told
-        → MayCommit slot.version changes before after → IsLive newest slot (frames ++ written_bytes changes ∷ []) new
+        → TellOn slot.version frames 0 told → Lead told no_contents before → AreReadable newest told
+        → MayCommit newest slot.version changes before after → IsLive newest slot (frames ++ written_bytes changes ∷ []) new
         → IsGrammatical newest slot.version (told ++ told_from (length (frames_bytes frames) + 9) changes) after new }
 {}
 

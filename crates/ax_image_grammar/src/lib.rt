@@ -2,7 +2,7 @@
 //! superseded or not, and the policies in use; and what container it then stands for. Definitions and laws; no program.
 //!
 //! It stands on `ax_area`, which says what an image tells and to what contents that leads; and, for what payloads
-//! hold, on `ax_lines` (which documents a line may ask to store), `ax_policy`, `ax_leaf` and `ax_delta`, and on
+//! hold, on `ax_lines` (the limits of documents), `ax_policy`, `ax_leaf` and `ax_delta`, and on
 //! `ax_pairs` for the index. Nothing stands on it yet: `run` speaks of images in the words of `ax_image`, which looks
 //! at what is held alone.
 //!
