@@ -4,7 +4,7 @@ use Rattle.std.proofs.Common.{[], ◌∷◌}
 use Rattle.std.specs.Prelude.{Some, None, if◌then◌else◌, option_and_then}
 use Rattle.std.proofs.lemmas.Bool.{and_from}
 use Rattle.ax_disk.specs.declared.extent.Extent.TheVariants.{A}
-use Rattle.ax_area.specs.Changes.{Change, Document, Gone, Policy, Delta}
+use Rattle.ax_area.specs.Changes.{Change, Document, Gone, Policy, Base, Delta}
 use Rattle.ax_area.specs.Contents.{Contents, no_contents, with_change, after_changes}
 use Rattle.ax_area.specs.Image.{IsLiveWith}
 use Rattle.ax_area.specs.Items.{single}
@@ -14,6 +14,7 @@ use Rattle.ax_image_grammar.specs.Grammar.{IsOutside}
 use Rattle.ax_image_grammar.specs.Rows.{junk, text_frame, text_row, text_told}
 use Rattle.ax_image_grammar.specs.Rows.{policy_frame, policy_row, policy_told, delta_frame}
 use Rattle.ax_image_grammar.specs.Rows.{delta_row, delta_told}
+use Rattle.ax_image_grammar.specs.Rows.{superseded_frame, superseded_row, superseded_told}
 use Rattle.ax_image_grammar.proofs.Junk.{no_document, no_policy, no_delta}
 
 -- ---- the text of a document that is gone
@@ -201,6 +202,75 @@ delta_outside = inr (inl (record {
   told = delta_told;
   contents = with_change (Delta 0 (0 ∷ [])) no_contents;
   live = delta_live;
+  area_is = refl;
+  one = record {
+    at = 9;
+    item = single (record { kind = 6; key = 0; payload = 0 ∷ [] });
+    change = Delta 0 (0 ∷ []);
+  };
+  is_told = (zero, omega arith, refl);
+  place = refl;
+  bad = no_delta;
+}))
+
+-- ---- the same delta, superseded
+
+superseded_live : IsLiveWith 1 1 superseded_told (with_change (Base 0 (0 ∷ 0 ∷ 0 ∷ []))
+    (with_change (Delta 0 (0 ∷ [])) no_contents)) superseded_row
+superseded_live = record {
+  slot = slot;
+  version_is = refl;
+  frames = superseded_frame ∷ [];
+  live = record {
+    counts = sample_counts;
+    known = slot_known;
+    has = record {
+      spans = (record { some = omega arith; fits = omega arith }, tt);
+      rest = 0 ∷ [];
+      spelled = refl;
+      closed = (omega arith, λ e. absurd cc);
+    };
+  };
+  tell = (
+    superseded_told,
+    [],
+    refl,
+    record {
+      are = (
+        record {
+          at_is = refl;
+          item = record {
+            fit = (record { key_fits = omega arith; payload_fits = omega arith }, tt);
+            pieces = refl;
+          };
+          says = refl;
+        },
+        (
+          record {
+            at_is = refl;
+            item = record {
+              fit = (record { key_fits = omega arith; payload_fits = omega arith }, tt);
+              pieces = refl;
+            };
+            says = refl;
+          },
+          tt,
+        ),
+      );
+      spelled = refl;
+    },
+    refl,
+  );
+  lead = refl;
+}
+
+pub superseded_outside : IsOutside 1 A 9 superseded_row
+unfolding superseded_live
+superseded_outside = inr (inl (record {
+  version = 1;
+  told = superseded_told;
+  contents = with_change (Base 0 (0 ∷ 0 ∷ 0 ∷ [])) (with_change (Delta 0 (0 ∷ [])) no_contents);
+  live = superseded_live;
   area_is = refl;
   one = record {
     at = 9;

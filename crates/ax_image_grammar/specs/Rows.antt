@@ -4,7 +4,7 @@
 use Rattle.std.specs.Prelude.{ℕ, List, [], ◌∷◌, ◌++◌, None}
 use Rattle.ax_disk.specs.model.Image.{Image}
 use Rattle.ax_area.specs.Items.{single}
-use Rattle.ax_area.specs.Changes.{Document, Gone, Policy, Delta}
+use Rattle.ax_area.specs.Changes.{Document, Gone, Policy, Base, Delta}
 use Rattle.ax_area.specs.Sample.{sample_root}
 use Rattle.ax_area.specs.Told.{Told}
 
@@ -80,5 +80,30 @@ delta_told =
       at = 9;
       item = single (record { kind = 6; key = 0; payload = 0x00 ∷ [] });
       change = Delta 0 (0x00 ∷ []);
+    }
+    ∷ []
+
+-- ---- the same delta, and behind it a base, from which the page's parts begin anew
+
+-- the delta, 10 bytes; a base with the first pair as its low pair and no terms, 12 bytes
+abbrev pub superseded_frame : List ℕ
+superseded_frame =
+    0x06 ∷ 0x00 ∷ 0x00 ∷ 0x00 ∷ 0x00 ∷ 0x01 ∷ 0x00 ∷ 0x00 ∷ 0x00 ∷ 0x00
+    ∷ 0x05 ∷ 0x00 ∷ 0x00 ∷ 0x00 ∷ 0x00 ∷ 0x03 ∷ 0x00 ∷ 0x00 ∷ 0x00 ∷ 0x00 ∷ 0x00 ∷ 0x00 ∷ []
+
+abbrev pub superseded_row : Image
+superseded_row = with_frame 0x16 superseded_frame
+
+abbrev pub superseded_told : List Told
+superseded_told =
+    record {
+      at = 9;
+      item = single (record { kind = 6; key = 0; payload = 0x00 ∷ [] });
+      change = Delta 0 (0x00 ∷ []);
+    }
+    ∷ record {
+      at = 19;
+      item = single (record { kind = 5; key = 0; payload = 0x00 ∷ 0x00 ∷ 0x00 ∷ [] });
+      change = Base 0 (0x00 ∷ 0x00 ∷ 0x00 ∷ []);
     }
     ∷ []

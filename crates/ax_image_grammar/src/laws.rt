@@ -21,7 +21,7 @@ ghost use Rattle.ax_area.specs.Writing.{written_bytes, told_from};
 ghost use Rattle.ax_image_grammar.specs.Container.{Container, fresh};
 ghost use Rattle.ax_image_grammar.specs.Grammar.{AreReadable, IsGrammatical, IsOutside};
 ghost use Rattle.ax_image_grammar.specs.Payloads.{IsDocumentText, IsPolicyText};
-ghost use Rattle.ax_image_grammar.specs.Rows.{text_row, policy_row, delta_row};
+ghost use Rattle.ax_image_grammar.specs.Rows.{text_row, policy_row, delta_row, superseded_row};
 ghost use Rattle.ax_image_grammar.specs.StandsFor.{StandsFor};
 ghost use Rattle.ax_image_grammar.specs.Table.{AreApart};
 ghost use Rattle.ax_image_grammar.specs.Writes.{MayCommit, KeepsTo};
@@ -85,9 +85,10 @@ pub fn the_example()
 {}
 
 /// Images worked out by hand that are outside the grammar by what was told alone: the text of a document that is gone,
-/// the text of a policy that no document is indexed by, and a delta of no term.
+/// the text of a policy that no document is indexed by, and a delta of no term, also where a base took its place.
 pub fn worked_images()
     ensures text { IsOutside 1 A 9 text_row }
     ensures policy { IsOutside 1 A 9 policy_row }
     ensures delta { IsOutside 1 A 9 delta_row }
+    ensures superseded { IsOutside 1 A 9 superseded_row }
 {}
