@@ -22,12 +22,13 @@ use Rattle.ax_area.specs.Changes.{Change, Meta, Document, Delta, change_by, chan
 use Rattle.ax_area.specs.Contents.{Contents, Stored, no_contents, with_change}
 use Rattle.ax_area.specs.Contents.{after_change, after_changes}
 use Rattle.ax_area.specs.Told.{Lead}
-use Rattle.ax_area.specs.Image.{IsLive, Says, IsNewer, IsDamaged}
+use Rattle.ax_area.specs.Image.{IsLive, IsLiveWith, Says, IsNewer, IsDamaged}
 use Rattle.ax_area.specs.Sample.{sample, sample_root, sample_frame, sample_told}
 use Rattle.ax_area.specs.Sample.{sample_text, sample_delta, spoiled_frame, spoiled_sample}
 use Rattle.ax_area.specs.Sample.{broken_sample, newer_sample, second_sample, twin_sample}
 use Rattle.ax_area.specs.Sample.{worn_sample}
 use Rattle.ax_area.specs.Sample.{mixed_sample, mixed_frame, plain_meta_part, versioned_told}
+use Rattle.ax_area.specs.Sample.{later_sample, later_frame, later_told}
 use Rattle.ax_area.proofs.EveryRoot.{second_or}
 
 -- ---- the example
@@ -308,7 +309,7 @@ sample_worn = inr (record {
 -- ---- what says no version behind what says one
 
 versioned : Change
-versioned = Document 1 (record { policy = 0; version = Some 1; text = sample_text })
+versioned = Document 1 (record { policy = 0; version = Some 7; text = sample_text })
 
 reached : Contents
 reached = with_change versioned no_contents
@@ -396,3 +397,82 @@ sample_mixed = inr (record {
     place_is = refl;
   });
 })
+
+-- ---- version 2
+
+meta_later : Change
+meta_later = Meta (record { next = 2; policy = 0; version = Some 8 })
+
+later_contents : Contents
+later_contents = with_change meta_later (with_change versioned no_contents)
+
+later_is : IsLiveWith 2 2 later_told later_contents later_sample
+unfolding later_contents meta_later versioned
+later_is = record {
+  slot = record { which = First; version = 2; area = A; generation = 1 };
+  version_is = refl;
+  frames = later_frame ∷ [];
+  live = record {
+    counts = inr (record {
+      first = Live 2 1 1;
+      second = Closed;
+      whole = omega arith;
+      first_slot = (
+        record {
+          version_from = omega arith;
+          version_fits = omega arith;
+          one_of_two = inl refl;
+          generation_fits = omega arith;
+        },
+        refl,
+      );
+      second_slot = λ e. absurd cc;
+      choice_is = refl;
+    });
+    known = record { known = omega arith; rises = λ older. omega (arith, older) };
+    has = record {
+      spans = (record { some = omega arith; fits = omega arith }, tt);
+      rest = 0 ∷ [];
+      spelled = refl;
+      closed = (omega arith, λ e. absurd cc);
+    };
+  };
+  tell = (
+    later_told,
+    [],
+    refl,
+    record {
+      are = (
+        record {
+          at_is = refl;
+          item = record {
+            fit = (record { key_fits = omega arith; payload_fits = omega arith }, tt);
+            pieces = refl;
+          };
+          says = refl;
+        },
+        (
+          record {
+            at_is = refl;
+            item = record {
+              fit = (record { key_fits = omega arith; payload_fits = omega arith }, tt);
+              pieces = refl;
+            };
+            says = refl;
+          },
+          tt,
+        ),
+      );
+      spelled = refl;
+    },
+    refl,
+  );
+  lead = ap (λ b. option_and_then (after_changes (meta_later ∷ []))
+      (if b then Some (with_change versioned no_contents) else None))
+      (and_from _ true some_room refl);
+}
+
+pub sample_later : (contents : Contents)
+    × Says 2 2 later_told contents later_sample × (contents.next_version ≡ 8)
+unfolding later_contents meta_later versioned
+sample_later = (later_contents, inr later_is, refl)

@@ -1,4 +1,5 @@
--- How the words of the log, which have one version, stand to these: a root choice without which slot
+-- How the words of the log, which have one version, stand to these: a root choice without which
+-- slot
 -- it is that counts, and a live image of version 1.
 -- From the store's own file format (docs/FORMAT.md, "Root slots"); no other document has it.
 use Rattle.std.specs.Prelude.{◌≡◌, ℕ, List}

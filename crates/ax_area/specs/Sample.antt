@@ -134,11 +134,11 @@ worn_sample = record { root = root_of last_slot no_slot; a = sample_area; b = []
 
 -- ---- version 2: a document that says its version, and a meta that says none behind it
 
--- a part of kind 7, 28 bytes: policy 0, version 1, {"id":"a"}
+-- a part of kind 7, 28 bytes: policy 0, version 7, {"id":"a"}
 abbrev pub versioned_part : List ℕ
 versioned_part =
     0x07 ∷ 0x01 ∷ 0x00 ∷ 0x00 ∷ 0x00 ∷ 0x13 ∷ 0x00 ∷ 0x00 ∷ 0x00
-    ∷ 0x00 ∷ 0x01 ∷ 0x00 ∷ 0x00 ∷ 0x00 ∷ 0x00 ∷ 0x00 ∷ 0x00 ∷ 0x00
+    ∷ 0x00 ∷ 0x07 ∷ 0x00 ∷ 0x00 ∷ 0x00 ∷ 0x00 ∷ 0x00 ∷ 0x00 ∷ 0x00
     ∷ 0x7B ∷ 0x22 ∷ 0x69 ∷ 0x64 ∷ 0x22 ∷ 0x3A ∷ 0x22 ∷ 0x61 ∷ 0x22 ∷ 0x7D ∷ []
 
 -- a part of kind 1, 17 bytes
@@ -166,7 +166,7 @@ versioned_item =
     single (record {
       kind = 7;
       key = 1;
-      payload = 0x00 ∷ 0x01 ∷ 0x00 ∷ 0x00 ∷ 0x00 ∷ 0x00 ∷ 0x00 ∷ 0x00 ∷ 0x00 ∷ sample_text;
+      payload = 0x00 ∷ 0x07 ∷ 0x00 ∷ 0x00 ∷ 0x00 ∷ 0x00 ∷ 0x00 ∷ 0x00 ∷ 0x00 ∷ sample_text;
     })
 
 abbrev pub versioned_told : List Told
@@ -174,6 +174,42 @@ versioned_told =
     record {
       at = 9;
       item = versioned_item;
-      change = Document 1 (record { policy = 0; version = Some 1; text = sample_text });
+      change = Document 1 (record { policy = 0; version = Some 7; text = sample_text });
+    }
+    ∷ []
+
+-- ---- version 2: the same document, and a meta that says the next version
+
+-- a part of kind 8, 25 bytes: next number 2, policy 0, next version 8
+abbrev pub meta_payload : List ℕ
+meta_payload =
+    0x02 ∷ 0x00 ∷ 0x00 ∷ 0x00 ∷ 0x00 ∷ 0x00 ∷ 0x00 ∷ 0x00
+    ∷ 0x08 ∷ 0x00 ∷ 0x00 ∷ 0x00 ∷ 0x00 ∷ 0x00 ∷ 0x00 ∷ 0x00 ∷ []
+
+abbrev pub later_frame : List ℕ
+later_frame =
+    versioned_part
+    ++ (0x08 ∷ 0x00 ∷ 0x00 ∷ 0x00 ∷ 0x00 ∷ 0x10 ∷ 0x00 ∷ 0x00 ∷ 0x00 ∷ []) ++ meta_payload
+
+-- the frame has 53 bytes
+abbrev pub later_sample : Image
+later_sample = record {
+  root = root_of (open_slot 2 1 1) no_slot;
+  a = (0x01 ∷ 0x35 ∷ 0x00 ∷ 0x00 ∷ 0x00 ∷ 0x00 ∷ 0x00 ∷ 0x00 ∷ 0x00 ∷ []) ++ later_frame ++ 0x00 ∷
+      [];
+  b = [];
+}
+
+abbrev pub later_told : List Told
+later_told =
+    record {
+      at = 9;
+      item = versioned_item;
+      change = Document 1 (record { policy = 0; version = Some 7; text = sample_text });
+    }
+    ∷ record {
+      at = 37;
+      item = single (record { kind = 8; key = 0; payload = meta_payload });
+      change = Meta (record { next = 2; policy = 0; version = Some 8 });
     }
     ∷ []

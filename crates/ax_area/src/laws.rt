@@ -22,6 +22,7 @@ ghost use Rattle.ax_area.specs.Places.{places_after, no_places};
 ghost use Rattle.ax_area.specs.Placed.{ArePlaced};
 ghost use Rattle.ax_area.specs.Sample.{sample, sample_told, spoiled_sample, broken_sample, newer_sample};
 ghost use Rattle.ax_area.specs.Sample.{second_sample, twin_sample, worn_sample, mixed_sample};
+ghost use Rattle.ax_area.specs.Sample.{later_sample, later_told};
 ghost use Rattle.ax_area.specs.Kept.{HoldsOfAll};
 ghost use Rattle.ax_area.specs.Told.{Told, changes_of, Begins, TellOn, Lead, IsSpoiled, AreSpoiled};
 ghost use Rattle.ax_area.specs.FirstVersion.{seen_by_log, IsLiveFirst};
@@ -152,7 +153,8 @@ pub fn the_example()
 
 /// Images worked out by hand: a frame that is broken goes before a part that is spoiled; a later version goes before
 /// anything in the areas; of two open slots the one of the greater generation counts, of one generation neither;
-/// an older slot of the last generation is damage; and what says no version is refused behind what says one.
+/// an older slot of the last generation is damage; what says no version is refused behind what
+/// says one; and an area of version 2 tells its versions.
 pub fn worked_images()
     ensures broken { IsDamaged 1 broken_sample A 63 }
     ensures newer { IsNewer 1 2 newer_sample }
@@ -160,4 +162,6 @@ pub fn worked_images()
     ensures twin { IsDamaged 1 twin_sample Root 16 }
     ensures worn { IsDamaged 2 worn_sample Root 0 }
     ensures mixed { IsDamaged 2 mixed_sample A 37 }
+    ensures later { (contents : Contents)
+        × Says 2 2 later_told contents later_sample × (contents.next_version ≡ 8) }
 {}

@@ -1,6 +1,5 @@
 -- The example of the format is in the grammar: its document can be stored, and its delta is one.
 use Rattle.std.proofs.Common.{◌≡◌, ℕ, zero, suc, ◌<◌, ◌^◌, arith, List, [], ◌∷◌, ◌++◌}
-use Rattle.std.proofs.Common.{length}
 use Rattle.std.proofs.Common.{true, refl, sym, ap, ◌∙◌, rules}
 use Rattle.std.specs.Prelude.{◌&&◌, codes, slice_index, slice_index_or}
 use Rattle.std.specs.Str.{is_utf8}

@@ -1,5 +1,5 @@
 use Rattle.ax_area.proofs.SampleSays.{sample_broken, sample_newer, sample_second, sample_twin}
-use Rattle.ax_area.proofs.SampleSays.{sample_worn, sample_mixed}
+use Rattle.ax_area.proofs.SampleSays.{sample_worn, sample_mixed, sample_later}
 use Rattle.ax_area.proofs.laws.worked_images.Goals as goal
 
 pub returns-clause-broken : goal.returns-clause-broken
@@ -19,3 +19,6 @@ returns-clause-worn c = sample_worn
 
 pub returns-clause-mixed : goal.returns-clause-mixed
 returns-clause-mixed c = sample_mixed
+
+pub returns-clause-later : goal.returns-clause-later
+returns-clause-later c = sample_later
