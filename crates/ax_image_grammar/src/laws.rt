@@ -68,7 +68,8 @@ pub fn a_commit_keeps_the_grammar()
     ensures { (newest : ℕ) (slot : Counting) (frames : List (List ℕ)) (told : List Told) (changes : List Change)
         (before after : Contents) (new : Image)
         → TellOn slot.version frames 0 told → Lead told no_contents before → AreReadable newest told
-        → MayCommit newest slot.version changes before after → IsLive newest slot (frames ++ written_bytes changes ∷ []) new
+        → MayCommit newest slot.version changes before after
+        → IsLive newest slot (frames ++ written_bytes changes ∷ []) new
         → IsGrammatical newest slot.version (told ++ told_from (length (frames_bytes frames) + 9) changes) after new }
 {}
 
