@@ -17,26 +17,26 @@ use Rattle.ax_pages.proofs.OneContents.{same_some, first_step}
 use Rattle.ax_pages.proofs.TermLists.{put_within, put_behind, at_behind, set_other, base_where, IsOwn, IsNext}
 use Rattle.ax_pages.proofs.LastPart.{passed, held}
 
-abbrev low_at : List TermPage → ℕ → Pair
+abbrev pub low_at : List TermPage → ℕ → Pair
 low_at pages n = low_pair n pages
 
 -- as many pages, each with its low pair
-record AreSame (old new : List TermPage) : Type 0 where
-  many : length new ≡ length old
-  low : (n : ℕ) → low_at new n ≡ low_at old n
+pub record AreSame (old new : List TermPage) : Type 0 where
+  pub many : length new ≡ length old
+  pub low : (n : ℕ) → low_at new n ≡ low_at old n
 
 -- one page more, with a low pair that none had
-record AreMore (old new : List TermPage) : Type 0 where
-  many : length new ≡ length old + 1
-  low : (n : ℕ) → n < length old → low_at new n ≡ low_at old n
-  fresh : (n : ℕ) → n < length old → low_at new (length old) ≡ low_at old n → ⊥
+pub record AreMore (old new : List TermPage) : Type 0 where
+  pub many : length new ≡ length old + 1
+  pub low : (n : ℕ) → n < length old → low_at new n ≡ low_at old n
+  pub fresh : (n : ℕ) → n < length old → low_at new (length old) ≡ low_at old n → ⊥
 
-abbrev GoOn : List TermPage → List TermPage → Type 0
+abbrev pub GoOn : List TermPage → List TermPage → Type 0
 GoOn old new = AreSame old new ⊎ AreMore old new
 
 -- ---- what one part does
 
-same_pages : (pages : List TermPage) → GoOn pages pages
+pub same_pages : (pages : List TermPage) → GoOn pages pages
 same_pages pages = inl (record { many = refl; low = λ n. refl })
 
 set_same : (key : ℕ) (page : TermPage) (pages : List TermPage) → key < length pages → low_of page ≡ low_at pages key → AreSame pages (slice_set pages key page)
@@ -67,7 +67,7 @@ behind_more key payload pages is = record {
       (list_any_at (λ page. is_same (low_at_front payload) (low_of page)) pages n no_term_page h (same_from (low_at_front payload) (low_at pages n) low));
 }
 
-base_goes_on : (key : ℕ) (payload : List ℕ) (before : List TermPage) → is_base key payload before ≡ true → GoOn before (after_base key payload before)
+pub base_goes_on : (key : ℕ) (payload : List ℕ) (before : List TermPage) → is_base key payload before ≡ true → GoOn before (after_base key payload before)
 base_goes_on key payload before e =
     ⊎_elim
     (λ (own : IsOwn key payload before).
@@ -78,7 +78,7 @@ base_goes_on key payload before e =
     (inr (behind_more key payload before next)))
     (base_where key payload before e)
 
-delta_goes_on : (key : ℕ) (payload : List ℕ) (before : List TermPage) → is_delta key before ≡ true → GoOn before (after_delta key payload before)
+pub delta_goes_on : (key : ℕ) (payload : List ℕ) (before : List TermPage) → is_delta key before ≡ true → GoOn before (after_delta key payload before)
 delta_goes_on key payload before e =
     inl (set_same key (with_delta payload (term_page key before)) before (ltb-true key (length before) e) refl)
 
@@ -133,11 +133,11 @@ apart_more old new is was = record {
   apart = λ m n h k e. told old new is was m n (omega (arith, is.many)) (omega (arith, is.many)) e;
 }
 
-apart_after : (old new : List TermPage) → GoOn old new → AreApart old → AreApart new
+pub apart_after : (old new : List TermPage) → GoOn old new → AreApart old → AreApart new
 apart_after old new step was =
     ⊎_elim (λ (is : AreSame old new). apart_same old new is was) (λ (is : AreMore old new). apart_more old new is was) step
 
-keeps_after : (old new : List TermPage) (n : ℕ) → GoOn old new → n < length old → KeepsLow n old new
+pub keeps_after : (old new : List TermPage) (n : ℕ) → GoOn old new → n < length old → KeepsLow n old new
 keeps_after old new n step h =
     ⊎_elim (λ (is : AreSame old new). same_keeps is) (λ (is : AreMore old new). more_keeps is) step
   where
@@ -156,7 +156,7 @@ all_apart (part ∷ parts) before after lead was =
     all_apart parts step.between after step.others
     (apart_after before.terms step.between.terms (kind_goes_on (kind_of part.kind) part.key part.payload before step.between step.first) was)
 
-at_first : AreApart (no_term_page ∷ [])
+pub at_first : AreApart (no_term_page ∷ [])
 at_first = record { some = omega arith; first = refl; apart = λ m n h k e. omega arith }
 
 pub told_apart : (parts : List PartValue) (contents : Contents) → after_parts parts no_contents ≡ Some contents → AreApart contents.terms

@@ -7,7 +7,7 @@ mod DefaultRules
 mod Insertion
 mod Lists
 mod NamePlaces
-mod NormalFits
+pub mod NormalFits
 mod NormalTrees
 mod NumberLaws
 mod Orders

@@ -1,0 +1,17 @@
+pub mod Root
+pub mod Kinds
+pub mod Items
+pub mod Changes
+pub mod Contents
+pub mod Places
+pub mod Told
+pub mod Image
+pub mod Kept
+pub mod Writing
+pub mod WellMade
+pub mod Leading
+pub mod Placed
+pub mod ItemTexts
+pub mod Sample
+pub mod ChangeTexts
+pub mod FirstVersion

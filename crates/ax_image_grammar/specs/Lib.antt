@@ -1,0 +1,7 @@
+pub mod Payloads
+pub mod Table
+pub mod Grammar
+pub mod Container
+pub mod StandsFor
+pub mod Writes
+pub mod Rows
