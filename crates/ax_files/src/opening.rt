@@ -1,5 +1,5 @@
-//! Opening the files of a store: each is locked, a lost root is refused, and only then are absent files
-//! made.
+//! Opening the files of a store: each is locked, a store of which files have been lost is refused, and
+//! only then are absent files made.
 
 use crate::file_fault::{FileCall, FileFault, RootState, ending};
 use crate::judging::{judge, state_of};
@@ -17,17 +17,17 @@ const WHOLE_ROOT: u64 = 33;
 
 /// Opens the files of the store of that name and locks each, so that no other program opens them while
 /// they are open; makes those that are absent, and syncs their folder, so that a crash keeps them. A
-/// store whose root has been lost is refused before anything is made. No byte of a file is changed.
+/// store of which files have been lost is refused before anything is made. No byte of a file is changed.
 pub(crate) fn open_files(rt: &HostRuntime, name: &str) -> Result<StoreFiles<File>, FileFault> {
     let root = find_file(rt, name, Extent::Root)?;
     let a = find_file(rt, name, Extent::A)?;
     let b = find_file(rt, name, Extent::B)?;
-    refuse_lost_root(root.as_ref(), a.as_ref(), b.as_ref())?;
+    refuse_lost(root.as_ref(), a.as_ref(), b.as_ref())?;
     let root = found_or_made(rt, name, Extent::Root, root)?;
     let a = found_or_made(rt, name, Extent::A, a)?;
     let b = found_or_made(rt, name, Extent::B, b)?;
     // Another program may have made and filled files while none was locked here.
-    refuse_lost_root(Some(&root), Some(&a), Some(&b))?;
+    refuse_lost(Some(&root), Some(&a), Some(&b))?;
     if let Err(error) = sync_folder(rt, name) {
         return Err(FileFault::Folder { error });
     }
@@ -99,19 +99,16 @@ fn sync_folder(rt: &HostRuntime, name: &str) -> io::Result<()> {
     File::open(rt, folder)?.sync_all()
 }
 
-/// Refuses a store whose root stands for a fresh one while an area holds more than forming writes.
-pub(crate) fn refuse_lost_root<F: SystemFile>(
+/// Refuses a store of which files have been lost.
+pub(crate) fn refuse_lost<F: SystemFile>(
     root: Option<&F>,
     a: Option<&F>,
     b: Option<&F>,
 ) -> Result<(), FileFault> {
     let state = root_state(root)?;
-    let a_len = len_or_none(a, Extent::A)?;
-    let b_len = len_or_none(b, Extent::B)?;
-    match judge(state, a_len, b_len) {
-        Ok(()) => Ok(()),
-        Err(area) => Err(FileFault::Rootless { root: state, area }),
-    }
+    let a_len = area_len(a, Extent::A)?;
+    let b_len = area_len(b, Extent::B)?;
+    judge(state, a_len, b_len)
 }
 
 /// What is at the place of the root.
@@ -136,10 +133,10 @@ fn slot_at<F: SystemFile>(root: &F, at: u64) -> Result<RootSlot, FileFault> {
     Ok(read_slot(&bytes))
 }
 
-/// The length of an area, 0 where there is none.
-fn len_or_none<F: SystemFile>(area: Option<&F>, extent: Extent) -> Result<u64, FileFault> {
+/// The length of an area that is there.
+fn area_len<F: SystemFile>(area: Option<&F>, extent: Extent) -> Result<Option<u64>, FileFault> {
     match area {
-        Some(area) => named(extent, FileCall::Length, area.size()),
-        None => Ok(0),
+        Some(area) => Ok(Some(named(extent, FileCall::Length, area.size())?)),
+        None => Ok(None),
     }
 }
