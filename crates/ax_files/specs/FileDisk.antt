@@ -1,13 +1,43 @@
--- What a disk over files shows: whether a write, a cut or a sync of it has failed.
-use Rattle.std.specs.Prelude.{◌≡◌, ℕ}
+-- What a disk over files shows: how many of its calls have failed and why the first one did, whether a write, a cut
+-- or a sync of it has failed, and which files of the store attached count as unsynced.
+use Rattle.std.specs.Prelude.{◌≡◌, ℕ, Option, Some, None}
+use Rattle.ax_files.specs.Marks.{Marks, marks, all_marked}
 use Rattle.ax_files.specs.declared.file_disk.FileDisk.{FileDisk}
 use Rattle.ax_files.specs.declared.file_disk.State.{State}
-use Rattle.ax_files.specs.declared.file_disk.State.TheVariants.{Stopped}
+use Rattle.ax_files.specs.declared.file_disk.State.TheVariants.{Detached, Attached, Stopped}
+use Rattle.ax_files.specs.declared.file_fault.FileFault.{FileFault}
 
 -- from then on every call fails
 abbrev pub HasStopped : FileDisk → Type 0
 HasStopped disk = disk.state ≡ Stopped
 
+abbrev pub HasFiles : State → Type 0
+HasFiles (Attached files) = Unit {0}
+HasFiles Detached = ⊥
+HasFiles Stopped = ⊥
+
+-- the files of a store are attached
+abbrev pub IsAttached : FileDisk → Type 0
+IsAttached disk = HasFiles disk.state
+
+abbrev pub state_marks : State → Marks
+state_marks (Attached files) = marks files.root.is_unsynced files.a.is_unsynced files.b.is_unsynced
+state_marks Detached = all_marked
+state_marks Stopped = all_marked
+
+-- which files of the store attached count as unsynced; all where none is
+abbrev pub disk_marks : FileDisk → Marks
+disk_marks disk = state_marks disk.state
+
 -- how many calls of it have failed
 abbrev pub fault_count : FileDisk → ℕ
 fault_count disk = disk.faults
+
+-- why the first call failed of those that did
+abbrev pub first_fault_of : FileDisk → Option FileFault
+first_fault_of disk = disk.first_fault
+
+-- the first of the faults so far and one more
+abbrev pub first_of : Option FileFault → FileFault → Option FileFault
+first_of None fault = Some fault
+first_of (Some first) fault = Some first

@@ -1,3 +1,5 @@
 pub mod Judging
+pub mod Faults
+pub mod Content
 pub mod Marks
 pub mod FileDisk

@@ -1,8 +1,9 @@
 //! A disk over the files of the operating system: the edge that is trusted and not proved. It tells
 //! nothing of what the files hold, and counts each call that fails.
-ghost use Rattle.std.specs.Prelude.{◌≡◌, ◌≤◌, ◌^◌, ◌+◌, ◌<◌, Ok, false, [], length, IfOk, OnOk, IsOk, IsErr, IsSome};
+ghost use Rattle.std.specs.Prelude.{◌≡◌, ◌≤◌, ◌^◌, ◌+◌, ◌<◌, ◌↔◌, Ok, false, [], length, IfOk, OnOk, IsOk, IsErr, IsSome, MatchResult};
 ghost use Rattle.std.proofs.lemmas.Bool.{false≢true};
-ghost use Rattle.ax_faults.specs.Faults.{HasCause, Rose};
+ghost use Rattle.ax_faults.specs.Faults.{HasCause, CountsOnce, raised};
+ghost use Rattle.ax_files.specs.Marks.{none_marked, all_marked, marked};
 
 use crate::file_fault::FileFault;
 use crate::opening::open_files;
@@ -33,10 +34,13 @@ pub struct FileDisk {
 }
 
 impl FileDisk {
-    ghost use Rattle.ax_files.specs.FileDisk.{HasStopped};
+    ghost use Rattle.ax_files.specs.FileDisk.{HasStopped, IsAttached, fault_count, first_fault_of, first_of};
 
     /// A disk with no store attached: until one is, each other call fails.
-    pub fn new(rt: HostRuntime) -> FileDisk {
+    pub fn new(rt: HostRuntime) -> FileDisk
+        ensures detached { result.state ≡ State.Detached }
+        ensures no_fault { (fault_count result ≡ 0) × (first_fault_of result ≡ None) }
+    {
         FileDisk {
             rt,
             state: State::Detached,
@@ -46,14 +50,17 @@ impl FileDisk {
     }
 
     /// Why the first call failed of those that did.
-    pub fn first_fault(&self) -> Option<FileFault> {
+    pub fn first_fault(&self) -> Option<FileFault>
+        ensures { result ≡ first_fault_of self.now }
+    {
         self.first_fault
     }
 
     /// Counts a failure, and keeps why it came where it is the first.
     fn count(&mut self, fault: FileFault)
-        ensures rose { Rose self.old.faults self.new.faults }
+        ensures raised { self.new.faults ≡ raised self.old.faults }
         ensures never_falls { self.old.faults ≤ self.new.faults }
+        ensures first { self.new.first_fault ≡ first_of self.old.first_fault fault }
         ensures explained { IsSome self.new.first_fault }
         ensures state { self.new.state ≡ self.old.state }
     {
@@ -66,7 +73,11 @@ impl FileDisk {
     /// Passes the outcome of a call on, and counts it where it is a failure.
     fn counted<T: Drop>(&mut self, outcome: Result<T, FileFault>) -> Result<T, DiskFailed>
         ensures cause { HasCause result self.old.faults self.new.faults }
+        ensures counts { CountsOnce result self.old.faults self.new.faults }
         ensures same { IfOk result (λ value. outcome ≡ Ok value) }
+        ensures fails { IsErr result → IsErr outcome }
+        ensures first { MatchResult outcome (λ _. self.new.first_fault ≡ self.old.first_fault)
+            (λ fault. self.new.first_fault ≡ first_of self.old.first_fault fault) }
         ensures explained { IsErr result → IsSome self.new.first_fault }
         ensures state { self.new.state ≡ self.old.state }
     {
@@ -82,9 +93,14 @@ impl FileDisk {
     /// Passes the outcome of a change or of a sync on. After a failure every later call fails.
     fn lasting(&mut self, outcome: Result<(), FileFault>) -> Result<(), DiskFailed>
         ensures cause { HasCause result self.old.faults self.new.faults }
+        ensures counts { CountsOnce result self.old.faults self.new.faults }
         ensures same { IfOk result (λ value. outcome ≡ Ok value) }
+        ensures fails { IsErr result → IsErr outcome }
+        ensures first { MatchResult outcome (λ _. self.new.first_fault ≡ self.old.first_fault)
+            (λ fault. self.new.first_fault ≡ first_of self.old.first_fault fault) }
         ensures explained { IsErr result → IsSome self.new.first_fault }
         ensures stops { IsErr result → HasStopped self.new }
+        ensures kept { OnOk result (self.new.state ≡ self.old.state) }
     {
         match outcome {
             Ok(()) => Ok(()),
@@ -99,7 +115,7 @@ impl FileDisk {
 
 impl Disk for FileDisk {
     ghost use Rattle.ax_disk.specs.DeadDisk.{nothing_told};
-    ghost use Rattle.ax_files.specs.FileDisk.{HasStopped, fault_count};
+    ghost use Rattle.ax_files.specs.FileDisk.{HasStopped, IsAttached, disk_marks, fault_count, first_fault_of};
 
     ghost faults = { fault_count };
 
@@ -117,8 +133,12 @@ impl Disk for FileDisk {
 
     fn attach(&mut self, name: &str) -> Result<(), DiskFailed>
         ensures cause { HasCause result self.old.faults self.new.faults }
+        ensures counts { CountsOnce result self.old.faults self.new.faults }
+        ensures explained { IsErr result → IsSome (first_fault_of self.new) }
         ensures stopped { HasStopped self.old → IsErr result }
-        ensures stays { HasStopped self.old → HasStopped self.new }
+        ensures stays { HasStopped self.old ↔ HasStopped self.new }
+        ensures attached { IsOk result ↔ IsAttached self.new }
+        ensures unsynced { disk_marks self.new ≡ all_marked }
     {
         if let State::Stopped = &self.state {
             return self.counted(Err(FileFault::Stopped));
@@ -132,6 +152,8 @@ impl Disk for FileDisk {
     fn len(&mut self, ext: Extent) -> Result<u64, DiskFailed>
         ensures limit { IfOk result (λ n. n ≤ 2 ^ 62) }
         ensures cause { HasCause result self.old.faults self.new.faults }
+        ensures counts { CountsOnce result self.old.faults self.new.faults }
+        ensures explained { IsErr result → IsSome (first_fault_of self.new) }
         ensures stopped { HasStopped self.old → IsErr result }
         ensures state { self.new.state ≡ self.old.state }
     {
@@ -145,6 +167,8 @@ impl Disk for FileDisk {
 
     fn read(&mut self, ext: Extent, at: u64, buf: &mut [u8]) -> Result<(), DiskFailed>
         ensures cause { HasCause result self.old.faults self.new.faults }
+        ensures counts { CountsOnce result self.old.faults self.new.faults }
+        ensures explained { IsErr result → IsSome (first_fault_of self.new) }
         ensures stopped { HasStopped self.old → IsErr result }
         ensures state { self.new.state ≡ self.old.state }
     {
@@ -159,7 +183,10 @@ impl Disk for FileDisk {
     fn write_at(&mut self, ext: Extent, at: u64, bytes: &[u8]) -> Result<(), DiskFailed>
         ensures limit { 2 ^ 62 < at + length bytes.now → IsErr result }
         ensures cause { HasCause result self.old.faults self.new.faults }
-        ensures stops { IsErr result → HasStopped self.new }
+        ensures counts { CountsOnce result self.old.faults self.new.faults }
+        ensures explained { IsErr result → IsSome (first_fault_of self.new) }
+        ensures stops { IsErr result ↔ HasStopped self.new }
+        ensures marked { OnOk result (disk_marks self.new ≡ marked ext (disk_marks self.old)) }
         ensures stopped { HasStopped self.old → IsErr result }
     {
         let outcome = match &mut self.state {
@@ -172,7 +199,10 @@ impl Disk for FileDisk {
 
     fn cut(&mut self, ext: Extent, len: u64) -> Result<(), DiskFailed>
         ensures cause { HasCause result self.old.faults self.new.faults }
-        ensures stops { IsErr result → HasStopped self.new }
+        ensures counts { CountsOnce result self.old.faults self.new.faults }
+        ensures explained { IsErr result → IsSome (first_fault_of self.new) }
+        ensures stops { IsErr result ↔ HasStopped self.new }
+        ensures marked { OnOk result (disk_marks self.new ≡ marked ext (disk_marks self.old)) }
         ensures stopped { HasStopped self.old → IsErr result }
     {
         let outcome = match &mut self.state {
@@ -185,7 +215,10 @@ impl Disk for FileDisk {
 
     fn sync(&mut self) -> Result<(), DiskFailed>
         ensures cause { HasCause result self.old.faults self.new.faults }
-        ensures stops { IsErr result → HasStopped self.new }
+        ensures counts { CountsOnce result self.old.faults self.new.faults }
+        ensures explained { IsErr result → IsSome (first_fault_of self.new) }
+        ensures stops { IsErr result ↔ HasStopped self.new }
+        ensures synced { IsOk result ↔ (disk_marks self.new ≡ none_marked) }
         ensures stopped { HasStopped self.old → IsErr result }
     {
         let outcome = match &mut self.state {

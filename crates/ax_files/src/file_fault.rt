@@ -51,6 +51,12 @@ pub enum FileFault {
         root: RootState,
         area: Extent,
     },
+    /// What is at the place of the root is none of a store.
+    Foreign,
+    /// The root has an open slot, and this area is missing.
+    Arealess {
+        area: Extent,
+    },
     /// A file is longer than 2^62 bytes, or a write would make it so.
     Bound {
         extent: Extent,
@@ -66,6 +72,22 @@ pub enum FileFault {
 pub struct Explained<'a> {
     pub store: &'a str,
     pub fault: FileFault,
+}
+
+/// The name of a store within a line: quoted where it has control characters, as a newline.
+#[derive(Clone, Copy)]
+struct Named<'a> {
+    store: &'a str,
+}
+
+impl<'a> Display for Named<'a> {
+    fn fmt<W: fmt::Write>(&self, f: &mut Formatter<W>) -> fmt::Result {
+        if self.store.chars().any(|character| character.is_control()) {
+            write!(f, "{:?}", self.store)
+        } else {
+            f.write_str(self.store)
+        }
+    }
 }
 
 impl FileCall {
@@ -102,7 +124,7 @@ fn defect(root: RootState) -> &'static str {
 
 impl<'a> Display for Explained<'a> {
     fn fmt<W: fmt::Write>(&self, f: &mut Formatter<W>) -> fmt::Result {
-        let store = self.store;
+        let store = Named { store: self.store };
         match self.fault {
             FileFault::Call {
                 extent,
@@ -121,6 +143,15 @@ impl<'a> Display for Explained<'a> {
                 f,
                 "{store}.root {}, and {store}.{} is not empty: put back the {store}.root that belongs to it; to begin anew, move the three files away",
                 defect(root),
+                ending(area)
+            ),
+            FileFault::Foreign => write!(
+                f,
+                "{store}.root is no root of a store: put back the {store}.root of the store, or take another name"
+            ),
+            FileFault::Arealess { area } => write!(
+                f,
+                "{store}.{} is missing, and {store}.root needs it: put it back; to begin anew, move the three files away",
                 ending(area)
             ),
             FileFault::Bound { extent } => {

@@ -1,30 +1,45 @@
-//! Whether a store whose root stands for a fresh one may be formed: its areas would be cut.
-ghost use Rattle.std.specs.Prelude.{◌≡◌, ◌≢◌, ◌<◌, ◌⊎◌, ◌↔◌, IsTrue, IsErr, IfErr};
-ghost use Rattle.ax_files.specs.Judging.{IsLost, root_state};
+//! Whether files of a store have been lost: then nothing is made, cut or written.
+ghost use Rattle.std.specs.Prelude.{◌≡◌, ◌<◌, ◌⊎◌, ◌↔◌, IsTrue, IsErr, IfErr};
+ghost use Rattle.ax_files.specs.Judging.{IsFull, IsLost, Tells, root_state};
 
-use crate::file_fault::RootState;
+use crate::file_fault::{FileFault, RootState};
 use ax_disk::Extent;
 use ax_frame::RootSlot;
 
 /// How many bytes of an area forming writes: one closed gate.
 const FORMED_AREA: u64 = 1;
 
-/// Refuses a root that stands for a fresh store beside an area that holds more than forming writes, and
-/// answers which area that is. `a` and `b` are the lengths of the areas, 0 where there is none.
-pub(crate) fn judge(root: RootState, a: u64, b: u64) -> Result<(), Extent>
+/// Refuses a store of which files have been lost, and answers which. `a` and `b` are the lengths of the
+/// areas that are there.
+pub(crate) fn judge(root: RootState, a: Option<u64>, b: Option<u64>) -> Result<(), FileFault>
     ensures refused { IsErr result ↔ IsLost root a b }
-    ensures area { IfErr result (λ area. (area ≡ Extent.A × 1 < a) ⊎ (area ≡ Extent.B × 1 < b)) }
+    ensures told { IfErr result (λ fault. Tells root a b fault) }
 {
-    if root == RootState::HasSlot {
-        return Ok(());
+    match root {
+        RootState::Absent | RootState::Short if is_full(a) => Err(FileFault::Rootless {
+            root,
+            area: Extent::A,
+        }),
+        RootState::Absent | RootState::Short if is_full(b) => Err(FileFault::Rootless {
+            root,
+            area: Extent::B,
+        }),
+        RootState::Absent | RootState::Short => Ok(()),
+        RootState::NoSlot => Err(FileFault::Foreign),
+        RootState::HasSlot if a.is_none() => Err(FileFault::Arealess { area: Extent::A }),
+        RootState::HasSlot if b.is_none() => Err(FileFault::Arealess { area: Extent::B }),
+        RootState::HasSlot => Ok(()),
     }
-    if a > FORMED_AREA {
-        return Err(Extent::A);
+}
+
+/// Whether an area holds more than forming writes.
+fn is_full(len: Option<u64>) -> bool
+    ensures { IsTrue result ↔ IsFull len }
+{
+    match len {
+        Some(len) => len > FORMED_AREA,
+        None => false,
     }
-    if b > FORMED_AREA {
-        return Err(Extent::B);
-    }
-    Ok(())
 }
 
 /// What a whole root with these slots is.

@@ -1,5 +1,12 @@
-//! Opening the files of a store: each is locked, a lost root is refused, and only then are absent files
-//! made.
+//! Opening the files of a store: each is locked, a store of which files have been lost is refused, and
+//! only then are absent files made.
+
+ghost use Rattle.std.specs.Prelude.{◌≡◌, ◌^◌, ◌<◌, ◌≤◌, ◌+◌, ◌⊎◌, length, take, drop, IsTrue, IfOk, IfErr, OnOk, option_map};
+ghost use Rattle.std.specs.Option.{ForSome};
+ghost use Rattle.ax_files.specs.Faults.{IsOfSomeCall};
+ghost use Rattle.ax_files.specs.Judging.{IsAtRoot, IsRootFile, IsSound, IsUnsound};
+ghost use Rattle.ax_files.specs.Marks.{marks, all_marked};
+ghost use Rattle.ax_frame.specs.RootSlot.{IsSlot};
 
 use crate::file_fault::{FileCall, FileFault, RootState, ending};
 use crate::judging::{judge, state_of};
@@ -17,17 +24,20 @@ const WHOLE_ROOT: u64 = 33;
 
 /// Opens the files of the store of that name and locks each, so that no other program opens them while
 /// they are open; makes those that are absent, and syncs their folder, so that a crash keeps them. A
-/// store whose root has been lost is refused before anything is made. No byte of a file is changed.
-pub(crate) fn open_files(rt: &HostRuntime, name: &str) -> Result<StoreFiles<File>, FileFault> {
+/// store of which files have been lost is refused before anything is made. No byte of a file is changed.
+pub(crate) fn open_files(rt: &HostRuntime, name: &str) -> Result<StoreFiles<File>, FileFault>
+    ensures { IfOk result (λ files. marks files.root.is_unsynced files.a.is_unsynced files.b.is_unsynced
+        ≡ all_marked) }
+{
     let root = find_file(rt, name, Extent::Root)?;
     let a = find_file(rt, name, Extent::A)?;
     let b = find_file(rt, name, Extent::B)?;
-    refuse_lost_root(root.as_ref(), a.as_ref(), b.as_ref())?;
+    refuse_lost(root.as_ref(), a.as_ref(), b.as_ref())?;
     let root = found_or_made(rt, name, Extent::Root, root)?;
     let a = found_or_made(rt, name, Extent::A, a)?;
     let b = found_or_made(rt, name, Extent::B, b)?;
     // Another program may have made and filled files while none was locked here.
-    refuse_lost_root(Some(&root), Some(&a), Some(&b))?;
+    refuse_lost(Some(&root), Some(&a), Some(&b))?;
     if let Err(error) = sync_folder(rt, name) {
         return Err(FileFault::Folder { error });
     }
@@ -99,26 +109,45 @@ fn sync_folder(rt: &HostRuntime, name: &str) -> io::Result<()> {
     File::open(rt, folder)?.sync_all()
 }
 
-/// Refuses a store whose root stands for a fresh one while an area holds more than forming writes.
-pub(crate) fn refuse_lost_root<F: SystemFile>(
+/// Refuses a store of which files have been lost.
+pub(crate) fn refuse_lost<F: SystemFile>(
     root: Option<&F>,
     a: Option<&F>,
     b: Option<&F>,
-) -> Result<(), FileFault> {
+) -> Result<(), FileFault>
+    ensures sound { ForSome root.entry (λ f. IsTrue (F.is_honest f.now) × (length (F.content f.now) < 2 ^ 63))
+        → ForSome a.entry (λ f. IsTrue (F.is_honest f.now)) → ForSome b.entry (λ f. IsTrue (F.is_honest f.now))
+        → OnOk result (IsSound (option_map (λ f. F.content f.now) root.entry)
+        (option_map (λ f. F.content f.now) a.entry) (option_map (λ f. F.content f.now) b.entry)) }
+    ensures unsound { ForSome root.entry (λ f. IsTrue (F.is_honest f.now) × (length (F.content f.now) < 2 ^ 63))
+        → ForSome a.entry (λ f. IsTrue (F.is_honest f.now)) → ForSome b.entry (λ f. IsTrue (F.is_honest f.now))
+        → IfErr result (λ fault. IsOfSomeCall fault ⊎ IsUnsound (option_map (λ f. F.content f.now) root.entry)
+        (option_map (λ f. F.content f.now) a.entry) (option_map (λ f. F.content f.now) b.entry) fault) }
+{
     let state = root_state(root)?;
-    let a_len = len_or_none(a, Extent::A)?;
-    let b_len = len_or_none(b, Extent::B)?;
-    match judge(state, a_len, b_len) {
-        Ok(()) => Ok(()),
-        Err(area) => Err(FileFault::Rootless { root: state, area }),
-    }
+    let a_len = area_len(a, Extent::A)?;
+    let b_len = area_len(b, Extent::B)?;
+    judge(state, a_len, b_len)
 }
 
 /// What is at the place of the root.
-fn root_state<F: SystemFile>(root: Option<&F>) -> Result<RootState, FileFault> {
-    let Some(root) = root else {
-        return Ok(RootState::Absent);
-    };
+fn root_state<F: SystemFile>(root: Option<&F>) -> Result<RootState, FileFault>
+    ensures state { ForSome root.entry (λ f. IsTrue (F.is_honest f.now) × (length (F.content f.now) < 2 ^ 63))
+        → IfOk result (λ state. IsAtRoot (option_map (λ f. F.content f.now) root.entry) state) }
+    ensures fault { IfErr result (λ fault. IsOfSomeCall fault) }
+{
+    match root {
+        Some(root) => file_state(root),
+        None => Ok(RootState::Absent),
+    }
+}
+
+/// What a file at the place of the root is.
+fn file_state<F: SystemFile>(root: &F) -> Result<RootState, FileFault>
+    ensures state { IsTrue (F.is_honest root.now) → length (F.content root.now) < 2 ^ 63
+        → IfOk result (λ state. IsRootFile (F.content root.now) state) }
+    ensures fault { IfErr result (λ fault. IsOfSomeCall fault) }
+{
     let len = named(Extent::Root, FileCall::Length, root.size())?;
     if len < WHOLE_ROOT {
         return Ok(RootState::Short);
@@ -126,7 +155,13 @@ fn root_state<F: SystemFile>(root: Option<&F>) -> Result<RootState, FileFault> {
     Ok(state_of(slot_at(root, 0)?, slot_at(root, 16)?))
 }
 
-fn slot_at<F: SystemFile>(root: &F, at: u64) -> Result<RootSlot, FileFault> {
+/// The root slot at a place within the root.
+fn slot_at<F: SystemFile>(root: &F, at: u64) -> Result<RootSlot, FileFault>
+    ensures slot { IsTrue (F.is_honest root.now) → length (F.content root.now) < 2 ^ 63
+        → at + 16 ≤ length (F.content root.now)
+        → IfOk result (λ slot. IsSlot (take 16 (drop at (F.content root.now))) slot) }
+    ensures fault { IfErr result (λ fault. IsOfSomeCall fault) }
+{
     let mut bytes = [0; 16];
     named(
         Extent::Root,
@@ -136,10 +171,14 @@ fn slot_at<F: SystemFile>(root: &F, at: u64) -> Result<RootSlot, FileFault> {
     Ok(read_slot(&bytes))
 }
 
-/// The length of an area, 0 where there is none.
-fn len_or_none<F: SystemFile>(area: Option<&F>, extent: Extent) -> Result<u64, FileFault> {
+/// The length of an area that is there.
+fn area_len<F: SystemFile>(area: Option<&F>, extent: Extent) -> Result<Option<u64>, FileFault>
+    ensures len { ForSome area.entry (λ f. IsTrue (F.is_honest f.now))
+        → IfOk result (λ len. len ≡ option_map length (option_map (λ f. F.content f.now) area.entry)) }
+    ensures fault { IfErr result (λ fault. IsOfSomeCall fault) }
+{
     match area {
-        Some(area) => named(extent, FileCall::Length, area.size()),
-        None => Ok(0),
+        Some(area) => Ok(Some(named(extent, FileCall::Length, area.size())?)),
+        None => Ok(None),
     }
 }

@@ -1,5 +1,6 @@
 //! One file of a store, and whether it has to be synced.
-ghost use Rattle.std.specs.Prelude.{◌≡◌, ◌≤◌, ◌<◌, ◌+◌, ◌^◌, ◌↔◌, true, false, length, IsTrue, IsOk, OnOk, IfOk};
+ghost use Rattle.std.specs.Prelude.{◌≡◌, ◌≤◌, ◌<◌, ◌+◌, ◌^◌, ◌↔◌, true, false, length, take, drop, IsTrue, IsOk, OnOk, IfOk};
+ghost use Rattle.ax_disk.specs.model.Calls.{overwritten, bytes_from};
 
 use crate::system_file::SystemFile;
 use std::io::{self, ErrorKind};
@@ -32,18 +33,26 @@ impl<F: SystemFile> StoreFile<F> {
     }
 
     /// The length in bytes.
-    pub fn len(&self) -> io::Result<u64> {
+    pub fn len(&self) -> io::Result<u64>
+        ensures { IsTrue (F.is_honest self.now.file)
+            → IfOk result (λ len. len ≡ length (F.content self.now.file)) }
+    {
         self.file.size()
     }
 
     /// Fills `buf` with the bytes at `at`, and with 0 past the end of the file.
-    pub fn read(&self, at: u64, buf: &mut [u8]) -> io::Result<()> {
+    pub fn read(&self, at: u64, buf: &mut [u8]) -> io::Result<()>
+        ensures { IsTrue (F.is_honest self.now.file) → length (F.content self.now.file) < 2 ^ 63
+            → OnOk result (buf.new ≡ bytes_from (F.content self.now.file) at (length buf.old)) }
+    {
         fill_from(&self.file, at, buf)
     }
 
     /// Writes all the bytes at `at`. Whatever comes of it, the file counts as unsynced from here on.
     pub fn write(&mut self, at: u64, bytes: &[u8]) -> io::Result<()>
         ensures unsynced { self.new.is_unsynced ≡ true }
+        ensures written { IsTrue (F.is_honest self.old.file) → at ≤ length (F.content self.old.file)
+            → OnOk result (F.content self.new.file ≡ overwritten (F.content self.old.file) at bytes.now) }
         ensures honest { F.is_honest self.new.file ≡ F.is_honest self.old.file }
     {
         self.is_unsynced = true;
@@ -54,6 +63,8 @@ impl<F: SystemFile> StoreFile<F> {
     /// unsynced from here on.
     pub fn cut(&mut self, len: u64) -> io::Result<()>
         ensures unsynced { self.new.is_unsynced ≡ true }
+        ensures shortened { IsTrue (F.is_honest self.old.file)
+            → OnOk result (F.content self.new.file ≡ take len (F.content self.old.file)) }
         ensures honest { F.is_honest self.new.file ≡ F.is_honest self.old.file }
     {
         self.is_unsynced = true;
@@ -68,6 +79,8 @@ impl<F: SystemFile> StoreFile<F> {
         ensures synced { IsOk result ↔ (self.new.is_unsynced ≡ false) }
         ensures settled { IsTrue (F.is_honest self.old.file)
             → OnOk result (IsTrue (F.is_settled self.new.file)) }
+        ensures content { IsTrue (F.is_honest self.old.file)
+            → F.content self.new.file ≡ F.content self.old.file }
         ensures honest { F.is_honest self.new.file ≡ F.is_honest self.old.file }
     {
         if !self.is_unsynced {
@@ -80,7 +93,10 @@ impl<F: SystemFile> StoreFile<F> {
 }
 
 /// Fills `buf` with the bytes at `at`, and with 0 past the end of the file.
-pub(crate) fn fill_from<F: SystemFile>(file: &F, at: u64, buf: &mut [u8]) -> io::Result<()> {
+pub(crate) fn fill_from<F: SystemFile>(file: &F, at: u64, buf: &mut [u8]) -> io::Result<()>
+    ensures { IsTrue (F.is_honest file.now) → length (F.content file.now) < 2 ^ 63
+        → OnOk result (buf.new ≡ bytes_from (F.content file.now) at (length buf.old)) }
+{
     let reachable = LAST_OFFSET.saturating_sub(at).min(buf.len() as u64) as usize;
     let filled = read_up_to_end(file, at, &mut buf[..reachable])?;
     buf[filled..].fill(0);
@@ -90,7 +106,11 @@ pub(crate) fn fill_from<F: SystemFile>(file: &F, at: u64, buf: &mut [u8]) -> io:
 /// Reads at `at` until `buf` is full or the file ends, and answers how many bytes were read.
 fn read_up_to_end<F: SystemFile>(file: &F, at: u64, buf: &mut [u8]) -> io::Result<usize>
     requires { at + length buf.old < 2 ^ 64 }
-    ensures { IfOk result (λ filled. filled ≤ length buf.old) }
+    ensures bound { IfOk result (λ filled. filled ≤ length buf.old) }
+    ensures read { IsTrue (F.is_honest file.now)
+        → IfOk result (λ filled. take filled buf.new ≡ take filled (drop at (F.content file.now))) }
+    ensures ended { IsTrue (F.is_honest file.now)
+        → IfOk result (λ filled. filled < length buf.old → length (F.content file.now) ≤ at + filled) }
 {
     let mut filled = 0;
     while filled < buf.len() {
@@ -105,7 +125,11 @@ fn read_up_to_end<F: SystemFile>(file: &F, at: u64, buf: &mut [u8]) -> io::Resul
 
 /// Reads a piece at `at`; a read that the system interrupts is made again, so often in a row at most.
 fn read_uninterrupted<F: SystemFile>(file: &F, at: u64, buf: &mut [u8]) -> io::Result<usize>
-    ensures { IfOk result (λ count. count ≤ length buf.old) }
+    ensures bound { IfOk result (λ count. count ≤ length buf.old) }
+    ensures piece { IsTrue (F.is_honest file.now)
+        → IfOk result (λ count. take count buf.new ≡ take count (drop at (F.content file.now))) }
+    ensures end { IsTrue (F.is_honest file.now) → 0 < length buf.old
+        → IfOk result (λ count. count ≡ 0 → length (F.content file.now) ≤ at) }
 {
     for _ in 0..TURNS {
         match file.read_piece(buf, at) {

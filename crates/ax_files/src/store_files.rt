@@ -1,5 +1,8 @@
 //! The three files of a store: where it writes, cuts and syncs.
-ghost use Rattle.std.specs.Prelude.{◌≡◌, ◌≤◌, ◌<◌, ◌+◌, ◌^◌, ◌↔◌, false, length, IsTrue, IsOk, IsErr, OnOk, IfOk};
+ghost use Rattle.std.specs.Prelude.{◌≡◌, ◌≢◌, ◌≤◌, ◌<◌, ◌+◌, ◌^◌, ◌↔◌, ◌⊎◌, false, length, take, IsTrue, IsOk, IsErr, OnOk, IfOk, IfErr};
+ghost use Rattle.ax_disk.specs.model.Calls.{overwritten, bytes_from};
+ghost use Rattle.ax_files.specs.Content.{at_extent};
+ghost use Rattle.ax_files.specs.Faults.{IsOfCall, IsOfSomeCall};
 ghost use Rattle.ax_files.specs.Marks.{marks, marked, none_marked, all_marked};
 
 use crate::file_fault::{FileCall, FileFault};
@@ -34,7 +37,11 @@ impl<F: SystemFile> StoreFiles<F> {
 
     /// The length of a file, which is refused where it is above 2^62.
     pub fn len(&self, extent: Extent) -> Result<u64, FileFault>
-        ensures { IfOk result (λ len. len ≤ 2 ^ 62) }
+        ensures limit { IfOk result (λ len. len ≤ 2 ^ 62) }
+        ensures length { IsTrue (F.is_honest (at_extent extent self.now.root.file self.now.a.file self.now.b.file))
+            → IfOk result (λ len. len
+            ≡ length (F.content (at_extent extent self.now.root.file self.now.a.file self.now.b.file))) }
+        ensures fault { IfErr result (λ fault. IsOfCall extent FileCall.Length fault ⊎ (fault ≡ FileFault.Bound extent)) }
     {
         let len = named(extent, FileCall::Length, self.file(extent).len())?;
         if len > MOST_BYTES {
@@ -44,7 +51,14 @@ impl<F: SystemFile> StoreFiles<F> {
     }
 
     /// Fills `buf` with the bytes at `at`, and with 0 past the end of the file.
-    pub fn read(&self, extent: Extent, at: u64, buf: &mut [u8]) -> Result<(), FileFault> {
+    pub fn read(&self, extent: Extent, at: u64, buf: &mut [u8]) -> Result<(), FileFault>
+        ensures bytes { IsTrue (F.is_honest (at_extent extent self.now.root.file self.now.a.file self.now.b.file))
+            → length (F.content (at_extent extent self.now.root.file self.now.a.file self.now.b.file)) < 2 ^ 63
+            → OnOk result (buf.new
+            ≡ bytes_from (F.content (at_extent extent self.now.root.file self.now.a.file self.now.b.file))
+            at (length buf.old)) }
+        ensures fault { IfErr result (λ fault. IsOfCall extent FileCall.Read fault) }
+    {
         named(extent, FileCall::Read, self.file(extent).read(at, buf))
     }
 
@@ -55,6 +69,15 @@ impl<F: SystemFile> StoreFiles<F> {
         ensures unsynced { at + length bytes.now ≤ 2 ^ 62
             → marks self.new.root.is_unsynced self.new.a.is_unsynced self.new.b.is_unsynced
             ≡ marked extent (marks self.old.root.is_unsynced self.old.a.is_unsynced self.old.b.is_unsynced) }
+        ensures written { IsTrue (F.is_honest (at_extent extent self.old.root.file self.old.a.file self.old.b.file))
+            → at ≤ length (F.content (at_extent extent self.old.root.file self.old.a.file self.old.b.file))
+            → OnOk result (F.content (at_extent extent self.new.root.file self.new.a.file self.new.b.file)
+            ≡ overwritten (F.content (at_extent extent self.old.root.file self.old.a.file self.old.b.file))
+            at bytes.now) }
+        ensures root_stays { extent ≢ Extent.Root → self.new.root ≡ self.old.root }
+        ensures a_stays { extent ≢ Extent.A → self.new.a ≡ self.old.a }
+        ensures b_stays { extent ≢ Extent.B → self.new.b ≡ self.old.b }
+        ensures fault { IfErr result (λ fault. IsOfCall extent FileCall.Write fault ⊎ (fault ≡ FileFault.Bound extent)) }
     {
         if !is_within(at, bytes.len() as u64) {
             return Err(FileFault::Bound { extent });
@@ -72,6 +95,13 @@ impl<F: SystemFile> StoreFiles<F> {
     pub fn cut(&mut self, extent: Extent, len: u64) -> Result<(), FileFault>
         ensures unsynced { marks self.new.root.is_unsynced self.new.a.is_unsynced self.new.b.is_unsynced
             ≡ marked extent (marks self.old.root.is_unsynced self.old.a.is_unsynced self.old.b.is_unsynced) }
+        ensures shortened { IsTrue (F.is_honest (at_extent extent self.old.root.file self.old.a.file self.old.b.file))
+            → OnOk result (F.content (at_extent extent self.new.root.file self.new.a.file self.new.b.file)
+            ≡ take len (F.content (at_extent extent self.old.root.file self.old.a.file self.old.b.file))) }
+        ensures root_stays { extent ≢ Extent.Root → self.new.root ≡ self.old.root }
+        ensures a_stays { extent ≢ Extent.A → self.new.a ≡ self.old.a }
+        ensures b_stays { extent ≢ Extent.B → self.new.b ≡ self.old.b }
+        ensures fault { IfErr result (λ fault. IsOfCall extent FileCall.Cut fault) }
     {
         let outcome = match extent {
             Extent::Root => self.root.cut(len),
@@ -86,13 +116,21 @@ impl<F: SystemFile> StoreFiles<F> {
         ensures synced { IsOk result
             ↔ (marks self.new.root.is_unsynced self.new.a.is_unsynced self.new.b.is_unsynced
             ≡ none_marked) }
+        ensures root_content { IsTrue (F.is_honest self.old.root.file)
+            → F.content self.new.root.file ≡ F.content self.old.root.file }
+        ensures a_content { IsTrue (F.is_honest self.old.a.file)
+            → F.content self.new.a.file ≡ F.content self.old.a.file }
+        ensures b_content { IsTrue (F.is_honest self.old.b.file)
+            → F.content self.new.b.file ≡ F.content self.old.b.file }
     {
         named(Extent::A, FileCall::Sync, self.a.sync())?;
         named(Extent::B, FileCall::Sync, self.b.sync())?;
         named(Extent::Root, FileCall::Sync, self.root.sync())
     }
 
-    fn file(&self, extent: Extent) -> &StoreFile<F> {
+    fn file(&self, extent: Extent) -> &StoreFile<F>
+        ensures { result.now ≡ at_extent extent self.now.root self.now.a self.now.b }
+    {
         match extent {
             Extent::Root => &self.root,
             Extent::A => &self.a,
@@ -109,6 +147,8 @@ pub(crate) fn named<T>(
 ) -> Result<T, FileFault>
     ensures same { IsOk result ↔ IsOk outcome }
     ensures value { IfOk result (λ value. outcome ≡ Ok value) }
+    ensures fault { IfErr outcome (λ error. result ≡ Err (FileFault.Call extent call error)) }
+    ensures told { IfErr result (λ fault. IsOfCall extent call fault × IsOfSomeCall fault) }
 {
     match outcome {
         Ok(value) => Ok(value),

@@ -1,13 +1,14 @@
 //! A file as the system gives it.
-ghost use Rattle.std.specs.Prelude.{◌≡◌, Bool, false, OnOk, IsTrue};
+ghost use Rattle.std.specs.Prelude.{◌≡◌, ◌≤◌, ◌<◌, ℕ, Bool, false, List, [], length, take, drop, OnOk, IfOk, IsTrue};
 ghost use Rattle.std.specs.Io.{ReadsAtMost};
+ghost use Rattle.ax_disk.specs.model.Calls.{overwritten};
 
 use std::fs::File;
 use std::io;
 use std::os::unix::fs::FileExt;
 
-/// An open file. What it tells of its state it tells only where it is honest: a file of the system is
-/// not, since nothing is known of what is below it.
+/// An open file. What it tells of its state and of what it holds it tells only where it is honest: a
+/// file of the system is not, since nothing is known of what is below it.
 pub(crate) trait SystemFile: Drop {
     /// Whether it tells of its state.
     ghost is_honest: { Self → Bool };
@@ -15,25 +16,39 @@ pub(crate) trait SystemFile: Drop {
     /// Whether a crash now leaves what reads give.
     ghost is_settled: { Self → Bool };
 
+    /// What it holds.
+    ghost content: { Self → List ℕ };
+
     /// The length in bytes.
-    fn size(&self) -> io::Result<u64>;
+    fn size(&self) -> io::Result<u64>
+        ensures length { IsTrue (is_honest self.now)
+            → IfOk result (λ size. size ≡ length (content self.now)) };
 
     /// Reads bytes at `at` into the front of `buf`, and answers how many: 0 at the end of the file.
     fn read_piece(&self, buf: &mut [u8], at: u64) -> io::Result<usize>
-        ensures bound { ReadsAtMost result buf.new };
+        ensures bound { ReadsAtMost result buf.new }
+        ensures piece { IsTrue (is_honest self.now)
+            → IfOk result (λ count. take count buf.new ≡ take count (drop at (content self.now))) }
+        ensures end { IsTrue (is_honest self.now) → 0 < length buf.old
+            → IfOk result (λ count. count ≡ 0 → length (content self.now) ≤ at) };
 
     /// Writes all the bytes at `at`.
     fn write_whole(&mut self, bytes: &[u8], at: u64) -> io::Result<()>
+        ensures written { IsTrue (is_honest self.old) → at ≤ length (content self.old)
+            → OnOk result (content self.new ≡ overwritten (content self.old) at bytes.now) }
         ensures honest { is_honest self.new ≡ is_honest self.old };
 
-    /// Makes the file `len` bytes long.
+    /// Makes the file, which is longer, `len` bytes long.
     fn shorten(&mut self, len: u64) -> io::Result<()>
+        ensures shortened { IsTrue (is_honest self.old) → len ≤ length (content self.old)
+            → OnOk result (content self.new ≡ take len (content self.old)) }
         ensures honest { is_honest self.new ≡ is_honest self.old };
 
     /// Makes a crash leave what reads give.
     fn sync(&mut self) -> io::Result<()>
         ensures settled { IsTrue (is_honest self.old)
             → OnOk result (IsTrue (is_settled self.new)) }
+        ensures content { IsTrue (is_honest self.old) → content self.new ≡ content self.old }
         ensures honest { is_honest self.new ≡ is_honest self.old };
 }
 
@@ -41,6 +56,8 @@ impl SystemFile for File {
     ghost is_honest = { λ _. false };
 
     ghost is_settled = { λ _. false };
+
+    ghost content = { λ _. [] };
 
     fn size(&self) -> io::Result<u64> {
         Ok(self.metadata()?.len())

@@ -1,5 +1,7 @@
-ghost use Rattle.std.specs.Prelude.{true};
+ghost use Rattle.std.specs.Prelude.{true, false, []};
 
+use crate::file_fault::{FileFault, RootState};
+use crate::opening::refuse_lost;
 use crate::store_file::fill_from;
 use crate::store_files::StoreFiles;
 use crate::system_file::SystemFile;
@@ -9,7 +11,7 @@ use std::io::{self, ErrorKind};
 use std::test::Fail;
 
 /// A file in memory that tells of its state. It gives one byte a read, and interrupts each but every
-/// third one; so many of its syncs fail, and each write that is not empty.
+/// third one; so many of its syncs fail, and each write and each cut.
 #[derive(Drop)]
 struct FakeFile {
     bytes: Vec<u8>,
@@ -22,6 +24,8 @@ impl SystemFile for FakeFile {
     ghost is_honest = { λ _. true };
 
     ghost is_settled = { λ file. file.is_settled };
+
+    ghost content = { λ file. file.bytes.items };
 
     fn size(&self) -> io::Result<u64> {
         Ok(self.bytes.len() as u64)
@@ -40,10 +44,7 @@ impl SystemFile for FakeFile {
         Ok(1)
     }
 
-    fn write_whole(&mut self, bytes: &[u8], _at: u64) -> io::Result<()> {
-        if bytes.is_empty() {
-            return Ok(());
-        }
+    fn write_whole(&mut self, _bytes: &[u8], _at: u64) -> io::Result<()> {
         self.is_settled = false;
         Err(ErrorKind::StorageFull.into())
     }
@@ -59,6 +60,54 @@ impl SystemFile for FakeFile {
             return Err(ErrorKind::Other.into());
         }
         self.is_settled = true;
+        Ok(())
+    }
+}
+
+/// A file in memory that holds what is written to it. It tells nothing, as a file of the system.
+#[derive(Drop)]
+struct PlainFile {
+    bytes: Vec<u8>,
+}
+
+impl SystemFile for PlainFile {
+    ghost is_honest = { λ _. false };
+
+    ghost is_settled = { λ _. false };
+
+    ghost content = { λ _. [] };
+
+    fn size(&self) -> io::Result<u64> {
+        Ok(self.bytes.len() as u64)
+    }
+
+    fn read_piece(&self, buf: &mut [u8], at: u64) -> io::Result<usize> {
+        let from = (at as usize).min(self.bytes.len());
+        let count = buf.len().min(self.bytes.len() - from);
+        buf[..count].copy_from_slice(&self.bytes[from..from + count]);
+        Ok(count)
+    }
+
+    fn write_whole(&mut self, bytes: &[u8], at: u64) -> io::Result<()> {
+        for (index, byte) in bytes.iter().enumerate() {
+            match self.bytes.get_mut((at as usize).saturating_add(index)) {
+                Some(place) => *place = *byte,
+                None => {
+                    if self.bytes.push(*byte).is_err() {
+                        return Err(ErrorKind::OutOfMemory.into());
+                    }
+                }
+            }
+        }
+        Ok(())
+    }
+
+    fn shorten(&mut self, len: u64) -> io::Result<()> {
+        self.bytes.truncate(len as usize);
+        Ok(())
+    }
+
+    fn sync(&mut self) -> io::Result<()> {
         Ok(())
     }
 }
@@ -93,5 +142,85 @@ fn a_file_stays_unsynced_until_its_sync_succeeds(rt: HostRuntime) -> Result<(), 
     assert!(rt; files.write(Extent::A, 0, b"x").is_err() && files.a.is_unsynced);
     assert!(rt; files.cut(Extent::B, 4).is_err() && files.b.is_unsynced);
     assert!(rt; files.sync().is_ok() && files.a.file.is_settled && files.b.file.is_settled);
+    Ok(())
+}
+
+fn plain(rt: &impl AllocGlobal, bytes: &[u8]) -> Result<PlainFile, Fail> {
+    Ok(PlainFile {
+        bytes: Vec::from_slice(rt.alloc(), bytes)?,
+    })
+}
+
+#[test]
+fn each_call_is_made_on_its_own_file(rt: HostRuntime) -> Result<(), Fail> {
+    let root = plain(&rt, b"root")?;
+    let mut files = StoreFiles::new(root, plain(&rt, b"area a")?, plain(&rt, b"area b")?);
+    assert!(rt; files.write(Extent::A, 5, b"xyz").is_ok());
+    assert!(rt; files.write(Extent::B, 0, b"A").is_ok());
+    assert!(rt; files.cut(Extent::Root, 2).is_ok());
+    assert!(rt; files.cut(Extent::B, 9).is_ok());
+    assert_eq!(rt; files.root.file.bytes.as_slice(), b"ro".as_slice());
+    assert_eq!(rt; files.a.file.bytes.as_slice(), b"area xyz".as_slice());
+    assert_eq!(rt; files.b.file.bytes.as_slice(), b"Area b".as_slice());
+    assert!(rt; matches!(files.len(Extent::Root), Ok(2)));
+    assert!(rt; matches!(files.len(Extent::A), Ok(8)));
+    assert!(rt; matches!(files.len(Extent::B), Ok(6)));
+    let mut buf = [1; 4];
+    assert!(rt; files.read(Extent::A, 6, &mut buf).is_ok());
+    assert_eq!(rt; &buf, b"yz\0\0");
+    assert!(rt; files.read(Extent::B, 0, &mut buf).is_ok());
+    assert_eq!(rt; &buf, b"Area");
+    Ok(())
+}
+
+// Slots as docs/FORMAT.md has them: the one of a new store, one that is closed, one that names no area.
+#[test]
+fn lost_files_are_refused(rt: HostRuntime) -> Result<(), Fail> {
+    let slot = b"\x01\x01\x00\x01\x01\x00\x00\x00\x00\x00\x00\x00AXDB";
+    let closed = plain(&rt, &[0; 33])?;
+    let short = plain(&rt, slot)?;
+    let mut first = plain(&rt, slot)?;
+    first.bytes.extend_from_slice(&[0; 17])?;
+    let mut second = plain(&rt, &[0; 16])?;
+    second.bytes.extend_from_slice(slot)?;
+    second.bytes.push(69)?;
+    let empty = plain(&rt, b"")?;
+    let formed = plain(&rt, b"\0")?;
+    let full = plain(&rt, b"\0\0")?;
+    for root in [&first, &second] {
+        assert!(rt; refuse_lost(Some(root), Some(&full), Some(&empty)).is_ok());
+        let refused = refuse_lost(Some(root), Some(&full), None);
+        assert!(rt; matches!(refused, Err(FileFault::Arealess { area: Extent::B })));
+        let refused = refuse_lost(Some(root), None, Some(&full));
+        assert!(rt; matches!(refused, Err(FileFault::Arealess { area: Extent::A })));
+    }
+    assert!(rt;
+        matches!(
+            refuse_lost(Some(&closed), None, None),
+            Err(FileFault::Foreign)
+        )
+    );
+    assert!(rt; refuse_lost(Some(&short), Some(&formed), Some(&empty)).is_ok());
+    assert!(rt; refuse_lost::<PlainFile>(None, None, None).is_ok());
+    let refused = refuse_lost(Some(&short), Some(&formed), Some(&full));
+    assert!(rt;
+        matches!(
+            refused,
+            Err(FileFault::Rootless {
+                root: RootState::Short,
+                area: Extent::B
+            })
+        )
+    );
+    let refused = refuse_lost(None, Some(&full), Some(&full));
+    assert!(rt;
+        matches!(
+            refused,
+            Err(FileFault::Rootless {
+                root: RootState::Absent,
+                area: Extent::A
+            })
+        )
+    );
     Ok(())
 }
