@@ -2,18 +2,16 @@
 -- numbers that it may have; and that there is one of these where fewer than eight others are in use.
 use Rattle.std.proofs.Common.{◌≡◌, ℕ, ◌+◌, ◌<◌, ◌≤◌, ◌==◌, zero, suc, List, [], ◌∷◌, length, Bool, true, false, cond, not, ◌&&◌, ◌||◌, Option, Some, None, count_by, find, zero-add, refl, sym, ap, ◌∙◌, arith, ◌≢◌, true≢false, ◌⊎◌, inl, inr, ⊎_elim}
 use Rattle.std.specs.List.{range_with_len, list_all, list_any}
-use Rattle.std.specs.Prelude.{nat_le, Result, Ok, Err, IfOk, OnOk}
+use Rattle.std.specs.Prelude.{nat_le, nat_lt}
 use Rattle.std.proofs.lemmas.List.Sums.{sum_by-cons}
-use Rattle.std.proofs.lemmas.Bool.{ne_eqb, eqb-true, eq-eqb, leb-true}
+use Rattle.std.proofs.lemmas.Bool.{ne_eqb, eqb-true, eq-eqb, leb-true, ltb-true, ltb-false}
 use Rattle.ax_policy.specs.declared.number_use.NumberUse.{NumberUse}
 use Rattle.ax_policy.specs.declared.number_use.NumberUse.TheVariants.{Free, Same, Other, Idle}
 use Rattle.ax_policy.specs.declared.number_use.NumbersFound.{NumbersFound}
 use Rattle.ax_policy.specs.declared.policy.Policy.{Policy}
-use Rattle.ax_policy.specs.declared.table_fault.TableFault.{TableFault}
-use Rattle.ax_policy.specs.declared.table_fault.TableFault.TheVariants.{Full}
 use Rattle.ax_policy.specs.Normal.{normal_text}
 use Rattle.ax_policy.specs.Paths.{either}
-use Rattle.ax_policy.specs.NumberUses.{use_of, with_use, with_uses, nothing_found}
+use Rattle.ax_policy.specs.NumberUses.{use_of, with_use, with_uses, nothing_found, number_of, IsGiven}
 use Rattle.ax_policy.specs.Table.{Table, numbers, policy_at, is_used, is_free, is_same, is_other, is_text_of, most_others, number_for, others_in_use}
 use Rattle.ax_policy.proofs.Searching.{both}
 
@@ -244,36 +242,21 @@ is_found policy table text found t e =
           (free_found (normal_text policy) table numbers nothing_found);
     }
 
--- the number that is taken, or the refusal
-pub record IsNumber (policy : Policy) (table : Table) (result : Result ℕ TableFault) : Type 0 where
-  pub number : IfOk result (λ n. number_for policy table ≡ this n)
-  pub within : IfOk result (λ n. n ≤ 8)
-  pub room : OnOk result (others_in_use policy table < most_others)
-  pub full : result ≡ Err Full → most_others ≤ others_in_use policy table
+pub is_given : (policy : Policy) (table : Table) (found : NumbersFound) → IsFound policy table found
+    → IsGiven policy table (number_of found)
+is_given policy table found f = by_room (nat_lt found.others most_others) refl
+  where
+    by_number : (number : Option ℕ) → either found.same found.free ≡ number
+        → found.others < most_others → IsGiven policy table number
+    by_number None e room = eight_others (normal_text policy) table (sym f.number ∙ e)
+    by_number (Some n) e room =
+        let is : number_for policy table ≡ this n = sym f.number ∙ e in (
+          is,
+          number_within (is_same (normal_text policy) table) (is_free table) n is,
+          omega (arith, f.others),
+        )
 
-full_when : (policy : Policy) (table : Table) (found : NumbersFound) → IsFound policy table found
-    → ((most_others ≤ found.others) ⊎ (either found.same found.free ≡ None))
-    → most_others ≤ others_in_use policy table
-full_when policy table found f (inl h) = omega (arith, f.others)
-full_when policy table found f (inr h) = eight_others (normal_text policy) table (sym f.number ∙ h)
-
-pub is_number : (policy : Policy) (table : Table) (found : NumbersFound) (result : Result ℕ TableFault)
-    → IsFound policy table found
-    → IfOk result (λ n. either found.same found.free ≡ this n)
-    → OnOk result (found.others < most_others)
-    → (result ≡ Err Full → (most_others ≤ found.others) ⊎ (either found.same found.free ≡ None))
-    → IsNumber policy table result
-is_number policy table found (Ok n) f number room full =
-    record {
-      number = sym f.number ∙ number;
-      within = number_within (is_same (normal_text policy) table) (is_free table) n (sym f.number ∙ number);
-      room = omega (arith, f.others);
-      full = λ e. absurd (cc);
-    }
-is_number policy table found (Err fault) f number room full =
-    record {
-      number = number;
-      within = number;
-      room = room;
-      full = λ e. full_when policy table found f (full e);
-    }
+    by_room : (b : Bool) → nat_lt found.others most_others ≡ b
+        → IsGiven policy table (cond b (either found.same found.free) None)
+    by_room true e = by_number (either found.same found.free) refl (ltb-true found.others most_others e)
+    by_room false e = omega (arith, f.others, ltb-false found.others most_others e)

@@ -1,10 +1,6 @@
 //! What the numbers of a table are for a new policy.
-ghost use Rattle.std.specs.Prelude.{◌≡◌, ◌+◌, ◌<◌, ◌≤◌, IfOk, OnOk, ◌⊎◌};
-ghost use Rattle.ax_policy.specs.Paths.{either};
+ghost use Rattle.std.specs.Prelude.{◌≡◌, ◌+◌, ◌<◌, ◌≤◌};
 ghost use Rattle.ax_policy.specs.NumberUses as spec;
-ghost use Rattle.ax_policy.specs.Table.{most_others};
-
-use crate::table_fault::TableFault;
 
 /// So many other policies in use leave no number for a new one.
 const MOST_OTHERS: u8 = 8;
@@ -67,18 +63,13 @@ impl NumbersFound {
         }
     }
 
-    /// The number for the policy.
-    pub(crate) fn number(self) -> Result<u8, TableFault>
-        ensures number { IfOk result (λ number. either self.same self.free ≡ Some number) }
-        ensures room { OnOk result (self.others < most_others) }
-        ensures full { result ≡ Err TableFault.Full → (most_others ≤ self.others) ⊎ (either self.same self.free ≡ None) }
+    /// The number for the policy; `None` where there is none for it.
+    pub(crate) fn number(self) -> Option<u8>
+        ensures { result ≡ spec.number_of self }
     {
         if self.others >= MOST_OTHERS {
-            return Err(TableFault::Full);
+            return None;
         }
-        match self.same.or(self.free) {
-            Some(number) => Ok(number),
-            None => Err(TableFault::Full),
-        }
+        self.same.or(self.free)
     }
 }

@@ -1,7 +1,7 @@
 //! Policies by number, and which of them is the policy now.
-ghost use Rattle.std.specs.Prelude.{◌≡◌, ◌+◌, ◌-◌, ◌<◌, ◌≤◌, IfOk, OnOk, OnErr, IsSome, length, replicate};
+ghost use Rattle.std.specs.Prelude.{◌≡◌, ◌+◌, ◌-◌, ◌<◌, ◌≤◌, IfOk, IfErr, OnOk, OnErr, IsSome, length, replicate};
 ghost use Rattle.std.specs.Option.{option_copied};
-ghost use Rattle.ax_policy.specs.NumberUses.{use_of, with_uses, nothing_found};
+ghost use Rattle.ax_policy.specs.NumberUses.{use_of, with_uses, nothing_found, IsGiven};
 ghost use Rattle.ax_policy.specs.Table as spec;
 
 use crate::default::default_policy;
@@ -152,28 +152,44 @@ impl PolicyTable {
         ensures err { OnErr result (self.new ≡ self.old) }
     {
         match self.number_for(alloc, &policy) {
-            Ok(number) => {
-                self.store(number, policy);
-                self.start(number);
-                Ok(())
-            }
-            Err(fault) => {
+            Ok(number) => self.set_under(number, policy),
+            Err(Memory) => {
                 drop(policy);
-                Err(fault)
+                Err(TableFault::Memory)
             }
         }
     }
 
-    /// The number that the policy is to have.
-    fn number_for(&self, alloc: Global, policy: &Policy) -> Result<u8, TableFault>
-        ensures number { IfOk result (λ number. spec.number_for policy.now self.now ≡ Some number) }
-        ensures within { IfOk result (λ number. number ≤ 8) }
-        ensures room { OnOk result (spec.others_in_use policy.now self.now < spec.most_others) }
-        ensures full { result ≡ Err TableFault.Full → spec.most_others ≤ spec.others_in_use policy.now self.now }
+    /// Makes the policy the one now, under the number that it is given. `TableFault::Full`, and no
+    /// other error, where it is given none.
+    fn set_under(&mut self, number: Option<u8>, policy: Policy) -> Result<(), TableFault>
+        requires { IsGiven policy self.old number }
+        ensures ok { OnOk result (spec.SetsNow policy self.old self.new) }
+        ensures room { OnOk result (spec.others_in_use policy self.old < spec.most_others) }
+        ensures full { OnErr result (spec.most_others ≤ spec.others_in_use policy self.old) }
+        ensures only { IfErr result (λ fault. fault ≡ TableFault.Full) }
+        ensures err { OnErr result (self.new ≡ self.old) }
+    {
+        match number {
+            Some(number) => {
+                self.store(number, policy);
+                self.start(number);
+                Ok(())
+            }
+            None => {
+                drop(policy);
+                Err(TableFault::Full)
+            }
+        }
+    }
+
+    /// The number that the policy is given; `None` where eight other policies are in use.
+    fn number_for(&self, alloc: Global, policy: &Policy) -> Result<Option<u8>, Memory>
+        ensures { IfOk result (IsGiven policy.now self.now) }
     {
         let text = policy.normal(alloc)?;
         let found = self.numbers_found(alloc, text.as_slice())?;
-        found.number()
+        Ok(found.number())
     }
 
     /// What there is among the numbers for a policy of that normal text.
