@@ -1,0 +1,7 @@
+mod bases;
+mod built;
+mod functions;
+mod policies;
+mod script;
+mod sources;
+mod stores;

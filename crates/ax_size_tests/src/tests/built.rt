@@ -1,0 +1,17 @@
+use std::alloc::{AllocError, Global};
+
+/// A text, then a piece so many times, then another text.
+pub fn built(
+    alloc: Global,
+    front: &str,
+    piece: &str,
+    count: usize,
+    back: &str,
+) -> Result<String, AllocError> {
+    let mut text = String::from_str(alloc, front)?;
+    for _ in 0..count {
+        text.push_str(piece)?;
+    }
+    text.push_str(back)?;
+    Ok(text)
+}
