@@ -3,8 +3,8 @@ use Rattle.std.proofs.Common.{◌≡◌, ℕ, ◌+◌, ◌<◌, ◌≤◌, List,
 use Rattle.std.specs.Option.{unwrap_or}
 use Rattle.ax_faults.specs.FaultLaws.{rose_since}
 use Rattle.ax_frame.specs.Part.{PartValue}
-use Rattle.ax_leaf.specs.declared.pair.Pair.{Pair}
-use Rattle.ax_leaf.specs.Pairs.{Rise}
+use Rattle.ax_pair.specs.declared.pair.Pair.{Pair}
+use Rattle.ax_pair.specs.Order.{Rise}
 use Rattle.ax_delta.specs.declared.change.Change.{Change}
 use Rattle.ax_delta.specs.Changes.{TermChange, changed_pairs, term_changes_of}
 use Rattle.ax_delta.specs.Merge.{IsMerge}

@@ -11,13 +11,13 @@ use Rattle.ax_index.specs.Rewriting.{IsRewritten}
 use Rattle.ax_index.proofs.CallLemmas.{planned_by_bases}
 use Rattle.ax_index.proofs.PageWalk.{fewer_behind, steps_left}
 use Rattle.ax_frame.specs.Part.{PartValue}
-use Rattle.ax_leaf.specs.declared.pair.Pair.{Pair}
-use Rattle.ax_leaf.specs.Low.{first_pair}
-use Rattle.ax_leaf.specs.Pairs.{pair_cmp}
+use Rattle.ax_pair.specs.declared.pair.Pair.{Pair}
+use Rattle.ax_pair.specs.Low.{first_pair}
+use Rattle.ax_pair.specs.Order.{pair_cmp}
 use Rattle.ax_delta.specs.Said.{has}
 use Rattle.ax_delta.proofs.SamePair.{true_or_false, less_apart}
 use Rattle.ax_delta.proofs.OneList.{one_list}
-use Rattle.ax_leaf.specs.Pairs.{Rise}
+use Rattle.ax_pair.specs.Order.{Rise}
 use Rattle.ax_pages.specs.AfterPart.{most_term_pages}
 use Rattle.ax_pages.specs.Contents.{TermPage, no_term_page, term_page}
 use Rattle.ax_pages.specs.TermPages.{IsPageOf, IsLastPage, IsNextPage, low_pair}

@@ -1,7 +1,7 @@
 -- Calls that read: what they leave, one after another, and what their faults say.
 use Rattle.std.proofs.Common.{◌≡◌, ◌<◌, ℕ, Bool, true, false, List, [], length, refl, sym, ap, ◌∙◌, subst, slice_get, slice_set, zero, suc, ◌∷◌}
 use Rattle.std.specs.Prelude.{slice_index_or, is_some}
-use Rattle.ax_leaf.specs.declared.pair.Pair.{Pair}
+use Rattle.ax_pair.specs.declared.pair.Pair.{Pair}
 use Rattle.ax_pairs.specs.PagePairs.{IsBase}
 use Rattle.ax_pages.specs.Contents.{Contents, parts_of, term_page}
 use Rattle.ax_pages.specs.Image.{extent_number}

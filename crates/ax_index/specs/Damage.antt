@@ -2,7 +2,7 @@
 -- is outside its grammar, and then with the place of that part.
 -- It is this project's own; it comes from no public document.
 use Rattle.std.specs.Prelude.{◌≡◌, ℕ, ◌<◌, ◌==◌, ◌&&◌, Bool, true, false, List, length, slice_get, Some, is_some}
-use Rattle.ax_leaf.specs.declared.pair.Pair.{Pair}
+use Rattle.ax_pair.specs.declared.pair.Pair.{Pair}
 use Rattle.ax_delta.specs.Changes.{TermChange}
 use Rattle.ax_delta.specs.Payload.{IsDelta}
 use Rattle.ax_pages.specs.declared.page.Page.TheVariants.{Term}

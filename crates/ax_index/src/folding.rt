@@ -2,8 +2,8 @@
 
 ghost use Rattle.std.specs.Prelude.{◌≡◌, ◌<◌, List, [], ◌∷◌, ◌++◌, IsTrue, IfOk, IfErr, OnOk, MatchOption, false, length};
 ghost use Rattle.ax_disk.specs.model.Calls.{Idles};
-ghost use Rattle.ax_leaf.specs.declared.pair.Pair.{Pair};
-ghost use Rattle.ax_leaf.specs.Pairs.{Rise};
+ghost use Rattle.ax_pair.specs.declared.pair.Pair.{Pair};
+ghost use Rattle.ax_pair.specs.Order.{Rise};
 ghost use Rattle.ax_delta.specs.Changes.{TermChange};
 ghost use Rattle.ax_delta.specs.Merge.{IsMerge};
 ghost use Rattle.ax_delta.specs.Payload.{IsDelta};
@@ -21,7 +21,8 @@ use crate::looking::oldest_delta;
 use crate::payload::payload_in;
 use crate::wanted::Wanted;
 use ax_disk::Disk;
-use ax_leaf::{Bytes, Memory, Pair, PairCursor};
+use ax_leaf::{Memory, PairCursor};
+use ax_pair::{Bytes, Pair};
 use ax_pages::Page;
 use ax_pool::Slot;
 use ax_store::{Store, StoreFault};

@@ -2,7 +2,7 @@
 
 ghost use Rattle.std.specs.Prelude.{◌≡◌, ◌<◌, ◌≤◌, List, IsTrue, IfOk, IfErr, IfNone, Some, Err, false, length};
 ghost use Rattle.ax_disk.specs.model.Calls.{Idles};
-ghost use Rattle.ax_leaf.specs.declared.pair.Pair.{Pair};
+ghost use Rattle.ax_pair.specs.declared.pair.Pair.{Pair};
 ghost use Rattle.ax_delta.specs.Changes.{TermChange};
 ghost use Rattle.ax_delta.specs.Payload.{IsDelta};
 ghost use Rattle.ax_delta.specs.Said.{has as has_pair, last_said, said_of};
@@ -22,7 +22,7 @@ use crate::number_lookup::has_one;
 use crate::payload::payload_in;
 use crate::runs::page_of_pair;
 use ax_disk::Disk;
-use ax_leaf::Pair;
+use ax_pair::Pair;
 use ax_pages::Page;
 use ax_pool::Slot;
 use ax_store::{Store, StoreFault};

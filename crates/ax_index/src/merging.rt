@@ -3,7 +3,7 @@
 ghost use Rattle.std.specs.Prelude.{◌≡◌, ◌<◌, ◌≤◌, ◌+◌, ℕ, List, Option, Some, [], IsTrue, IfOk, IfErr, OnOk, if◌then◌else◌, true, false, length};
 ghost use Rattle.ax_disk.specs.model.Calls.{Idles};
 ghost use Rattle.ax_frame.specs.Part.{PartValue};
-ghost use Rattle.ax_leaf.specs.declared.pair.Pair.{Pair};
+ghost use Rattle.ax_pair.specs.declared.pair.Pair.{Pair};
 ghost use Rattle.ax_pages.specs.AfterPart.{most_term_pages};
 ghost use Rattle.ax_pages.specs.Contents.{TermPage, term_page};
 ghost use Rattle.ax_pages.specs.TermPages.{low_pair};

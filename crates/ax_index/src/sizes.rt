@@ -9,7 +9,7 @@
 ghost use Rattle.std.specs.Prelude.{◌<◌, ◌≤◌, length};
 
 use ax_delta::Change;
-use ax_leaf::Pair;
+use ax_pair::Pair;
 use ax_leaf::short_term::in_common;
 
 /// The most parts that a page is to have: one that has them and is changed is merged.

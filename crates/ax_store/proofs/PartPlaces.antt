@@ -11,7 +11,7 @@ use Rattle.std.proofs.lemmas.List.{append_assoc, drop-drop, drop_at, length-set}
 use Rattle.ax_disk.specs.model.Image.{Image, list_of}
 use Rattle.ax_disk.specs.model.Pending.{MayLeave}
 use Rattle.ax_disk.specs.model.Moments.{History}
-use Rattle.ax_leaf.specs.Low.{low_in}
+use Rattle.ax_pair.specs.Low.{low_in}
 use Rattle.ax_frame.specs.Part.{PartValue, part_bytes, parts_bytes}
 use Rattle.ax_frame.specs.LogFrame.{open_frame, open_head}
 use Rattle.ax_pages.specs.declared.page.Page.{Page}

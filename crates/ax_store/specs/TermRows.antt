@@ -5,9 +5,9 @@ use Rattle.std.specs.Prelude.{◌≡◌, ℕ, ◌<◌, ◌≤◌, ◌-◌, List,
 use Rattle.std.specs.Coded.{Coded, code_by, coded×, coded_list, coded_ℕ}
 use Rattle.std.specs.Option.{option_to_list}
 use Rattle.std.specs.declared.cmp.Ordering.TheVariants.{Less, Greater}
-use Rattle.ax_leaf.specs.declared.pair.Pair.{Pair}
-use Rattle.ax_leaf.specs.Low.{first_pair}
-use Rattle.ax_leaf.specs.Pairs.{pair_cmp}
+use Rattle.ax_pair.specs.declared.pair.Pair.{Pair}
+use Rattle.ax_pair.specs.Low.{first_pair}
+use Rattle.ax_pair.specs.Order.{pair_cmp}
 use Rattle.ax_pages.specs.AfterPart.{most_term_pages}
 use Rattle.ax_pages.specs.Contents.{TermPage}
 use Rattle.ax_pages.specs.ContentsCode.{term_page_code}

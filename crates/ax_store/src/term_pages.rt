@@ -3,8 +3,8 @@
 ghost use Rattle.std.specs.Prelude.{◌≡◌, ℕ, ◌+◌, ◌<◌, ◌≤◌, ◌==◌, [], ◌∷◌, ◌++◌, length, map, vec_len, vec_capacity, option_map, slice_get, slice_index_or, if◌then◌else◌, IfOk, OnOk, IfSome, IfNone, IsTrue, is_some};
 ghost use Rattle.std.specs.List.{insert};
 ghost use Rattle.std.specs.Ordering.{is_le};
-ghost use Rattle.ax_leaf.specs.Low.{low_in};
-ghost use Rattle.ax_leaf.specs.Pairs.{pair_cmp};
+ghost use Rattle.ax_pair.specs.Low.{low_in};
+ghost use Rattle.ax_pair.specs.Order.{pair_cmp};
 ghost use Rattle.ax_pages.specs.AfterPart.{is_base, is_delta, is_same, is_taken, low_at_front, after_base, after_delta, with_base};
 ghost use Rattle.ax_pages.specs.Contents.{no_term_page, term_page, term_parts};
 ghost use Rattle.ax_pages.specs.TermPages.{IsPageOf, IsNextPage, IsLastPage, low_pair};
@@ -15,7 +15,7 @@ ghost use Rattle.ax_store.specs.TermRows.{page_in, IsOrderOf, IsCountUpTo};
 use crate::kept_part::KeptPart;
 use crate::out_of_memory::Memory;
 use crate::term_row::TermRow;
-use ax_leaf::split_low;
+use ax_pair::split_low;
 use std::alloc::Global;
 use std::marker::Model;
 

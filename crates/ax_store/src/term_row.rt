@@ -8,7 +8,7 @@ ghost use Rattle.ax_store.specs.TermRows.{page_in, offsets_in, room_in};
 
 use crate::kept_part::KeptPart;
 use crate::out_of_memory::Memory;
-use ax_leaf::split_low;
+use ax_pair::split_low;
 use std::alloc::Global;
 
 /// The parts of a term page from its last base on.

@@ -6,7 +6,7 @@ use ax_cache::NoPages;
 use ax_disk::{Disk, MemDisk};
 use ax_index::{Change, TermRange};
 use ax_index_support as support;
-use ax_leaf::Bytes;
+use ax_pair::Bytes;
 use ax_store::Store;
 use std::alloc::Global;
 use std::test::Fail;

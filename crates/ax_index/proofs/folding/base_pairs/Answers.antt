@@ -1,5 +1,5 @@
 use Rattle.std.proofs.Common.{sym, ◌∙◌, List}
-use Rattle.ax_leaf.specs.declared.pair.Pair.{Pair}
+use Rattle.ax_pair.specs.declared.pair.Pair.{Pair}
 use Rattle.ax_pairs.specs.PagePairs.{IsBase}
 use Rattle.ax_index.proofs.Unmoved.{read_still, told_base}
 use Rattle.ax_index.proofs.folding.base_pairs.Goals as goal

@@ -1,7 +1,7 @@
 use Rattle.std.proofs.Common.{◌≡◌, ◌≤◌, length, false}
 use Rattle.std.specs.Prelude.{IsTrue}
 use Rattle.ax_disk.specs.model.Calls.{Idles}
-use Rattle.ax_leaf.specs.Pairs.{Rise}
+use Rattle.ax_pair.specs.Order.{Rise}
 use Rattle.ax_pages.specs.Contents.{parts_of, term_page}
 use Rattle.ax_pages.specs.declared.page.Page.TheVariants.{Term}
 use Rattle.ax_store.specs.Store.{store_contents, store_failed}

@@ -1,5 +1,5 @@
 use Rattle.std.proofs.Common.{ap, ◌∙◌, ◌++◌, List}
-use Rattle.ax_leaf.specs.declared.pair.Pair.{Pair}
+use Rattle.ax_pair.specs.declared.pair.Pair.{Pair}
 use Rattle.ax_index.specs.Reading.{numbers_of}
 use Rattle.ax_index.proofs.NumberLists.{gathers}
 use Rattle.ax_index.proofs.numbers.gather.Goals as goal

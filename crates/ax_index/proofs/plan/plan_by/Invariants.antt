@@ -2,7 +2,7 @@ use Rattle.std.proofs.Common.{◌≡◌, ◌≤◌, false, length}
 use Rattle.std.specs.Prelude.{IsTrue}
 use Rattle.ax_delta.specs.Changes.{changed_pairs}
 use Rattle.ax_disk.specs.model.Calls.{Idles}
-use Rattle.ax_leaf.specs.Pairs.{Rise}
+use Rattle.ax_pair.specs.Order.{Rise}
 use Rattle.ax_store.specs.Batch.{batch_parts}
 use Rattle.ax_store.specs.Store.{store_contents, store_failed, store_room}
 use Rattle.ax_index.specs.Planning.{IsPlannedTo}
