@@ -4,7 +4,7 @@ use Rattle.std.specs.Prelude.{ℕ, Bool, ◌==◌, ◌&&◌, nat_lt, nat_le, if�
 use Rattle.std.specs.Prelude.{length}
 use Rattle.std.specs.Prelude.{drop, slice_index, Option, Some, None, is_some}
 use Rattle.std.specs.List.{flat_map}
-use Rattle.ax_leaf.specs.Low.{low_in}
+use Rattle.ax_pair.specs.Low.{low_in}
 use Rattle.ax_frame.specs.Part.{PartValue}
 use Rattle.ax_pages.specs.AfterPart.{last_policy}
 use Rattle.ax_area.specs.declared.kind.Kind.{Kind}

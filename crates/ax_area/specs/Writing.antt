@@ -7,7 +7,7 @@ use Rattle.std.specs.Prelude.{List, [], ◌∷◌, ◌++◌, length, take, drop,
 use Rattle.std.specs.Prelude.{Option, Some, None}
 use Rattle.std.specs.List.{flat_map}
 use Rattle.std.specs.Int.{w32, w64, to_le_bytes}
-use Rattle.ax_leaf.specs.Low.{low_in}
+use Rattle.ax_pair.specs.Low.{low_in}
 use Rattle.ax_frame.specs.Part.{PartValue}
 use Rattle.ax_pages.specs.AfterPart.{last_policy}
 use Rattle.ax_area.specs.declared.numbers.TheConstants.{PLAIN_META, POLICY, PLAIN_DOCUMENT, GONE}

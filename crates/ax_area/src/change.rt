@@ -10,7 +10,7 @@ ghost use Rattle.ax_area.specs.Contents.{follows};
 
 use crate::kind::{Kind, kind_of_number};
 use ax_frame::Part;
-use ax_leaf::split_low;
+use ax_pair::split_low;
 
 /// The greatest number of a policy.
 const LAST_POLICY: u32 = 8;

@@ -1,2 +1,4 @@
 pub mod Pages
 pub mod PageLaws
+pub mod Lru
+pub mod Held

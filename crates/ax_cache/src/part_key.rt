@@ -1,7 +1,7 @@
 //! Under what a payload is kept.
 
 /// The place of a part on the disk.
-#[derive(Clone, Copy, Debug, PartialEq, Eq)]
+#[derive(Clone, Copy, Debug, PartialEq, Eq, Hash)]
 pub struct PartKey {
     /// The area in which the part stands: 1 for A, 2 for B.
     pub area: u8,

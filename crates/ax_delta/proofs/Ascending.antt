@@ -7,8 +7,8 @@ use Rattle.std.specs.Option.{unwrap_or}
 use Rattle.std.specs.Ordering.{nat_cmp}
 use Rattle.std.specs.declared.cmp.Ordering.TheVariants.{Less}
 use Rattle.ax_gap.proofs.Rising.{RisesFrom, rises}
-use Rattle.ax_leaf.specs.declared.pair.Pair.{Pair}
-use Rattle.ax_leaf.specs.Pairs.{Rise, RiseAfter}
+use Rattle.ax_pair.specs.declared.pair.Pair.{Pair}
+use Rattle.ax_pair.specs.Order.{Rise, RiseAfter}
 use Rattle.ax_leaf.proofs.FromLow.{by_number, by_term}
 use Rattle.ax_delta.specs.declared.change.Change.{Change}
 use Rattle.ax_delta.specs.Changes.{TermChange, changed_pairs, drops_with, add_among, changes_with, changes_of}

@@ -5,7 +5,7 @@ use Rattle.std.proofs.lemmas.List.{length-append}
 use Rattle.std.proofs.lemmas.Slice.Eq.{bytes_eq-Decides}
 use Rattle.std.specs.List.Sorted.{IsStrictlyIncreasing}
 use Rattle.std.specs.Str.{bytes_eq}
-use Rattle.ax_leaf.specs.Pairs.{Rise, RiseAfter}
+use Rattle.ax_pair.specs.Order.{Rise, RiseAfter}
 use Rattle.ax_leaf.proofs.Grouping.{increasing_with, below_with, numbers_rise, one_increases, one_below}
 use Rattle.ax_leaf.proofs.Ordered.{terms_rise}
 use Rattle.ax_delta.specs.declared.change.Change.{Change}

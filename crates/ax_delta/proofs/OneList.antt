@@ -2,9 +2,9 @@
 use Rattle.std.proofs.Common.{◌≡◌, ℕ, List, [], ◌∷◌, length, refl, ap, ◌∙◌, sym, subst, Bool, true, false, ⊎_elim, Option, Some, None}
 use Rattle.std.specs.Option.{option_or, unwrap_or}
 use Rattle.std.specs.declared.cmp.Ordering.TheVariants.{Less}
-use Rattle.ax_leaf.specs.declared.pair.Pair.{Pair}
-use Rattle.ax_leaf.specs.Pairs.{pair_cmp, Rise, RiseAfter}
-use Rattle.ax_leaf.proofs.FromLow.{pair_cmp_total}
+use Rattle.ax_pair.specs.declared.pair.Pair.{Pair}
+use Rattle.ax_pair.specs.Order.{pair_cmp, Rise, RiseAfter}
+use Rattle.ax_pair.proofs.PairOrder.{pair_cmp_total}
 use Rattle.ax_leaf.proofs.OneSpelling.{varint_parts}
 use Rattle.ax_delta.specs.Changes.{TermChange}
 use Rattle.ax_delta.specs.ChangeList.{IsChangeList}

@@ -9,10 +9,10 @@ use Rattle.std.specs.Ordering.{nat_cmp, ordering_then, ordering_reverse}
 use Rattle.std.specs.Str.{bytes_eq}
 use Rattle.std.specs.declared.cmp.Ordering.{Ordering}
 use Rattle.std.specs.declared.cmp.Ordering.TheVariants.{Less, Equal, Greater}
-use Rattle.ax_leaf.specs.declared.pair.Pair.{Pair}
-use Rattle.ax_leaf.specs.Pairs.{pair_cmp, Rise, RiseAfter}
-use Rattle.ax_leaf.proofs.FromLow.{pair_cmp_total}
-use Rattle.ax_leaf.proofs.OneSpelling.{same_pair}
+use Rattle.ax_pair.specs.declared.pair.Pair.{Pair}
+use Rattle.ax_pair.specs.Order.{pair_cmp, Rise, RiseAfter}
+use Rattle.ax_pair.proofs.PairOrder.{pair_cmp_total}
+use Rattle.ax_pair.proofs.PairOrder.{same_pair}
 use Rattle.ax_leaf.proofs.Searching.{other_term}
 use Rattle.ax_delta.specs.declared.change.Change.{Change}
 use Rattle.ax_delta.specs.Changes.{changed_pairs}

@@ -2,7 +2,7 @@
 -- payload has them.
 use Rattle.std.specs.Prelude.{ℕ, List, [], ◌∷◌, ◌++◌, Bool, true, false, nat_lt, if◌then◌else◌}
 use Rattle.std.specs.Str.{bytes_eq}
-use Rattle.ax_leaf.specs.declared.pair.Pair.{Pair}
+use Rattle.ax_pair.specs.declared.pair.Pair.{Pair}
 use Rattle.ax_delta.specs.declared.change.Change.{Change}
 
 -- a term, the numbers with which it is added, and those with which it is dropped

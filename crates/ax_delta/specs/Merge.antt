@@ -2,8 +2,8 @@
 -- drops are not, and of all others it is as before.
 use Rattle.std.specs.Prelude.{◌≡◌, List, [], ◌∷◌}
 use Rattle.std.specs.Option.{unwrap_or}
-use Rattle.ax_leaf.specs.declared.pair.Pair.{Pair}
-use Rattle.ax_leaf.specs.Pairs.{Rise}
+use Rattle.ax_pair.specs.declared.pair.Pair.{Pair}
+use Rattle.ax_pair.specs.Order.{Rise}
 use Rattle.ax_delta.specs.Changes.{TermChange}
 use Rattle.ax_delta.specs.Said.{has, said_of}
 

@@ -1,9 +1,9 @@
 //! Changes: what a delta makes of the pairs of a page.
 
 ghost use Rattle.std.specs.Prelude.{◌≡◌};
-ghost use Rattle.ax_leaf.specs.Pairs.{pair_cmp};
+ghost use Rattle.ax_pair.specs.Order.{pair_cmp};
 
-use ax_leaf::Pair;
+use ax_pair::Pair;
 use std::cmp::Ordering;
 
 /// A pair that is added, or dropped.

@@ -9,7 +9,7 @@ use crate::change::cmp_pair;
 use crate::numbers_left::NumbersLeft;
 use crate::out_of_memory::Memory;
 use crate::short_change::{ShortChange, split_change};
-use ax_leaf::{Bytes, Pair};
+use ax_pair::{Bytes, Pair};
 use std::alloc::Global;
 use std::cmp::Ordering;
 

@@ -12,8 +12,7 @@ use crate::checking::is_change_list;
 use crate::looking::look_in;
 use crate::numbers_left::NumbersLeft;
 use crate::out_of_memory::Memory;
-use ax_leaf::Pair;
-use ax_leaf::short_term::split_number;
+use ax_pair::{Pair, split_number};
 use std::alloc::Global;
 use std::marker::Model;
 

@@ -3,8 +3,8 @@
 
 ghost use Rattle.std.specs.Prelude.{◌≡◌, ℕ, List};
 ghost use Rattle.std.specs.Option.{unwrap_or};
-ghost use Rattle.ax_leaf.specs.declared.pair.Pair.{Pair};
-ghost use Rattle.ax_leaf.specs.Pairs.{Rise};
+ghost use Rattle.ax_pair.specs.declared.pair.Pair.{Pair};
+ghost use Rattle.ax_pair.specs.Order.{Rise};
 ghost use Rattle.ax_delta.specs.declared.change.Change.{Change};
 ghost use Rattle.ax_delta.specs.Changes.{TermChange, changed_pairs, changes_of, term_changes_of};
 ghost use Rattle.ax_delta.specs.Merge.{AreMerged};

@@ -1,8 +1,8 @@
 //! Merging the pairs of a page with a delta: one pass over both.
 
 ghost use Rattle.std.specs.Prelude.{◌≡◌, ◌++◌, List, Some, IfOk, OnOk};
-ghost use Rattle.ax_leaf.specs.declared.pair.Pair.{Pair};
-ghost use Rattle.ax_leaf.specs.Pairs.{Rise};
+ghost use Rattle.ax_pair.specs.declared.pair.Pair.{Pair};
+ghost use Rattle.ax_pair.specs.Order.{Rise};
 ghost use Rattle.ax_delta.specs.declared.change.Change.{Change};
 ghost use Rattle.ax_delta.specs.Changes.{changes_of};
 ghost use Rattle.ax_delta.specs.Merge.{IsMerge};
@@ -13,7 +13,7 @@ ghost use Rattle.ax_delta.specs.View.{IsReady, changes_left};
 use crate::changes_left::ChangesLeft;
 use crate::delta::Delta;
 use crate::out_of_memory::Memory;
-use ax_leaf::Pair;
+use ax_pair::Pair;
 use std::alloc::Global;
 use std::cmp::Ordering;
 

@@ -2,7 +2,8 @@ use crate::change::Change;
 use crate::delta::check;
 use crate::merging::merge;
 use crate::writing::{are_in_order, encode};
-use ax_leaf::{Bytes, Pair, is_in_order};
+use ax_leaf::is_in_order;
+use ax_pair::{Bytes, Pair};
 use std::test::Fail;
 
 // ab with 5 is added and with 7 dropped; abc, which begins as ab does, is dropped with 1; b is added

@@ -4,7 +4,7 @@ ghost use Rattle.std.specs.Prelude.{◌≡◌, ◌↔◌, IsTrue, ◌++◌, ◌<
 ghost use Rattle.std.specs.List.Sorted.{IsStrictlyIncreasing};
 ghost use Rattle.ax_gap.specs.Gaps.{IsRisingList, gaps};
 ghost use Rattle.std.specs.Ordering.{is_lt};
-ghost use Rattle.ax_leaf.specs.Pairs.{Rise, pair_cmp};
+ghost use Rattle.ax_pair.specs.Order.{Rise, pair_cmp};
 ghost use Rattle.ax_leaf.specs.Payload.{term_after};
 ghost use Rattle.ax_delta.specs.Changes.{changed_pairs, term_changes_of, with_added, with_dropped};
 ghost use Rattle.ax_delta.specs.Payload.{list_after, delta, IsDelta, AreGood};
@@ -12,8 +12,8 @@ ghost use Rattle.ax_delta.specs.Payload.{list_after, delta, IsDelta, AreGood};
 use crate::change::{Change, cmp_pair};
 use crate::out_of_memory::Memory;
 use ax_gap::put_gaps;
-use ax_leaf::Pair;
 use ax_leaf::short_term::{put_length, put_term};
+use ax_pair::Pair;
 use std::alloc::Global;
 
 /// The payload of the delta with these changes. There has to be one, and their pairs have to rise:

@@ -14,9 +14,9 @@ use Rattle.ax_pages.specs.AfterPart.{after_parts}
 use Rattle.ax_pages.specs.HasContents.{HasContents}
 use Rattle.ax_image.specs.StandsFor.{ContentsStandFor}
 use Rattle.ax_cache.specs.declared.no_pages.NoPages.{NoPages}
-use Rattle.ax_store.specs.declared.store.Store.{Store}
-use Rattle.ax_store.specs.Store.{SameButRoom}
-use Rattle.ax_store.proofs.StoreLemmas.{agrees_rests, agrees_same}
+use Rattle.ax_resident_store.specs.declared.store.Store.{Store}
+use Rattle.ax_resident_store.specs.Store.{SameButRoom}
+use Rattle.ax_resident_store.proofs.StoreLemmas.{agrees_rests, agrees_same}
 use Rattle.ax_engine.specs.declared.documents.Documents.{Documents}
 use Rattle.ax_engine.specs.Documents.{contents_in, DocumentsHold, DocumentsWork}
 use Rattle.ax_engine.specs.Stores.{Shows}

@@ -18,7 +18,7 @@ use Rattle.ax_pages.specs.Contents.{Contents, Numbered}
 use Rattle.ax_pages.proofs.LastPart.{same_number, other_number}
 use Rattle.ax_image.specs.StandsFor.{AreShown, ContentsStandFor}
 use Rattle.ax_tree.specs.declared.tree.Tree.{Tree}
-use Rattle.ax_store.specs.Listed.{IsNextAfter}
+use Rattle.ax_resident_store.specs.Listed.{IsNextAfter}
 use Rattle.ax_text.proofs.RoundTrip.{text-stands}
 use Rattle.ax_text.specs.Reading.{reading, Stands}
 

@@ -12,12 +12,12 @@ use Rattle.ax_pages.specs.laws.ImageLaws.{damaged_has_no_frames, newer_has_no_fr
 use Rattle.ax_pages.proofs.ImageContents.{one_contents, either}
 use Rattle.ax_log.specs.Opening.{Keeps}
 use Rattle.ax_cache.specs.declared.no_pages.NoPages.{NoPages}
-use Rattle.ax_store.specs.declared.store.Store.{Store}
-use Rattle.ax_store.specs.declared.fault.StoreFault.{StoreFault}
-use Rattle.ax_store.specs.declared.fault.StoreFault.TheVariants as fault
-use Rattle.ax_store.specs.Faults.{IsRefused}
-use Rattle.ax_store.specs.Store.{IsDamagedStore, IsOpened, TellsFault, store_contents, store_failed}
-use Rattle.ax_store.proofs.StoreLemmas.{barrier_weaken}
+use Rattle.ax_resident_store.specs.declared.store.Store.{Store}
+use Rattle.ax_resident_store.specs.declared.fault.StoreFault.{StoreFault}
+use Rattle.ax_resident_store.specs.declared.fault.StoreFault.TheVariants as fault
+use Rattle.ax_resident_store.specs.Faults.{IsRefused}
+use Rattle.ax_resident_store.specs.Store.{IsDamagedStore, IsOpened, TellsFault, store_contents, store_failed}
+use Rattle.ax_resident_store.proofs.StoreLemmas.{barrier_weaken}
 use Rattle.ax_container.specs.Container.{Container}
 use Rattle.ax_image.specs.StandsFor.{ContentsStandFor}
 use Rattle.ax_engine.specs.declared.documents.Documents.{Documents}

@@ -23,7 +23,7 @@ use Rattle.ax_image.specs.UpsertParts.{document_part, replacing_parts, creating_
 use Rattle.ax_image.proofs.Shown.{as_many}
 use Rattle.ax_image.proofs.Upserting.{Written, written, first_or, second_or, meta_fits, after_document}
 use Rattle.ax_image.proofs.Upserting.{with_document, any_found}
-use Rattle.ax_store.specs.Putting.{AreWithin}
+use Rattle.ax_resident_store.specs.Putting.{AreWithin}
 use Rattle.ax_engine.specs.Documents.{number_in, is_full_of}
 use Rattle.ax_engine.proofs.Holding.{LeadsTo}
 

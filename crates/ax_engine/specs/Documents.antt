@@ -5,7 +5,7 @@ use Rattle.ax_ids.specs.Ids.{number_under}
 use Rattle.ax_disk.specs.model.Moments.{History}
 use Rattle.ax_disk.specs.model.Stays.{Turns}
 use Rattle.ax_pages.specs.Contents.{Contents, next_number}
-use Rattle.ax_store.specs.Store.{Agrees, store_contents, store_failed}
+use Rattle.ax_resident_store.specs.Store.{Agrees, store_contents, store_failed}
 use Rattle.ax_tree.specs.declared.tree.Tree.{Tree}
 use Rattle.ax_container.specs.Container.{Container, entry_of, most_documents, last_number}
 use Rattle.ax_container.specs.Upsert.{Full, upserted}

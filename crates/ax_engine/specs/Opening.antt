@@ -2,9 +2,9 @@
 use Rattle.ax_disk.specs.model.Moments.{History}
 use Rattle.ax_log.specs.Opening.{Keeps}
 use Rattle.ax_pages.specs.Image.{IsNewer}
-use Rattle.ax_store.specs.Store.{IsDamagedStore}
-use Rattle.ax_store.specs.declared.fault.StoreFault.{StoreFault}
-use Rattle.ax_store.specs.declared.fault.StoreFault.TheVariants as fault
+use Rattle.ax_resident_store.specs.Store.{IsDamagedStore}
+use Rattle.ax_resident_store.specs.declared.fault.StoreFault.{StoreFault}
+use Rattle.ax_resident_store.specs.declared.fault.StoreFault.TheVariants as fault
 
 -- why a store is refused: its bytes are outside the format at that offset, or it is of that later
 -- version; its lists are then as they were

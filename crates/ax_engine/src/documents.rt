@@ -8,8 +8,8 @@ ghost use Rattle.ax_ids.specs.Ids.{number_under};
 ghost use Rattle.ax_lines.specs.Asked.{IsStorable};
 ghost use Rattle.ax_container.specs.Container.{Container};
 ghost use Rattle.ax_pages.specs.Contents.{next_number as next_number_of, policy_now, is_given};
-ghost use Rattle.ax_store.specs.Listed.{IsNextAfter};
-ghost use Rattle.ax_store.specs.Store.{store_contents};
+ghost use Rattle.ax_resident_store.specs.Listed.{IsNextAfter};
+ghost use Rattle.ax_resident_store.specs.Store.{store_contents};
 ghost use Rattle.ax_engine.specs.Documents.{contents_in, DocumentsHold, DocumentsWork, is_full_of, TellsUpsert, WorksAfterUpsert};
 
 use crate::batches::{creating, replacing};
@@ -17,7 +17,7 @@ use ax_cache::NoPages;
 use ax_disk::Disk;
 use ax_ids::Ids;
 use ax_pages::Page;
-use ax_store::Store;
+use ax_resident_store::Store;
 use ax_tree::{Tree, id_of};
 use std::alloc::Global;
 

@@ -22,7 +22,7 @@ use crate::reply::Reply;
 use ax_base::Steps;
 use ax_disk::Disk;
 use ax_lines::{Body, Line, Refusal};
-use ax_store::StoreFault;
+use ax_resident_store::StoreFault;
 use ax_tree::Tree;
 use std::alloc::Global;
 use std::sync::ledger::Ledger;

@@ -6,7 +6,7 @@
 //! no more, until it is opened again.
 //!
 //! Stands on `ax_machine`, whose definitions say what a line's step is, on `ax_image`, which says what a
-//! disk image stands for, on `ax_store` for the pages on a disk, and on `ax_parse` and `ax_answer_text`
+//! disk image stands for, on `ax_resident_store` for the pages on a disk, and on `ax_parse` and `ax_answer_text`
 //! for queries.
 #![tactic(auto)]
 

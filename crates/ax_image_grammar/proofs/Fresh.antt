@@ -15,7 +15,7 @@ use Rattle.ax_image_grammar.specs.Payloads.{IsTextOf}
 use Rattle.ax_image_grammar.specs.StandsFor.{AreShown, ContentsStandFor, StandsFor}
 use Rattle.ax_image_grammar.specs.Table.{policy_text, IsTaken, IsUsed, AreApart}
 use Rattle.ax_image_grammar.proofs.DefaultReads.{default_reads, default_fine}
-use Rattle.ax_leaf.specs.declared.pair.Pair.{Pair}
+use Rattle.ax_pair.specs.declared.pair.Pair.{Pair}
 use Rattle.ax_pairs.specs.Index.{IsIndex}
 use Rattle.ax_pairs.specs.PairSets.{PairSet}
 use Rattle.ax_pairs.proofs.Sets.{nothing_held}

@@ -4,8 +4,9 @@ use Rattle.std.specs.Prelude.{Some, None}
 use Rattle.std.specs.List.{AllByRecursion}
 use Rattle.std.specs.FinMap as map
 use Rattle.ax_disk.specs.model.Image.{Image}
-use Rattle.ax_leaf.specs.declared.pair.Pair.{Pair}
-use Rattle.ax_leaf.specs.Pairs.{Rise, pairs_of}
+use Rattle.ax_pair.specs.declared.pair.Pair.{Pair}
+use Rattle.ax_pair.specs.Order.{Rise}
+use Rattle.ax_leaf.specs.Pairs.{pairs_of}
 use Rattle.ax_leaf.proofs.FromLow.{pairs_rise}
 use Rattle.ax_delta.specs.Changes.{TermChange, changes_of}
 use Rattle.ax_delta.specs.Merge.{AreMerged}

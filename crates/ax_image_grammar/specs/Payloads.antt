@@ -12,7 +12,7 @@ use Rattle.ax_lines.specs.ShortNames.{has_short_names}
 use Rattle.ax_policy.specs.declared.policy.Policy.{Policy}
 use Rattle.ax_policy.specs.Policies.{policy_of}
 use Rattle.ax_policy.specs.Normal.{normal_text, normal_tree}
-use Rattle.ax_leaf.specs.declared.pair.Pair.{Pair}
+use Rattle.ax_pair.specs.declared.pair.Pair.{Pair}
 use Rattle.ax_leaf.specs.Pairs.{Posting}
 use Rattle.ax_leaf.specs.Payload.{IsLeaf}
 use Rattle.ax_delta.specs.Changes.{TermChange}

@@ -6,7 +6,7 @@ ghost use Rattle.std.specs.FinMap as map;
 ghost use Rattle.ax_disk.specs.declared.extent.Extent.{Extent};
 ghost use Rattle.ax_disk.specs.declared.extent.Extent.TheVariants.{A};
 ghost use Rattle.ax_disk.specs.model.Image.{Image};
-ghost use Rattle.ax_leaf.specs.declared.pair.Pair.{Pair};
+ghost use Rattle.ax_pair.specs.declared.pair.Pair.{Pair};
 ghost use Rattle.ax_pages.specs.Area.{frames_bytes};
 ghost use Rattle.ax_pages.specs.Contents.{term_page};
 ghost use Rattle.ax_pairs.specs.PagePairs.{HasPairs};

@@ -1,8 +1,8 @@
 -- Pairs of the wanted terms, and what merges make of them.
 use Rattle.std.proofs.Common.{◌≡◌, ℕ, ◌+◌, ◌-◌, ◌<◌, ◌≤◌, List, [], ◌∷◌, length, get_or, drop, arith, refl, ap, ◌∙◌, sym, subst, Bool, true, false, cond, ⊎_elim, Option, Some, None}
 use Rattle.std.specs.Option.{option_or, unwrap_or}
-use Rattle.ax_leaf.specs.declared.pair.Pair.{Pair}
-use Rattle.ax_leaf.specs.Pairs.{Rise, RiseAfter}
+use Rattle.ax_pair.specs.declared.pair.Pair.{Pair}
+use Rattle.ax_pair.specs.Order.{Rise, RiseAfter}
 use Rattle.ax_delta.specs.Changes.{TermChange}
 use Rattle.ax_delta.specs.Merge.{IsMerge}
 use Rattle.ax_delta.specs.Said.{has, is_same, last_said, said_of}

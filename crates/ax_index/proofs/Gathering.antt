@@ -1,8 +1,8 @@
 -- A walk over pages finds the numbers of a range: those that were found are of the set, and what was missed is ahead.
 use Rattle.std.proofs.Common.{◌≡◌, ◌↔◌, ℕ, ◌<◌, List, [], length, sym, ◌∙◌, subst, true, ◌⊎◌, inl, inr, ⊎_elim, Option, Some, None}
 use Rattle.std.specs.declared.cmp.Ordering.TheVariants.{Less}
-use Rattle.ax_leaf.specs.declared.pair.Pair.{Pair}
-use Rattle.ax_leaf.specs.Pairs.{pair_cmp}
+use Rattle.ax_pair.specs.declared.pair.Pair.{Pair}
+use Rattle.ax_pair.specs.Order.{pair_cmp}
 use Rattle.ax_delta.specs.Said.{has, has_number}
 use Rattle.ax_delta.proofs.SamePair.{the_pair}
 use Rattle.ax_pages.specs.Contents.{TermPage, term_page}

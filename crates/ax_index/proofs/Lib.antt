@@ -14,3 +14,4 @@ pub mod RewritingLemmas
 pub mod RunLemmas
 pub mod Unmoved
 pub mod MergingLemmas
+pub mod ReadsLaws

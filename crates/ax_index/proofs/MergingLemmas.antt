@@ -5,19 +5,19 @@ use Rattle.std.proofs.lemmas.Bool.{cases_eq, cases_lt}
 use Rattle.std.proofs.lemmas.List.{take_all}
 use Rattle.std.proofs.lemmas.List.Sums.{count_by_more_no, count_by_more_yes}
 use Rattle.std.specs.declared.cmp.Ordering.TheVariants.{Less}
-use Rattle.std.specs.Prelude.{IfOk, IfSome, IfNone}
+use Rattle.std.specs.Prelude.{IfOk, IfSome, IfNone, IsTrue}
 use Rattle.ax_store.specs.declared.fault.StoreFault.{StoreFault}
 use Rattle.ax_index.specs.Rewriting.{IsRewritten}
 use Rattle.ax_index.proofs.CallLemmas.{planned_by_bases}
 use Rattle.ax_index.proofs.PageWalk.{fewer_behind, steps_left}
 use Rattle.ax_frame.specs.Part.{PartValue}
-use Rattle.ax_leaf.specs.declared.pair.Pair.{Pair}
-use Rattle.ax_leaf.specs.Low.{first_pair}
-use Rattle.ax_leaf.specs.Pairs.{pair_cmp}
+use Rattle.ax_pair.specs.declared.pair.Pair.{Pair}
+use Rattle.ax_pair.specs.Low.{first_pair}
+use Rattle.ax_pair.specs.Order.{pair_cmp}
 use Rattle.ax_delta.specs.Said.{has}
 use Rattle.ax_delta.proofs.SamePair.{true_or_false, less_apart}
 use Rattle.ax_delta.proofs.OneList.{one_list}
-use Rattle.ax_leaf.specs.Pairs.{Rise}
+use Rattle.ax_pair.specs.Order.{Rise}
 use Rattle.ax_pages.specs.AfterPart.{most_term_pages}
 use Rattle.ax_pages.specs.Contents.{TermPage, no_term_page, term_page}
 use Rattle.ax_pages.specs.TermPages.{IsPageOf, IsLastPage, IsNextPage, low_pair}
@@ -127,36 +127,36 @@ passed_or_here page at pages n behind h passed =
         (λ (less : pair_cmp (low_pair page pages) (low_pair n pages) ≡ Less). absurd (is.least n h less passed))
         (order_cases (low_pair n pages) (low_pair page pages))
 
-stuck_still : (n : ℕ) (before now after : List TermPage) → term_page n after ≡ term_page n now → length now ≤ length after → IsStuck n before now → IsStuck n before after
-stuck_still n before now after same longer stuck set index deltas pairs has_pairs =
-    let room : most_term_pages < length now + length pairs = stuck set index (ap has_deltas (sym same) ∙ deltas) pairs has_pairs in
+stuck_still : {honest : Bool} (n : ℕ) (before now after : List TermPage) → term_page n after ≡ term_page n now → length now ≤ length after → IsStuck honest n before now → IsStuck honest n before after
+stuck_still n before now after same longer stuck told set index deltas pairs has_pairs =
+    let room : most_term_pages < length now + length pairs = stuck told set index (ap has_deltas (sym same) ∙ deltas) pairs has_pairs in
     omega (arith, room)
 
-stuck_by_number : (n page : ℕ) (before after : List TermPage) → n < length before → page < length before → low_pair n before ≡ low_pair page before → IsStuck page before after → IsStuck n before after
-stuck_by_number n page before after h there same stuck set index =
+stuck_by_number : {honest : Bool} (n page : ℕ) (before after : List TermPage) → n < length before → page < length before → low_pair n before ≡ low_pair page before → IsStuck honest page before after → IsStuck honest n before after
+stuck_by_number n page before after h there same stuck told set index =
     let one : n ≡ page = index.apart.apart n page h there same in
     subst
     (λ (k : ℕ). has_deltas (term_page k after) ≡ true → (pairs : List Pair) → HasPairs (term_page k before) pairs → most_term_pages < length after + length pairs)
-    (sym one) (stuck set index)
+    (sym one) (stuck told set index)
 
 -- ---- a page is merged, or left
 
-ready_by : (page : ℕ) (at : Option ℕ) (before now after : List TermPage) (parts more : List PartValue) (merged : Bool) → IsBehind page at before → IsUpTo (low_pair page before) before now parts
-    → IsPageDone page [] before now more after merged → IsReady at before after (parts ++ more)
+ready_by : {honest : Bool} (page : ℕ) (at : Option ℕ) (before now after : List TermPage) (parts more : List PartValue) (merged : Bool) → IsBehind page at before → IsUpTo (low_pair page before) before now parts
+    → IsPageDone honest page [] before now more after merged → IsReady at before after (parts ++ more)
 ready_by page None before now after parts more merged behind up done = tt
 ready_by page (Some next) before now after parts more merged behind up done = (
   behind.there,
   up_behind page next next [] before now after parts more merged up done behind (same_not_after (low_pair next before) (low_pair next before) refl),
 )
 
-pub merged_one : (page : ℕ) (at : Option ℕ) (before : List TermPage) (merged next later : ℕ) (old here new : List PartValue) → IsBehind page at before → IsMergedTo (Some page) before merged next old here
+pub merged_one : {honest : Bool} (page : ℕ) (at : Option ℕ) (before : List TermPage) (merged next later : ℕ) (old here new : List PartValue) → IsBehind page at before → IsMergedTo honest (Some page) before merged next old here
     → has_deltas (term_page page before) ≡ true
-    → ((now : List TermPage) (earlier : List PartValue) → IsUpTo (low_pair page before) before now earlier → next ≡ length now → IsPagePlanned page [] before now true later (λ number. 0) here new)
-    → IsMergedTo at before (merged + 1) later old new
-merged_one page at before merged next later old here new behind is deltas planned_by =
+    → ((now : List TermPage) (earlier : List PartValue) → IsUpTo (low_pair page before) before now earlier → next ≡ length now → IsPagePlanned honest page [] before now true later (λ number. 0) here new)
+    → IsMergedTo honest at before (merged + 1) later old new
+merged_one {honest = honest} page at before merged next later old here new behind is deltas planned_by =
     let up : IsUpTo (low_pair page before) before is.now is.parts = is.ready.1 in
     let there : page < length before = is.ready.0 in
-    let planned : IsPagePlanned page [] before is.now true later (λ number. 0) here new = planned_by is.now is.parts up is.next_is in
+    let planned : IsPagePlanned honest page [] before is.now true later (λ number. 0) here new = planned_by is.now is.parts up is.next_is in
     let same : term_page page is.now ≡ term_page page before = up.same page there (λ less. less_apart (low_pair page before) (low_pair page before) less refl) in
     record {
       parts = is.parts ++ planned.parts;
@@ -164,7 +164,7 @@ merged_one page at before merged next later old here new behind is deltas planne
       now = planned.after;
       lead = lead_then is.parts planned.parts before is.now planned.after is.lead planned.done.lead;
       longer = omega (arith, is.longer, planned.done.longer);
-      holds = λ set index. planned.done.holds set (is.holds set index);
+      holds = λ told set index. planned.done.holds told set (is.holds told set index);
       no_deltas = λ number. omega (arith, deltas_more number is.parts planned.parts, is.no_deltas number, none_of planned number);
       fewer = omega (
         arith,
@@ -181,11 +181,11 @@ merged_one page at before merged next later old here new behind is deltas planne
           (planned.done.same n (omega (arith, is.longer)) (λ e. less_apart (low_pair n before) (low_pair page before) less (ap (λ (k : ℕ). low_pair k before) (sym e))))
           planned.done.longer (is.stuck n h less))
           (λ (low : low_pair n before ≡ low_pair page before).
-          stuck_by_number n page before planned.after h there low (λ set index still. absurd (not_still (planned.done.bare refl) still)))
+          stuck_by_number n page before planned.after h there low (λ told set index still. absurd (not_still (planned.done.bare refl) still)))
           (passed_or_here page at before n behind h passed);
     }
   where
-    none_of : (planned : IsPagePlanned page [] before is.now true later (λ number. 0) here new) → (number : ℕ) → deltas_of number planned.parts ≡ 0
+    none_of : (planned : IsPagePlanned honest page [] before is.now true later (λ number. 0) here new) → (number : ℕ) → deltas_of number planned.parts ≡ 0
     none_of planned number =
         ⊎_elim
         (λ (e : number ≡ page). subst (λ (n : ℕ). deltas_of n planned.parts ≡ 0) (sym e) (omega (arith, planned.enough)))
@@ -195,9 +195,9 @@ merged_one page at before merged next later old here new behind is deltas planne
     not_still : {b : Bool} → b ≡ false → b ≡ true → ⊥
     not_still none so = absurd (cc)
 
-pub left_one : (page : ℕ) (at : Option ℕ) (before : List TermPage) (merged next : ℕ) (old here : List PartValue) → IsBehind page at before → IsMergedTo (Some page) before merged next old here
-    → ((now : List TermPage) → next ≡ length now → has_deltas (term_page page now) ≡ has_deltas (term_page page before) → IsStuck page before now) → IsMergedTo at before merged next old here
-left_one page at before merged next old here behind is stuck_here =
+pub left_one : {honest : Bool} (page : ℕ) (at : Option ℕ) (before : List TermPage) (merged next : ℕ) (old here : List PartValue) → IsBehind page at before → IsMergedTo honest (Some page) before merged next old here
+    → ((now : List TermPage) → next ≡ length now → has_deltas (term_page page now) ≡ has_deltas (term_page page before) → IsStuck honest page before now) → IsMergedTo honest at before merged next old here
+left_one {honest = honest} page at before merged next old here behind is stuck_here =
     let up : IsUpTo (low_pair page before) before is.now is.parts = is.ready.1 in
     let there : page < length before = is.ready.0 in
     let same : term_page page is.now ≡ term_page page before = up.same page there (λ less. less_apart (low_pair page before) (low_pair page before) less refl) in
@@ -213,7 +213,7 @@ left_one page at before merged next old here behind is stuck_here =
       next_is = is.next_is;
       ready = subst (λ (ps : List PartValue). IsReady at before is.now ps) (append-nil is.parts)
           (ready_by page at before is.now is.now is.parts [] false behind up
-          (done_by_deltas page [] before is.now is.now [] (λ p h. absurd (cc)) (carry_nothing page is.now)));
+          (done_by_deltas {honest = true} page [] before is.now is.now [] (λ p h. absurd (cc)) (carry_nothing page is.now)));
       stuck = λ n h passed.
           ⊎_elim
           (λ (less : pair_cmp (low_pair n before) (low_pair page before) ≡ Less). is.stuck n h less)
@@ -224,14 +224,14 @@ left_one page at before merged next old here behind is stuck_here =
 
 -- ---- at the beginning and at the end
 
-pub merged_none : (page : ℕ) (before : List TermPage) (next : ℕ) (old : List PartValue) → IsPageOf first_pair page before → next ≡ length before → IsMergedTo (Some page) before 0 next old old
+pub merged_none : {honest : Bool} (page : ℕ) (before : List TermPage) (next : ℕ) (old : List PartValue) → IsPageOf first_pair page before → next ≡ length before → IsMergedTo honest (Some page) before 0 next old old
 merged_none page before next old of next_is = record {
   parts = [];
   added = sym (append-nil old);
   now = before;
   lead = lead_nothing before;
   longer = omega arith;
-  holds = λ set is. is;
+  holds = λ told set is. is;
   no_deltas = λ number. refl;
   fewer = omega arith;
   next_is = next_is;
@@ -250,7 +250,7 @@ merged_none page before next old of next_is = record {
       (not_after_then (low_pair page before) first_pair (low_pair n before) of.below (first_not_after (low_pair n before))));
 }
 
-pub merged_all : (before : List TermPage) (asked merged next : ℕ) (old new : List PartValue) → IsMergedTo None before merged next old new → merged ≤ asked → IsMergePlan asked merged old new before
+pub merged_all : {honest : Bool} (before : List TermPage) (asked merged next : ℕ) (old new : List PartValue) → IsMergedTo honest None before merged next old new → merged ≤ asked → IsMergePlan honest asked merged old new before
 merged_all before asked merged next old new is most = record {
   parts = is.parts;
   added = is.added;
@@ -280,61 +280,74 @@ pub behind_by : (page : ℕ) (at : Option ℕ) (pages : List TermPage) → IfSom
 behind_by page None pages found none = none
 behind_by page (Some next) pages found none = found
 
-pub merge_step : (page : ℕ) (here at : Option ℕ) (before loop after : List TermPage) (merged next later extra : ℕ) (done : Bool) (old mid new : List PartValue) → here ≡ Some page → loop ≡ before → after ≡ before
+merge_step : {honest : Bool} (page : ℕ) (here at : Option ℕ) (before loop after : List TermPage) (merged next later extra : ℕ) (done : Bool) (old mid new : List PartValue) → here ≡ Some page → loop ≡ before → after ≡ before
     → extra ≡ as_number done
-    → ((count : ℕ) (first : List PartValue) (to : Option ℕ) → IsBehind page to loop → IsMergedTo (Some page) loop count next first mid → IsMergedTo to loop (count + as_number done) later first new)
-    → IfSome at (λ behind. IsNextPage page behind after) → IfNone at (IsLastPage page after) → IsMergedTo here before merged next old mid → IsMergedTo at before (merged + extra) later old new
-merge_step page here at before loop after merged next later extra done old mid new here_is same again extra_is step found none is =
+    → ((count : ℕ) (first : List PartValue) (to : Option ℕ) → IsBehind page to loop → IsMergedTo honest (Some page) loop count next first mid → IsMergedTo honest to loop (count + as_number done) later first new)
+    → IfSome at (λ behind. IsNextPage page behind after) → IfNone at (IsLastPage page after) → IsMergedTo honest here before merged next old mid → IsMergedTo honest at before (merged + extra) later old new
+merge_step {honest = honest} page here at before loop after merged next later extra done old mid new here_is same again extra_is step found none is =
     let behind : IsBehind page at loop = subst (IsBehind page at) (again ∙ sym same) (behind_by page at after found none) in
-    let mine : IsMergedTo (Some page) loop merged next old mid =
-    subst (λ (ts : List TermPage). IsMergedTo (Some page) ts merged next old mid) (sym same)
-    (subst (λ (o : Option ℕ). IsMergedTo o before merged next old mid) here_is is)
+    let mine : IsMergedTo honest (Some page) loop merged next old mid =
+    subst (λ (ts : List TermPage). IsMergedTo honest (Some page) ts merged next old mid) (sym same)
+    (subst (λ (o : Option ℕ). IsMergedTo honest o before merged next old mid) here_is is)
     in
-    subst (λ (n : ℕ). IsMergedTo at before (merged + n) later old new) (sym extra_is)
-    (subst (λ (ts : List TermPage). IsMergedTo at ts (merged + as_number done) later old new) same (step merged old at behind mine))
+    subst (λ (n : ℕ). IsMergedTo honest at before (merged + n) later old new) (sym extra_is)
+    (subst (λ (ts : List TermPage). IsMergedTo honest at ts (merged + as_number done) later old new) same (step merged old at behind mine))
 
-pub merged_end : (at : Option ℕ) (before : List TermPage) (asked merged next : ℕ) (old new : List PartValue) → at ≡ None → IsMergedTo at before merged next old new → merged ≤ asked
-    → IsMergePlan asked merged old new before
-merged_end at before asked merged next old new none is most =
-    merged_all before asked merged next old new (subst (λ (o : Option ℕ). IsMergedTo o before merged next old new) none is) most
+-- the same of a later moment of one honesty
+pub merge_step_on : (now then : Bool) (page : ℕ) (here at : Option ℕ) (before loop after : List TermPage) (merged next later extra : ℕ) (done : Bool) (old mid new : List PartValue)
+    → now ≡ then → here ≡ Some page → loop ≡ before → after ≡ before → extra ≡ as_number done
+    → ((count : ℕ) (first : List PartValue) (to : Option ℕ) → IsBehind page to loop → IsMergedTo now (Some page) loop count next first mid
+    → IsMergedTo now to loop (count + as_number done) later first new)
+    → IfSome at (λ behind. IsNextPage page behind after) → IfNone at (IsLastPage page after) → IsMergedTo then here before merged next old mid
+    → IsMergedTo then at before (merged + extra) later old new
+merge_step_on now then page here at before loop after merged next later extra done old mid new alike here_is same again extra_is step found none =
+    subst
+    (λ (told : Bool). IsMergedTo told here before merged next old mid → IsMergedTo told at before (merged + extra) later old new)
+    alike
+    (merge_step page here at before loop after merged next later extra done old mid new here_is same again extra_is step found none)
+
+pub merged_end : {honest : Bool} (at : Option ℕ) (before : List TermPage) (asked merged next : ℕ) (old new : List PartValue) → at ≡ None → IsMergedTo honest at before merged next old new → merged ≤ asked
+    → IsMergePlan honest asked merged old new before
+merged_end {honest = honest} at before asked merged next old new none is most =
+    merged_all before asked merged next old new (subst (λ (o : Option ℕ). IsMergedTo honest o before merged next old new) none is) most
 
 -- what a page's merging answers, as a step
-pub step_done : (page : ℕ) (at : Option ℕ) (before : List TermPage) (merged next later : ℕ) (old here new : List PartValue) (done : Bool) → IsBehind page at before
-    → IsMergedTo (Some page) before merged next old here → has_deltas (term_page page before) ≡ true
+pub step_done : {honest : Bool} (page : ℕ) (at : Option ℕ) (before : List TermPage) (merged next later : ℕ) (old here new : List PartValue) (done : Bool) → IsBehind page at before
+    → IsMergedTo honest (Some page) before merged next old here → has_deltas (term_page page before) ≡ true
     → ((now : List TermPage) (earlier : List PartValue) → IsUpTo (low_pair page before) before now earlier → next ≡ length now
-    → done ≡ true → IsPagePlanned page [] before now true later (λ number. 0) here new)
+    → done ≡ true → IsPagePlanned honest page [] before now true later (λ number. 0) here new)
     → (done ≡ false → (new ≡ here) × (later ≡ next))
-    → ((set : PairSet) → IsIndex before set → done ≡ false → (pairs : List Pair) → HasPairs (term_page page before) pairs → most_term_pages < next + length pairs)
-    → IsMergedTo at before (merged + as_number done) later old new
-step_done page at before merged next later old here new true behind is deltas planned left stuck =
+    → (IsTrue honest → (set : PairSet) → IsIndex before set → done ≡ false → (pairs : List Pair) → HasPairs (term_page page before) pairs → most_term_pages < next + length pairs)
+    → IsMergedTo honest at before (merged + as_number done) later old new
+step_done {honest = honest} page at before merged next later old here new true behind is deltas planned left stuck =
     merged_one page at before merged next later old here new behind is deltas (λ now earlier up next_is. planned now earlier up next_is refl)
-step_done page at before merged next later old here new false behind is deltas planned left stuck =
+step_done {honest = honest} page at before merged next later old here new false behind is deltas planned left stuck =
     let same = left refl in
-    let kept : IsMergedTo at before merged next old here =
+    let kept : IsMergedTo honest at before merged next old here =
     left_one page at before merged next old here behind is
-    (λ now next_is alike set index still pairs has_pairs. omega (arith, stuck set index refl pairs has_pairs, next_is))
+    (λ now next_is alike told set index still pairs has_pairs. omega (arith, stuck told set index refl pairs has_pairs, next_is))
     in
-    subst (λ (n : ℕ). IsMergedTo at before n later old new) (omega arith)
-    (subst (λ (n : ℕ). IsMergedTo at before merged n old new) (sym same.1)
-    (subst (λ (ps : List PartValue). IsMergedTo at before merged next old ps) (sym same.0) kept))
+    subst (λ (n : ℕ). IsMergedTo honest at before n later old new) (omega arith)
+    (subst (λ (n : ℕ). IsMergedTo honest at before merged n old new) (sym same.1)
+    (subst (λ (ps : List PartValue). IsMergedTo honest at before merged next old ps) (sym same.0) kept))
 
-pub step_none : (page : ℕ) (at : Option ℕ) (before : List TermPage) (merged next : ℕ) (old here : List PartValue) → IsBehind page at before
-    → IsMergedTo (Some page) before merged next old here → has_deltas (term_page page before) ≡ false → IsMergedTo at before (merged + as_number false) next old here
-step_none page at before merged next old here behind is none =
-    subst (λ (n : ℕ). IsMergedTo at before n next old here) (omega arith)
+pub step_none : {honest : Bool} (page : ℕ) (at : Option ℕ) (before : List TermPage) (merged next : ℕ) (old here : List PartValue) → IsBehind page at before
+    → IsMergedTo honest (Some page) before merged next old here → has_deltas (term_page page before) ≡ false → IsMergedTo honest at before (merged + as_number false) next old here
+step_none {honest = honest} page at before merged next old here behind is none =
+    subst (λ (n : ℕ). IsMergedTo honest at before n next old here) (omega arith)
     (left_one page at before merged next old here behind is
-    (λ now next_is alike set index still pairs has_pairs. absurd (not_still none (sym alike ∙ still))))
+    (λ now next_is alike told set index still pairs has_pairs. absurd (not_still none (sym alike ∙ still))))
   where
     not_still : {b : Bool} → b ≡ false → b ≡ true → ⊥
     not_still first so = absurd (cc)
 
 -- ---- a whole page
 
-pub whole_planned : (page : ℕ) (before here now : List TermPage) (earlier old new : List PartValue) (next later : ℕ) (pairs list : List Pair) → page < length before
+pub whole_planned : {honest : Bool} (page : ℕ) (before here now : List TermPage) (earlier old new : List PartValue) (next later : ℕ) (pairs list : List Pair) → page < length before
     → IsUpTo (low_pair page before) before now earlier → next ≡ length now → here ≡ before → list ≡ pairs
-    → ((some : List Pair) → HasPairs (term_page page before) some → (p : Pair) → has p pairs ≡ has p some) → AllBelong list page here
+    → (IsTrue honest → (some : List Pair) → HasPairs (term_page page before) some → (p : Pair) → has p pairs ≡ has p some) → AllBelong list page here
     → (page < length now → low_pair page now ≡ low_pair page here → AllBelong list page now → IsRewritten page list now later old new)
-    → IsPagePlanned page [] before now true later (λ number. 0) old new
+    → IsPagePlanned honest page [] before now true later (λ number. 0) old new
 whole_planned page before here now earlier old new next later pairs list there up next_is same list_is has_pairs belong rewritten =
     planned_by_bases page [] before now earlier old new next later pairs list there up next_is tt (λ p h. absurd (cc))
     (subst (λ (ts : List TermPage). AllBelong list page ts) same belong) has_pairs (λ p. ap (has p) list_is)
@@ -353,14 +366,14 @@ stuck_whole before here set page next pairs list some index there same list_is r
 
 -- ---- a step, by what merging answers
 
-pub step_by : (result : Result Bool StoreFault) (page : ℕ) (at : Option ℕ) (before : List TermPage) (merged next later : ℕ) (old here new : List PartValue) → IsBehind page at before
-    → IsMergedTo (Some page) before merged next old here → has_deltas (term_page page before) ≡ true
+pub step_by : {honest : Bool} (result : Result Bool StoreFault) (page : ℕ) (at : Option ℕ) (before : List TermPage) (merged next later : ℕ) (old here new : List PartValue) → IsBehind page at before
+    → IsMergedTo honest (Some page) before merged next old here → has_deltas (term_page page before) ≡ true
     → ((now : List TermPage) (earlier : List PartValue) → IsUpTo (low_pair page before) before now earlier → next ≡ length now
-    → IfOk result (λ done. done ≡ true → IsPagePlanned page [] before now true later (λ number. 0) here new))
+    → IfOk result (λ done. done ≡ true → IsPagePlanned honest page [] before now true later (λ number. 0) here new))
     → IfOk result (λ done. done ≡ false → (new ≡ here) × (later ≡ next))
-    → ((set : PairSet) → IsIndex before set
+    → (IsTrue honest → (set : PairSet) → IsIndex before set
     → IfOk result (λ done. done ≡ false → (pairs : List Pair) → HasPairs (term_page page before) pairs → most_term_pages < next + length pairs))
-    → IfOk result (λ done. IsMergedTo at before (merged + as_number done) later old new)
+    → IfOk result (λ done. IsMergedTo honest at before (merged + as_number done) later old new)
 step_by (Ok done) page at before merged next later old here new behind is deltas planned left stuck =
     step_done page at before merged next later old here new done behind is deltas planned left stuck
 step_by (Err fault) page at before merged next later old here new behind is deltas planned left stuck = tt

@@ -1,7 +1,7 @@
 -- Numbers that are sorted and of which repeats are dropped; and the numbers of pairs whose terms are in a range.
 use Rattle.std.proofs.Common.{◌≡◌, ℕ, zero, suc, List, [], ◌∷◌, ◌++◌, arith, refl, ap, ◌∙◌, sym, Bool, true, false, cond, ◌⊎◌, inl, inr, ⊎_elim, Contains}
 use Rattle.std.proofs.lemmas.Bool.{eq-eqb, ne_eqb, cases_eq}
-use Rattle.ax_leaf.specs.declared.pair.Pair.{Pair}
+use Rattle.ax_pair.specs.declared.pair.Pair.{Pair}
 use Rattle.ax_delta.specs.Said.{has, has_number, is_same}
 use Rattle.ax_delta.proofs.SamePair.{the_pair, true_or_false, same_from, same_to}
 use Rattle.ax_term.specs.Ranges.{is_in_range}

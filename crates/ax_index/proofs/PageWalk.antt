@@ -10,9 +10,9 @@ use Rattle.std.specs.FinMap.{slice_cmp-IsAntisymmetric, nat_cmp-IsAntisymmetric}
 use Rattle.std.specs.Ordering.{nat_cmp, is_le, is_lt, ordering_then, ordering_reverse}
 use Rattle.std.specs.declared.cmp.Ordering.{Ordering}
 use Rattle.std.specs.declared.cmp.Ordering.TheVariants.{Less, Equal, Greater}
-use Rattle.ax_leaf.specs.declared.pair.Pair.{Pair}
-use Rattle.ax_leaf.specs.Pairs.{pair_cmp}
-use Rattle.ax_leaf.proofs.FromLow.{pair_cmp_total}
+use Rattle.ax_pair.specs.declared.pair.Pair.{Pair}
+use Rattle.ax_pair.specs.Order.{pair_cmp}
+use Rattle.ax_pair.proofs.PairOrder.{pair_cmp_total}
 use Rattle.ax_delta.proofs.SamePair.{the_pair}
 use Rattle.ax_pages.specs.Contents.{TermPage, low_of}
 use Rattle.ax_pages.specs.TermPages.{IsPageOf, IsNextPage, low_pair}

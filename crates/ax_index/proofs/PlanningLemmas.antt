@@ -1,12 +1,13 @@
 -- A plan, page by page.
 use Rattle.std.proofs.Common.{◌≡◌, ◌≢◌, ℕ, ◌+◌, ◌<◌, ◌≤◌, List, [], ◌∷◌, ◌++◌, length, arith, refl, sym, ap, ◌∙◌, subst, Bool, true, false, cond, append_assoc, append-nil, ⊎_elim, inl, inr}
 use Rattle.std.specs.Option.{unwrap_or}
+use Rattle.std.specs.Prelude.{IsTrue}
 use Rattle.std.specs.declared.cmp.Ordering.TheVariants.{Less}
 use Rattle.std.proofs.lemmas.Bool.{cases_eq, cases_lt}
 use Rattle.ax_frame.specs.Part.{PartValue}
-use Rattle.ax_leaf.specs.declared.pair.Pair.{Pair}
-use Rattle.ax_leaf.specs.Pairs.{pair_cmp, Rise, RiseAfter}
-use Rattle.ax_leaf.proofs.FromLow.{pair_cmp_total}
+use Rattle.ax_pair.specs.declared.pair.Pair.{Pair}
+use Rattle.ax_pair.specs.Order.{pair_cmp, Rise, RiseAfter}
+use Rattle.ax_pair.proofs.PairOrder.{pair_cmp_total}
 use Rattle.ax_delta.specs.declared.change.Change.{Change}
 use Rattle.ax_delta.specs.Changes.{changed_pairs}
 use Rattle.ax_delta.specs.Said.{has, said_by}
@@ -111,8 +112,8 @@ all_now before now parts pairs page is belong p h =
 
 -- ---- one page
 
-pub done_by_deltas : (page : ℕ) (changes : List Change) (before now after : List TermPage) (parts : List PartValue) → AllBelong (changed_pairs changes) page now
-    → CarryChanges page changes now parts after → IsPageDone page changes before now parts after false
+pub done_by_deltas : {honest : Bool} (page : ℕ) (changes : List Change) (before now after : List TermPage) (parts : List PartValue) → AllBelong (changed_pairs changes) page now
+    → CarryChanges page changes now parts after → IsPageDone honest page changes before now parts after false
 done_by_deltas page changes before now after parts belong carry = record {
   lead = carry.lead;
   longer = omega (arith, carry.lows.many);
@@ -123,14 +124,14 @@ done_by_deltas page changes before now after parts belong carry = record {
   bases = carry.no_bases (length before);
   bare = λ merged. absurd (cc);
   new_bare = λ n from below. absurd (omega (arith, carry.lows.many));
-  holds = λ set is. carry.holds set is belong;
+  holds = λ told set is. carry.holds set is belong;
 }
 
-pub done_by_bases : (page : ℕ) (changes : List Change) (before now after : List TermPage) (parts earlier : List PartValue) (pairs list : List Pair)
+pub done_by_bases : {honest : Bool} (page : ℕ) (changes : List Change) (before now after : List TermPage) (parts earlier : List PartValue) (pairs list : List Pair)
     → page < length before → IsUpTo (low_pair page before) before now earlier → Rise (changed_pairs changes) → AllBelong (changed_pairs changes) page now
-    → AllBelong list page before → ((some : List Pair) → HasPairs (term_page page before) some → (p : Pair) → has p pairs ≡ has p some)
+    → AllBelong list page before → (IsTrue honest → (some : List Pair) → HasPairs (term_page page before) some → (p : Pair) → has p pairs ≡ has p some)
     → ((p : Pair) → has p list ≡ unwrap_or (said_by p changes) (has p pairs))
-    → Rewrites page list [] now parts after → IsPageDone page changes before now parts after true
+    → Rewrites page list [] now parts after → IsPageDone honest page changes before now parts after true
 done_by_bases page changes before now after parts earlier pairs list there up rise belong of_page has_pairs made is = record {
   lead = is.lead;
   longer = is.longer;
@@ -141,13 +142,13 @@ done_by_bases page changes before now after parts earlier pairs list there up ri
   bases = is.one_base (length before) there up.longer;
   bare = λ merged. is.bare;
   new_bare = is.new_bare;
-  holds = λ set index.
+  holds = λ told set index.
       let same : term_page page now ≡ term_page page before = up.same page there (λ less. less_apart (low_pair page before) (low_pair page before) less refl) in
       let in_page : page < length now = omega (arith, up.longer) in
       let mine : HasPairs (term_page page now) (index.pairs page) = index.have page in_page in
       let was : HasPairs (term_page page before) (index.pairs page) = subst (λ (x : TermPage). HasPairs x (index.pairs page)) same mine in
       let alike : (p : Pair) → has p list ≡ unwrap_or (said_by p changes) (has p (index.pairs page)) =
-      λ p. made p ∙ ap (unwrap_or (said_by p changes)) (has_pairs (index.pairs page) was p)
+      λ p. made p ∙ ap (unwrap_or (said_by p changes)) (has_pairs told (index.pairs page) was p)
       in
       finished page list now parts after is set (with_changes changes set) index
       (record {
@@ -158,7 +159,7 @@ done_by_bases page changes before now after parts earlier pairs list there up ri
 
 -- ---- all pages
 
-pub planned_none : (changes : List Change) (before : List TermPage) (room : ℕ → ℕ) (old : List PartValue) → IsPlannedTo changes changes before 0 (length before) room old old
+pub planned_none : {honest : Bool} (changes : List Change) (before : List TermPage) (room : ℕ → ℕ) (old : List PartValue) → IsPlannedTo honest changes changes before 0 (length before) room old old
 planned_none changes before room old = record {
   parts = [];
   added = sym (append-nil old);
@@ -166,7 +167,7 @@ planned_none changes before room old = record {
   whole = refl;
   now = before;
   lead = lead_nothing before;
-  holds = λ set is. is;
+  holds = λ told set is. is;
   merges = refl;
   next_is = refl;
   ready = λ page first. record {
@@ -180,8 +181,8 @@ planned_none changes before room old = record {
 }
 
 -- from the page behind one that is done on, pages are as they were
-pub up_behind : (page after other : ℕ) (changes : List Change) (before now new : List TermPage) (parts more : List PartValue) (merged : Bool) → IsUpTo (low_pair page before) before now parts
-    → IsPageDone page changes before now more new merged → IsNextPage page after before → NotAfter (low_pair after before) (low_pair other before)
+pub up_behind : {honest : Bool} (page after other : ℕ) (changes : List Change) (before now new : List TermPage) (parts more : List PartValue) (merged : Bool) → IsUpTo (low_pair page before) before now parts
+    → IsPageDone honest page changes before now more new merged → IsNextPage page after before → NotAfter (low_pair after before) (low_pair other before)
     → IsUpTo (low_pair other before) before new (parts ++ more)
 up_behind page after other changes before now new parts more merged up done behind_it up_to =
     let less : pair_cmp (low_pair page before) (low_pair other before) ≡ Less =
@@ -211,10 +212,10 @@ up_behind page after other changes before now new parts more merged up done behi
 abbrev pub as_number : Bool → ℕ
 as_number merged = cond merged 1 0
 
-module _ (changes run behind : List Change) (before : List TermPage) (merged next : ℕ) (room more : ℕ → ℕ) (old here new : List PartValue) (page : ℕ) (is_merged : Bool) (later : ℕ)
-    (is : IsPlannedTo changes (run ++ behind) before merged next room old here) (up : IsUpTo (low_pair page before) before is.now is.parts)
+module _ {honest : Bool} (changes run behind : List Change) (before : List TermPage) (merged next : ℕ) (room more : ℕ → ℕ) (old here new : List PartValue) (page : ℕ) (is_merged : Bool) (later : ℕ)
+    (is : IsPlannedTo honest changes (run ++ behind) before merged next room old here) (up : IsUpTo (low_pair page before) before is.now is.parts)
     (there : page < length before)
-    (parted : IsPartedAt page run behind before) (planned : IsPagePlanned page run before is.now is_merged later more here new)
+    (parted : IsPartedAt page run behind before) (planned : IsPagePlanned honest page run before is.now is_merged later more here new)
     (never_less : (number : ℕ) → room number ≤ more number) where
   -- the page of what is behind is behind
   past : (other : ℕ) → IsFirstOf behind other before → (after : ℕ) × IsNextPage page after before × NotAfter (low_pair after before) (low_pair other before)
@@ -251,7 +252,7 @@ module _ (changes run behind : List Change) (before : List TermPage) (merged nex
       omega (arith, deltas_more number is.parts planned.parts, planned.done.deltas number apart, is.enough number, never_less number))
       (cases_eq number page)
 
-  pub planned_more : IsPlannedTo changes behind before (merged + as_number is_merged) later more old new
+  pub planned_more : IsPlannedTo honest changes behind before (merged + as_number is_merged) later more old new
   planned_more = record {
     parts = is.parts ++ planned.parts;
     added = planned.added ∙ ap (λ (ps : List PartValue). ps ++ planned.parts) is.added ∙ append_assoc old is.parts planned.parts;
@@ -259,25 +260,25 @@ module _ (changes run behind : List Change) (before : List TermPage) (merged nex
     whole = is.whole ∙ sym (append_assoc is.done run behind);
     now = planned.after;
     lead = lead_then is.parts planned.parts before is.now planned.after is.lead planned.done.lead;
-    holds = λ set index.
+    holds = λ told set index.
         same_set planned.after (with_changes run (with_changes is.done set)) (with_changes (is.done ++ run) set)
         (λ p. sym (changed_twice is.done run set p))
-        (planned.done.holds (with_changes is.done set) (is.holds set index));
+        (planned.done.holds told (with_changes is.done set) (is.holds told set index));
     merges = omega (arith, bases_more (length before) is.parts planned.parts, is.merges, planned.done.bases);
     next_is = planned.next_is;
     ready = ready_behind;
     enough = room_behind;
   }
 
-pub planned_all : (changes : List Change) (before : List TermPage) (merged next : ℕ) (room : ℕ → ℕ) (old new : List PartValue)
-    → IsPlannedTo changes [] before merged next room old new → merged ≤ most_merged → IsPlan changes merged old new before
+pub planned_all : {honest : Bool} (changes : List Change) (before : List TermPage) (merged next : ℕ) (room : ℕ → ℕ) (old new : List PartValue)
+    → IsPlannedTo honest changes [] before merged next room old new → merged ≤ most_merged → IsPlan honest changes merged old new before
 planned_all changes before merged next room old new is few = record {
   parts = is.parts;
   added = is.added;
   after = is.now;
   lead = is.lead;
-  holds = λ set index.
-      subst (λ (made : List Change). IsIndex is.now (with_changes made set)) (sym (is.whole ∙ append-nil is.done)) (is.holds set index);
+  holds = λ told set index.
+      subst (λ (made : List Change). IsIndex is.now (with_changes made set)) (sym (is.whole ∙ append-nil is.done)) (is.holds told set index);
   merges = is.merges;
   few = few;
 }

@@ -7,7 +7,7 @@ use Rattle.std.specs.Ordering.{nat_cmp}
 use Rattle.std.specs.Str.{bytes_eq}
 use Rattle.std.specs.declared.cmp.Ordering.TheVariants.{Less, Equal}
 use Rattle.ax_gap.specs.Gaps.{IsRisingList}
-use Rattle.ax_leaf.specs.declared.pair.Pair.{Pair}
+use Rattle.ax_pair.specs.declared.pair.Pair.{Pair}
 use Rattle.ax_leaf.specs.Lookup.{numbers_under}
 use Rattle.ax_leaf.specs.Pairs.{Posting, pairs_of, pairs_with}
 use Rattle.ax_leaf.specs.Payload.{AreAfter, ArePostings, IsLeaf}

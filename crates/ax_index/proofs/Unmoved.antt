@@ -1,7 +1,9 @@
 -- Calls that read: what they leave, one after another, and what their faults say.
 use Rattle.std.proofs.Common.{◌≡◌, ◌<◌, ℕ, Bool, true, false, List, [], length, refl, sym, ap, ◌∙◌, subst, slice_get, slice_set, zero, suc, ◌∷◌}
 use Rattle.std.specs.Prelude.{slice_index_or, is_some}
-use Rattle.ax_leaf.specs.declared.pair.Pair.{Pair}
+use Rattle.ax_pair.specs.declared.pair.Pair.{Pair}
+use Rattle.ax_delta.specs.Changes.{TermChange}
+use Rattle.ax_delta.specs.Payload.{IsDelta}
 use Rattle.ax_pairs.specs.PagePairs.{IsBase}
 use Rattle.ax_pages.specs.Contents.{Contents, parts_of, term_page}
 use Rattle.ax_pages.specs.Image.{extent_number}
@@ -11,7 +13,7 @@ use Rattle.ax_pool.specs.declared.slot.Slot.{Slot}
 use Rattle.ax_log.specs.Log.{log_area}
 use Rattle.ax_store.specs.Kept.{Kept, PageOffsets, offsets_of}
 use Rattle.ax_store.specs.Slots.{IsRead, IsSlotOf, part_at}
-use Rattle.ax_store.specs.Store.{SameButSlots, store_contents, store_offsets, store_area}
+use Rattle.ax_store.specs.Store.{SameButReads, store_contents, store_offsets, store_area}
 use Rattle.ax_store.specs.declared.fault.StoreFault.{StoreFault}
 use Rattle.ax_store.specs.declared.fault.StoreFault.TheVariants.{Disk, Damaged, Newer, Memory}
 use Rattle.ax_store.specs.declared.store.Store.{Store}
@@ -21,13 +23,12 @@ use Rattle.ax_index.proofs.DeltaParts.{base_at, base_there}
 
 module _ {C : Type 0} where
   pub unmoved : (store : Store C) → SameButBytes store store
-  unmoved store = record { same = record { logged = refl; pages = refl; failed = refl }; taken = refl }
+  unmoved store = record { same = record { logged = refl; pages = refl }; taken = refl }
 
-  pub slots_then : (old mid new : Store C) → SameButSlots old mid → SameButSlots mid new → SameButSlots old new
+  pub slots_then : (old mid new : Store C) → SameButReads old mid → SameButReads mid new → SameButReads old new
   slots_then old mid new first second = record {
     logged = second.logged ∙ first.logged;
     pages = second.pages ∙ first.pages;
-    failed = second.failed ∙ first.failed;
   }
 
   pub unmoved_then : (old mid new : Store C) → SameButBytes old mid → SameButBytes mid new → SameButBytes old new
@@ -36,13 +37,13 @@ module _ {C : Type 0} where
     taken = second.taken ∙ first.taken;
   }
 
-  pub same_contents : (old new : Store C) → SameButSlots old new → store_contents new ≡ store_contents old
+  pub same_contents : (old new : Store C) → SameButReads old new → store_contents new ≡ store_contents old
   same_contents old new same = ap (λ (kept : Kept). kept.contents) same.pages
 
-  pub same_offsets : (old new : Store C) → SameButSlots old new → store_offsets new ≡ store_offsets old
+  pub same_offsets : (old new : Store C) → SameButReads old new → store_offsets new ≡ store_offsets old
   same_offsets old new same = ap (λ (kept : Kept). kept.offsets) same.pages
 
-  same_area : (old new : Store C) → SameButSlots old new → store_area new ≡ store_area old
+  same_area : (old new : Store C) → SameButReads old new → store_area new ≡ store_area old
   same_area old new same = ap log_area same.logged
 
   pub still_taken : (old new : Store C) (slot : Slot) → SameButBytes old new → IsSlotOf old slot → IsSlotOf new slot
@@ -66,7 +67,7 @@ module _ {C : Type 0} where
   told_from old new (Newer version) contents offsets area h = h
   told_from old new Memory contents offsets area h = tt
 
-  pub told_back : (old new : Store C) (fault : StoreFault) → SameButSlots old new → TellsPart new fault → TellsPart old fault
+  pub told_back : (old new : Store C) (fault : StoreFault) → SameButReads old new → TellsPart new fault → TellsPart old fault
   told_back old new fault same =
       told_from old new fault (same_contents old new same) (same_offsets old new same) (same_area old new same)
 
@@ -82,7 +83,7 @@ module _ {C : Type 0} where
   told_spoiled store page i Memory there spoiled placed = tt
 
   -- the fault of a part that was read and is no payload
-  pub told_read : (old new : Store C) (page i : ℕ) (fault : StoreFault) → SameButSlots old new → i < length (parts_of (Term page) (store_contents old))
+  pub told_read : (old new : Store C) (page i : ℕ) (fault : StoreFault) → SameButReads old new → i < length (parts_of (Term page) (store_contents old))
       → (IsPayload (is_base_at (term_page page (store_contents old).terms) i) (part_at (Term page) i (store_contents old)) → ⊥)
       → IsPlacedAt new page i fault → TellsPart old fault
   told_read old new page i fault same there spoiled placed =
@@ -108,13 +109,23 @@ given_back (x ∷ taken) (suc n) h = ap (λ (bs : List Bool). x ∷ bs) (given_b
 
 module _ {C : Type 0} where
   -- the fault of a base that was read and is none
-  pub told_base : (old new : Store C) (page : ℕ) (fault : StoreFault) (payload : List ℕ) → SameButSlots old new
+  pub told_base : (old new : Store C) (page : ℕ) (fault : StoreFault) (payload : List ℕ) → SameButReads old new
       → is_some (term_page page (store_contents old).terms).base ≡ true → payload ≡ part_at (Term page) 0 (store_contents old)
       → ((pairs : List Pair) × IsBase payload pairs → ⊥) → IsPlacedAt new page 0 fault → TellsPart old fault
   told_base old new page fault payload same there is none placed =
       told_read old new page 0 fault same (base_there (term_page page (store_contents old).terms) there)
       (subst (λ (b : Bool). IsPayload b (part_at (Term page) 0 (store_contents old)) → ⊥) (sym (base_at (term_page page (store_contents old).terms) there))
       (subst (λ (bytes : List ℕ). (pairs : List Pair) × IsBase bytes pairs → ⊥) is none))
+      placed
+
+  -- the same of a delta
+  pub told_delta : (old new : Store C) (page i : ℕ) (fault : StoreFault) (payload : List ℕ) → SameButReads old new → i < length (parts_of (Term page) (store_contents old))
+      → is_base_at (term_page page (store_contents old).terms) i ≡ false → payload ≡ part_at (Term page) i (store_contents old)
+      → ((changes : List TermChange) × IsDelta payload changes → ⊥) → IsPlacedAt new page i fault → TellsPart old fault
+  told_delta old new page i fault payload same there delta is none placed =
+      told_read old new page i fault same there
+      (subst (λ (b : Bool). IsPayload b (part_at (Term page) i (store_contents old)) → ⊥) (sym delta)
+      (subst (λ (bytes : List ℕ). (changes : List TermChange) × IsDelta bytes changes → ⊥) is none))
       placed
 
 -- ---- slots

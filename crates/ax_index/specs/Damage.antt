@@ -1,8 +1,8 @@
 -- When a call of the index answers that the store is damaged: only where the payload of a part of a term page
 -- is outside its grammar, and then with the place of that part.
 -- It is this project's own; it comes from no public document.
-use Rattle.std.specs.Prelude.{◌≡◌, ℕ, ◌<◌, ◌==◌, ◌&&◌, Bool, true, false, List, length, slice_get, Some, is_some}
-use Rattle.ax_leaf.specs.declared.pair.Pair.{Pair}
+use Rattle.std.specs.Prelude.{◌≡◌, ℕ, ◌<◌, ◌==◌, ◌&&◌, Bool, true, false, List, length, slice_get, Some, is_some, Result, Ok, Err}
+use Rattle.ax_pair.specs.declared.pair.Pair.{Pair}
 use Rattle.ax_delta.specs.Changes.{TermChange}
 use Rattle.ax_delta.specs.Payload.{IsDelta}
 use Rattle.ax_pages.specs.declared.page.Page.TheVariants.{Term}
@@ -40,6 +40,17 @@ pub record IsSpoiledPart {C : Type 0} (store : Store C) (fault : StoreFault) : T
   pub there : i < length (parts_of (Term page) (store_contents store))
   pub placed : IsPlacedAt store page i fault
   pub spoiled : IsPayload (is_base_at (term_page page (store_contents store).terms) i) (part_at (Term page) i (store_contents store)) → ⊥
+
+-- the store fails by this fault: exactly where it is of the disk
+abbrev pub FailsWith : StoreFault → Bool → Bool → Type 0
+FailsWith Disk old new = new ≡ true
+FailsWith (Damaged extent at) old new = new ≡ old
+FailsWith (Newer version) old new = new ≡ old
+FailsWith Memory old new = new ≡ old
+
+abbrev pub FailsBy : {T : Type 0} → Result T StoreFault → Bool → Bool → Type 0
+FailsBy (Ok value) old new = new ≡ old
+FailsBy (Err fault) old new = FailsWith fault old new
 
 -- what a fault says
 abbrev pub TellsPart : {C : Type 0} → Store C → StoreFault → Type 0

@@ -7,3 +7,4 @@ pub mod Plans
 pub mod Reading
 pub mod Rewriting
 pub mod Wanted
+pub mod Reads

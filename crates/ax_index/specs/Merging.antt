@@ -1,10 +1,10 @@
 -- What merging pages makes: the same set, in fewer pages with deltas.
 -- It is this project's own; it comes from no public document.
-use Rattle.std.specs.Prelude.{◌≡◌, ℕ, ◌+◌, ◌<◌, ◌≤◌, true, List, ◌++◌, length, Option, Some, None}
+use Rattle.std.specs.Prelude.{◌≡◌, ℕ, ◌+◌, ◌<◌, ◌≤◌, Bool, true, List, ◌++◌, length, Option, Some, None, IsTrue}
 use Rattle.std.specs.declared.cmp.Ordering.TheVariants.{Less}
 use Rattle.ax_frame.specs.Part.{PartValue}
-use Rattle.ax_leaf.specs.declared.pair.Pair.{Pair}
-use Rattle.ax_leaf.specs.Pairs.{pair_cmp}
+use Rattle.ax_pair.specs.declared.pair.Pair.{Pair}
+use Rattle.ax_pair.specs.Order.{pair_cmp}
 use Rattle.ax_pages.specs.AfterPart.{most_term_pages}
 use Rattle.ax_pages.specs.Contents.{TermPage, term_page}
 use Rattle.ax_pages.specs.TermPages.{IsLastPage, IsNextPage, low_pair}
@@ -16,25 +16,25 @@ use Rattle.ax_store.specs.Kept.{deltas_of}
 use Rattle.ax_index.specs.Bare.{has_deltas, with_deltas}
 use Rattle.ax_index.specs.Planning.{IsUpTo}
 
--- Of an index, a page that still has deltas has so many pairs that its new pages might need a number which
+-- Of an index on an honest disk, a page that still has deltas has so many pairs that its new pages might need a number which
 -- no page may have.
-abbrev pub IsStuck : ℕ → List TermPage → List TermPage → Type 0
-IsStuck number before after =
-    (set : PairSet) → IsIndex before set → has_deltas (term_page number after) ≡ true → (pairs : List Pair)
+abbrev pub IsStuck : Bool → ℕ → List TermPage → List TermPage → Type 0
+IsStuck honest number before after =
+    IsTrue honest → (set : PairSet) → IsIndex before set → has_deltas (term_page number after) ≡ true → (pairs : List Pair)
     → HasPairs (term_page number before) pairs → most_term_pages < length after + length pairs
 
 -- Behind the parts that a batch had, parts were put that change no pair. So many pages fewer have deltas: as
 -- many as were asked for, or else no page has deltas but those that are stuck.
-pub record IsMergePlan (asked merged : ℕ) (old new : List PartValue) (before : List TermPage) : Type 0 where
+pub record IsMergePlan (honest : Bool) (asked merged : ℕ) (old new : List PartValue) (before : List TermPage) : Type 0 where
   pub parts : List PartValue
   pub added : new ≡ old ++ parts
   pub after : List TermPage
   pub lead : LeadTo parts before after
-  pub holds : (set : PairSet) → IsIndex before set → IsIndex after set
+  pub holds : IsTrue honest → (set : PairSet) → IsIndex before set → IsIndex after set
   pub no_deltas : (number : ℕ) → deltas_of number parts ≡ 0
   pub fewer : with_deltas after + merged ≡ with_deltas before
   pub at_most : merged ≤ asked
-  pub finished : merged < asked → (number : ℕ) → number < length before → IsStuck number before after
+  pub finished : merged < asked → (number : ℕ) → number < length before → IsStuck honest number before after
 
 -- the page comes before the one that is next, in the order of low pairs
 abbrev pub IsPassed : Option ℕ → ℕ → List TermPage → Type 0
@@ -52,15 +52,15 @@ IsBehind page None pages = IsLastPage page pages
 IsBehind page (Some next) pages = IsNextPage page next pages
 
 -- The pages before the next one are done. Only clauses of private functions cite it.
-pub record IsMergedTo (at : Option ℕ) (before : List TermPage) (merged next : ℕ) (old new : List PartValue) : Type 0 where
+pub record IsMergedTo (honest : Bool) (at : Option ℕ) (before : List TermPage) (merged next : ℕ) (old new : List PartValue) : Type 0 where
   pub parts : List PartValue
   pub added : new ≡ old ++ parts
   pub now : List TermPage
   pub lead : LeadTo parts before now
   pub longer : length before ≤ length now
-  pub holds : (set : PairSet) → IsIndex before set → IsIndex now set
+  pub holds : IsTrue honest → (set : PairSet) → IsIndex before set → IsIndex now set
   pub no_deltas : (number : ℕ) → deltas_of number parts ≡ 0
   pub fewer : with_deltas now + merged ≡ with_deltas before
   pub next_is : next ≡ length now
   pub ready : IsReady at before now parts
-  pub stuck : (number : ℕ) → number < length before → IsPassed at number before → IsStuck number before now
+  pub stuck : (number : ℕ) → number < length before → IsPassed at number before → IsStuck honest number before now

@@ -1,13 +1,13 @@
 -- How far a plan has come. Only clauses of private functions cite it.
 -- It is this project's own; it comes from no public document.
-use Rattle.std.specs.Prelude.{◌≡◌, ◌≢◌, ℕ, ◌<◌, ◌≤◌, ◌⊎◌, Bool, true, false, if◌then◌else◌, List, [], ◌∷◌, ◌++◌, length}
+use Rattle.std.specs.Prelude.{◌≡◌, ◌≢◌, ℕ, ◌<◌, ◌≤◌, ◌⊎◌, Bool, true, false, if◌then◌else◌, List, [], ◌∷◌, ◌++◌, length, IsTrue}
 use Rattle.std.specs.declared.cmp.Ordering.TheVariants.{Less}
 use Rattle.ax_delta.specs.declared.change.Change.{Change}
 use Rattle.ax_delta.specs.Changes.{changed_pairs}
 use Rattle.ax_delta.specs.Said.{has}
 use Rattle.ax_frame.specs.Part.{PartValue}
-use Rattle.ax_leaf.specs.declared.pair.Pair.{Pair}
-use Rattle.ax_leaf.specs.Pairs.{pair_cmp}
+use Rattle.ax_pair.specs.declared.pair.Pair.{Pair}
+use Rattle.ax_pair.specs.Order.{pair_cmp}
 use Rattle.ax_pages.specs.Contents.{TermPage, term_page}
 use Rattle.ax_pages.specs.TermPages.{IsLastPage, IsNextPage, IsPageOf, low_pair}
 use Rattle.ax_pairs.specs.Index.{IsIndex}
@@ -46,7 +46,7 @@ pub record IsUpTo (bound : Pair) (before now : List TermPage) (parts : List Part
 
 -- What the parts put for one page and the changes of it make of the pages as they are now: new pages have
 -- low pairs before the page that was next.
-pub record IsPageDone (page : ℕ) (changes : List Change) (before now : List TermPage) (parts : List PartValue) (after : List TermPage) (merged : Bool) : Type 0 where
+pub record IsPageDone (honest : Bool) (page : ℕ) (changes : List Change) (before now : List TermPage) (parts : List PartValue) (after : List TermPage) (merged : Bool) : Type 0 where
   pub lead : LeadTo parts now after
   pub longer : length now ≤ length after
   pub lows : (n : ℕ) → n < length now → low_pair n after ≡ low_pair n now
@@ -57,14 +57,14 @@ pub record IsPageDone (page : ℕ) (changes : List Change) (before now : List Te
   pub bases : bases_below (length before) parts ≡ (if merged then 1 else 0)
   pub bare : merged ≡ true → has_deltas (term_page page after) ≡ false
   pub new_bare : (n : ℕ) → length now ≤ n → n < length after → has_deltas (term_page n after) ≡ false
-  pub holds : (set : PairSet) → IsIndex now set → IsIndex after (with_changes changes set)
+  pub holds : IsTrue honest → (set : PairSet) → IsIndex now set → IsIndex after (with_changes changes set)
 
 -- Behind the parts that a batch had such parts were put.
-pub record IsPagePlanned (page : ℕ) (changes : List Change) (before now : List TermPage) (merged : Bool) (next : ℕ) (room : ℕ → ℕ) (old new : List PartValue) : Type 0 where
+pub record IsPagePlanned (honest : Bool) (page : ℕ) (changes : List Change) (before now : List TermPage) (merged : Bool) (next : ℕ) (room : ℕ → ℕ) (old new : List PartValue) : Type 0 where
   pub parts : List PartValue
   pub added : new ≡ old ++ parts
   pub after : List TermPage
-  pub done : IsPageDone page changes before now parts after merged
+  pub done : IsPageDone honest page changes before now parts after merged
   pub next_is : next ≡ length after
   pub enough : deltas_of page parts ≤ room page
 
@@ -74,14 +74,14 @@ IsFirstOf [] page pages = ⊥
 IsFirstOf (change ∷ changes) page pages = IsPageOf change.pair page pages
 
 -- The changes but for the rest are planned.
-pub record IsPlannedTo (changes rest : List Change) (before : List TermPage) (merged next : ℕ) (room : ℕ → ℕ) (old new : List PartValue) : Type 0 where
+pub record IsPlannedTo (honest : Bool) (changes rest : List Change) (before : List TermPage) (merged next : ℕ) (room : ℕ → ℕ) (old new : List PartValue) : Type 0 where
   pub parts : List PartValue
   pub added : new ≡ old ++ parts
   pub done : List Change
   pub whole : changes ≡ done ++ rest
   pub now : List TermPage
   pub lead : LeadTo parts before now
-  pub holds : (set : PairSet) → IsIndex before set → IsIndex now (with_changes done set)
+  pub holds : IsTrue honest → (set : PairSet) → IsIndex before set → IsIndex now (with_changes done set)
   pub merges : merged ≡ bases_below (length before) parts
   pub next_is : next ≡ length now
   pub ready : (page : ℕ) → IsFirstOf rest page before → IsUpTo (low_pair page before) before now parts

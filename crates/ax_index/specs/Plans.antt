@@ -1,6 +1,6 @@
 -- What the parts of a plan make of the term pages: exactly the changes asked for, by few bases.
 -- It is this project's own; it comes from no public document.
-use Rattle.std.specs.Prelude.{◌≡◌, ℕ, ◌≤◌, List, ◌++◌, length}
+use Rattle.std.specs.Prelude.{◌≡◌, ℕ, ◌≤◌, Bool, List, ◌++◌, length, IsTrue}
 use Rattle.ax_delta.specs.declared.change.Change.{Change}
 use Rattle.ax_frame.specs.Part.{PartValue}
 use Rattle.ax_pages.specs.Contents.{TermPage}
@@ -9,20 +9,21 @@ use Rattle.ax_pairs.specs.PairSets.{PairSet, with_changes}
 use Rattle.ax_pairs.specs.TermParts.{LeadTo, bases_below}
 use Rattle.ax_store.specs.declared.store.Store.{Store}
 use Rattle.ax_store.specs.Kept.{deltas_of}
-use Rattle.ax_store.specs.Store.{store_contents, store_failed, store_offsets, store_slots}
+use Rattle.ax_store.specs.Store.{store_contents, store_offsets, store_slots}
 
 -- the most pages that are merged in one batch
 abbrev pub most_merged : ℕ
 most_merged = 16
 
--- Behind the parts that a batch had, parts were put that make the changes in the set which the pages hold. So
--- many of them are bases of pages that were there, and those are few.
-pub record IsPlan (changes : List Change) (merged : ℕ) (old new : List PartValue) (before : List TermPage) : Type 0 where
+-- Behind the parts that a batch had, parts were put that make the changes in the set which the pages hold, where
+-- the disk from which parts were read is honest. So many of them are bases of pages that were there, and those are
+-- few.
+pub record IsPlan (honest : Bool) (changes : List Change) (merged : ℕ) (old new : List PartValue) (before : List TermPage) : Type 0 where
   pub parts : List PartValue
   pub added : new ≡ old ++ parts
   pub after : List TermPage
   pub lead : LeadTo parts before after
-  pub holds : (set : PairSet) → IsIndex before set → IsIndex after (with_changes changes set)
+  pub holds : IsTrue honest → (set : PairSet) → IsIndex before set → IsIndex after (with_changes changes set)
   pub merges : merged ≡ bases_below (length before) parts
   pub few : merged ≤ most_merged
 
@@ -30,10 +31,9 @@ pub record IsPlan (changes : List Change) (merged : ℕ) (old new : List PartVal
 abbrev pub HasNoDeltas : List PartValue → Type 0
 HasNoDeltas parts = (number : ℕ) → deltas_of number parts ≡ 0
 
--- nothing changed but the room, and the bytes of slots
+-- nothing changed but the room, the bytes of slots and what the cache holds; and the store may have failed
 pub record SameButRoomAndBytes {C : Type 0} (old new : Store C) : Type 0 where
   pub logged : new.log ≡ old.log
   pub contents : store_contents new ≡ store_contents old
   pub offsets : store_offsets new ≡ store_offsets old
-  pub failed : store_failed new ≡ store_failed old
   pub taken : (store_slots new).taken ≡ (store_slots old).taken

@@ -3,21 +3,21 @@
 use Rattle.std.specs.Prelude.{◌≡◌, ◌↔◌, ◌⊎◌, ℕ, ◌+◌, ◌<◌, true, List, [], ◌∷◌, length, Option, Some, None, is_some, if◌then◌else◌}
 use Rattle.std.specs.declared.cmp.Ordering.TheVariants.{Greater}
 use Rattle.std.specs.Ordering.{is_lt}
-use Rattle.ax_leaf.specs.declared.pair.Pair.{Pair}
-use Rattle.ax_leaf.specs.Pairs.{pair_cmp}
+use Rattle.ax_pair.specs.declared.pair.Pair.{Pair}
+use Rattle.ax_pair.specs.Order.{pair_cmp}
 use Rattle.ax_delta.specs.Said.{has, has_number}
 use Rattle.ax_pages.specs.Contents.{TermPage, low_of}
 use Rattle.ax_pages.specs.TermPages.{low_pair}
 use Rattle.ax_store.specs.declared.store.Store.{Store}
-use Rattle.ax_store.specs.Store.{SameButSlots, store_slots}
+use Rattle.ax_store.specs.Store.{SameButReads, store_slots}
 use Rattle.ax_term.specs.Ranges.{is_in_range}
 use Rattle.ax_term.specs.declared.range.TermRange.{TermRange}
 use Rattle.ax_index.specs.declared.wanted.Wanted.{Wanted}
 use Rattle.ax_index.specs.Wanted.{is_wanted}
 
--- nothing changed but the bytes of slots
+-- nothing changed but the bytes of slots and the cache, and the store may have failed
 pub record SameButBytes {C : Type 0} (old new : Store C) : Type 0 where
-  pub same : SameButSlots old new
+  pub same : SameButReads old new
   pub taken : (store_slots new).taken ≡ (store_slots old).taken
 
 -- the position of a page's oldest delta among its parts

@@ -2,8 +2,8 @@
 -- range. It is this project's own; it comes from no public document.
 use Rattle.std.specs.Prelude.{◌≡◌, ◌↔◌, ℕ, Bool, true, List}
 use Rattle.ax_gap.specs.Gaps.{IsRisingList}
-use Rattle.ax_leaf.specs.declared.pair.Pair.{Pair}
-use Rattle.ax_leaf.specs.Pairs.{Rise}
+use Rattle.ax_pair.specs.declared.pair.Pair.{Pair}
+use Rattle.ax_pair.specs.Order.{Rise}
 use Rattle.ax_delta.specs.Said.{has, has_number}
 use Rattle.ax_pairs.specs.PairSets.{PairSet}
 use Rattle.ax_term.specs.Ranges.{is_in_range}

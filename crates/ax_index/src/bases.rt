@@ -1,8 +1,8 @@
 //! A page written anew: its base, and new pages for the pairs that it is not to have.
 
 ghost use Rattle.std.specs.Prelude.{◌≡◌, ◌<◌, List, length, true, false, ◌+◌, ◌⊎◌, IsTrue, OnOk, IfOk};
-ghost use Rattle.ax_leaf.specs.declared.pair.Pair.{Pair};
-ghost use Rattle.ax_leaf.specs.Pairs.{Rise, BeginsFrom};
+ghost use Rattle.ax_pair.specs.declared.pair.Pair.{Pair};
+ghost use Rattle.ax_pair.specs.Order.{Rise, BeginsFrom};
 ghost use Rattle.ax_pages.specs.AfterPart.{most_term_pages};
 ghost use Rattle.ax_pages.specs.Contents.{TermPage};
 ghost use Rattle.ax_pages.specs.TermPages.{low_pair};
@@ -15,7 +15,7 @@ use crate::out_of_memory::Memory;
 use crate::parts::put_base;
 use crate::runs::all_belong;
 use crate::sizes::{base_len, new_pages};
-use ax_leaf::{Bytes, Pair};
+use ax_pair::{Bytes, Pair};
 use ax_store::{Batch, Store};
 use std::alloc::Global;
 

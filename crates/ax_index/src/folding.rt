@@ -1,9 +1,8 @@
 //! The pairs of a term page: those of its base, merged with its deltas, the oldest first.
 
 ghost use Rattle.std.specs.Prelude.{◌≡◌, ◌<◌, List, [], ◌∷◌, ◌++◌, IsTrue, IfOk, IfErr, OnOk, MatchOption, false, length};
-ghost use Rattle.ax_disk.specs.model.Calls.{Idles};
-ghost use Rattle.ax_leaf.specs.declared.pair.Pair.{Pair};
-ghost use Rattle.ax_leaf.specs.Pairs.{Rise};
+ghost use Rattle.ax_pair.specs.declared.pair.Pair.{Pair};
+ghost use Rattle.ax_pair.specs.Order.{Rise};
 ghost use Rattle.ax_delta.specs.Changes.{TermChange};
 ghost use Rattle.ax_delta.specs.Merge.{IsMerge};
 ghost use Rattle.ax_delta.specs.Payload.{IsDelta};
@@ -11,24 +10,27 @@ ghost use Rattle.ax_pages.specs.Contents.{parts_of, term_page};
 ghost use Rattle.ax_pairs.specs.PagePairs.{AreOfBase, HasPairs, IsBase};
 ghost use Rattle.ax_store.specs.Faults.{HasDiskCause};
 ghost use Rattle.ax_store.specs.Slots.{IsSlotOf, part_at};
-ghost use Rattle.ax_store.specs.Store.{SameButSlots, store_contents, store_slots, store_failed};
-ghost use Rattle.ax_index.specs.Damage.{TellsPart, is_base_at};
-ghost use Rattle.ax_index.specs.Reading.{SameButBytes, wanted_of};
+ghost use Rattle.ax_store.specs.Store.{AgreesUnlessFailed, store_contents, store_failed};
+ghost use Rattle.ax_index.specs.Reads.{Reads};
+ghost use Rattle.ax_index.specs.Damage.{FailsBy, TellsPart, is_base_at};
+ghost use Rattle.ax_index.specs.Reading.{wanted_of};
 ghost use Rattle.ax_index.specs.Wanted.{HaveWanted};
 
 use crate::damage::damaged_at;
 use crate::looking::oldest_delta;
 use crate::payload::payload_in;
 use crate::wanted::Wanted;
+use ax_cache::PageCache;
 use ax_disk::Disk;
-use ax_leaf::{Bytes, Memory, Pair, PairCursor};
+use ax_leaf::{Memory, PairCursor};
 use ax_pages::Page;
+use ax_pair::{Bytes, Pair};
 use ax_pool::Slot;
 use ax_store::{Store, StoreFault};
 use std::alloc::Global;
 
 /// The pairs of a term page, of which those of other terms than the wanted ones may be left out.
-pub(crate) fn folded<D: Disk, C>(
+pub(crate) fn folded<D: Disk, C: PageCache>(
     alloc: Global,
     store: &mut Store<C>,
     disk: &mut D,
@@ -38,15 +40,17 @@ pub(crate) fn folded<D: Disk, C>(
 ) -> Result<Vec<Pair>, StoreFault>
     requires page { page < length (store_contents store.old).terms }
     requires slot { IsSlotOf store.old slot.old }
+    requires agrees { AgreesUnlessFailed C.pages (D.is_honest disk.old) store.old
+        (D.history disk.old (D.attached disk.old)) }
     ensures rise { IfOk result (λ kept. Rise kept.items) }
-    ensures has { (pairs : List Pair) → HasPairs (term_page page (store_contents store.old).terms) pairs
+    ensures has { IsTrue (D.is_honest disk.old) → (pairs : List Pair) → HasPairs (term_page page (store_contents store.old).terms) pairs
         → IfOk result (λ kept. HaveWanted wanted.now pairs kept.items) }
-    ensures told { IfErr result (TellsPart store.old) }
-    ensures same { SameButSlots store.old store.new }
-    ensures slots { (store_slots store.new).taken ≡ (store_slots store.old).taken }
+    ensures told { IsTrue (D.is_honest disk.old) → IfErr result (TellsPart store.old) }
+    ensures reads { Reads C.pages (D.is_honest disk.old) store.old store.new
+        (D.history disk.old (D.attached disk.old)) (D.history disk.new (D.attached disk.new))
+        (D.faults disk.old) (D.faults disk.new) }
+    ensures fails { FailsBy result (store_failed store.old) (store_failed store.new) }
     ensures slot { slot.new ≡ slot.old }
-    ensures lists { IsTrue (D.is_honest disk.old)
-        → Idles (D.history disk.old (D.attached disk.old)) (D.history disk.new (D.attached disk.new)) }
     ensures cause { store_failed store.old ≡ false → HasDiskCause result (D.faults disk.old) (D.faults disk.new) }
     ensures attached { D.attached disk.new ≡ D.attached disk.old }
     ensures honest { D.is_honest disk.new ≡ D.is_honest disk.old }
@@ -67,7 +71,7 @@ pub(crate) fn folded<D: Disk, C>(
 }
 
 /// The pairs of the wanted terms in a page's base.
-fn base_pairs<D: Disk, C>(
+fn base_pairs<D: Disk, C: PageCache>(
     alloc: Global,
     store: &mut Store<C>,
     disk: &mut D,
@@ -75,15 +79,18 @@ fn base_pairs<D: Disk, C>(
     page: u32,
     wanted: &Wanted<'_>,
 ) -> Result<Vec<Pair>, StoreFault>
-    requires { IsSlotOf store.old slot.old }
+    requires slot { IsSlotOf store.old slot.old }
+    requires agrees { AgreesUnlessFailed C.pages (D.is_honest disk.old) store.old
+        (D.history disk.old (D.attached disk.old)) }
     ensures rise { IfOk result (λ kept. Rise kept.items) }
-    ensures has { (base : List Pair) → AreOfBase (term_page page (store_contents store.old).terms).base base
+    ensures has { IsTrue (D.is_honest disk.old) → (base : List Pair) → AreOfBase (term_page page (store_contents store.old).terms).base base
         → IfOk result (λ kept. kept.items ≡ wanted_of wanted.now base) }
-    ensures told { IfErr result (TellsPart store.old) }
-    ensures same { SameButBytes store.old store.new }
+    ensures told { IsTrue (D.is_honest disk.old) → IfErr result (TellsPart store.old) }
+    ensures reads { Reads C.pages (D.is_honest disk.old) store.old store.new
+        (D.history disk.old (D.attached disk.old)) (D.history disk.new (D.attached disk.new))
+        (D.faults disk.old) (D.faults disk.new) }
+    ensures fails { FailsBy result (store_failed store.old) (store_failed store.new) }
     ensures slot { slot.new ≡ slot.old }
-    ensures lists { IsTrue (D.is_honest disk.old)
-        → Idles (D.history disk.old (D.attached disk.old)) (D.history disk.new (D.attached disk.new)) }
     ensures cause { store_failed store.old ≡ false → HasDiskCause result (D.faults disk.old) (D.faults disk.new) }
     ensures attached { D.attached disk.new ≡ D.attached disk.old }
     ensures honest { D.is_honest disk.new ≡ D.is_honest disk.old }
@@ -152,7 +159,7 @@ fn put_pair(alloc: Global, pairs: &mut Vec<Pair>, term: &[u8], number: u32) -> R
 }
 
 /// The pairs after a delta of a page, of those before it.
-fn merge_at<D: Disk, C>(
+fn merge_at<D: Disk, C: PageCache>(
     alloc: Global,
     store: &mut Store<C>,
     disk: &mut D,
@@ -164,15 +171,18 @@ fn merge_at<D: Disk, C>(
     requires part { i < length (parts_of (Page.Term page) (store_contents store.old)) }
     requires delta { is_base_at (term_page page (store_contents store.old).terms) i ≡ false }
     requires slot { IsSlotOf store.old slot.old }
+    requires agrees { AgreesUnlessFailed C.pages (D.is_honest disk.old) store.old
+        (D.history disk.old (D.attached disk.old)) }
     requires rise { Rise pairs.items }
     ensures rise { IfOk result (λ after. Rise after.items) }
-    ensures merged { (changes : List TermChange) → IsDelta (part_at (Page.Term page) i (store_contents store.old)) changes
+    ensures merged { IsTrue (D.is_honest disk.old) → (changes : List TermChange) → IsDelta (part_at (Page.Term page) i (store_contents store.old)) changes
         → IfOk result (λ after. IsMerge pairs.items changes after.items) }
-    ensures told { IfErr result (TellsPart store.old) }
-    ensures same { SameButBytes store.old store.new }
+    ensures told { IsTrue (D.is_honest disk.old) → IfErr result (TellsPart store.old) }
+    ensures reads { Reads C.pages (D.is_honest disk.old) store.old store.new
+        (D.history disk.old (D.attached disk.old)) (D.history disk.new (D.attached disk.new))
+        (D.faults disk.old) (D.faults disk.new) }
+    ensures fails { FailsBy result (store_failed store.old) (store_failed store.new) }
     ensures slot { slot.new ≡ slot.old }
-    ensures lists { IsTrue (D.is_honest disk.old)
-        → Idles (D.history disk.old (D.attached disk.old)) (D.history disk.new (D.attached disk.new)) }
     ensures cause { store_failed store.old ≡ false → HasDiskCause result (D.faults disk.old) (D.faults disk.new) }
     ensures attached { D.attached disk.new ≡ D.attached disk.old }
     ensures honest { D.is_honest disk.new ≡ D.is_honest disk.old }

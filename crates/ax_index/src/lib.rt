@@ -24,7 +24,7 @@ mod sizes;
 mod wanted;
 
 pub use ax_delta::Change;
-pub use ax_leaf::Pair;
+pub use ax_pair::Pair;
 pub use ax_store::StoreFault;
 pub use ax_term::TermRange;
 pub use looking::has;

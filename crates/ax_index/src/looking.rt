@@ -1,8 +1,7 @@
 //! Whether a pair is in the set: the newest part of its page that says something of it tells.
 
 ghost use Rattle.std.specs.Prelude.{◌≡◌, ◌<◌, ◌≤◌, List, IsTrue, IfOk, IfErr, IfNone, Some, Err, false, length};
-ghost use Rattle.ax_disk.specs.model.Calls.{Idles};
-ghost use Rattle.ax_leaf.specs.declared.pair.Pair.{Pair};
+ghost use Rattle.ax_pair.specs.declared.pair.Pair.{Pair};
 ghost use Rattle.ax_delta.specs.Changes.{TermChange};
 ghost use Rattle.ax_delta.specs.Payload.{IsDelta};
 ghost use Rattle.ax_delta.specs.Said.{has as has_pair, last_said, said_of};
@@ -13,17 +12,19 @@ ghost use Rattle.ax_pairs.specs.PairSets.{PairSet};
 ghost use Rattle.ax_pool.specs.Frames.{free_count};
 ghost use Rattle.ax_store.specs.Faults.{HasDiskCause};
 ghost use Rattle.ax_store.specs.Slots.{IsSlotOf, part_at};
-ghost use Rattle.ax_store.specs.Store.{SameButSlots, store_contents, store_slots, store_failed};
-ghost use Rattle.ax_index.specs.Damage.{TellsPart, is_base_at};
-ghost use Rattle.ax_index.specs.Reading.{SameButBytes, first_delta};
+ghost use Rattle.ax_store.specs.Store.{AgreesUnlessFailed, store_contents, store_slots, store_failed};
+ghost use Rattle.ax_index.specs.Damage.{TellsPart, FailsBy, is_base_at};
+ghost use Rattle.ax_index.specs.Reading.{first_delta};
+ghost use Rattle.ax_index.specs.Reads.{Reads};
 
 use crate::damage::damaged_at;
 use crate::number_lookup::has_one;
 use crate::payload::payload_in;
 use crate::runs::page_of_pair;
+use ax_cache::PageCache;
 use ax_disk::Disk;
-use ax_leaf::Pair;
 use ax_pages::Page;
+use ax_pair::Pair;
 use ax_pool::Slot;
 use ax_store::{Store, StoreFault};
 
@@ -32,15 +33,21 @@ use ax_store::{Store, StoreFault};
 ///
 /// `Disk` where a read failed, and the disk's count of faults rose, or where the store had failed
 /// before; `Damaged` where the payload of a part that was read is outside its grammar, with its place.
-pub fn has<D: Disk, C>(store: &mut Store<C>, disk: &mut D, pair: &Pair) -> Result<bool, StoreFault>
-    requires { 2 ≤ free_count (store_slots store.old) }
-    ensures has { (set : PairSet) → IsIndex (store_contents store.old).terms set → IfOk result (λ found. found ≡ set pair.now) }
-    ensures told { IfErr result (TellsPart store.old) }
+pub fn has<D: Disk, C: PageCache>(
+    store: &mut Store<C>,
+    disk: &mut D,
+    pair: &Pair,
+) -> Result<bool, StoreFault>
+    requires free { 2 ≤ free_count (store_slots store.old) }
+    requires agrees { AgreesUnlessFailed C.pages (D.is_honest disk.old) store.old
+        (D.history disk.old (D.attached disk.old)) }
+    ensures has { IsTrue (D.is_honest disk.old) → (set : PairSet) → IsIndex (store_contents store.old).terms set → IfOk result (λ found. found ≡ set pair.now) }
+    ensures told { IsTrue (D.is_honest disk.old) → IfErr result (TellsPart store.old) }
     ensures no_memory { result ≡ Err StoreFault.Memory → ⊥ }
-    ensures same { SameButSlots store.old store.new }
-    ensures slots { (store_slots store.new).taken ≡ (store_slots store.old).taken }
-    ensures lists { IsTrue (D.is_honest disk.old)
-        → Idles (D.history disk.old (D.attached disk.old)) (D.history disk.new (D.attached disk.new)) }
+    ensures reads { Reads C.pages (D.is_honest disk.old) store.old store.new
+        (D.history disk.old (D.attached disk.old)) (D.history disk.new (D.attached disk.new))
+        (D.faults disk.old) (D.faults disk.new) }
+    ensures fails { FailsBy result (store_failed store.old) (store_failed store.new) }
     ensures cause { store_failed store.old ≡ false → HasDiskCause result (D.faults disk.old) (D.faults disk.new) }
     ensures attached { D.attached disk.new ≡ D.attached disk.old }
     ensures honest { D.is_honest disk.new ≡ D.is_honest disk.old }
@@ -54,20 +61,23 @@ pub fn has<D: Disk, C>(store: &mut Store<C>, disk: &mut D, pair: &Pair) -> Resul
 }
 
 /// Whether a pair is in the set, by a slot that was taken.
-fn has_by<D: Disk, C>(
+fn has_by<D: Disk, C: PageCache>(
     store: &mut Store<C>,
     disk: &mut D,
     slot: &mut Slot,
     pair: &Pair,
 ) -> Result<bool, StoreFault>
-    requires { IsSlotOf store.old slot.old }
-    ensures has { (set : PairSet) → IsIndex (store_contents store.old).terms set → IfOk result (λ found. found ≡ set pair.now) }
-    ensures told { IfErr result (TellsPart store.old) }
+    requires slot { IsSlotOf store.old slot.old }
+    requires agrees { AgreesUnlessFailed C.pages (D.is_honest disk.old) store.old
+        (D.history disk.old (D.attached disk.old)) }
+    ensures has { IsTrue (D.is_honest disk.old) → (set : PairSet) → IsIndex (store_contents store.old).terms set → IfOk result (λ found. found ≡ set pair.now) }
+    ensures told { IsTrue (D.is_honest disk.old) → IfErr result (TellsPart store.old) }
     ensures no_memory { result ≡ Err StoreFault.Memory → ⊥ }
-    ensures same { SameButBytes store.old store.new }
     ensures slot { slot.new ≡ slot.old }
-    ensures lists { IsTrue (D.is_honest disk.old)
-        → Idles (D.history disk.old (D.attached disk.old)) (D.history disk.new (D.attached disk.new)) }
+    ensures reads { Reads C.pages (D.is_honest disk.old) store.old store.new
+        (D.history disk.old (D.attached disk.old)) (D.history disk.new (D.attached disk.new))
+        (D.faults disk.old) (D.faults disk.new) }
+    ensures fails { FailsBy result (store_failed store.old) (store_failed store.new) }
     ensures cause { store_failed store.old ≡ false → HasDiskCause result (D.faults disk.old) (D.faults disk.new) }
     ensures attached { D.attached disk.new ≡ D.attached disk.old }
     ensures honest { D.is_honest disk.new ≡ D.is_honest disk.old }
@@ -84,22 +94,25 @@ fn has_by<D: Disk, C>(
 }
 
 /// What the deltas of a page say of a pair: the newest that says something of it counts.
-fn look_back<D: Disk, C>(
+fn look_back<D: Disk, C: PageCache>(
     store: &mut Store<C>,
     disk: &mut D,
     slot: &mut Slot,
     page: u32,
     pair: &Pair,
 ) -> Result<Option<bool>, StoreFault>
-    requires { IsSlotOf store.old slot.old }
-    ensures said { (deltas : List (List TermChange)) → AreDeltas (term_page page (store_contents store.old).terms).deltas deltas
+    requires slot { IsSlotOf store.old slot.old }
+    requires agrees { AgreesUnlessFailed C.pages (D.is_honest disk.old) store.old
+        (D.history disk.old (D.attached disk.old)) }
+    ensures said { IsTrue (D.is_honest disk.old) → (deltas : List (List TermChange)) → AreDeltas (term_page page (store_contents store.old).terms).deltas deltas
         → IfOk result (λ said. said ≡ last_said pair.now deltas) }
-    ensures told { IfErr result (TellsPart store.old) }
+    ensures told { IsTrue (D.is_honest disk.old) → IfErr result (TellsPart store.old) }
     ensures no_memory { result ≡ Err StoreFault.Memory → ⊥ }
-    ensures same { SameButBytes store.old store.new }
+    ensures reads { Reads C.pages (D.is_honest disk.old) store.old store.new
+        (D.history disk.old (D.attached disk.old)) (D.history disk.new (D.attached disk.new))
+        (D.faults disk.old) (D.faults disk.new) }
+    ensures fails { FailsBy result (store_failed store.old) (store_failed store.new) }
     ensures slot { slot.new ≡ slot.old }
-    ensures lists { IsTrue (D.is_honest disk.old)
-        → Idles (D.history disk.old (D.attached disk.old)) (D.history disk.new (D.attached disk.new)) }
     ensures cause { store_failed store.old ≡ false → HasDiskCause result (D.faults disk.old) (D.faults disk.new) }
     ensures attached { D.attached disk.new ≡ D.attached disk.old }
     ensures honest { D.is_honest disk.new ≡ D.is_honest disk.old }
@@ -127,7 +140,7 @@ pub(crate) fn oldest_delta<C>(store: &Store<C>, page: u32) -> usize
 }
 
 /// What a delta of a page says of a pair.
-fn look_at<D: Disk, C>(
+fn look_at<D: Disk, C: PageCache>(
     store: &mut Store<C>,
     disk: &mut D,
     slot: &mut Slot,
@@ -138,14 +151,17 @@ fn look_at<D: Disk, C>(
     requires part { i < length (parts_of (Page.Term page) (store_contents store.old)) }
     requires delta { is_base_at (term_page page (store_contents store.old).terms) i ≡ false }
     requires slot { IsSlotOf store.old slot.old }
-    ensures said { (changes : List TermChange) → IsDelta (part_at (Page.Term page) i (store_contents store.old)) changes
+    requires agrees { AgreesUnlessFailed C.pages (D.is_honest disk.old) store.old
+        (D.history disk.old (D.attached disk.old)) }
+    ensures said { IsTrue (D.is_honest disk.old) → (changes : List TermChange) → IsDelta (part_at (Page.Term page) i (store_contents store.old)) changes
         → IfOk result (λ said. said ≡ said_of pair.now changes) }
-    ensures told { IfErr result (TellsPart store.old) }
+    ensures told { IsTrue (D.is_honest disk.old) → IfErr result (TellsPart store.old) }
     ensures no_memory { result ≡ Err StoreFault.Memory → ⊥ }
-    ensures same { SameButBytes store.old store.new }
+    ensures reads { Reads C.pages (D.is_honest disk.old) store.old store.new
+        (D.history disk.old (D.attached disk.old)) (D.history disk.new (D.attached disk.new))
+        (D.faults disk.old) (D.faults disk.new) }
+    ensures fails { FailsBy result (store_failed store.old) (store_failed store.new) }
     ensures slot { slot.new ≡ slot.old }
-    ensures lists { IsTrue (D.is_honest disk.old)
-        → Idles (D.history disk.old (D.attached disk.old)) (D.history disk.new (D.attached disk.new)) }
     ensures cause { store_failed store.old ≡ false → HasDiskCause result (D.faults disk.old) (D.faults disk.new) }
     ensures attached { D.attached disk.new ≡ D.attached disk.old }
     ensures honest { D.is_honest disk.new ≡ D.is_honest disk.old }
@@ -170,22 +186,25 @@ fn delta_says(payload: &[u8], pair: &Pair) -> Option<Option<bool>>
 }
 
 /// Whether a pair is among those of a page's base.
-fn base_has<D: Disk, C>(
+fn base_has<D: Disk, C: PageCache>(
     store: &mut Store<C>,
     disk: &mut D,
     slot: &mut Slot,
     page: u32,
     pair: &Pair,
 ) -> Result<bool, StoreFault>
-    requires { IsSlotOf store.old slot.old }
-    ensures has { (base : List Pair) → AreOfBase (term_page page (store_contents store.old).terms).base base
+    requires slot { IsSlotOf store.old slot.old }
+    requires agrees { AgreesUnlessFailed C.pages (D.is_honest disk.old) store.old
+        (D.history disk.old (D.attached disk.old)) }
+    ensures has { IsTrue (D.is_honest disk.old) → (base : List Pair) → AreOfBase (term_page page (store_contents store.old).terms).base base
         → IfOk result (λ found. found ≡ has_pair pair.now base) }
-    ensures told { IfErr result (TellsPart store.old) }
+    ensures told { IsTrue (D.is_honest disk.old) → IfErr result (TellsPart store.old) }
     ensures no_memory { result ≡ Err StoreFault.Memory → ⊥ }
-    ensures same { SameButBytes store.old store.new }
     ensures slot { slot.new ≡ slot.old }
-    ensures lists { IsTrue (D.is_honest disk.old)
-        → Idles (D.history disk.old (D.attached disk.old)) (D.history disk.new (D.attached disk.new)) }
+    ensures reads { Reads C.pages (D.is_honest disk.old) store.old store.new
+        (D.history disk.old (D.attached disk.old)) (D.history disk.new (D.attached disk.new))
+        (D.faults disk.old) (D.faults disk.new) }
+    ensures fails { FailsBy result (store_failed store.old) (store_failed store.new) }
     ensures cause { store_failed store.old ≡ false → HasDiskCause result (D.faults disk.old) (D.faults disk.new) }
     ensures attached { D.attached disk.new ≡ D.attached disk.old }
     ensures honest { D.is_honest disk.new ≡ D.is_honest disk.old }

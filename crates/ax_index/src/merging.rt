@@ -1,9 +1,8 @@
 //! Merging term pages: bases in the place of all parts of pages that have deltas.
 
 ghost use Rattle.std.specs.Prelude.{◌≡◌, ◌<◌, ◌≤◌, ◌+◌, ℕ, List, Option, Some, [], IsTrue, IfOk, IfErr, OnOk, if◌then◌else◌, true, false, length};
-ghost use Rattle.ax_disk.specs.model.Calls.{Idles};
 ghost use Rattle.ax_frame.specs.Part.{PartValue};
-ghost use Rattle.ax_leaf.specs.declared.pair.Pair.{Pair};
+ghost use Rattle.ax_pair.specs.declared.pair.Pair.{Pair};
 ghost use Rattle.ax_pages.specs.AfterPart.{most_term_pages};
 ghost use Rattle.ax_pages.specs.Contents.{TermPage, term_page};
 ghost use Rattle.ax_pages.specs.TermPages.{low_pair};
@@ -14,19 +13,20 @@ ghost use Rattle.ax_pool.specs.Frames.{free_count};
 ghost use Rattle.ax_store.specs.Batch.{batch_parts};
 ghost use Rattle.ax_store.specs.Faults.{HasDiskCause};
 ghost use Rattle.ax_store.specs.Slots.{IsSlotOf};
-ghost use Rattle.ax_store.specs.Store.{store_contents, store_failed, store_slots, store_spare};
+ghost use Rattle.ax_store.specs.Store.{AgreesUnlessFailed, store_contents, store_failed, store_slots, store_spare};
 ghost use Rattle.ax_index.specs.Bare.{has_deltas as does_have_deltas};
-ghost use Rattle.ax_index.specs.Damage.{TellsPart};
+ghost use Rattle.ax_index.specs.Damage.{FailsBy, TellsPart};
 ghost use Rattle.ax_index.specs.Merging.{IsBehind, IsMergePlan, IsMergedTo};
 ghost use Rattle.ax_index.specs.Planning.{IsUpTo, IsPagePlanned};
-ghost use Rattle.ax_index.specs.Plans.{HasNoDeltas, SameButRoomAndBytes};
-ghost use Rattle.ax_index.specs.Reading.{SameButBytes};
+ghost use Rattle.ax_index.specs.Plans.{HasNoDeltas};
+ghost use Rattle.ax_index.specs.Reads.{Reads, Reserves};
 
 use crate::bases::rewrite;
 use crate::folding::folded;
 use crate::looking::oldest_delta;
 use crate::plan::{as_number, reserve};
 use crate::wanted::Wanted;
+use ax_cache::PageCache;
 use ax_disk::Disk;
 use ax_pages::Page;
 use ax_pool::Slot;
@@ -40,7 +40,7 @@ use std::alloc::Global;
 ///
 /// `Disk`, `Damaged`: as `has`. `Memory` where there is no room; the store is then as before but for room,
 /// and the batch may hold further parts.
-pub fn merge_some<D: Disk, C>(
+pub fn merge_some<D: Disk, C: PageCache>(
     alloc: Global,
     store: &mut Store<C>,
     disk: &mut D,
@@ -48,13 +48,16 @@ pub fn merge_some<D: Disk, C>(
     batch: &mut Batch,
 ) -> Result<u32, StoreFault>
     requires slots { 2 ≤ free_count (store_slots store.old) }
+    requires agrees { AgreesUnlessFailed C.pages (D.is_honest disk.old) store.old
+        (D.history disk.old (D.attached disk.old)) }
     requires none { HasNoDeltas (batch_parts batch.old) }
-    ensures merged { IfOk result (λ merged. IsMergePlan n merged (batch_parts batch.old) (batch_parts batch.new) (store_contents store.old).terms) }
+    ensures merged { IfOk result (λ merged. IsMergePlan (D.is_honest disk.old) n merged (batch_parts batch.old) (batch_parts batch.new) (store_contents store.old).terms) }
     ensures room { OnOk result (length (batch_parts batch.new) ≤ store_spare store.new) }
-    ensures told { IfErr result (TellsPart store.old) }
-    ensures same { SameButRoomAndBytes store.old store.new }
-    ensures lists { IsTrue (D.is_honest disk.old)
-        → Idles (D.history disk.old (D.attached disk.old)) (D.history disk.new (D.attached disk.new)) }
+    ensures told { IsTrue (D.is_honest disk.old) → IfErr result (TellsPart store.old) }
+    ensures reserves { Reserves C.pages (D.is_honest disk.old) store.old store.new
+        (D.history disk.old (D.attached disk.old)) (D.history disk.new (D.attached disk.new))
+        (D.faults disk.old) (D.faults disk.new) }
+    ensures fails { FailsBy result (store_failed store.old) (store_failed store.new) }
     ensures cause { store_failed store.old ≡ false → HasDiskCause result (D.faults disk.old) (D.faults disk.new) }
     ensures attached { D.attached disk.new ≡ D.attached disk.old }
     ensures honest { D.is_honest disk.new ≡ D.is_honest disk.old }
@@ -68,7 +71,7 @@ pub fn merge_some<D: Disk, C>(
 }
 
 /// The same with a slot.
-fn merge_by<D: Disk, C>(
+fn merge_by<D: Disk, C: PageCache>(
     alloc: Global,
     store: &mut Store<C>,
     disk: &mut D,
@@ -76,14 +79,17 @@ fn merge_by<D: Disk, C>(
     n: u32,
     batch: &mut Batch,
 ) -> Result<u32, StoreFault>
-    requires { IsSlotOf store.old slot.old }
-    ensures merged { IfOk result (λ merged. IsMergePlan n merged (batch_parts batch.old) (batch_parts batch.new) (store_contents store.old).terms) }
+    requires slot { IsSlotOf store.old slot.old }
+    requires agrees { AgreesUnlessFailed C.pages (D.is_honest disk.old) store.old
+        (D.history disk.old (D.attached disk.old)) }
+    ensures merged { IfOk result (λ merged. IsMergePlan (D.is_honest disk.old) n merged (batch_parts batch.old) (batch_parts batch.new) (store_contents store.old).terms) }
     ensures room { OnOk result (length (batch_parts batch.new) ≤ store_spare store.new) }
-    ensures told { IfErr result (TellsPart store.old) }
-    ensures same { SameButRoomAndBytes store.old store.new }
+    ensures told { IsTrue (D.is_honest disk.old) → IfErr result (TellsPart store.old) }
     ensures slot { slot.new ≡ slot.old }
-    ensures lists { IsTrue (D.is_honest disk.old)
-        → Idles (D.history disk.old (D.attached disk.old)) (D.history disk.new (D.attached disk.new)) }
+    ensures reserves { Reserves C.pages (D.is_honest disk.old) store.old store.new
+        (D.history disk.old (D.attached disk.old)) (D.history disk.new (D.attached disk.new))
+        (D.faults disk.old) (D.faults disk.new) }
+    ensures fails { FailsBy result (store_failed store.old) (store_failed store.new) }
     ensures cause { store_failed store.old ≡ false → HasDiskCause result (D.faults disk.old) (D.faults disk.new) }
     ensures attached { D.attached disk.new ≡ D.attached disk.old }
     ensures honest { D.is_honest disk.new ≡ D.is_honest disk.old }
@@ -99,7 +105,7 @@ fn merge_by<D: Disk, C>(
 }
 
 /// Merges pages in the order of their low pairs.
-fn merge_pages<D: Disk, C>(
+fn merge_pages<D: Disk, C: PageCache>(
     alloc: Global,
     store: &mut Store<C>,
     disk: &mut D,
@@ -107,13 +113,16 @@ fn merge_pages<D: Disk, C>(
     n: u32,
     batch: &mut Batch,
 ) -> Result<u32, StoreFault>
-    requires { IsSlotOf store.old slot.old }
-    ensures merged { IfOk result (λ merged. IsMergePlan n merged (batch_parts batch.old) (batch_parts batch.new) (store_contents store.old).terms) }
-    ensures told { IfErr result (TellsPart store.old) }
-    ensures same { SameButBytes store.old store.new }
+    requires slot { IsSlotOf store.old slot.old }
+    requires agrees { AgreesUnlessFailed C.pages (D.is_honest disk.old) store.old
+        (D.history disk.old (D.attached disk.old)) }
+    ensures merged { IfOk result (λ merged. IsMergePlan (D.is_honest disk.old) n merged (batch_parts batch.old) (batch_parts batch.new) (store_contents store.old).terms) }
+    ensures told { IsTrue (D.is_honest disk.old) → IfErr result (TellsPart store.old) }
     ensures slot { slot.new ≡ slot.old }
-    ensures lists { IsTrue (D.is_honest disk.old)
-        → Idles (D.history disk.old (D.attached disk.old)) (D.history disk.new (D.attached disk.new)) }
+    ensures reads { Reads C.pages (D.is_honest disk.old) store.old store.new
+        (D.history disk.old (D.attached disk.old)) (D.history disk.new (D.attached disk.new))
+        (D.faults disk.old) (D.faults disk.new) }
+    ensures fails { FailsBy result (store_failed store.old) (store_failed store.new) }
     ensures cause { store_failed store.old ≡ false → HasDiskCause result (D.faults disk.old) (D.faults disk.new) }
     ensures attached { D.attached disk.new ≡ D.attached disk.old }
     ensures honest { D.is_honest disk.new ≡ D.is_honest disk.old }
@@ -143,7 +152,7 @@ fn are_enough(merged: u32, asked: u32) -> bool
 }
 
 /// Merges a page where it has deltas, and answers whether it did.
-fn merge_one<D: Disk, C>(
+fn merge_one<D: Disk, C: PageCache>(
     alloc: Global,
     store: &mut Store<C>,
     disk: &mut D,
@@ -154,14 +163,17 @@ fn merge_one<D: Disk, C>(
 ) -> Result<bool, StoreFault>
     requires page { page < length (store_contents store.old).terms }
     requires slot { IsSlotOf store.old slot.old }
+    requires agrees { AgreesUnlessFailed C.pages (D.is_honest disk.old) store.old
+        (D.history disk.old (D.attached disk.old)) }
     ensures step { (merged : ℕ) (old : List PartValue) (at : Option ℕ) → IsBehind page at (store_contents store.old).terms
-        → IsMergedTo (Some page) (store_contents store.old).terms merged next.old old (batch_parts batch.old)
-        → IfOk result (λ done. IsMergedTo at (store_contents store.old).terms (merged + (if done then 1 else 0)) next.new old (batch_parts batch.new)) }
-    ensures told { IfErr result (TellsPart store.old) }
-    ensures same { SameButBytes store.old store.new }
+        → IsMergedTo (D.is_honest disk.old) (Some page) (store_contents store.old).terms merged next.old old (batch_parts batch.old)
+        → IfOk result (λ done. IsMergedTo (D.is_honest disk.old) at (store_contents store.old).terms (merged + (if done then 1 else 0)) next.new old (batch_parts batch.new)) }
+    ensures told { IsTrue (D.is_honest disk.old) → IfErr result (TellsPart store.old) }
     ensures slot { slot.new ≡ slot.old }
-    ensures lists { IsTrue (D.is_honest disk.old)
-        → Idles (D.history disk.old (D.attached disk.old)) (D.history disk.new (D.attached disk.new)) }
+    ensures reads { Reads C.pages (D.is_honest disk.old) store.old store.new
+        (D.history disk.old (D.attached disk.old)) (D.history disk.new (D.attached disk.new))
+        (D.faults disk.old) (D.faults disk.new) }
+    ensures fails { FailsBy result (store_failed store.old) (store_failed store.new) }
     ensures cause { store_failed store.old ≡ false → HasDiskCause result (D.faults disk.old) (D.faults disk.new) }
     ensures attached { D.attached disk.new ≡ D.attached disk.old }
     ensures honest { D.is_honest disk.new ≡ D.is_honest disk.old }
@@ -180,7 +192,7 @@ fn has_deltas<C>(store: &Store<C>, page: u32) -> bool
 }
 
 /// Writes a page anew with its pairs, and answers whether it did (`rewrite`).
-fn merge_whole<D: Disk, C>(
+fn merge_whole<D: Disk, C: PageCache>(
     alloc: Global,
     store: &mut Store<C>,
     disk: &mut D,
@@ -191,19 +203,22 @@ fn merge_whole<D: Disk, C>(
 ) -> Result<bool, StoreFault>
     requires page { page < length (store_contents store.old).terms }
     requires slot { IsSlotOf store.old slot.old }
+    requires agrees { AgreesUnlessFailed C.pages (D.is_honest disk.old) store.old
+        (D.history disk.old (D.attached disk.old)) }
     ensures merged { (now : List TermPage) (earlier : List PartValue)
         → IsUpTo (low_pair page (store_contents store.old).terms) (store_contents store.old).terms now earlier
         → next.old ≡ length now
-        → IfOk result (λ done. done ≡ true → IsPagePlanned page [] (store_contents store.old).terms now true next.new (λ number. 0) (batch_parts batch.old) (batch_parts batch.new)) }
+        → IfOk result (λ done. done ≡ true → IsPagePlanned (D.is_honest disk.old) page [] (store_contents store.old).terms now true next.new (λ number. 0) (batch_parts batch.old) (batch_parts batch.new)) }
     ensures left { IfOk result (λ done. done ≡ false → (batch_parts batch.new ≡ batch_parts batch.old) × (next.new ≡ next.old)) }
-    ensures stuck { (set : PairSet) → IsIndex (store_contents store.old).terms set
+    ensures stuck { IsTrue (D.is_honest disk.old) → (set : PairSet) → IsIndex (store_contents store.old).terms set
         → IfOk result (λ done. done ≡ false → (pairs : List Pair) → HasPairs (term_page page (store_contents store.old).terms) pairs
         → most_term_pages < next.old + length pairs) }
-    ensures told { IfErr result (TellsPart store.old) }
-    ensures same { SameButBytes store.old store.new }
+    ensures told { IsTrue (D.is_honest disk.old) → IfErr result (TellsPart store.old) }
     ensures slot { slot.new ≡ slot.old }
-    ensures lists { IsTrue (D.is_honest disk.old)
-        → Idles (D.history disk.old (D.attached disk.old)) (D.history disk.new (D.attached disk.new)) }
+    ensures reads { Reads C.pages (D.is_honest disk.old) store.old store.new
+        (D.history disk.old (D.attached disk.old)) (D.history disk.new (D.attached disk.new))
+        (D.faults disk.old) (D.faults disk.new) }
+    ensures fails { FailsBy result (store_failed store.old) (store_failed store.new) }
     ensures cause { store_failed store.old ≡ false → HasDiskCause result (D.faults disk.old) (D.faults disk.new) }
     ensures attached { D.attached disk.new ≡ D.attached disk.old }
     ensures honest { D.is_honest disk.new ≡ D.is_honest disk.old }

@@ -2,10 +2,9 @@
 
 ghost use Rattle.std.specs.Prelude.{◌≡◌, ◌↔◌, ◌<◌, ◌≤◌, ℕ, List, ◌++◌, IsTrue, IfOk, IfErr, IfSome, OnOk, true, false, length};
 ghost use Rattle.std.specs.declared.cmp.Ordering.TheVariants.{Less, Greater};
-ghost use Rattle.ax_disk.specs.model.Calls.{Idles};
 ghost use Rattle.ax_gap.specs.Gaps.{IsRisingList};
-ghost use Rattle.ax_leaf.specs.declared.pair.Pair.{Pair};
-ghost use Rattle.ax_leaf.specs.Pairs.{pair_cmp};
+ghost use Rattle.ax_pair.specs.declared.pair.Pair.{Pair};
+ghost use Rattle.ax_pair.specs.Order.{pair_cmp};
 ghost use Rattle.ax_delta.specs.Said.{has_number};
 ghost use Rattle.ax_pages.specs.Contents.{term_page};
 ghost use Rattle.ax_pages.specs.TermPages.{low_pair};
@@ -15,16 +14,18 @@ ghost use Rattle.ax_pairs.specs.PairSets.{PairSet};
 ghost use Rattle.ax_pool.specs.Frames.{free_count};
 ghost use Rattle.ax_store.specs.Faults.{HasDiskCause};
 ghost use Rattle.ax_store.specs.Slots.{IsSlotOf};
-ghost use Rattle.ax_store.specs.Store.{SameButSlots, store_contents, store_slots, store_failed};
+ghost use Rattle.ax_store.specs.Store.{AgreesUnlessFailed, store_contents, store_slots, store_failed};
 ghost use Rattle.ax_term.specs.Ranges.{is_in_range};
-ghost use Rattle.ax_index.specs.Damage.{TellsPart};
-ghost use Rattle.ax_index.specs.Reading.{Gathers, IsAhead, SameButBytes, numbers_of, pages_after};
+ghost use Rattle.ax_index.specs.Damage.{FailsBy, TellsPart};
+ghost use Rattle.ax_index.specs.Reading.{Gathers, IsAhead, numbers_of, pages_after};
+ghost use Rattle.ax_index.specs.Reads.{Reads};
 ghost use Rattle.ax_index.specs.Wanted.{AreNumbersIn, HasIn};
 
 use crate::folding::folded;
 use crate::wanted::{Wanted, is_within};
+use ax_cache::PageCache;
 use ax_disk::Disk;
-use ax_leaf::Pair;
+use ax_pair::Pair;
 use ax_pool::Slot;
 use ax_store::{Store, StoreFault};
 use ax_term::TermRange;
@@ -34,20 +35,22 @@ use std::alloc::{AllocError, Global};
 /// that may have a term of the range, each with its parts.
 ///
 /// `Disk`, `Damaged`: as `has`. `Memory` where there is no room for the pairs of a page or for the numbers.
-pub fn pairs_in<D: Disk, C>(
+pub fn pairs_in<D: Disk, C: PageCache>(
     alloc: Global,
     store: &mut Store<C>,
     disk: &mut D,
     range: &TermRange,
 ) -> Result<Vec<u32>, StoreFault>
-    requires { 2 ≤ free_count (store_slots store.old) }
-    ensures numbers { (set : PairSet) → IsIndex (store_contents store.old).terms set
+    requires free { 2 ≤ free_count (store_slots store.old) }
+    requires agrees { AgreesUnlessFailed C.pages (D.is_honest disk.old) store.old
+        (D.history disk.old (D.attached disk.old)) }
+    ensures numbers { IsTrue (D.is_honest disk.old) → (set : PairSet) → IsIndex (store_contents store.old).terms set
         → IfOk result (λ numbers. AreNumbersIn range.now set numbers.items) }
-    ensures told { IfErr result (TellsPart store.old) }
-    ensures same { SameButSlots store.old store.new }
-    ensures slots { (store_slots store.new).taken ≡ (store_slots store.old).taken }
-    ensures lists { IsTrue (D.is_honest disk.old)
-        → Idles (D.history disk.old (D.attached disk.old)) (D.history disk.new (D.attached disk.new)) }
+    ensures told { IsTrue (D.is_honest disk.old) → IfErr result (TellsPart store.old) }
+    ensures reads { Reads C.pages (D.is_honest disk.old) store.old store.new
+        (D.history disk.old (D.attached disk.old)) (D.history disk.new (D.attached disk.new))
+        (D.faults disk.old) (D.faults disk.new) }
+    ensures fails { FailsBy result (store_failed store.old) (store_failed store.new) }
     ensures cause { store_failed store.old ≡ false → HasDiskCause result (D.faults disk.old) (D.faults disk.new) }
     ensures attached { D.attached disk.new ≡ D.attached disk.old }
     ensures honest { D.is_honest disk.new ≡ D.is_honest disk.old }
@@ -61,21 +64,24 @@ pub fn pairs_in<D: Disk, C>(
 }
 
 /// The rising numbers with a term in the range, by a slot that was taken.
-fn numbers_by<D: Disk, C>(
+fn numbers_by<D: Disk, C: PageCache>(
     alloc: Global,
     store: &mut Store<C>,
     disk: &mut D,
     slot: &mut Slot,
     range: &TermRange,
 ) -> Result<Vec<u32>, StoreFault>
-    requires { IsSlotOf store.old slot.old }
-    ensures numbers { (set : PairSet) → IsIndex (store_contents store.old).terms set
+    requires slot { IsSlotOf store.old slot.old }
+    requires agrees { AgreesUnlessFailed C.pages (D.is_honest disk.old) store.old
+        (D.history disk.old (D.attached disk.old)) }
+    ensures numbers { IsTrue (D.is_honest disk.old) → (set : PairSet) → IsIndex (store_contents store.old).terms set
         → IfOk result (λ numbers. AreNumbersIn range.now set numbers.items) }
-    ensures told { IfErr result (TellsPart store.old) }
-    ensures same { SameButBytes store.old store.new }
+    ensures told { IsTrue (D.is_honest disk.old) → IfErr result (TellsPart store.old) }
     ensures slot { slot.new ≡ slot.old }
-    ensures lists { IsTrue (D.is_honest disk.old)
-        → Idles (D.history disk.old (D.attached disk.old)) (D.history disk.new (D.attached disk.new)) }
+    ensures reads { Reads C.pages (D.is_honest disk.old) store.old store.new
+        (D.history disk.old (D.attached disk.old)) (D.history disk.new (D.attached disk.new))
+        (D.faults disk.old) (D.faults disk.new) }
+    ensures fails { FailsBy result (store_failed store.old) (store_failed store.new) }
     ensures cause { store_failed store.old ≡ false → HasDiskCause result (D.faults disk.old) (D.faults disk.new) }
     ensures attached { D.attached disk.new ≡ D.attached disk.old }
     ensures honest { D.is_honest disk.new ≡ D.is_honest disk.old }
@@ -98,21 +104,24 @@ fn put_in_order(numbers: &mut Vec<u32>)
 }
 
 /// The numbers with a term in the range, in no order; one may be there more than once.
-fn gathered<D: Disk, C>(
+fn gathered<D: Disk, C: PageCache>(
     alloc: Global,
     store: &mut Store<C>,
     disk: &mut D,
     slot: &mut Slot,
     range: &TermRange,
 ) -> Result<Vec<u32>, StoreFault>
-    requires { IsSlotOf store.old slot.old }
-    ensures numbers { (set : PairSet) → IsIndex (store_contents store.old).terms set
+    requires slot { IsSlotOf store.old slot.old }
+    requires agrees { AgreesUnlessFailed C.pages (D.is_honest disk.old) store.old
+        (D.history disk.old (D.attached disk.old)) }
+    ensures numbers { IsTrue (D.is_honest disk.old) → (set : PairSet) → IsIndex (store_contents store.old).terms set
         → IfOk result (λ numbers. (number : ℕ) → (has_number number numbers.items ≡ true) ↔ HasIn range.now set number) }
-    ensures told { IfErr result (TellsPart store.old) }
-    ensures same { SameButBytes store.old store.new }
+    ensures told { IsTrue (D.is_honest disk.old) → IfErr result (TellsPart store.old) }
     ensures slot { slot.new ≡ slot.old }
-    ensures lists { IsTrue (D.is_honest disk.old)
-        → Idles (D.history disk.old (D.attached disk.old)) (D.history disk.new (D.attached disk.new)) }
+    ensures reads { Reads C.pages (D.is_honest disk.old) store.old store.new
+        (D.history disk.old (D.attached disk.old)) (D.history disk.new (D.attached disk.new))
+        (D.faults disk.old) (D.faults disk.new) }
+    ensures fails { FailsBy result (store_failed store.old) (store_failed store.new) }
     ensures cause { store_failed store.old ≡ false → HasDiskCause result (D.faults disk.old) (D.faults disk.new) }
     ensures attached { D.attached disk.new ≡ D.attached disk.old }
     ensures honest { D.is_honest disk.new ≡ D.is_honest disk.old }
@@ -161,7 +170,7 @@ fn page_behind<C>(store: &Store<C>, page: u32, range: &TermRange) -> Option<u32>
 }
 
 /// Puts the numbers of a page's pairs whose terms are in the range at the end.
-fn gather<D: Disk, C>(
+fn gather<D: Disk, C: PageCache>(
     alloc: Global,
     store: &mut Store<C>,
     disk: &mut D,
@@ -172,13 +181,16 @@ fn gather<D: Disk, C>(
 ) -> Result<(), StoreFault>
     requires page { page < length (store_contents store.old).terms }
     requires slot { IsSlotOf store.old slot.old }
-    ensures numbers { (pairs : List Pair) → HasPairs (term_page page (store_contents store.old).terms) pairs
+    requires agrees { AgreesUnlessFailed C.pages (D.is_honest disk.old) store.old
+        (D.history disk.old (D.attached disk.old)) }
+    ensures numbers { IsTrue (D.is_honest disk.old) → (pairs : List Pair) → HasPairs (term_page page (store_contents store.old).terms) pairs
         → OnOk result (Gathers range.now pairs numbers.old.items numbers.new.items) }
-    ensures told { IfErr result (TellsPart store.old) }
-    ensures same { SameButBytes store.old store.new }
+    ensures told { IsTrue (D.is_honest disk.old) → IfErr result (TellsPart store.old) }
     ensures slot { slot.new ≡ slot.old }
-    ensures lists { IsTrue (D.is_honest disk.old)
-        → Idles (D.history disk.old (D.attached disk.old)) (D.history disk.new (D.attached disk.new)) }
+    ensures reads { Reads C.pages (D.is_honest disk.old) store.old store.new
+        (D.history disk.old (D.attached disk.old)) (D.history disk.new (D.attached disk.new))
+        (D.faults disk.old) (D.faults disk.new) }
+    ensures fails { FailsBy result (store_failed store.old) (store_failed store.new) }
     ensures cause { store_failed store.old ≡ false → HasDiskCause result (D.faults disk.old) (D.faults disk.new) }
     ensures attached { D.attached disk.new ≡ D.attached disk.old }
     ensures honest { D.is_honest disk.new ≡ D.is_honest disk.old }

@@ -2,7 +2,7 @@
 
 ghost use Rattle.std.specs.Prelude.{◌≡◌, ◌<◌, [], ◌∷◌, ◌++◌, List, length, OnOk, IfOk};
 ghost use Rattle.ax_delta.specs.Changes.{changed_pairs};
-ghost use Rattle.ax_leaf.specs.Pairs.{Rise, BeginsFrom};
+ghost use Rattle.ax_pair.specs.Order.{Rise, BeginsFrom};
 ghost use Rattle.ax_pages.specs.Contents.{TermPage};
 ghost use Rattle.ax_store.specs.Batch.{batch_parts};
 ghost use Rattle.ax_index.specs.DeltaRuns.{ArePut};
@@ -12,7 +12,7 @@ use crate::out_of_memory::Memory;
 use crate::sizes::delta_len;
 use ax_delta::Change;
 use ax_frame::{MOST_PAYLOAD, Part};
-use ax_leaf::Pair;
+use ax_pair::Pair;
 use ax_store::Batch;
 use std::alloc::Global;
 

@@ -1,14 +1,13 @@
 //! Changes of the set, as parts of term pages: deltas of the pages to which their pairs belong, and of
 //! some pages a base in place of all parts.
 
-ghost use Rattle.std.specs.Prelude.{◌≡◌, ◌<◌, ◌≤◌, ℕ, List, IsTrue, IfOk, IfErr, OnOk, if◌then◌else◌, true, false, length};
-ghost use Rattle.ax_disk.specs.model.Calls.{Idles};
+ghost use Rattle.std.specs.Prelude.{◌≡◌, ◌<◌, ◌≤◌, ℕ, Bool, List, IsTrue, IfOk, IfErr, OnOk, if◌then◌else◌, true, false, length};
 ghost use Rattle.ax_delta.specs.declared.change.Change.{Change};
 ghost use Rattle.ax_delta.specs.Changes.{changed_pairs};
 ghost use Rattle.ax_delta.specs.Said.{has, said_by};
 ghost use Rattle.ax_frame.specs.Part.{PartValue};
-ghost use Rattle.ax_leaf.specs.declared.pair.Pair.{Pair};
-ghost use Rattle.ax_leaf.specs.Pairs.{Rise};
+ghost use Rattle.ax_pair.specs.declared.pair.Pair.{Pair};
+ghost use Rattle.ax_pair.specs.Order.{Rise};
 ghost use Rattle.ax_pages.specs.Contents.{TermPage, term_page};
 ghost use Rattle.ax_pages.specs.TermPages.{low_pair};
 ghost use Rattle.ax_pairs.specs.Index.{AllBelong};
@@ -18,11 +17,12 @@ ghost use Rattle.ax_store.specs.Batch.{batch_parts};
 ghost use Rattle.ax_store.specs.Faults.{HasDiskCause};
 ghost use Rattle.ax_store.specs.Kept.{deltas_of};
 ghost use Rattle.ax_store.specs.Slots.{IsSlotOf};
-ghost use Rattle.ax_store.specs.Store.{SameButSlots, store_contents, store_failed, store_room, store_slots, store_spare};
-ghost use Rattle.ax_index.specs.Damage.{TellsPart};
+ghost use Rattle.ax_store.specs.Store.{AgreesUnlessFailed, SameButRoom, store_contents, store_failed, store_room, store_slots, store_spare};
+ghost use Rattle.ax_index.specs.Damage.{FailsBy, TellsPart};
 ghost use Rattle.ax_index.specs.DeltaRuns.{AreCarried};
 ghost use Rattle.ax_index.specs.Planning.{IsUpTo, IsPagePlanned, IsPlannedTo};
-ghost use Rattle.ax_index.specs.Plans.{HasNoDeltas, IsPlan, SameButRoomAndBytes};
+ghost use Rattle.ax_index.specs.Plans.{HasNoDeltas, IsPlan};
+ghost use Rattle.ax_index.specs.Reads.{Reads, Reserves};
 ghost use Rattle.std.specs.Option.{unwrap_or};
 
 use crate::bases::rewrite;
@@ -33,9 +33,10 @@ use crate::parts::put_deltas;
 use crate::runs::{Run, first_run};
 use crate::sizes::MOST_MERGED;
 use crate::wanted::Wanted;
+use ax_cache::PageCache;
 use ax_delta::Change;
 use ax_disk::Disk;
-use ax_leaf::Pair;
+use ax_pair::Pair;
 use ax_pool::Slot;
 use ax_store::{Batch, Store, StoreFault};
 use std::alloc::Global;
@@ -49,7 +50,7 @@ use std::alloc::Global;
 ///
 /// `Disk`, `Damaged`: as `has`. `Memory` where there is no room; the store is then as before but for room,
 /// and the batch may hold further parts.
-pub fn plan_changes<D: Disk, C>(
+pub fn plan_changes<D: Disk, C: PageCache>(
     alloc: Global,
     store: &mut Store<C>,
     disk: &mut D,
@@ -58,14 +59,17 @@ pub fn plan_changes<D: Disk, C>(
 ) -> Result<u32, StoreFault>
     requires rise { Rise (changed_pairs changes.now) }
     requires slots { 2 ≤ free_count (store_slots store.old) }
+    requires agrees { AgreesUnlessFailed C.pages (D.is_honest disk.old) store.old
+        (D.history disk.old (D.attached disk.old)) }
     requires none { HasNoDeltas (batch_parts batch.old) }
-    ensures planned { IfOk result (λ merged. IsPlan changes.now merged (batch_parts batch.old) (batch_parts batch.new) (store_contents store.old).terms) }
+    ensures planned { IfOk result (λ merged. IsPlan (D.is_honest disk.old) changes.now merged (batch_parts batch.old) (batch_parts batch.new) (store_contents store.old).terms) }
     ensures room { OnOk result (length (batch_parts batch.new) ≤ store_spare store.new) }
     ensures deltas { OnOk result ((number : ℕ) → deltas_of number (batch_parts batch.new) ≤ store_room number store.new) }
-    ensures told { IfErr result (TellsPart store.old) }
-    ensures same { SameButRoomAndBytes store.old store.new }
-    ensures lists { IsTrue (D.is_honest disk.old)
-        → Idles (D.history disk.old (D.attached disk.old)) (D.history disk.new (D.attached disk.new)) }
+    ensures told { IsTrue (D.is_honest disk.old) → IfErr result (TellsPart store.old) }
+    ensures reserves { Reserves C.pages (D.is_honest disk.old) store.old store.new
+        (D.history disk.old (D.attached disk.old)) (D.history disk.new (D.attached disk.new))
+        (D.faults disk.old) (D.faults disk.new) }
+    ensures fails { FailsBy result (store_failed store.old) (store_failed store.new) }
     ensures cause { store_failed store.old ≡ false → HasDiskCause result (D.faults disk.old) (D.faults disk.new) }
     ensures attached { D.attached disk.new ≡ D.attached disk.old }
     ensures honest { D.is_honest disk.new ≡ D.is_honest disk.old }
@@ -89,7 +93,7 @@ struct Plan {
 }
 
 /// The same with a slot.
-fn plan_by<D: Disk, C>(
+fn plan_by<D: Disk, C: PageCache>(
     alloc: Global,
     store: &mut Store<C>,
     disk: &mut D,
@@ -99,15 +103,18 @@ fn plan_by<D: Disk, C>(
 ) -> Result<u32, StoreFault>
     requires rise { Rise (changed_pairs changes.now) }
     requires slot { IsSlotOf store.old slot.old }
+    requires agrees { AgreesUnlessFailed C.pages (D.is_honest disk.old) store.old
+        (D.history disk.old (D.attached disk.old)) }
     requires none { HasNoDeltas (batch_parts batch.old) }
-    ensures planned { IfOk result (λ merged. IsPlan changes.now merged (batch_parts batch.old) (batch_parts batch.new) (store_contents store.old).terms) }
+    ensures planned { IfOk result (λ merged. IsPlan (D.is_honest disk.old) changes.now merged (batch_parts batch.old) (batch_parts batch.new) (store_contents store.old).terms) }
     ensures room { OnOk result (length (batch_parts batch.new) ≤ store_spare store.new) }
     ensures deltas { OnOk result ((number : ℕ) → deltas_of number (batch_parts batch.new) ≤ store_room number store.new) }
-    ensures told { IfErr result (TellsPart store.old) }
-    ensures same { SameButRoomAndBytes store.old store.new }
+    ensures told { IsTrue (D.is_honest disk.old) → IfErr result (TellsPart store.old) }
     ensures slot { slot.new ≡ slot.old }
-    ensures lists { IsTrue (D.is_honest disk.old)
-        → Idles (D.history disk.old (D.attached disk.old)) (D.history disk.new (D.attached disk.new)) }
+    ensures reserves { Reserves C.pages (D.is_honest disk.old) store.old store.new
+        (D.history disk.old (D.attached disk.old)) (D.history disk.new (D.attached disk.new))
+        (D.faults disk.old) (D.faults disk.new) }
+    ensures fails { FailsBy result (store_failed store.old) (store_failed store.new) }
     ensures cause { store_failed store.old ≡ false → HasDiskCause result (D.faults disk.old) (D.faults disk.new) }
     ensures attached { D.attached disk.new ≡ D.attached disk.old }
     ensures honest { D.is_honest disk.new ≡ D.is_honest disk.old }
@@ -137,15 +144,14 @@ fn plan_by<D: Disk, C>(
 pub(crate) fn reserve<C>(store: &mut Store<C>, batch: &Batch) -> Result<(), Memory>
     ensures room { OnOk result (length (batch_parts batch.now) ≤ store_spare store.new) }
     ensures deltas { (number : ℕ) → store_room number store.new ≡ store_room number store.old }
-    ensures same { SameButRoomAndBytes store.old store.new }
-    ensures slots { store_slots store.new ≡ store_slots store.old }
+    ensures same { SameButRoom store.old store.new }
 {
     store.reserve(batch.parts())?;
     Ok(())
 }
 
 /// Plans the first of the changes that are of one page, and answers those behind them.
-fn plan_first<'a, D: Disk, C>(
+fn plan_first<'a, D: Disk, C: PageCache>(
     alloc: Global,
     store: &mut Store<C>,
     disk: &mut D,
@@ -157,18 +163,21 @@ fn plan_first<'a, D: Disk, C>(
     requires some { 0 < length changes.now }
     requires rise { Rise (changed_pairs changes.now) }
     requires slot { IsSlotOf store.old slot.old }
+    requires agrees { AgreesUnlessFailed C.pages (D.is_honest disk.old) store.old
+        (D.history disk.old (D.attached disk.old)) }
     requires few { plan.old.merged ≤ 16 }
     ensures planned { (all : List Change) (old : List PartValue)
-        → IsPlannedTo all changes.entry.now (store_contents store.old).terms plan.old.merged plan.old.next (λ number. store_room number store.old) old (batch_parts batch.old)
-        → IfOk result (λ behind. IsPlannedTo all behind.now (store_contents store.old).terms plan.new.merged plan.new.next (λ number. store_room number store.new) old (batch_parts batch.new)) }
+        → IsPlannedTo (D.is_honest disk.old) all changes.entry.now (store_contents store.old).terms plan.old.merged plan.old.next (λ number. store_room number store.old) old (batch_parts batch.old)
+        → IfOk result (λ behind. IsPlannedTo (D.is_honest disk.old) all behind.now (store_contents store.old).terms plan.new.merged plan.new.next (λ number. store_room number store.new) old (batch_parts batch.new)) }
     ensures rise { IfOk result (λ behind. Rise (changed_pairs behind.now)) }
     ensures fewer { IfOk result (λ behind. length behind.now < length changes.entry.now) }
     ensures few { plan.new.merged ≤ 16 }
-    ensures told { IfErr result (TellsPart store.old) }
-    ensures same { SameButRoomAndBytes store.old store.new }
+    ensures told { IsTrue (D.is_honest disk.old) → IfErr result (TellsPart store.old) }
     ensures slot { slot.new ≡ slot.old }
-    ensures lists { IsTrue (D.is_honest disk.old)
-        → Idles (D.history disk.old (D.attached disk.old)) (D.history disk.new (D.attached disk.new)) }
+    ensures reserves { Reserves C.pages (D.is_honest disk.old) store.old store.new
+        (D.history disk.old (D.attached disk.old)) (D.history disk.new (D.attached disk.new))
+        (D.faults disk.old) (D.faults disk.new) }
+    ensures fails { FailsBy result (store_failed store.old) (store_failed store.new) }
     ensures cause { store_failed store.old ≡ false → HasDiskCause result (D.faults disk.old) (D.faults disk.new) }
     ensures attached { D.attached disk.new ≡ D.attached disk.old }
     ensures honest { D.is_honest disk.new ≡ D.is_honest disk.old }
@@ -202,7 +211,7 @@ pub(crate) fn as_number(merged: bool) -> u32
 }
 
 /// Plans changes of one page: merges it, or puts deltas of it. It answers whether it merged it.
-fn plan_page<D: Disk, C>(
+fn plan_page<D: Disk, C: PageCache>(
     alloc: Global,
     store: &mut Store<C>,
     disk: &mut D,
@@ -216,18 +225,21 @@ fn plan_page<D: Disk, C>(
     requires page { page < length (store_contents store.old).terms }
     requires rise { Rise (changed_pairs changes.now) }
     requires slot { IsSlotOf store.old slot.old }
+    requires agrees { AgreesUnlessFailed C.pages (D.is_honest disk.old) store.old
+        (D.history disk.old (D.attached disk.old)) }
     ensures planned { (now : List TermPage) (earlier : List PartValue)
         → IsUpTo (low_pair page (store_contents store.old).terms) (store_contents store.old).terms now earlier
         → next.old ≡ length now
         → AllBelong (changed_pairs changes.now) page (store_contents store.old).terms
-        → IfOk result (λ merged. IsPagePlanned page changes.now (store_contents store.old).terms now merged next.new (λ number. store_room number store.new) (batch_parts batch.old) (batch_parts batch.new)) }
+        → IfOk result (λ merged. IsPagePlanned (D.is_honest disk.old) page changes.now (store_contents store.old).terms now merged next.new (λ number. store_room number store.new) (batch_parts batch.old) (batch_parts batch.new)) }
     ensures asked { IfOk result (λ merged. merged ≡ true → merge ≡ true) }
     ensures never_less { (number : ℕ) → store_room number store.old ≤ store_room number store.new }
-    ensures told { IfErr result (TellsPart store.old) }
-    ensures same { SameButRoomAndBytes store.old store.new }
+    ensures told { IsTrue (D.is_honest disk.old) → IfErr result (TellsPart store.old) }
     ensures slot { slot.new ≡ slot.old }
-    ensures lists { IsTrue (D.is_honest disk.old)
-        → Idles (D.history disk.old (D.attached disk.old)) (D.history disk.new (D.attached disk.new)) }
+    ensures reserves { Reserves C.pages (D.is_honest disk.old) store.old store.new
+        (D.history disk.old (D.attached disk.old)) (D.history disk.new (D.attached disk.new))
+        (D.faults disk.old) (D.faults disk.new) }
+    ensures fails { FailsBy result (store_failed store.old) (store_failed store.new) }
     ensures cause { store_failed store.old ≡ false → HasDiskCause result (D.faults disk.old) (D.faults disk.new) }
     ensures attached { D.attached disk.new ≡ D.attached disk.old }
     ensures honest { D.is_honest disk.new ≡ D.is_honest disk.old }
@@ -257,8 +269,7 @@ fn plan_deltas<C>(
     ensures deltas { IfOk result (λ merged. merged ≡ false) }
     ensures memory { IfErr result (λ fault. fault ≡ StoreFault.Memory) }
     ensures never_less { (number : ℕ) → store_room number store.old ≤ store_room number store.new }
-    ensures same { SameButRoomAndBytes store.old store.new }
-    ensures slots { store_slots store.new ≡ store_slots store.old }
+    ensures same { SameButRoom store.old store.new }
 {
     match put_changes(alloc, store, batch, page, changes) {
         Ok(()) => Ok(false),
@@ -279,8 +290,7 @@ fn put_changes<C>(
     ensures put { (now : List TermPage) → page < length now
         → OnOk result (AreCarried page changes.now now (store_room page store.new) (batch_parts batch.old) (batch_parts batch.new)) }
     ensures never_less { (number : ℕ) → store_room number store.old ≤ store_room number store.new }
-    ensures same { SameButRoomAndBytes store.old store.new }
-    ensures slots { store_slots store.new ≡ store_slots store.old }
+    ensures same { SameButRoom store.old store.new }
 {
     let count = put_deltas(alloc, batch, page, changes)?;
     store.reserve_deltas(page, count)?;
@@ -288,7 +298,7 @@ fn put_changes<C>(
 }
 
 /// Writes a page anew with its pairs as changes make them, and answers whether it did (`rewrite`).
-pub(crate) fn merge_page<D: Disk, C>(
+pub(crate) fn merge_page<D: Disk, C: PageCache>(
     alloc: Global,
     store: &mut Store<C>,
     disk: &mut D,
@@ -301,18 +311,20 @@ pub(crate) fn merge_page<D: Disk, C>(
     requires page { page < length (store_contents store.old).terms }
     requires rise { Rise (changed_pairs changes.now) }
     requires slot { IsSlotOf store.old slot.old }
+    requires agrees { AgreesUnlessFailed C.pages (D.is_honest disk.old) store.old
+        (D.history disk.old (D.attached disk.old)) }
     ensures merged { (now : List TermPage) (earlier : List PartValue)
         → IsUpTo (low_pair page (store_contents store.old).terms) (store_contents store.old).terms now earlier
         → next.old ≡ length now
         → AllBelong (changed_pairs changes.now) page (store_contents store.old).terms
-        → IfOk result (λ merged. merged ≡ true → IsPagePlanned page changes.now (store_contents store.old).terms now true next.new (λ number. 0) (batch_parts batch.old) (batch_parts batch.new)) }
+        → IfOk result (λ merged. merged ≡ true → IsPagePlanned (D.is_honest disk.old) page changes.now (store_contents store.old).terms now true next.new (λ number. 0) (batch_parts batch.old) (batch_parts batch.new)) }
     ensures left { IfOk result (λ merged. merged ≡ false → (batch_parts batch.new ≡ batch_parts batch.old) × (next.new ≡ next.old)) }
-    ensures told { IfErr result (TellsPart store.old) }
-    ensures same { SameButSlots store.old store.new }
-    ensures slots { (store_slots store.new).taken ≡ (store_slots store.old).taken }
+    ensures told { IsTrue (D.is_honest disk.old) → IfErr result (TellsPart store.old) }
     ensures slot { slot.new ≡ slot.old }
-    ensures lists { IsTrue (D.is_honest disk.old)
-        → Idles (D.history disk.old (D.attached disk.old)) (D.history disk.new (D.attached disk.new)) }
+    ensures reads { Reads C.pages (D.is_honest disk.old) store.old store.new
+        (D.history disk.old (D.attached disk.old)) (D.history disk.new (D.attached disk.new))
+        (D.faults disk.old) (D.faults disk.new) }
+    ensures fails { FailsBy result (store_failed store.old) (store_failed store.new) }
     ensures cause { store_failed store.old ≡ false → HasDiskCause result (D.faults disk.old) (D.faults disk.new) }
     ensures attached { D.attached disk.new ≡ D.attached disk.old }
     ensures honest { D.is_honest disk.new ≡ D.is_honest disk.old }
@@ -340,12 +352,12 @@ fn rewrite_changed<C>(
     requires page { page < length (store_contents store.now).terms }
     requires pairs { Rise pairs.items }
     requires changes { Rise (changed_pairs changes.now) }
-    ensures merged { (now : List TermPage) (earlier : List PartValue)
+    ensures merged { (honest : Bool) (now : List TermPage) (earlier : List PartValue)
         → IsUpTo (low_pair page (store_contents store.now).terms) (store_contents store.now).terms now earlier
         → next.old ≡ length now
         → AllBelong (changed_pairs changes.now) page (store_contents store.now).terms
-        → ((some : List Pair) → HasPairs (term_page page (store_contents store.now).terms) some → (p : Pair) → has p pairs.items ≡ has p some)
-        → IfOk result (λ merged. merged ≡ true → IsPagePlanned page changes.now (store_contents store.now).terms now true next.new (λ number. 0) (batch_parts batch.old) (batch_parts batch.new)) }
+        → (IsTrue honest → (some : List Pair) → HasPairs (term_page page (store_contents store.now).terms) some → (p : Pair) → has p pairs.items ≡ has p some)
+        → IfOk result (λ merged. merged ≡ true → IsPagePlanned honest page changes.now (store_contents store.now).terms now true next.new (λ number. 0) (batch_parts batch.old) (batch_parts batch.new)) }
     ensures left { IfOk result (λ merged. merged ≡ false → (batch_parts batch.new ≡ batch_parts batch.old) × (next.new ≡ next.old)) }
 {
     let pairs = changed(alloc, pairs, changes)?;

@@ -3,15 +3,15 @@
 ghost use Rattle.std.specs.Prelude.{◌≡◌, ◌↔◌, ◌<◌, ◌≤◌, IsTrue, length, take, drop};
 ghost use Rattle.std.specs.Ordering.{is_lt};
 ghost use Rattle.ax_delta.specs.declared.change.Change.{Change};
-ghost use Rattle.ax_leaf.specs.declared.pair.Pair.{Pair};
-ghost use Rattle.ax_leaf.specs.Pairs.{Rise, pair_cmp};
+ghost use Rattle.ax_pair.specs.declared.pair.Pair.{Pair};
+ghost use Rattle.ax_pair.specs.Order.{Rise, pair_cmp};
 ghost use Rattle.ax_pages.specs.TermPages.{IsPageOf};
 ghost use Rattle.ax_pairs.specs.Index.{AllBelong};
 ghost use Rattle.ax_store.specs.Store.{store_contents};
 ghost use Rattle.ax_index.specs.Planning.{IsFirstOf, IsPartedAt, IsPartedBy};
 
 use ax_delta::Change;
-use ax_leaf::Pair;
+use ax_pair::Pair;
 use ax_store::Store;
 
 /// Changes of one page.

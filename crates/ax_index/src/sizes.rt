@@ -9,8 +9,8 @@
 ghost use Rattle.std.specs.Prelude.{◌<◌, ◌≤◌, length};
 
 use ax_delta::Change;
-use ax_leaf::Pair;
 use ax_leaf::short_term::in_common;
+use ax_pair::Pair;
 
 /// The most parts that a page is to have: one that has them and is changed is merged.
 pub(crate) const MOST_PARTS: usize = 17;

@@ -3,7 +3,7 @@
 ghost use Rattle.ax_index_support.specs.Ready.{IsReady};
 
 use crate::documents::{Draws, changes_of};
-use ax_cache::NoPages;
+use ax_cache::{NoPages, PageCache};
 use ax_disk::Disk;
 use ax_index_support::{change, open};
 use ax_pages::Page;
@@ -28,7 +28,7 @@ pub(crate) fn fill<D: Disk>(
     disk: &mut D,
     documents: u32,
 ) -> Result<Figures, StoreFault> {
-    let mut store = open(alloc, disk)?;
+    let mut store = open(alloc, disk, NoPages)?;
     let mut draws = Draws::new();
     let mut merged: u64 = 0;
     for number in 0..documents {
@@ -45,15 +45,15 @@ pub(crate) fn fill<D: Disk>(
 }
 
 /// Adds the terms of a document, and answers how many pages were merged.
-fn add<D: Disk>(
+fn add<D: Disk, C: PageCache>(
     alloc: Global,
     disk: &mut D,
-    store: &mut Store<NoPages>,
+    store: &mut Store<C>,
     draws: &mut Draws,
     number: u32,
 ) -> Result<u32, StoreFault>
-    requires { IsReady store.old (D.is_honest disk.old) (D.history disk.old (D.attached disk.old)) }
-    ensures { IsReady store.new (D.is_honest disk.new) (D.history disk.new (D.attached disk.new)) }
+    requires { IsReady C.pages store.old (D.is_honest disk.old) (D.history disk.old (D.attached disk.old)) }
+    ensures { IsReady C.pages store.new (D.is_honest disk.new) (D.history disk.new (D.attached disk.new)) }
 {
     let Ok(changes) = changes_of(alloc, draws, number) else {
         return Err(StoreFault::Memory);

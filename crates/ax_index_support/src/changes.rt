@@ -3,7 +3,7 @@
 ghost use Rattle.std.specs.Prelude.{◌≡◌, [], ◌∷◌, ◌++◌, IfOk, OnOk};
 
 use ax_delta::Change;
-use ax_leaf::{Bytes, Pair};
+use ax_pair::{Bytes, Pair};
 use std::alloc::{AllocError, Global};
 
 /// The pair of a term and a number.

@@ -1,6 +1,7 @@
 //! A store on a disk, whose index is changed and asked.
 
-ghost use Rattle.std.specs.Prelude.{◌≡◌, ◌≤◌, ◌+◌, ℕ, length, IfOk, OnErr, OnOk, Some};
+ghost use Rattle.std.specs.Prelude.{◌≡◌, ◌≤◌, ◌+◌, ℕ, length, IfOk, IsTrue, OnErr, OnOk, Some};
+ghost use Rattle.std.specs.FinMap as map;
 ghost use Rattle.ax_index.specs.Bare.{with_deltas};
 ghost use Rattle.ax_index.specs.Wanted.{AreNumbersIn};
 ghost use Rattle.ax_index_support.specs.Ready.{IsReady};
@@ -12,33 +13,38 @@ ghost use Rattle.ax_store.specs.Kept.{deltas_of};
 ghost use Rattle.ax_store.specs.Putting.{AreWithin};
 ghost use Rattle.ax_store.specs.Store.{store_contents, store_room, store_spare};
 
-use ax_cache::NoPages;
+use ax_cache::PageCache;
 use ax_delta::are_in_order;
 use ax_disk::Disk;
 use ax_index::{Change, Pair, StoreFault, TermRange, has, merge_some, pairs_in, plan_changes};
 use ax_store::{Batch, Store};
 use std::alloc::Global;
 
-/// Opens the store on a disk.
-pub fn open<D: Disk>(alloc: Global, disk: &mut D) -> Result<Store<NoPages>, StoreFault>
-    ensures { IfOk result (λ store. IsReady store (D.is_honest disk.new) (D.history disk.new (D.attached disk.new))) }
+/// Opens the store on a disk, with a cache.
+pub fn open<D: Disk, C: PageCache + Drop>(
+    alloc: Global,
+    disk: &mut D,
+    cache: C,
+) -> Result<Store<C>, StoreFault>
+    requires { C.pages cache ≡ map.empty }
+    ensures { IfOk result (λ store. IsReady C.pages store (D.is_honest disk.new) (D.history disk.new (D.attached disk.new))) }
 {
-    Store::open_store(alloc, disk, NoPages)
+    Store::open_store(alloc, disk, cache)
 }
 
 /// Plans rising changes and commits them, and answers how many pages were merged. Changes that do not
 /// rise are answered by `Memory`.
-pub fn change<D: Disk>(
+pub fn change<D: Disk, C: PageCache>(
     alloc: Global,
     disk: &mut D,
-    store: &mut Store<NoPages>,
+    store: &mut Store<C>,
     changes: &[Change],
 ) -> Result<u32, StoreFault>
-    requires { IsReady store.old (D.is_honest disk.old) (D.history disk.old (D.attached disk.old)) }
-    ensures changed { (set : PairSet) → IsIndex (store_contents store.old).terms set
+    requires { IsReady C.pages store.old (D.is_honest disk.old) (D.history disk.old (D.attached disk.old)) }
+    ensures changed { IsTrue (D.is_honest disk.old) → (set : PairSet) → IsIndex (store_contents store.old).terms set
         → IfOk result (λ merged. IsIndex (store_contents store.new).terms (with_changes changes.now set)) }
     ensures kept { OnErr result (store_contents store.new ≡ store_contents store.old) }
-    ensures ready { IsReady store.new (D.is_honest disk.new) (D.history disk.new (D.attached disk.new)) }
+    ensures ready { IsReady C.pages store.new (D.is_honest disk.new) (D.history disk.new (D.attached disk.new)) }
 {
     if !are_in_order(changes) {
         return Err(StoreFault::Memory);
@@ -50,18 +56,18 @@ pub fn change<D: Disk>(
 }
 
 /// Merges so many pages at most and commits that, and answers how many were merged.
-pub fn merge<D: Disk>(
+pub fn merge<D: Disk, C: PageCache>(
     alloc: Global,
     disk: &mut D,
-    store: &mut Store<NoPages>,
+    store: &mut Store<C>,
     most: u32,
 ) -> Result<u32, StoreFault>
-    requires { IsReady store.old (D.is_honest disk.old) (D.history disk.old (D.attached disk.old)) }
-    ensures merged { (set : PairSet) → IsIndex (store_contents store.old).terms set
+    requires { IsReady C.pages store.old (D.is_honest disk.old) (D.history disk.old (D.attached disk.old)) }
+    ensures merged { IsTrue (D.is_honest disk.old) → (set : PairSet) → IsIndex (store_contents store.old).terms set
         → IfOk result (λ merged. IsIndex (store_contents store.new).terms set) }
     ensures fewer { IfOk result (λ merged. with_deltas (store_contents store.new).terms + merged ≡ with_deltas (store_contents store.old).terms) }
     ensures kept { OnErr result (store_contents store.new ≡ store_contents store.old) }
-    ensures ready { IsReady store.new (D.is_honest disk.new) (D.history disk.new (D.attached disk.new)) }
+    ensures ready { IsReady C.pages store.new (D.is_honest disk.new) (D.history disk.new (D.attached disk.new)) }
 {
     let mut batch = Batch::begin(alloc);
     let merged = merge_some(alloc, store, disk, most, &mut batch)?;
@@ -70,19 +76,19 @@ pub fn merge<D: Disk>(
 }
 
 /// Commits a batch, if it has a part.
-fn commit_batch<D: Disk>(
+fn commit_batch<D: Disk, C: PageCache>(
     alloc: Global,
     disk: &mut D,
-    store: &mut Store<NoPages>,
+    store: &mut Store<C>,
     batch: Batch,
 ) -> Result<(), StoreFault>
-    requires ready { IsReady store.old (D.is_honest disk.old) (D.history disk.old (D.attached disk.old)) }
+    requires ready { IsReady C.pages store.old (D.is_honest disk.old) (D.history disk.old (D.attached disk.old)) }
     requires room { length (batch_parts batch) ≤ store_spare store.old }
     requires deltas { (number : ℕ) → deltas_of number (batch_parts batch) ≤ store_room number store.old }
     requires within { AreWithin (batch_parts batch) (store_contents store.old) }
     ensures committed { OnOk result (after_parts (batch_parts batch) (store_contents store.old) ≡ Some (store_contents store.new)) }
     ensures kept { OnErr result (store_contents store.new ≡ store_contents store.old) }
-    ensures ready { IsReady store.new (D.is_honest disk.new) (D.history disk.new (D.attached disk.new)) }
+    ensures ready { IsReady C.pages store.new (D.is_honest disk.new) (D.history disk.new (D.attached disk.new)) }
 {
     if batch.parts() == 0 {
         return Ok(());
@@ -94,34 +100,32 @@ fn commit_batch<D: Disk>(
 }
 
 /// Whether a pair is in the index.
-#[tactic(auto, using(crate::proofs::ReadyLemmas::ready_slots))]
-pub fn ask<D: Disk>(
+pub fn ask<D: Disk, C: PageCache>(
     disk: &mut D,
-    store: &mut Store<NoPages>,
+    store: &mut Store<C>,
     pair: &Pair,
 ) -> Result<bool, StoreFault>
-    requires { IsReady store.old (D.is_honest disk.old) (D.history disk.old (D.attached disk.old)) }
-    ensures has { (set : PairSet) → IsIndex (store_contents store.old).terms set
+    requires { IsReady C.pages store.old (D.is_honest disk.old) (D.history disk.old (D.attached disk.old)) }
+    ensures has { IsTrue (D.is_honest disk.old) → (set : PairSet) → IsIndex (store_contents store.old).terms set
         → IfOk result (λ found. found ≡ set pair.now) }
     ensures same { store_contents store.new ≡ store_contents store.old }
-    ensures ready { IsReady store.new (D.is_honest disk.new) (D.history disk.new (D.attached disk.new)) }
+    ensures ready { IsReady C.pages store.new (D.is_honest disk.new) (D.history disk.new (D.attached disk.new)) }
 {
     has(store, disk, pair)
 }
 
 /// The numbers with a term in a range.
-#[tactic(auto, using(crate::proofs::ReadyLemmas::ready_slots))]
-pub fn look<D: Disk>(
+pub fn look<D: Disk, C: PageCache>(
     alloc: Global,
     disk: &mut D,
-    store: &mut Store<NoPages>,
+    store: &mut Store<C>,
     range: &TermRange,
 ) -> Result<Vec<u32>, StoreFault>
-    requires { IsReady store.old (D.is_honest disk.old) (D.history disk.old (D.attached disk.old)) }
-    ensures found { (set : PairSet) → IsIndex (store_contents store.old).terms set
+    requires { IsReady C.pages store.old (D.is_honest disk.old) (D.history disk.old (D.attached disk.old)) }
+    ensures found { IsTrue (D.is_honest disk.old) → (set : PairSet) → IsIndex (store_contents store.old).terms set
         → IfOk result (λ numbers. AreNumbersIn range.now set numbers.items) }
     ensures same { store_contents store.new ≡ store_contents store.old }
-    ensures ready { IsReady store.new (D.is_honest disk.new) (D.history disk.new (D.attached disk.new)) }
+    ensures ready { IsReady C.pages store.new (D.is_honest disk.new) (D.history disk.new (D.attached disk.new)) }
 {
     pairs_in(alloc, store, disk, range)
 }

@@ -1,16 +1,17 @@
 -- The pairs of rising postings rise, so none is before a pair before which the first is not.
 use Rattle.std.proofs.Common.{◌≡◌, ℕ, ◌+◌, ◌<◌, List, [], ◌∷◌, ◌++◌, length, arith, refl, sym, All}
-use Rattle.std.proofs.lemmas.Cmp.{nat_list_cmp_total, nat_cmp_total, tied_itself, then_total, on_total}
+use Rattle.std.proofs.lemmas.Cmp.{nat_list_cmp_total, tied_itself}
 use Rattle.std.proofs.lemmas.List.Elements.{All-nil, All-cons}
-use Rattle.std.specs.Cmp.{IsTotalOrder, nat_cmp_is}
+use Rattle.std.specs.Cmp.{nat_cmp_is}
 use Rattle.std.specs.Cmp.Lexicographic.{slice_cmp}
 use Rattle.std.specs.Ordering.{nat_cmp}
 use Rattle.std.specs.declared.cmp.Ordering.TheVariants.{Less}
 use Rattle.ax_gap.proofs.Rising.{RisesFrom, rises}
-use Rattle.ax_leaf.specs.declared.pair.Pair.{Pair}
-use Rattle.ax_leaf.specs.Pairs.{Posting, pair_cmp, pairs_with, pairs_of, Rise, RiseAfter, BeginsFrom}
+use Rattle.ax_pair.specs.declared.pair.Pair.{Pair}
+use Rattle.ax_pair.specs.Order.{pair_cmp, Rise, RiseAfter, BeginsFrom}
+use Rattle.ax_leaf.specs.Pairs.{Posting, pairs_with, pairs_of}
 use Rattle.ax_leaf.specs.Payload.{AreAfter, ArePostings}
-use Rattle.ax_leaf.proofs.Whole.{the_pair}
+use Rattle.ax_pair.proofs.PairOrder.{the_pair, pair_cmp_total}
 
 pub by_number : (term : List ℕ) (m n : ℕ) → m < n → pair_cmp (the_pair term m) (the_pair term n) ≡ Less
 by_number term m n h = rw (tied_itself nat_list_cmp_total term) (sym (nat_cmp_is m n Less h))
@@ -47,9 +48,6 @@ pub pairs_rise : (postings : List Posting) → ArePostings postings → Rise (pa
 pairs_rise [] h = tt
 pairs_rise (posting ∷ postings) h =
     in_row posting.term posting.numbers (pairs_of postings) (rises posting.numbers h.0.rising) h.0.some (λ m. after_postings posting.term m postings h.1)
-
-pub pair_cmp_total : IsTotalOrder pair_cmp
-pair_cmp_total = then_total (on_total (λ (p : Pair). p.term) nat_list_cmp_total) (on_total (λ (p : Pair). p.number) nat_cmp_total)
 
 abbrev NotBefore : Pair → Pair → Type 0
 NotBefore low pair = pair_cmp pair low ≡ Less → ⊥

@@ -9,7 +9,8 @@ use Rattle.ax_gap.specs.Reading.{first_varint}
 use Rattle.ax_gap.proofs.VarintLaws.{found, same_number, same_after, first_varint_again}
 use Rattle.ax_gap.proofs.GapLaws.{spells_list_grammar}
 use Rattle.ax_gap.proofs.CursorLaws.{one_list_form}
-use Rattle.ax_leaf.specs.declared.pair.Pair.{Pair}
+use Rattle.ax_pair.specs.declared.pair.Pair.{Pair}
+use Rattle.ax_pair.proofs.PairOrder.{the_pair, same_pair}
 use Rattle.ax_leaf.specs.Pairs.{Posting}
 use Rattle.ax_leaf.specs.Payload.{common, term_after, list_after, leaf, IsLeaf, AreAfter, ArePostings}
 
@@ -91,12 +92,6 @@ list_parts last (d ∷ a) (f ∷ b) l h k e =
     let (numbers, rest) = gaps_parts d.numbers f.numbers _ _ h.0 k.0 after in
     same_posting d.term f.term d.numbers f.numbers a b term numbers
     (list_parts f.term a b (omega arith) h.1 k.1 (ap (λ (t : List ℕ). list_after t a) (sym term) ∙ rest))
-
-abbrev pub the_pair : List ℕ → ℕ → Pair
-the_pair s n = record { term = s; number = n }
-
-pub same_pair : (s t : List ℕ) (m n : ℕ) → s ≡ t → m ≡ n → the_pair s m ≡ the_pair t n
-same_pair s t m n e f = rw (e, f) refl
 
 pub one_leaf : (bytes : List ℕ) (low other : Pair) (a b : List Posting) → IsLeaf bytes low a → IsLeaf bytes other b → (low ≡ other) × (a ≡ b)
 unfolding leaf

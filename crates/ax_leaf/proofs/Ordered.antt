@@ -7,8 +7,9 @@ use Rattle.std.specs.declared.cmp.Ordering.{Ordering}
 use Rattle.std.specs.declared.cmp.Ordering.TheVariants.{Less, Equal, Greater}
 use Rattle.std.specs.Ordering.{nat_cmp, ordering_then}
 use Rattle.std.specs.Cmp.Lexicographic.{slice_cmp}
-use Rattle.ax_leaf.specs.declared.pair.Pair.{Pair}
-use Rattle.ax_leaf.specs.Pairs.{Posting, pair_cmp, Rise, RiseAfter, postings_from, postings_of}
+use Rattle.ax_pair.specs.declared.pair.Pair.{Pair}
+use Rattle.ax_pair.specs.Order.{pair_cmp, Rise, RiseAfter}
+use Rattle.ax_leaf.specs.Pairs.{Posting, postings_from, postings_of}
 use Rattle.ax_leaf.specs.Payload.{AreGood, AreAfter, ArePostings}
 
 pub first_decides : (o r : Ordering) → (o ≡ Equal → ⊥) → ordering_then o r ≡ Less → o ≡ Less

@@ -3,7 +3,7 @@ use Rattle.std.proofs.Common.{◌≡◌, ℕ, List, [], ◌∷◌, ◌++◌, ref
 use Rattle.std.proofs.lemmas.List.{append_assoc}
 use Rattle.std.proofs.lemmas.Slice.Eq.{bytes_eq-Decides}
 use Rattle.std.specs.Str.{bytes_eq}
-use Rattle.ax_leaf.specs.declared.pair.Pair.{Pair}
+use Rattle.ax_pair.specs.declared.pair.Pair.{Pair}
 use Rattle.ax_leaf.specs.Pairs.{pairs_with, pairs_of, postings_from, postings_of}
 
 with_more : (term ns : List ℕ) (p : Pair) → p.term ≡ term → pairs_with term (ns ++ p.number ∷ []) ≡ pairs_with term ns ++ p ∷ []

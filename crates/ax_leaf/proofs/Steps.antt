@@ -4,7 +4,7 @@ use Rattle.std.proofs.lemmas.List.{append_assoc, append-nil}
 use Rattle.std.specs.Str.{bytes_eq}
 use Rattle.std.specs.List.Sorted.{IsStrictlyIncreasing}
 use Rattle.ax_gap.specs.Gaps.{IsRisingList, gaps}
-use Rattle.ax_leaf.specs.declared.pair.Pair.{Pair}
+use Rattle.ax_pair.specs.declared.pair.Pair.{Pair}
 use Rattle.ax_leaf.specs.Pairs.{Posting, postings_from, postings_of}
 use Rattle.ax_leaf.specs.Payload.{IsPosting, AreGood, term_after, list_after}
 use Rattle.ax_leaf.proofs.Grouping.{AreFit}

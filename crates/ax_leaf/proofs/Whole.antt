@@ -6,16 +6,15 @@ use Rattle.std.specs.Ordering.{is_lt}
 use Rattle.std.specs.declared.cmp.Ordering.{Ordering}
 use Rattle.std.specs.declared.cmp.Ordering.TheVariants.{Less, Equal, Greater}
 use Rattle.ax_gap.specs.Varint.{varint}
-use Rattle.ax_leaf.specs.declared.pair.Pair.{Pair}
-use Rattle.ax_leaf.specs.Pairs.{Posting, pair_cmp, pairs_with, pairs_of, BeginsFrom}
+use Rattle.ax_pair.specs.declared.pair.Pair.{Pair}
+use Rattle.ax_pair.specs.Order.{pair_cmp, BeginsFrom}
+use Rattle.ax_leaf.specs.Pairs.{Posting, pairs_with, pairs_of}
 use Rattle.ax_leaf.specs.Payload.{list_after, leaf, IsLeaf, AreGood, AreAfter, ArePostings}
 use Rattle.ax_leaf.specs.Reading.{postings_in}
 use Rattle.ax_leaf.specs.TermList.{IsTermList, HasTermList, Begins}
+use Rattle.ax_pair.proofs.PairOrder.{the_pair}
 use Rattle.ax_leaf.proofs.Listed.{IsFirst, first_of}
 use Rattle.ax_leaf.proofs.Read.{seen_as}
-
-abbrev pub the_pair : List ℕ → ℕ → Pair
-the_pair term number = record { term = term; number = number }
 
 -- ---- postings are good
 

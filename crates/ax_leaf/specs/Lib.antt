@@ -1,6 +1,5 @@
 pub mod Base
 pub mod Lookup
-pub mod Low
 pub mod Pairs
 pub mod Payload
 pub mod Reading

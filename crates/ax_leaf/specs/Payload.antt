@@ -8,8 +8,9 @@ use Rattle.std.specs.List.{common_prefix_len}
 use Rattle.std.specs.Cmp.Lexicographic.{slice_cmp}
 use Rattle.ax_gap.specs.Gaps.{IsRisingList, gaps}
 use Rattle.ax_gap.specs.Varint.{varint}
-use Rattle.ax_leaf.specs.declared.pair.Pair.{Pair}
-use Rattle.ax_leaf.specs.Pairs.{Posting, BeginsFrom, pairs_of}
+use Rattle.ax_pair.specs.declared.pair.Pair.{Pair}
+use Rattle.ax_pair.specs.Order.{BeginsFrom}
+use Rattle.ax_leaf.specs.Pairs.{Posting, pairs_of}
 
 -- how many bytes at their beginnings two terms have in common
 abbrev pub common : List ℕ → List ℕ → ℕ

@@ -6,7 +6,7 @@ use Rattle.ax_leaf.specs.Pairs.{pairs_with, pairs_of}
 use Rattle.ax_leaf.specs.Reading.{postings_in}
 use Rattle.ax_leaf.specs.TermList.{IsTermList, Spells}
 use Rattle.ax_leaf.specs.declared.leaf.Leaf.TheInside.{Inside}
-use Rattle.ax_leaf.specs.declared.pair.Pair.{Pair}
+use Rattle.ax_pair.specs.declared.pair.Pair.{Pair}
 use Rattle.ax_leaf.specs.declared.remaining.Remaining.{Remaining}
 
 abbrev pub base_of : Inside → Base

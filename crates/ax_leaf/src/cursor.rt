@@ -20,7 +20,7 @@ pub struct PairCursor<'a> {
 
 impl<'a> Model for PairCursor<'a> {
     ghost use Rattle.std.specs.Prelude.{List};
-    ghost use Rattle.ax_leaf.specs.declared.pair.Pair.{Pair};
+    ghost use Rattle.ax_pair.specs.declared.pair.Pair.{Pair};
 
     ghost Value = { List Pair };
 

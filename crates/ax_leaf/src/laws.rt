@@ -1,10 +1,11 @@
 //! Laws of the format: what holds of the definitions themselves, whichever call reads or writes.
 
-ghost use Rattle.std.specs.Prelude.{◌≡◌, ◌↔◌, ℕ, ◌<◌, List, All, Some};
+ghost use Rattle.std.specs.Prelude.{◌≡◌, ℕ, List, All, Some};
 ghost use Rattle.std.specs.declared.cmp.Ordering.TheVariants.{Less};
-ghost use Rattle.ax_leaf.specs.declared.pair.Pair.{Pair};
-ghost use Rattle.ax_leaf.specs.Low.{BeginsWithLow, low_in};
-ghost use Rattle.ax_leaf.specs.Pairs.{Posting, pair_cmp, Rise, BeginsFrom, postings_of, pairs_of};
+ghost use Rattle.ax_pair.specs.declared.pair.Pair.{Pair};
+ghost use Rattle.ax_pair.specs.Low.{low_in};
+ghost use Rattle.ax_pair.specs.Order.{pair_cmp, Rise, BeginsFrom};
+ghost use Rattle.ax_leaf.specs.Pairs.{Posting, postings_of, pairs_of};
 ghost use Rattle.ax_leaf.specs.Payload.{IsLeaf, ArePostings};
 
 /// A payload is that of one low pair and one list of postings alone.
@@ -27,11 +28,6 @@ pub fn pairs_of_postings_rise()
 pub fn no_pair_is_before_the_low_one()
     ensures { (low : Pair) (postings : List Posting) → ArePostings postings → BeginsFrom low (pairs_of postings)
         → All (λ pair. pair_cmp pair low ≡ Less → ⊥) (pairs_of postings) }
-{}
-
-/// Bytes begin with a low pair exactly where that is the pair that is found at their front.
-pub fn low_is_found()
-    ensures { (bytes : List ℕ) (low : Pair) → All (λ byte. byte < 256) bytes → (low_in bytes ≡ Some low) ↔ BeginsWithLow bytes low }
 {}
 
 /// A payload begins with the low pair of its base.

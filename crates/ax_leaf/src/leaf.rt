@@ -2,8 +2,9 @@
 
 ghost use Rattle.std.specs.Prelude.{◌≡◌, ◌↔◌, List, IsTrue, IfSome, IsSomeAnd};
 ghost use Rattle.std.specs.Option.{option_map};
-ghost use Rattle.ax_leaf.specs.declared.pair.Pair.{Pair};
-ghost use Rattle.ax_leaf.specs.Pairs.{Posting, BeginsFrom, pairs_of};
+ghost use Rattle.ax_pair.specs.declared.pair.Pair.{Pair};
+ghost use Rattle.ax_pair.specs.Order.{BeginsFrom};
+ghost use Rattle.ax_leaf.specs.Pairs.{Posting, pairs_of};
 ghost use Rattle.ax_leaf.specs.Lookup.{numbers_under};
 ghost use Rattle.ax_leaf.specs.Payload.{IsLeaf};
 ghost use Rattle.ax_leaf.specs.TermList.{IsTermList};
@@ -11,11 +12,9 @@ ghost use Rattle.ax_leaf.specs.TermList.{IsTermList};
 use crate::checking::is_term_list;
 use crate::cursor::PairCursor;
 use crate::finding::find_in;
-use crate::low::split_low;
-use crate::pair::comes_before;
 use crate::short_posting::{ShortPosting, split_posting};
-use crate::short_term::split_number;
 use ax_gap::GapCursor;
+use ax_pair::{comes_before, split_low, split_number};
 use std::alloc::Global;
 use std::marker::Model;
 

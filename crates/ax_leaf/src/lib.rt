@@ -1,6 +1,6 @@
 //! The payload of a base of a term page: its low pair, and its pairs, with the terms shortened by
 //! what each has in common with the term before. The crate stands on `ax_gap`, whose gap lists hold
-//! the numbers of each term, and on `ax_tree`.
+//! the numbers of each term, and on `ax_pair`, which has pairs and low pairs.
 //!
 //! Its one contract: rising pairs under a low pair have one payload, `IsLeaf` of
 //! `specs/Payload.antt`. `encode` writes it. `check` reads it, and answers `None` exactly where the
@@ -14,10 +14,8 @@ mod finding;
 pub mod front;
 pub mod laws;
 mod leaf;
-mod low;
 pub mod matching;
 mod out_of_memory;
-mod pair;
 mod remaining;
 mod short_posting;
 pub mod short_term;
@@ -25,9 +23,7 @@ mod writing;
 
 pub use cursor::PairCursor;
 pub use leaf::{Leaf, check};
-pub use low::split_low;
 pub use out_of_memory::Memory;
-pub use pair::{Bytes, Pair};
 pub use writing::{encode, is_in_order};
 
 #[cfg(test)]

@@ -1,14 +1,13 @@
 //! A term after another: writing one, and reading one as it is written.
 
 ghost use Rattle.std.specs.Prelude.{◌≡◌, ℕ, ◌++◌, ◌<◌, ◌≤◌, ◌^◌, List, length, IfSome, IsSomeAnd, OnOk};
-ghost use Rattle.std.specs.Option.{option_map};
 ghost use Rattle.ax_gap.specs.Varint.{varint};
-ghost use Rattle.ax_leaf.specs.Low.{first_number};
 ghost use Rattle.ax_leaf.specs.Payload.{common, term_after};
 ghost use Rattle.ax_leaf.specs.ShortTerm.{short_term};
 
 use crate::out_of_memory::Memory;
-use ax_gap::varint::{put_varint, read_varint};
+use ax_gap::varint::put_varint;
+use ax_pair::split_number;
 
 /// A term as it is written after another.
 #[derive(Clone, Copy)]
@@ -17,20 +16,6 @@ pub struct ShortTerm<'a> {
     pub shared: usize,
     /// The bytes of the term behind those.
     pub rest: &'a [u8],
-}
-
-/// The number below 2^32 whose varint comes first, and the bytes after it. `None` exactly where
-/// none comes first.
-pub fn split_number(bytes: &[u8]) -> Option<(u32, &[u8])>
-    ensures found { IfSome result (λ x. bytes.now ≡ varint x.0 ++ x.1.now) }
-    ensures fits { IfSome result (λ x. x.0 < 2 ^ 32) }
-    ensures only { (n : ℕ) (rest : List ℕ) → n < 2 ^ 32 → bytes.now ≡ varint n ++ rest
-        → IsSomeAnd result (λ x. (x.0 ≡ n) × (x.1.now ≡ rest)) }
-    ensures first { option_map (λ x. (x.0, x.1.now)) result ≡ first_number bytes.now }
-{
-    let (number, used) = read_varint(bytes)?;
-    let (_, rest) = bytes.split_at(used);
-    Some((number, rest))
 }
 
 /// The term with which the bytes begin, as it is written after another, and the bytes after it.

@@ -1,7 +1,6 @@
 use crate::leaf::check;
-use crate::low::split_low;
-use crate::pair::{Bytes, Pair};
 use crate::writing::{encode, is_in_order};
+use ax_pair::{Bytes, Pair, split_low};
 use std::test::Fail;
 
 // A page with no pairs: an empty low term, number 0, no terms.

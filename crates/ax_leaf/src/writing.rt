@@ -5,14 +5,15 @@ ghost use Rattle.std.specs.List.Sorted.{IsStrictlyIncreasing};
 ghost use Rattle.ax_gap.specs.Gaps.{IsRisingList, gaps};
 ghost use Rattle.ax_gap.specs.Varint.{varint};
 ghost use Rattle.std.specs.Ordering.{is_lt};
-ghost use Rattle.ax_leaf.specs.Pairs.{Rise, BeginsFrom, pair_cmp, postings_of};
+ghost use Rattle.ax_pair.specs.Order.{Rise, BeginsFrom, pair_cmp};
+ghost use Rattle.ax_leaf.specs.Pairs.{postings_of};
 ghost use Rattle.ax_leaf.specs.Payload.{common, term_after, list_after, leaf, IsLeaf, AreGood};
 
 use crate::out_of_memory::Memory;
-use crate::pair::{Pair, comes_before};
 use crate::short_term::{put_length, put_term};
 use ax_gap::put_gaps;
 use ax_gap::varint::put_varint;
+use ax_pair::{Pair, comes_before};
 use std::alloc::Global;
 
 /// The payload of a base with these pairs, whose page has this low pair. The pairs have to rise,

@@ -6,9 +6,9 @@ use Rattle.std.proofs.lemmas.Bool.{and_parts, or_cases, eqb-true, ltb-true, lt-l
 use Rattle.std.proofs.lemmas.List.{get_or-set_same, get_or-set_other, get_or_append_left, get_or_past, length-append}
 use Rattle.std.proofs.lemmas.Slice.Eq.{bytes_eq-Decides}
 use Rattle.std.proofs.Math.Seq.{get_or-append_seam}
-use Rattle.ax_leaf.specs.declared.pair.Pair.{Pair}
-use Rattle.ax_leaf.specs.Low.{low_in}
-use Rattle.ax_leaf.proofs.OneSpelling.{same_pair}
+use Rattle.ax_pair.specs.declared.pair.Pair.{Pair}
+use Rattle.ax_pair.specs.Low.{low_in}
+use Rattle.ax_pair.proofs.PairOrder.{same_pair}
 use Rattle.ax_pages.specs.Contents.{TermPage, no_term_page}
 use Rattle.ax_pages.specs.AfterPart.{is_same, low_at_front, is_taken, is_own, is_new, is_base, most_term_pages}
 use Rattle.ax_pages.specs.TermPages.{low_pair}

@@ -7,7 +7,7 @@ use Rattle.std.proofs.lemmas.List.{get_or-set_same, get_or_append_left, length-s
 use Rattle.std.proofs.lemmas.List.Folds.{list_any_at}
 use Rattle.std.proofs.lemmas.Slice.Eq.{bytes_eq-Decides}
 use Rattle.ax_frame.specs.Part.{PartValue}
-use Rattle.ax_leaf.specs.declared.pair.Pair.{Pair}
+use Rattle.ax_pair.specs.declared.pair.Pair.{Pair}
 use Rattle.ax_pages.specs.declared.page.Kind.{Kind}
 use Rattle.ax_pages.specs.declared.page.Kind.TheVariants as kind
 use Rattle.ax_pages.specs.Contents.{Contents, TermPage, no_term_page, no_contents, term_page, low_of}

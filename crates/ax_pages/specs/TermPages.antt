@@ -3,9 +3,9 @@
 -- B-tree's leaves (Bayer and McCreight, "Organization and maintenance of large ordered indexes", 1972).
 use Rattle.std.specs.Prelude.{◌≡◌, ℕ, ◌<◌, List, length}
 use Rattle.std.specs.declared.cmp.Ordering.TheVariants.{Less, Greater}
-use Rattle.ax_leaf.specs.declared.pair.Pair.{Pair}
-use Rattle.ax_leaf.specs.Low.{first_pair}
-use Rattle.ax_leaf.specs.Pairs.{pair_cmp}
+use Rattle.ax_pair.specs.declared.pair.Pair.{Pair}
+use Rattle.ax_pair.specs.Low.{first_pair}
+use Rattle.ax_pair.specs.Order.{pair_cmp}
 use Rattle.ax_pages.specs.Contents.{TermPage, low_of, term_page}
 
 -- the low pair of the page of that number

@@ -7,9 +7,9 @@ use Rattle.std.specs.Ordering.{nat_cmp}
 use Rattle.std.specs.declared.cmp.Ordering.{Ordering}
 use Rattle.std.specs.declared.cmp.Ordering.TheVariants.{Less, Equal, Greater}
 use Rattle.std.specs.Cmp.{nat_cmp_is}
-use Rattle.ax_leaf.specs.declared.pair.Pair.{Pair}
-use Rattle.ax_leaf.specs.Low.{first_pair}
-use Rattle.ax_leaf.specs.Pairs.{pair_cmp}
+use Rattle.ax_pair.specs.declared.pair.Pair.{Pair}
+use Rattle.ax_pair.specs.Low.{first_pair}
+use Rattle.ax_pair.specs.Order.{pair_cmp}
 use Rattle.ax_pages.specs.Contents.{TermPage, no_term_page, low_of}
 use Rattle.ax_pages.specs.TermPages.{AreApart, IsPageOf, low_pair}
 use Rattle.ax_pages.proofs.TermLists.{at_behind}

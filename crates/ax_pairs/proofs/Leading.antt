@@ -7,8 +7,8 @@ use Rattle.std.proofs.lemmas.Bool.{lt-ltb, eq-eqb}
 use Rattle.std.proofs.lemmas.Slice.Eq.{bytes_eq-Decides}
 use Rattle.std.specs.Str.{bytes_eq}
 use Rattle.ax_frame.specs.Part.{PartValue}
-use Rattle.ax_leaf.specs.declared.pair.Pair.{Pair}
-use Rattle.ax_leaf.specs.Low.{low_in, first_pair}
+use Rattle.ax_pair.specs.declared.pair.Pair.{Pair}
+use Rattle.ax_pair.specs.Low.{low_in, first_pair}
 use Rattle.ax_pages.specs.Contents.{Contents, TermPage, low_of, term_page}
 use Rattle.ax_pages.specs.AfterPart.{after_part, after_parts, after_base, after_delta, with_base, is_base, is_own, is_new, is_same, is_taken, low_at_front, most_term_pages}
 use Rattle.ax_pages.specs.TermPages.{low_pair}

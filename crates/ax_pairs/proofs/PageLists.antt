@@ -1,7 +1,8 @@
 -- A term page has one list of pairs, and it rises.
 use Rattle.std.proofs.Common.{◌≡◌, ℕ, List, [], ◌∷◌, ◌++◌, refl, sym, ap, ◌∙◌, subst, Option, Some, None, Bool}
-use Rattle.ax_leaf.specs.declared.pair.Pair.{Pair}
-use Rattle.ax_leaf.specs.Pairs.{pairs_of, Rise, postings_of}
+use Rattle.ax_pair.specs.declared.pair.Pair.{Pair}
+use Rattle.ax_pair.specs.Order.{Rise}
+use Rattle.ax_leaf.specs.Pairs.{pairs_of, postings_of}
 use Rattle.ax_leaf.specs.Payload.{IsLeaf}
 use Rattle.ax_leaf.proofs.FromLow.{pairs_rise}
 use Rattle.ax_leaf.proofs.OneSpelling.{one_leaf}

@@ -4,9 +4,9 @@ use Rattle.std.proofs.lemmas.Cmp.{tied_itself}
 use Rattle.std.specs.Ordering.{ordering_reverse}
 use Rattle.std.specs.declared.cmp.Ordering.{Ordering}
 use Rattle.std.specs.declared.cmp.Ordering.TheVariants.{Less, Equal, Greater}
-use Rattle.ax_leaf.specs.declared.pair.Pair.{Pair}
-use Rattle.ax_leaf.specs.Pairs.{pair_cmp}
-use Rattle.ax_leaf.proofs.FromLow.{pair_cmp_total}
+use Rattle.ax_pair.specs.declared.pair.Pair.{Pair}
+use Rattle.ax_pair.specs.Order.{pair_cmp}
+use Rattle.ax_pair.proofs.PairOrder.{pair_cmp_total}
 use Rattle.ax_delta.proofs.SamePair.{equal_same, less_from}
 
 abbrev pub NotAfter : Pair → Pair → Type 0

@@ -1,8 +1,8 @@
 -- A page whose base is written anew: what the set is then.
 use Rattle.std.proofs.Common.{◌≡◌, ◌≢◌, ℕ, ◌<◌, List, length, sym, ap, subst, Option}
 use Rattle.std.specs.Option.{unwrap_or}
-use Rattle.ax_leaf.specs.declared.pair.Pair.{Pair}
-use Rattle.ax_leaf.specs.Low.{first_pair}
+use Rattle.ax_pair.specs.declared.pair.Pair.{Pair}
+use Rattle.ax_pair.specs.Low.{first_pair}
 use Rattle.ax_leaf.specs.Pairs.{postings_of}
 use Rattle.ax_leaf.specs.Payload.{IsLeaf}
 use Rattle.ax_leaf.proofs.Lows.{leaf_low}

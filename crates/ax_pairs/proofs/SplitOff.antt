@@ -2,7 +2,7 @@
 use Rattle.std.proofs.Common.{◌≡◌, ◌≢◌, ℕ, ◌<◌, ◌≤◌, List, [], ◌∷◌, length, arith, refl, sym, ap, ◌∙◌, subst, Bool, true, false, cond, if◌then◌else◌, ◌⊎◌, inl, inr, ⊎_elim}
 use Rattle.std.proofs.lemmas.Bool.{cases_eq, cases_lt}
 use Rattle.std.proofs.lemmas.List.{get_or_append_left}
-use Rattle.ax_leaf.specs.declared.pair.Pair.{Pair}
+use Rattle.ax_pair.specs.declared.pair.Pair.{Pair}
 use Rattle.ax_delta.specs.Said.{has}
 use Rattle.ax_delta.proofs.SamePair.{true_or_false}
 use Rattle.ax_pages.specs.Contents.{TermPage, no_term_page, term_page, low_of}

@@ -3,7 +3,7 @@
 -- a document, the pairs of all its pages: Shukla et al., "Schema-Agnostic Indexing with Azure DocumentDB",
 -- VLDB 2015.
 use Rattle.std.specs.Prelude.{◌≡◌, ℕ, ◌<◌, true, List, length}
-use Rattle.ax_leaf.specs.declared.pair.Pair.{Pair}
+use Rattle.ax_pair.specs.declared.pair.Pair.{Pair}
 use Rattle.ax_delta.specs.Said.{has}
 use Rattle.ax_pages.specs.Contents.{TermPage, term_page}
 use Rattle.ax_pages.specs.TermPages.{AreApart, IsPageOf}

@@ -3,7 +3,7 @@
 -- changed by appended deltas, without being read: Shukla et al., "Schema-Agnostic Indexing with Azure
 -- DocumentDB", VLDB 2015.
 use Rattle.std.specs.Prelude.{◌≡◌, ℕ, List, [], ◌∷◌, Option, Some, None}
-use Rattle.ax_leaf.specs.declared.pair.Pair.{Pair}
+use Rattle.ax_pair.specs.declared.pair.Pair.{Pair}
 use Rattle.ax_leaf.specs.Pairs.{Posting, pairs_of}
 use Rattle.ax_leaf.specs.Payload.{IsLeaf}
 use Rattle.ax_delta.specs.Changes.{TermChange}

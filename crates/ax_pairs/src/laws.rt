@@ -1,8 +1,8 @@
 //! Laws of pages and of the set that they hold.
 
 ghost use Rattle.std.specs.Prelude.{◌≡◌, ℕ, ◌<◌, ◌∷◌, [], List, false, length};
-ghost use Rattle.ax_leaf.specs.declared.pair.Pair.{Pair};
-ghost use Rattle.ax_leaf.specs.Pairs.{Rise};
+ghost use Rattle.ax_pair.specs.declared.pair.Pair.{Pair};
+ghost use Rattle.ax_pair.specs.Order.{Rise};
 ghost use Rattle.ax_delta.specs.declared.change.Change.{Change};
 ghost use Rattle.ax_delta.specs.Changes.{changed_pairs, term_changes_of};
 ghost use Rattle.ax_delta.specs.Payload.{IsDelta};

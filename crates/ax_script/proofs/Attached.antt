@@ -10,9 +10,9 @@ use Rattle.ax_disk.specs.laws.CallLaws.{idles_leave}
 use Rattle.ax_disk.specs.laws.StaysLaws.{idles_stay, stays_join}
 use Rattle.ax_pages.specs.Image.{IsNewer}
 use Rattle.ax_log.specs.Opening.{Keeps}
-use Rattle.ax_store.specs.Store.{IsDamagedStore}
-use Rattle.ax_store.specs.declared.fault.StoreFault.{StoreFault}
-use Rattle.ax_store.specs.declared.fault.StoreFault.TheVariants as fault
+use Rattle.ax_resident_store.specs.Store.{IsDamagedStore}
+use Rattle.ax_resident_store.specs.declared.fault.StoreFault.{StoreFault}
+use Rattle.ax_resident_store.specs.declared.fault.StoreFault.TheVariants as fault
 use Rattle.ax_container.specs.Container.{Container}
 use Rattle.ax_image.specs.StandsFor.{StandsFor}
 use Rattle.ax_engine.specs.Opening.{RefusesBy}

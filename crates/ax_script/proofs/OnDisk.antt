@@ -8,7 +8,7 @@ use Rattle.ax_disk.specs.model.Stays.{Rests, SinceBarrier}
 use Rattle.ax_disk.specs.laws.MomentLaws.{progress_within, elapses_start, progress_stays}
 use Rattle.ax_disk.specs.laws.StageLaws.{barrier_progress}
 use Rattle.ax_disk.specs.laws.StaysLaws.{idles_start, rests_weaken}
-use Rattle.ax_store.proofs.StoreLemmas.{barrier_weaken}
+use Rattle.ax_resident_store.proofs.StoreLemmas.{barrier_weaken}
 use Rattle.ax_faults.specs.Faults.{Rose}
 use Rattle.ax_container.specs.Container.{Container}
 use Rattle.ax_image.specs.StandsFor.{StandsFor}

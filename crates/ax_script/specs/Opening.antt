@@ -2,7 +2,7 @@
 use Rattle.ax_disk.specs.model.Moments.{History}
 use Rattle.ax_log.specs.Opening.{Keeps}
 use Rattle.ax_pages.specs.Image.{IsNewer}
-use Rattle.ax_store.specs.Store.{IsDamagedStore}
+use Rattle.ax_resident_store.specs.Store.{IsDamagedStore}
 use Rattle.ax_script.specs.declared.status.Status.{Status}
 use Rattle.ax_script.specs.declared.status.Status.TheVariants as status
 

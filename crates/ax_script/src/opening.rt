@@ -12,7 +12,7 @@ ghost use Rattle.ax_script.specs.Progress.{EndsEarly};
 use crate::status::Status;
 use ax_disk::Disk;
 use ax_engine::Engine;
-use ax_store::StoreFault;
+use ax_resident_store::StoreFault;
 use std::alloc::Global;
 
 /// Attaches the store of a name, and opens it.

@@ -7,7 +7,9 @@ pub mod TakingLemmas
 pub mod CanFrames
 pub mod PuttingLemmas
 pub mod WindowLemmas
+pub mod SpanLemmas
 pub mod LoadLemmas
+pub mod CacheLemmas
 pub mod StoreLemmas
 pub mod NextHeld
 pub mod PartPlaces

@@ -17,7 +17,7 @@ use Rattle.ax_store.specs.declared.fault.StoreFault.{StoreFault}
 use Rattle.ax_store.specs.declared.fault.StoreFault.TheVariants.{Disk, Damaged, Newer, Memory}
 use Rattle.ax_pages.specs.AfterPart.{after_parts}
 use Rattle.ax_store.specs.Kept.{Kept, Takes, no_offsets, offsets_after_parts}
-use Rattle.ax_store.specs.Loading.{nothing_kept, TakesOn, IsLoadedTo, TellsLen, TellsFrame, TellsLoad}
+use Rattle.ax_store.specs.Loading.{nothing_kept, TakesOn, IsLoadedTo, TellsLen, TellsSpan, TellsFrame, TellsLoad}
 use Rattle.ax_store.specs.Window.{TellsReach, Shows}
 use Rattle.ax_store.specs.declared.window.Window.{Window}
 
@@ -134,6 +134,14 @@ module _ (frames : List (List ℕ)) (at : ℕ) (now : Kept) (next : HasNext fram
     spoiled = spoiled;
     offset = omega (arith, is, next.place);
   }
+
+  pub refused_span : (fault : StoreFault) (area : Extent) (bytes : List ℕ) (new : Kept) → bytes ≡ next.span → TellsSpan (Err fault) area bytes (at + 9) now new → TellsFrame (Err fault) area frames new
+  refused_span Disk area bytes new same tells = tt
+  refused_span (Damaged extent place) area bytes new same tells =
+      let within = tells.1.0 in
+      (tells.0, spoiled_there within place (subst (λ span. IsSpoiled span now.contents within) same tells.1.1) tells.1.2)
+  refused_span (Newer version) area bytes new same tells = absurd tells
+  refused_span Memory area bytes new same tells = tt
 
 none_left : (frames first rest : List (List ℕ)) (at : ℕ) (now : Kept) → frames ≡ first ++ rest → at ≡ length (frames_bytes first) → TakesOn first 0 nothing_kept now → length (frames_bytes frames) ≤ at → TakesOn frames 0 nothing_kept now
 none_left frames first [] at now are place takes le = subst (λ fs. TakesOn fs 0 nothing_kept now) (sym (are ∙ append-nil first)) takes

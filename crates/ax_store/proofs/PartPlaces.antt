@@ -1,18 +1,18 @@
 -- Where the store agrees with a disk, each part of each page stands in each image that a crash may leave
 -- at the extent and the offset that the store answers for it.
-use Rattle.std.proofs.Common.{◌≡◌, ℕ, zero, suc, ◌+◌, ◌<◌, Bool, true, false, List, [], ◌∷◌, ◌++◌, length, drop, Option, Some, None, refl, sym, ap, subst, ◌∙◌, length-append, arith}
+use Rattle.std.proofs.Common.{◌≡◌, ℕ, zero, suc, ◌+◌, ◌-◌, ◌^◌, min, ◌<◌, ◌≤◌, take, Bool, true, false, List, [], ◌∷◌, ◌++◌, length, drop, Option, Some, None, refl, sym, ap, subst, ◌∙◌, length-append, arith}
 use Rattle.std.specs.Prelude.{if◌then◌else◌, ◌==◌, ◌&&◌, ◌||◌, not, is_some, nat_lt, nat_le, option_and_then, slice_get, slice_set, slice_index_or}
 use Rattle.std.specs.Ordering.{nat_cmp, eq_by_cmp}
 use Rattle.std.specs.Cmp.{nat_cmp_total}
 use Rattle.std.specs.FinMap as map
 use Rattle.std.specs.Option.{option_to_list}
 use Rattle.std.proofs.lemmas.Bool.{eqb-true}
-use Rattle.std.proofs.lemmas.List.{append_assoc, drop-drop, drop_at, length-set}
+use Rattle.std.proofs.lemmas.List.{append_assoc, append-nil, drop-append-le, drop-drop, drop_at, take_at, take_all, length-drop, length-set}
 use Rattle.ax_disk.specs.model.Image.{Image, list_of}
 use Rattle.ax_disk.specs.model.Pending.{MayLeave}
 use Rattle.ax_disk.specs.model.Moments.{History}
-use Rattle.ax_leaf.specs.Low.{low_in}
-use Rattle.ax_frame.specs.Part.{PartValue, part_bytes, parts_bytes}
+use Rattle.ax_pair.specs.Low.{low_in}
+use Rattle.ax_frame.specs.Part.{PartValue, head_bytes, part_bytes, parts_bytes}
 use Rattle.ax_frame.specs.LogFrame.{open_frame, open_head}
 use Rattle.ax_pages.specs.declared.page.Page.{Page}
 use Rattle.ax_pages.specs.declared.page.Page.TheVariants.{Meta, Policy, Document, Term}
@@ -27,6 +27,10 @@ use Rattle.ax_store.specs.Rows.{Offsets}
 use Rattle.ax_store.specs.Kept.{Kept, PageOffsets, no_offsets, offsets_of, offsets_after, offsets_after_parts, with_base_at, with_delta_at}
 use Rattle.ax_store.specs.Loading.{nothing_kept, TakesOn}
 use Rattle.ax_store.specs.Store.{Agrees, store_contents, store_offsets, store_area}
+use Rattle.ax_cache.specs.Pages.{CachedPages}
+use Rattle.ax_store.specs.Cached.{HasBytesAt}
+use Rattle.ax_log.specs.Log.{log_end}
+use Rattle.ax_store.specs.Slots.{part_at}
 use Rattle.ax_store.specs.Places.{part_of_page, StandsAt}
 
 some_is : {A : Type 0} (x y : A) → Some x ≡ Some y → x ≡ y
@@ -407,11 +411,119 @@ module _ (bytes : List ℕ) where
 
 -- ---- the law
 
-pub part_stands : {C : Type 0} (store : Store C) (history : History) → Agrees store history → (image : Image) → MayLeave history.unsynced image
+pub part_stands : {C : Type 0} (pages : C → CachedPages) (store : Store C) (history : History) → Agrees pages store history → (image : Image) → MayLeave history.unsynced image
     → (page : Page) (i at : ℕ) → i < length (parts_of page (store_contents store)) → slice_get (offsets_of page (store_offsets store)) i ≡ Some at
     → StandsAt (part_of_page page i (store_contents store)) (list_of (store_area store) image) at
-part_stands store history agrees image may =
+part_stands pages store history agrees image may =
     let area = (agrees.logged.rests.each image may).has in
     let bytes : List ℕ = list_of (store_area store) image in
     by_page bytes (store_contents store) (store_offsets store)
     (by_frames bytes agrees.frames 0 area.rest nothing_kept store.pages area.spelled (none_placed bytes) agrees.takes)
+
+-- in the frames of the log, too
+part_in_frames : {C : Type 0} (pages : C → CachedPages) (store : Store C) (history : History) (agrees : Agrees pages store history)
+    → (page : Page) (i at : ℕ) → i < length (parts_of page (store_contents store)) → slice_get (offsets_of page (store_offsets store)) i ≡ Some at
+    → StandsAt (part_of_page page i (store_contents store)) (frames_bytes agrees.frames) at
+part_in_frames pages store history agrees =
+    let bytes : List ℕ = frames_bytes agrees.frames in
+    by_page bytes (store_contents store) (store_offsets store)
+    (by_frames bytes agrees.frames 0 [] nothing_kept store.pages (sym (append-nil bytes)) (none_placed bytes) agrees.takes)
+
+payload_of_page : (page : Page) (i : ℕ) (contents : Contents) → (part_of_page page i contents).payload ≡ part_at page i contents
+payload_of_page Meta i contents = refl
+payload_of_page (Policy n) i contents = refl
+payload_of_page (Document n) i contents = refl
+payload_of_page (Term n) i contents = refl
+
+-- behind its head stands the payload of a part, without its first bytes
+pub payload_behind : (part : PartValue) (bytes : List ℕ) (at skip : ℕ) → StandsAt part bytes at → skip ≤ length part.payload → HasBytesAt bytes (at + 9 + skip) (drop skip part.payload)
+payload_behind part bytes at skip stands few = record {
+  within = omega (arith, few, long, length-drop skip part.payload);
+  is = ap (take (length (drop skip part.payload))) behind ∙ take_at (drop skip part.payload) stands.rest (length (drop skip part.payload)) refl;
+}
+  where
+    head : List ℕ
+    head = head_bytes part.kind part.key (length part.payload)
+
+    head_len : length head ≡ 9
+    head_len = refl
+
+    long : 9 + length part.payload + length stands.rest ≡ length bytes - at
+    long = omega (arith, length-drop at bytes, ap length stands.spelled, length-append (part_bytes part) stands.rest, length-append head part.payload, head_len)
+
+    behind_head : drop (at + 9) bytes ≡ part.payload ++ stands.rest
+    behind_head =
+        sym (drop-drop 9 at bytes) ∙ ap (drop 9) (stands.spelled ∙ append_assoc head part.payload stands.rest)
+        ∙ drop_at head (part.payload ++ stands.rest) 9 refl
+
+    behind : drop (at + 9 + skip) bytes ≡ drop skip part.payload ++ stands.rest
+    behind = sym (drop-drop skip (at + 9) bytes) ∙ ap (drop skip) behind_head ∙ drop-append-le skip part.payload stands.rest few
+
+-- the payload of a part of the store's pages, without its first bytes, stands in the frames
+pub read_of_part : {C : Type 0} (pages : C → CachedPages) (store : Store C) (history : History) (agrees : Agrees pages store history)
+    → (page : Page) (i at skip : ℕ) → i < length (parts_of page (store_contents store)) → slice_get (offsets_of page (store_offsets store)) i ≡ Some at
+    → skip ≤ length (part_at page i (store_contents store))
+    → HasBytesAt (frames_bytes agrees.frames) (at + 9 + skip) (drop skip (part_at page i (store_contents store)))
+read_of_part pages store history agrees page i at skip there placed few =
+    let part : PartValue = part_of_page page i (store_contents store) in
+    let same : part.payload ≡ part_at page i (store_contents store) = payload_of_page page i (store_contents store) in
+    subst (λ payload. HasBytesAt (frames_bytes agrees.frames) (at + 9 + skip) (drop skip payload)) same
+    (payload_behind part (frames_bytes agrees.frames) at skip (part_in_frames pages store history agrees page i at there placed)
+    (subst (λ payload. skip ≤ length payload) (sym same) few))
+
+-- Bytes read at an offset of the frames' text, so many, are these bytes.
+pub record IsReadable (text : List ℕ) (end from len : ℕ) (bytes : List ℕ) : Type 0 where
+  pub within : from + len ≤ end
+  pub len_is : len ≡ length bytes
+  pub begins : (frame : List ℕ) → take len frame ≡ take len (drop from text) → take (length bytes) frame ≡ bytes
+
+readable : (text : List ℕ) (end from len at : ℕ) (bytes : List ℕ) → end ≡ length text → HasBytesAt text at bytes → end ≤ 2 ^ 62 → from ≡ min at (2 ^ 64 - 1) → len ≡ length bytes → IsReadable text end from len bytes
+readable text end from len at bytes end_is has small from_is len_is = record {
+  within = omega (arith, here, len_is, end_is, has.within);
+  len_is = len_is;
+  begins = λ frame e.
+      ap (λ n. take n frame) (sym len_is) ∙ e ∙ ap (λ n. take n (drop from text)) len_is
+      ∙ ap (λ n. take (length bytes) (drop n text)) here ∙ has.is;
+}
+  where
+    here : from ≡ at
+    here = omega (arith, from_is, end_is, has.within, small)
+
+pub whole_frame : (frame bytes : List ℕ) → length frame ≡ length bytes → take (length bytes) frame ≡ bytes → frame ≡ bytes
+whole_frame frame bytes same e = sym (take_all (length bytes) frame (omega (arith, same))) ∙ e
+
+pub got : (xs : List (List ℕ)) (i : ℕ) (x : List ℕ) → slice_get xs i ≡ Some x → slice_index_or xs i [] ≡ x
+got [] i x e = absurd (no_some x e)
+got (y ∷ xs) zero x e = some_is y x e
+got (y ∷ xs) (suc i) x e = got xs i x e
+
+module _ {C : Type 0} (pages : C → CachedPages) (store : Store C) (history : History) (agrees : Agrees pages store history) (small : log_end store.log ≤ 2 ^ 62) (at from len : ℕ) (payload : List ℕ) where
+  pub part_readable : (page : Page) (i : ℕ) → i < length (parts_of page (store_contents store)) → Some payload ≡ slice_get (parts_of page (store_contents store)) i → Some at ≡ slice_get (offsets_of page (store_offsets store)) i
+      → from ≡ min (at + 9) (2 ^ 64 - 1) → len ≡ length payload → IsReadable (frames_bytes agrees.frames) (log_end store.log) from len (part_at page i (store_contents store))
+  part_readable page i there held placed from_is len_is =
+      readable (frames_bytes agrees.frames) (log_end store.log) from len (at + 9) (part_at page i (store_contents store)) agrees.logged.end_is
+      (subst (λ n. HasBytesAt (frames_bytes agrees.frames) n (part_at page i (store_contents store))) {x = at + 9 + 0} (omega arith)
+      (read_of_part pages store history agrees page i at 0 there (sym placed) (omega arith)))
+      small from_is (len_is ∙ ap length (sym (got (parts_of page (store_contents store)) i payload (sym held))))
+
+  pub text_readable : (number : ℕ) → Some payload ≡ map.get (store_contents store).documents number → Some at ≡ map.get (store_offsets store).documents number
+      → from ≡ min (at + (9 + min (length payload) 1)) (2 ^ 64 - 1) → len ≡ length payload - min (length payload) 1 → IsReadable (frames_bytes agrees.frames) (log_end store.log) from len (drop 1 payload)
+  text_readable number held placed from_is len_is =
+      readable (frames_bytes agrees.frames) (log_end store.log) from len (at + (9 + skip)) (drop 1 payload) agrees.logged.end_is
+      (subst (λ n. HasBytesAt (frames_bytes agrees.frames) n (drop 1 payload)) {x = at + 9 + skip} (omega arith)
+      (subst (λ bytes. HasBytesAt (frames_bytes agrees.frames) (at + 9 + skip) bytes) (ap (drop skip) same ∙ first_or_none payload)
+      (read_of_part pages store history agrees (Document number) 0 at skip there (ap (λ o. slice_get (option_to_list o) 0) (sym placed)) (subst (λ p. skip ≤ length p) (sym same) (omega arith)))))
+      small from_is (len_is ∙ omega (arith, length-drop 1 payload))
+    where
+      skip : ℕ
+      skip = min (length payload) 1
+
+      same : part_at (Document number) 0 (store_contents store) ≡ payload
+      same = ap (λ o. slice_index_or (option_to_list o) 0 []) (sym held)
+
+      there : 0 < length (parts_of (Document number) (store_contents store))
+      there = subst (λ o. 0 < length (option_to_list o)) held (omega arith)
+
+      first_or_none : (p : List ℕ) → drop (min (length p) 1) p ≡ drop 1 p
+      first_or_none [] = refl
+      first_or_none (x ∷ p) = let one : min (length (x ∷ p)) 1 ≡ 1 = omega arith in ap (λ n. drop n (x ∷ p)) one

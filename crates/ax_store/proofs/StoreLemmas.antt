@@ -12,13 +12,17 @@ use Rattle.ax_frame.specs.LogFrame.{frame_bytes, CanFrame}
 use Rattle.ax_frame.proofs.Frames.{parts_take_bytes}
 use Rattle.ax_pages.specs.declared.root.RootChoice.TheVariants.{Counts}
 use Rattle.ax_pages.specs.Root.{IsRoot}
-use Rattle.ax_pages.specs.Area.{IsSpan}
 use Rattle.ax_pages.specs.Image.{IsFresh, IsLive, HasFrames}
 use Rattle.ax_pages.specs.laws.ImageLaws.{one_frames, fresh_not_live}
 use Rattle.ax_pages.specs.Contents.{Contents, no_contents}
 use Rattle.ax_pages.specs.AfterPart.{after_parts}
 use Rattle.ax_pages.specs.Leads.{AreSpoiled}
 use Rattle.ax_pages.specs.HasContents.{HasContents}
+use Rattle.std.specs.FinMap as map
+use Rattle.ax_cache.specs.Pages.{CachedPages}
+use Rattle.ax_pages.specs.Area.{IsSpan, frames_bytes}
+use Rattle.ax_store.specs.Cached.{HoldsParts}
+use Rattle.ax_store.proofs.CacheLemmas.{none_held, held_on}
 use Rattle.ax_log.specs.declared.log.Log.{Log}
 use Rattle.ax_log.specs.Log.{log_area, log_generation, log_end}
 use Rattle.ax_log.specs.Agreement as log
@@ -63,26 +67,47 @@ pub contents_of : (frames : List (List ℕ)) (kept : Kept) → TakesOn frames 0 
 contents_of frames kept takes image has = record { frames = frames; has = has; lead = lead_on_of frames 0 nothing_kept kept takes }
 
 -- ---- a law for clients: where the store agrees, each image that a crash now may leave has its contents
-pub agrees_rests : {C : Type 0} (store : Store C) (history : History) → Agrees store history → Rests history (HasContents (store_contents store))
-agrees_rests store history agrees =
+pub agrees_rests : {C : Type 0} (pages : C → CachedPages) (store : Store C) (history : History) → Agrees pages store history → Rests history (HasContents (store_contents store))
+agrees_rests pages store history agrees =
     rests_weaken history (HasFrames agrees.frames) (HasContents (store_contents store))
     (contents_of agrees.frames store.pages agrees.takes) (rests_of store.log agrees.frames history agrees.logged)
 
 -- it agrees still where no list changed
-pub agrees_still : {C : Type 0} (store : Store C) (old new : History) → Agrees store old → Idles old new → Agrees store new
-agrees_still store old new agrees idles = record { frames = agrees.frames; logged = agrees_idle store.log agrees.frames old new agrees.logged idles; takes = agrees.takes }
+pub agrees_still : {C : Type 0} (pages : C → CachedPages) (store : Store C) (old new : History) → Agrees pages store old → Idles old new → Agrees pages store new
+agrees_still pages store old new agrees idles = record { frames = agrees.frames; logged = agrees_idle store.log agrees.frames old new agrees.logged idles; takes = agrees.takes; caches = agrees.caches }
+
+-- the cache holds only bytes of the frames
+abbrev pub CachesOf : {C : Type 0} → (C → CachedPages) → Store C → List (List ℕ) → Type 0
+CachesOf pages store frames = HoldsParts (pages store.cache) (log_area store.log) (log_generation store.log) (frames_bytes frames)
+
+caches_same : {C : Type 0} (pages : C → CachedPages) (old new : Store C) (frames : List (List ℕ)) → new.log ≡ old.log → new.cache ≡ old.cache → CachesOf pages old frames → CachesOf pages new frames
+caches_same pages old new frames logged cache caches =
+    subst (λ c. HoldsParts (pages c) (log_area new.log) (log_generation new.log) (frames_bytes frames)) (sym cache)
+    (subst (λ l. HoldsParts (pages old.cache) (log_area l) (log_generation l) (frames_bytes frames)) (sym logged) caches)
+
+-- and after a read, which changes the cache alone
+pub agrees_read : {C : Type 0} (pages : C → CachedPages) (old new : Store C) (before after : History) (agrees : Agrees pages old before) → new.log ≡ old.log → new.pages ≡ old.pages
+    → CachesOf pages new agrees.frames → Idles before after → Agrees pages new after
+agrees_read pages old new before after agrees logged same caches idles = record {
+  frames = agrees.frames;
+  logged = agrees_idle new.log agrees.frames before after (subst (λ l. log.Agrees l agrees.frames before) (sym logged) agrees.logged) idles;
+  takes = subst (TakesOn agrees.frames 0 nothing_kept) (sym same) agrees.takes;
+  caches = caches;
+}
 
 -- and where nothing of it changed but the room
-pub agrees_same : {C : Type 0} (old new : Store C) (history : History) → SameButRoom old new → Agrees old history → Agrees new history
-agrees_same old new history same agrees = record {
+pub agrees_same : {C : Type 0} (pages : C → CachedPages) (old new : Store C) (history : History) → SameButRoom old new → Agrees pages old history → Agrees pages new history
+agrees_same pages old new history same agrees = record {
+  caches = caches_same pages old new agrees.frames same.logged same.cache agrees.caches;
   frames = agrees.frames;
   logged = subst (λ l. log.Agrees l agrees.frames history) (sym same.logged) agrees.logged;
   takes = last_same agrees.frames 0 nothing_kept old.pages new.pages agrees.takes same.contents same.offsets;
 }
 
 -- and where nothing of it changed but its slots
-pub agrees_slots : {C : Type 0} (old new : Store C) (history : History) → SameButSlots old new → Agrees old history → Agrees new history
-agrees_slots old new history same agrees = record {
+pub agrees_slots : {C : Type 0} (pages : C → CachedPages) (old new : Store C) (history : History) → SameButSlots old new → Agrees pages old history → Agrees pages new history
+agrees_slots pages old new history same agrees = record {
+  caches = caches_same pages old new agrees.frames same.logged same.cache agrees.caches;
   frames = agrees.frames;
   logged = subst (λ l. log.Agrees l agrees.frames history) (sym same.logged) agrees.logged;
   takes = subst (TakesOn agrees.frames 0 nothing_kept) (sym same.pages) agrees.takes;
@@ -174,9 +199,9 @@ load_keeps (Damaged extent at) l old mid new opened tells unchanged idles refuse
 load_keeps (Newer version) l old mid new opened tells unchanged idles refused = absurd tells
 load_keeps Memory l old mid new opened tells unchanged idles refused = absurd refused
 
-pub load_opened : {C : Type 0} (store : Store C) (before : Image) (mid new : History) (opened : opening.IsOpened store.log before mid) → TakesOn opened.frames 0 nothing_kept store.pages → Idles mid new → store.failed ≡ false → IsOpened store before new
-load_opened store before mid new opened takes idles works = record {
-  agrees = record { frames = opened.frames; logged = agrees_idle store.log opened.frames mid new opened.agrees idles; takes = takes };
+pub load_opened : {C : Type 0} (pages : C → CachedPages) (store : Store C) (before : Image) (mid new : History) (opened : opening.IsOpened store.log before mid) → TakesOn opened.frames 0 nothing_kept store.pages → Idles mid new → pages store.cache ≡ map.empty → store.failed ≡ false → IsOpened pages store before new
+load_opened pages store before mid new opened takes idles empty works = record {
+  agrees = record { frames = opened.frames; logged = agrees_idle store.log opened.frames mid new opened.agrees idles; takes = takes; caches = none_held (pages store.cache) (log_area store.log) (log_generation store.log) (frames_bytes opened.frames) empty };
   has = contents_of opened.frames store.pages takes before (opened_frames store.log before mid opened);
   works = works;
 }
@@ -195,13 +220,23 @@ text_len bytes parts spelled = omega (arith, ap length spelled, length-append (f
 takes_of : (parts : List PartValue) (at : ℕ) (old new : Kept) → CanFrame parts → Puts parts at old new → Takes (parts_bytes parts) at old new
 takes_of parts at old new can puts = record { parts = parts; fit = can.fit; spelled = refl; lead = puts.lead; offsets = puts.offsets }
 
-module _ {C : Type 0} (store : Store C) (old : History) (agrees : Agrees store old) (parts : List PartValue) (can : CanFrame parts) where
+module _ {C : Type 0} (pages : C → CachedPages) (store : Store C) (old : History) (agrees : Agrees pages store old) (parts : List PartValue) (can : CanFrame parts) where
   takes_more : (new : Kept) → Puts parts (log_end store.log + 9) store.pages new → TakesOn (agrees.frames ++ parts_bytes parts ∷ []) 0 nothing_kept new
   takes_more new puts = one_frame_more agrees.frames (parts_bytes parts) 0 (log_end store.log) nothing_kept store.pages new agrees.takes (omega (arith, agrees.logged.end_is))
       (takes_of parts (log_end store.log + 9) store.pages new can puts)
 
-  pub committed : (new : Store C) (history : History) → log.Agrees new.log (agrees.frames ++ parts_bytes parts ∷ []) history → Puts parts (log_end store.log + 9) store.pages new.pages → Agrees new history
-  committed new history logged puts = record { frames = agrees.frames ++ parts_bytes parts ∷ []; logged = logged; takes = takes_more new.pages puts }
+  pub committed : (new : Store C) (history : History) → log.Agrees new.log (agrees.frames ++ parts_bytes parts ∷ []) history → Puts parts (log_end store.log + 9) store.pages new.pages
+      → log_area new.log ≡ log_area store.log → log_generation new.log ≡ log_generation store.log → new.cache ≡ store.cache → Agrees pages new history
+  committed new history logged puts area generation cache = record {
+    frames = agrees.frames ++ parts_bytes parts ∷ [];
+    logged = logged;
+    takes = takes_more new.pages puts;
+    caches =
+        subst (λ c. HoldsParts (pages c) (log_area new.log) (log_generation new.log) (frames_bytes (agrees.frames ++ parts_bytes parts ∷ []))) (sym cache)
+        (subst (λ a. HoldsParts (pages store.cache) a (log_generation new.log) (frames_bytes (agrees.frames ++ parts_bytes parts ∷ []))) (sym area)
+        (subst (λ g. HoldsParts (pages store.cache) (log_area store.log) g (frames_bytes (agrees.frames ++ parts_bytes parts ∷ []))) (sym generation)
+        (held_on (pages store.cache) (log_area store.log) (log_generation store.log) agrees.frames (parts_bytes parts ∷ []) agrees.caches)));
+  }
 
   pub turns : (history : History) (new : Contents) → after_parts parts (store_contents store) ≡ Some new
       → Turns old history (HasFrames agrees.frames) (HasFrames (agrees.frames ++ parts_bytes parts ∷ [])) → Turns old history (HasContents (store_contents store)) (HasContents new)

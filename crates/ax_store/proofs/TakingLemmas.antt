@@ -7,12 +7,7 @@ use Rattle.ax_frame.proofs.Parts as parts
 use Rattle.ax_pages.specs.AfterPart.{after_part, after_parts, kind_of}
 use Rattle.ax_pages.specs.Leads.{IsSpoiled}
 use Rattle.ax_store.specs.Kept.{Kept, Takes, offsets_after, offsets_after_parts}
-use Rattle.ax_store.specs.declared.take_parts.TakeFault.{TakeFault}
-use Rattle.ax_store.specs.declared.take_parts.TakeFault.TheVariants.{Spoiled, Memory}
-use Rattle.ax_store.specs.Taking.{TakesPart, TellsPart, TellsParts, IsTakenTo}
-
-true_or_false : true ≡ false → ⊥
-true_or_false e = cc
+use Rattle.ax_store.specs.Taking.{TakesPart, IsTakenTo}
 
 pub not_begun : (bytes : List ℕ) (at : ℕ) (old : Kept) → IsTakenTo bytes at old old bytes
 not_begun bytes at old = record {
@@ -106,15 +101,3 @@ pub one_more_here : (bytes : List ℕ) (at here : ℕ) (old now : Kept) (rest : 
     → here ≡ at + (length bytes - length rest) → TakesPart part here now next → IsTakenTo bytes at old next after
 one_more_here bytes at here old now rest taken part after begins next is takes =
     one_more bytes at old now rest taken part after begins next (subst (λ n. TakesPart part n now next) {x = here} (omega (arith, is, taken.len)) takes)
-
--- a part that is refused refuses the whole
-pub refused_whole : (result : Result (Unit {0}) TakeFault) (fault : TakeFault) (part : PartValue) (bytes : List ℕ) (at here : ℕ) (old now next : Kept) (rest after : List ℕ) (taken : IsTakenTo bytes at old now rest)
-    → BeginsWithPart rest part after → here ≡ at + (length bytes - length rest) → result ≡ Err fault → TellsPart (Err fault) part here now next → TellsParts result bytes at old next
-refused_whole result (Spoiled place) part bytes at here old now next rest after taken begins is e tells =
-    subst (λ r. TellsParts r bytes at old next) (sym e)
-    (taken.done + 0, spoiled_by_part bytes at old now rest taken part after begins tells.1, tells.0 ∙ omega (arith, is, taken.len))
-refused_whole result Memory part bytes at here old now next rest after taken begins is e tells =
-    subst (λ r. TellsParts r bytes at old next) (sym e) tt
-
-pub some_left : (rest : List ℕ) (empty : Bool) → empty ≡ (length rest == 0) → empty ≡ false → rest ≢ []
-some_left rest empty is some none = true_or_false (sym (is ∙ ap (λ (r : List ℕ). length r == 0) none) ∙ some)

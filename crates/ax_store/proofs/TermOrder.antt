@@ -15,11 +15,11 @@ use Rattle.std.proofs.lemmas.List.{get_or_append_left, length-append}
 use Rattle.std.proofs.lemmas.List.Edits.{get_or-insert_at, get_or-insert_below, get_or-insert_above, length-insert}
 use Rattle.std.proofs.lemmas.Option.{slice_get-get_or, slice_get_past, slice_get_within, get_or_from_slice_get}
 use Rattle.std.proofs.Math.Seq.{get_or-append_seam}
-use Rattle.ax_leaf.specs.declared.pair.Pair.{Pair}
-use Rattle.ax_leaf.specs.Low.{first_pair}
-use Rattle.ax_leaf.specs.Pairs.{pair_cmp}
-use Rattle.ax_leaf.proofs.FromLow.{pair_cmp_total}
-use Rattle.ax_leaf.proofs.Whole.{the_pair}
+use Rattle.ax_pair.specs.declared.pair.Pair.{Pair}
+use Rattle.ax_pair.specs.Low.{first_pair}
+use Rattle.ax_pair.specs.Order.{pair_cmp}
+use Rattle.ax_pair.proofs.PairOrder.{pair_cmp_total}
+use Rattle.ax_pair.proofs.PairOrder.{the_pair}
 use Rattle.ax_pages.specs.AfterPart.{most_term_pages}
 use Rattle.ax_pages.specs.Contents.{TermPage, no_term_page, low_of}
 use Rattle.ax_pages.specs.TermPages.{IsPageOf, IsNextPage, IsLastPage, low_pair}

@@ -7,7 +7,7 @@ use Rattle.ax_frame.specs.LogFrame.{frame_bytes}
 use Rattle.ax_store.specs.declared.change.Change.{Change}
 
 abbrev pub change_value : Change → PartValue
-change_value change = record { kind = change.kind; key = change.key; payload = change.payload.items }
+change_value change = record { kind = change.kind; key = change.key; payload = change.new.part.payload.bytes }
 
 abbrev pub changes_value : List Change → List PartValue
 changes_value changes = map change_value changes

@@ -1,3 +1,4 @@
+pub mod NewParts
 pub mod Rows
 pub mod Listed
 pub mod TermRows
@@ -9,6 +10,8 @@ pub mod Putting
 pub mod Faults
 pub mod Window
 pub mod Loading
+pub mod Cached
+pub mod Reading
 pub mod Store
 pub mod Slots
 pub mod Places

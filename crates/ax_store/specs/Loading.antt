@@ -5,7 +5,8 @@ use Rattle.ax_disk.specs.declared.extent.Extent.{Extent}
 use Rattle.ax_pages.specs.Area.{frames_bytes}
 use Rattle.ax_pages.specs.Image.{extent_number}
 use Rattle.ax_pages.specs.Contents.{no_contents}
-use Rattle.ax_pages.specs.Leads.{AreSpoiled}
+use Rattle.ax_pages.specs.Leads.{IsSpoiled, IsRefused, AreSpoiled}
+use Rattle.ax_store.specs.Taking.{IsFrontTaken}
 use Rattle.ax_store.specs.declared.fault.StoreFault.{StoreFault}
 use Rattle.ax_store.specs.declared.fault.StoreFault.TheVariants.{Disk, Damaged, Newer, Memory}
 use Rattle.ax_store.specs.Kept.{Kept, no_offsets, Takes}
@@ -34,6 +35,22 @@ TellsLen (Err Disk) is = Unit {0}
 TellsLen (Err (Damaged extent at)) is = ⊥
 TellsLen (Err (Newer version)) is = ⊥
 TellsLen (Err Memory) is = Unit {0}
+
+-- what taking the part at the front of the bytes that a frame still has answers
+abbrev pub TellsNext : Result ℕ StoreFault → Extent → List ℕ → ℕ → Kept → Kept → Type 0
+TellsNext (Ok size) area rest here old new = IsFrontTaken size rest here old new
+TellsNext (Err Disk) area rest here old new = Unit {0}
+TellsNext (Err (Damaged extent at)) area rest here old new = (extent ≡ extent_number area) × (at ≡ here) × IsRefused rest old.contents
+TellsNext (Err (Newer version)) area rest here old new = ⊥
+TellsNext (Err Memory) area rest here old new = Unit {0}
+
+-- what taking all parts of a frame answers, whose bytes stand at an offset
+abbrev pub TellsSpan : Result (Unit {0}) StoreFault → Extent → List ℕ → ℕ → Kept → Kept → Type 0
+TellsSpan (Ok done) area bytes at old new = Takes bytes at old new
+TellsSpan (Err Disk) area bytes at old new = Unit {0}
+TellsSpan (Err (Damaged extent place)) area bytes at old new = (extent ≡ extent_number area) × ((within : ℕ) × IsSpoiled bytes old.contents within × (place ≡ at + within))
+TellsSpan (Err (Newer version)) area bytes at old new = ⊥
+TellsSpan (Err Memory) area bytes at old new = Unit {0}
 
 -- what taking one frame more answers
 abbrev pub TellsFrame : Result ℕ StoreFault → Extent → List (List ℕ) → Kept → Type 0

@@ -12,7 +12,7 @@ abbrev pub Offsets : Type 0
 Offsets = map.FinMap nat_cmp ℕ
 
 abbrev pub payload_kept : KeptPart → List ℕ
-payload_kept part = part.payload.items
+payload_kept part = part.payload.bytes
 
 abbrev pub offset_kept : KeptPart → ℕ
 offset_kept part = part.at

@@ -1,13 +1,15 @@
 -- A store as contracts see it, when it agrees with a disk, and what opening it answers.
 -- It is this project's own; it comes from no public document.
-use Rattle.std.specs.Prelude.{◌≡◌, ◌⊎◌, ℕ, Bool, false, List, Result, Ok, Err}
+use Rattle.std.specs.Prelude.{◌≡◌, ◌⊎◌, ℕ, Bool, false, List, Result, Ok, Err, IsTrue}
 use Rattle.ax_disk.specs.declared.extent.Extent.{Extent}
 use Rattle.ax_disk.specs.model.Image.{Image}
 use Rattle.ax_disk.specs.model.Moments.{History}
 use Rattle.ax_pages.specs.Image.{IsNewer, extent_number}
 use Rattle.ax_pages.specs.Contents.{Contents}
 use Rattle.ax_pages.specs.HasContents.{HasContents, IsSpoiledImage}
-use Rattle.ax_log.specs.Log.{log_area}
+use Rattle.ax_cache.specs.Pages.{CachedPages}
+use Rattle.ax_pages.specs.Area.{frames_bytes}
+use Rattle.ax_log.specs.Log.{log_area, log_generation}
 use Rattle.ax_log.specs.Agreement as log
 use Rattle.ax_log.specs.Opening.{IsDamagedAt}
 use Rattle.ax_log.specs.declared.fault.LogFault.{LogFault}
@@ -16,6 +18,7 @@ use Rattle.ax_pool.specs.Frames.{Frames}
 use Rattle.ax_store.specs.declared.store.Store.{Store}
 use Rattle.ax_store.specs.declared.fault.StoreFault.{StoreFault}
 use Rattle.ax_store.specs.declared.fault.StoreFault.TheVariants.{Disk, Damaged, Newer, Memory}
+use Rattle.ax_store.specs.Cached.{HoldsParts}
 use Rattle.ax_store.specs.Kept.{PageOffsets, room_of}
 use Rattle.ax_store.specs.Loading.{nothing_kept, TakesOn}
 
@@ -47,14 +50,22 @@ store_failed store = store.failed
 abbrev pub store_area : {C : Type 0} → Store C → Extent
 store_area store = log_area store.log
 
--- The log agrees with the disk by some frames, and these lead from nothing to the store's pages.
-pub record Agrees {C : Type 0} (store : Store C) (history : History) : Type 0 where
+-- The log agrees with the disk by some frames, these lead from nothing to the store's pages, and the
+-- cache holds only payloads that stand in them.
+pub record Agrees {C : Type 0} (pages : C → CachedPages) (store : Store C) (history : History) : Type 0 where
   pub frames : List (List ℕ)
   pub logged : log.Agrees store.log frames history
   pub takes : TakesOn frames 0 nothing_kept store.pages
+  pub caches : HoldsParts (pages store.cache) (log_area store.log) (log_generation store.log) (frames_bytes frames)
+
+-- the store agrees with a disk that is honest, until it has failed
+abbrev pub AgreesUnlessFailed : {C : Type 0} → (C → CachedPages) → Bool → Store C → History → Type 0
+AgreesUnlessFailed pages honest store history =
+    IsTrue honest → store_failed store ≡ false → Agrees pages store history
 
 -- nothing changed but the room
 pub record SameButRoom {C : Type 0} (old new : Store C) : Type 0 where
+  pub cache : new.cache ≡ old.cache
   pub logged : new.log ≡ old.log
   pub contents : store_contents new ≡ store_contents old
   pub offsets : store_offsets new ≡ store_offsets old
@@ -66,10 +77,16 @@ pub record SameButSlots {C : Type 0} (old new : Store C) : Type 0 where
   pub logged : new.log ≡ old.log
   pub pages : new.pages ≡ old.pages
   pub failed : store_failed new ≡ store_failed old
+  pub cache : new.cache ≡ old.cache
+
+-- nothing changed but slots, their bytes, and what the cache holds; and the store may have failed
+pub record SameButReads {C : Type 0} (old new : Store C) : Type 0 where
+  pub logged : new.log ≡ old.log
+  pub pages : new.pages ≡ old.pages
 
 -- The store agrees with the disk by the contents that the image before has.
-pub record IsOpened {C : Type 0} (store : Store C) (before : Image) (history : History) : Type 0 where
-  pub agrees : Agrees store history
+pub record IsOpened {C : Type 0} (pages : C → CachedPages) (store : Store C) (before : Image) (history : History) : Type 0 where
+  pub agrees : Agrees pages store history
   pub has : HasContents (store_contents store) before
   pub works : store_failed store ≡ false
 
@@ -85,9 +102,9 @@ TellsFault (Damaged extent at) before = IsDamagedStore before extent at
 TellsFault (Newer version) before = IsNewer before version
 TellsFault Memory before = Unit {0}
 
-abbrev pub TellsStore : {C : Type 0} → Result (Store C) StoreFault → Image → History → Type 0
-TellsStore (Ok store) before history = IsOpened store before history
-TellsStore (Err fault) before history = TellsFault fault before
+abbrev pub TellsStore : {C : Type 0} → (C → CachedPages) → Result (Store C) StoreFault → Image → History → Type 0
+TellsStore pages (Ok store) before history = IsOpened pages store before history
+TellsStore pages (Err fault) before history = TellsFault fault before
 
 -- a fault of the log as one of the store
 abbrev pub of_log : LogFault → StoreFault

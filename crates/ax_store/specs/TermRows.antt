@@ -5,22 +5,30 @@ use Rattle.std.specs.Prelude.{◌≡◌, ℕ, ◌<◌, ◌≤◌, ◌-◌, List,
 use Rattle.std.specs.Coded.{Coded, code_by, coded×, coded_list, coded_ℕ}
 use Rattle.std.specs.Option.{option_to_list}
 use Rattle.std.specs.declared.cmp.Ordering.TheVariants.{Less, Greater}
-use Rattle.ax_leaf.specs.declared.pair.Pair.{Pair}
-use Rattle.ax_leaf.specs.Low.{first_pair}
-use Rattle.ax_leaf.specs.Pairs.{pair_cmp}
+use Rattle.ax_pair.specs.declared.pair.Pair.{Pair}
+use Rattle.ax_pair.specs.Low.{first_pair}
+use Rattle.ax_pair.specs.Order.{pair_cmp}
 use Rattle.ax_pages.specs.AfterPart.{most_term_pages}
 use Rattle.ax_pages.specs.Contents.{TermPage}
 use Rattle.ax_pages.specs.ContentsCode.{term_page_code}
 use Rattle.ax_pages.specs.TermPages.{low_pair}
+use Rattle.ax_store.specs.declared.base_part.BasePart.{BasePart}
 use Rattle.ax_store.specs.declared.term_row.TermRow.{TermRow}
 use Rattle.ax_store.specs.Rows.{payload_kept, offset_kept}
 
+-- of a base, its payload and where it stands
+abbrev pub base_payload : BasePart → List ℕ
+base_payload base = payload_kept base.part
+
+abbrev pub base_offset : BasePart → ℕ
+base_offset base = offset_kept base.part
+
 -- what a row shows: the page, where its parts stand, and how many deltas it may still take without memory
 abbrev pub page_in : TermRow → TermPage
-page_in row = record { base = option_map payload_kept row.base; deltas = map payload_kept row.deltas.items }
+page_in row = record { base = option_map base_payload row.base; deltas = map payload_kept row.deltas.items }
 
 abbrev pub offsets_in : TermRow → List ℕ
-offsets_in row = option_to_list (option_map offset_kept row.base) ++ map offset_kept row.deltas.items
+offsets_in row = option_to_list (option_map base_offset row.base) ++ map offset_kept row.deltas.items
 
 abbrev pub room_in : TermRow → ℕ
 room_in row = vec_capacity row.deltas - vec_len row.deltas

@@ -5,6 +5,7 @@ ghost use Rattle.ax_frame.specs.Part.{part_value};
 ghost use Rattle.ax_store.specs.Change.{changes_value, can_frame, IsFrameOf};
 
 use crate::change::Change;
+use crate::making::new_part;
 use crate::out_of_memory::Memory;
 use ax_frame::{Part, PartsText, write_frame};
 use std::alloc::Global;
@@ -48,11 +49,11 @@ impl Batch {
         ensures unsealed { is_sealed self.new ≡ false }
     {
         self.sealed = false;
-        let payload = Vec::from_slice(alloc, part.payload)?;
+        let new = new_part(alloc, part.kind, part.payload)?;
         self.changes.reserve(1)?;
         self.text.add(part)?;
         let (kind, key) = (part.kind, part.key);
-        self.changes.push_reserved(Change { kind, key, payload });
+        self.changes.push_reserved(Change { kind, key, new });
         Ok(())
     }
 

@@ -17,6 +17,7 @@ use crate::fault::StoreFault;
 use crate::out_of_memory::Memory;
 use crate::put_changes::put_changes;
 use crate::store::Store;
+use ax_cache::PageCache;
 use ax_disk::Disk;
 
 /// How many bytes stand before what a frame spans.
@@ -45,14 +46,16 @@ impl<C> Store<C> {
     {
         self.pages.reserve_deltas(page, deltas)
     }
+}
 
+impl<C: PageCache> Store<C> {
     /// Makes the parts of a sealed batch durable together, and changes the pages by them. It takes no
     /// memory, and its only error is `Disk`: the pages are then as before, in memory, and the store
     /// has failed. Room for the parts was made by `reserve`, and for deltas of term pages by
     /// `reserve_deltas` besides; and the parts are within the format after the store's contents.
     pub fn commit<D: Disk>(&mut self, disk: &mut D, batch: Batch) -> Result<(), StoreFault>
         requires agrees { IsTrue (D.is_honest disk.old) → store_failed self.old ≡ false
-            → Agrees self.old (D.history disk.old (D.attached disk.old)) }
+            → Agrees C.pages self.old (D.history disk.old (D.attached disk.old)) }
         requires sealed { is_sealed batch ≡ true }
         requires room { length (batch_parts batch) ≤ store_spare self.old }
         requires deltas { (number : ℕ) → deltas_of number (batch_parts batch) ≤ store_room number self.old }
@@ -61,7 +64,7 @@ impl<C> Store<C> {
         ensures ok { OnOk result (after_parts (batch_parts batch) (store_contents self.old) ≡ Some (store_contents self.new)) }
         ensures err { OnErr result (store_contents self.new ≡ store_contents self.old) }
         ensures agrees { IsTrue (D.is_honest disk.old)
-            → OnOk result (Agrees self.new (D.history disk.new (D.attached disk.new))) }
+            → OnOk result (Agrees C.pages self.new (D.history disk.new (D.attached disk.new))) }
 
         // A crash at any moment of the call, and after it, leaves the contents before it or the new ones.
         ensures any_moment { IsTrue (D.is_honest disk.old) → store_failed self.old ≡ false → (new : Contents)

@@ -1,12 +1,20 @@
 //! A part that counts.
 
-ghost use Rattle.std.specs.Prelude.{◌≤◌, vec_len};
+ghost use Rattle.std.specs.Prelude.{◌≡◌, ◌≤◌, length, slice_index};
 
-/// A part that counts, kept in memory.
+use ax_shown::Shown;
+
+/// A part that counts: where it stands. Its payload is on the disk, and only contracts see it.
 #[derive(Drop)]
 pub(crate) struct KeptPart {
     /// Where it stands in the area that counts.
     pub(crate) at: u64,
-    pub(crate) payload: Vec<u8>,
-    ghost fits: { vec_len payload ≤ 65536 },
+    /// How many bytes its payload has.
+    pub(crate) len: u32,
+    /// The first byte of its payload, or 0: of a document the number of its policy.
+    pub(crate) first: u8,
+    pub(crate) payload: Shown,
+    ghost fits: { length payload.bytes ≤ 65536 },
+    ghost whole: { len ≡ length payload.bytes },
+    ghost begins: { first ≡ slice_index payload.bytes 0 },
 }

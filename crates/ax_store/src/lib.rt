@@ -1,8 +1,11 @@
-//! The page store: a map from each page to the part that counts, kept in memory and, by the log, on a
-//! disk. It knows kinds, keys and lengths of parts; what a payload means is for the layers above.
+//! The page store: a map from each page to the parts that count, which stand, by the log, on a disk.
+//! In memory are their places, lengths and first bytes, and the low pairs of term pages; a payload is
+//! read from the disk when it is asked for, through a page cache. The store knows kinds, keys and
+//! lengths of parts; what a payload means is for the layers above.
 //!
-//! It stands on `ax_log` for the frames, on `ax_frame` for parts, and on `ax_pages` for what an image
-//! of the disk has. Its one contract: until a call answers that the disk failed, each image that a
+//! It stands on `ax_log` for the frames, on `ax_frame` for parts, on `ax_cache` for what was read
+//! before, on `ax_shown` for payloads that contracts see and no code holds, and on `ax_pages` for what
+//! an image of the disk has. Its one contract: until a call answers that the disk failed, each image that a
 //! crash may leave has the store's contents; a commit changes them whole or not at all, at each
 //! moment; and a store that is damaged is refused at exactly the offset where it is.
 //!
@@ -11,14 +14,17 @@
 //! `agrees_rests`, `agrees_still` and `agrees_same` of `proofs/StoreLemmas.antt`.
 #![tactic(auto)]
 
+mod base_part;
 mod batch;
+mod cached;
 mod change;
 mod commit;
 mod directory;
-mod document_texts;
 mod fault;
 mod kept_part;
 mod load;
+mod making;
+mod new_part;
 mod open;
 mod out_of_memory;
 mod pages;

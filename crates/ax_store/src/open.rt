@@ -37,7 +37,7 @@ impl<C: PageCache + Drop> Store<C> {
     ) -> Result<Store<C>, StoreFault>
         requires empty { C.pages cache ≡ map.empty }
         ensures tells { IsTrue (D.is_honest disk.old)
-            → TellsStore result (D.history disk.old (D.attached disk.old)).reads (D.history disk.new (D.attached disk.new)) }
+            → TellsStore C.pages result (D.history disk.old (D.attached disk.old)).reads (D.history disk.new (D.attached disk.new)) }
         ensures slots { IfOk result HasAllFree }
         ensures works { IfOk result (λ store. store_failed store ≡ false) }
         ensures refused { IsTrue (D.is_honest disk.old) → IsRefused result

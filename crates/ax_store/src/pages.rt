@@ -1,16 +1,21 @@
-//! The pages of a store in memory, changed part by part.
+//! What a store keeps of its pages in memory, changed part by part.
 
 ghost use Rattle.std.specs.Prelude.{◌≡◌, ℕ, ◌+◌, ◌≤◌, ◌<◌, ◌==◌, length, IsTrue, IfOk, OnOk, IfSome, IfNone, is_some, Some, None, option_map, slice_get, if◌then◌else◌};
 ghost use Rattle.ax_store.specs.Listed.{IsNextAfter};
 ghost use Rattle.std.specs.FinMap as map;
 ghost use Rattle.std.specs.Option.{option_to_list};
 ghost use Rattle.ax_pages.specs.Contents.{next_number, policy_now, is_given, next_in, now_in, parts_of};
-ghost use Rattle.ax_pages.specs.AfterPart.{after_kind, is_meta, is_document, is_gone, has_room};
+ghost use Rattle.ax_pages.specs.AfterPart.{low_at_front, after_kind, is_meta, is_document, is_gone, has_room};
 ghost use Rattle.ax_store.specs.Rows.{payload_kept, offset_kept};
+ghost use Rattle.ax_store.specs.NewParts.{new_payload, new_low};
+ghost use Rattle.ax_store.specs.TermRows.{base_payload, base_offset};
 ghost use Rattle.ax_store.specs.Kept.{IsNothing, offsets_of, offsets_after, room_of, deltas_by_kind};
 
+use crate::base_part::BasePart;
 use crate::directory::Directory;
 use crate::kept_part::KeptPart;
+use crate::making::numbers_in;
+use crate::new_part::NewPart;
 use crate::out_of_memory::Memory;
 use crate::term_pages::TermPages;
 use ax_pages::{Kind, Page};
@@ -32,7 +37,8 @@ pub struct Meta {
     pub now: u8,
 }
 
-/// The pages of a store, all of whose payloads are kept in memory.
+/// The pages of a store: of each part its place, its length, and what the store needs of its payload.
+/// Contracts see the payloads.
 #[derive(Drop)]
 pub(crate) struct Pages {
     meta: Option<KeptPart>,
@@ -247,55 +253,78 @@ impl Pages {
         self.documents.get(number).is_some() || self.documents.len() < MOST_DOCUMENTS
     }
 
-    /// Changes the page of a part that is within the format, in the room that there is.
-    pub(crate) fn put(&mut self, kind: Kind, key: u32, part: KeptPart)
+    /// Changes the page of a part that is within the format, in the room that there is. The part stands at an offset.
+    pub(crate) fn put(&mut self, kind: Kind, key: u32, at: u64, new: NewPart)
         requires room { 0 < self.old.spare }
         requires deltas { deltas_by_kind (Some kind) key key ≤ room_of key self.old }
-        requires within { IsTrue (is_some (after_kind (Some kind) key (payload_kept part) self.old.contents)) }
-        ensures contents { after_kind (Some kind) key (payload_kept part) self.old.contents ≡ Some self.new.contents }
-        ensures offsets { self.new.offsets ≡ offsets_after (Some kind) key (offset_kept part) self.old.offsets }
+        requires within { IsTrue (is_some (after_kind (Some kind) key (new_payload new) self.old.contents)) }
+        requires low { kind ≡ Kind.Base → new_low new ≡ low_at_front (new_payload new) }
+        ensures contents { after_kind (Some kind) key (new_payload new) self.old.contents ≡ Some self.new.contents }
+        ensures offsets { self.new.offsets ≡ offsets_after (Some kind) key at self.old.offsets }
         ensures room { self.old.spare ≤ self.new.spare + 1 }
         ensures rooms { (page : ℕ) → room_of page self.old ≤ room_of page self.new + deltas_by_kind (Some kind) key page }
     {
         match kind {
-            Kind::Meta => self.put_meta(part),
-            Kind::Policy => self.policies.put(key, part),
-            Kind::Document => self.documents.put(key, part),
+            Kind::Meta => self.put_meta(at, new),
+            Kind::Policy => self.policies.put(key, placed(at, new)),
+            Kind::Document => self.documents.put(key, placed(at, new)),
             Kind::Gone => self.documents.clear(key),
-            Kind::Base => self.terms.put_base(key, part),
-            Kind::Delta => self.terms.put_delta(key, part),
+            Kind::Base => self.terms.put_base(key, placed_base(at, new)),
+            Kind::Delta => self.terms.put_delta(key, placed(at, new)),
         }
     }
 
-    fn put_meta(&mut self, part: KeptPart)
-        requires len { length (payload_kept part) ≡ 8 }
-        requires now { now_in (payload_kept part) ≤ 8 }
-        ensures contents { self.new.contents ≡ record self.old.contents { meta = Some (payload_kept part) } }
-        ensures offsets { self.new.offsets ≡ record self.old.offsets { meta = Some (offset_kept part) } }
+    fn put_meta(&mut self, at: u64, new: NewPart)
+        requires len { length (new_payload new) ≡ 8 }
+        requires now { now_in (new_payload new) ≤ 8 }
+        ensures contents { self.new.contents ≡ record self.old.contents { meta = Some (new_payload new) } }
+        ensures offsets { self.new.offsets ≡ record self.old.offsets { meta = Some at } }
         ensures room { self.old.spare ≡ self.new.spare }
         ensures rooms { self.new.rooms ≡ self.old.rooms }
     {
-        if let Some((next, now)) = numbers_in(&part.payload) {
-            let now = now as u8;
-            self.numbers = Meta { next, now };
-        }
-        self.meta = Some(part);
+        self.numbers = meta_of(&new);
+        self.meta = Some(placed(at, new));
     }
 }
 
-/// The two numbers in a payload of the meta, the next number and that of the policy now. `None` exactly where it has not
-/// eight bytes.
-fn numbers_in(payload: &[u8]) -> Option<(u32, u32)>
-    ensures some { is_some result ≡ (length payload.now == 8) }
-    ensures next { IfSome result (λ numbers. numbers.0 ≡ next_in payload.now) }
-    ensures now { IfSome result (λ numbers. numbers.1 ≡ now_in payload.now) }
+/// The numbers of a part of the meta.
+fn meta_of(new: &NewPart) -> Meta
+    requires len { length (new_payload new.now) ≡ 8 }
+    requires now { now_in (new_payload new.now) ≤ 8 }
+    ensures next { result.next ≡ next_in (new_payload new.now) }
+    ensures now { result.now ≡ now_in (new_payload new.now) }
 {
-    let [n0, n1, n2, n3, p0, p1, p2, p3] = *payload else {
-        return None;
-    };
-    let next = u32::from_le_bytes([n0, n1, n2, n3]);
-    let now = u32::from_le_bytes([p0, p1, p2, p3]);
-    Some((next, now))
+    let now = new.policy_now as u8;
+    Meta {
+        next: new.next,
+        now,
+    }
+}
+
+/// The part, which stands at an offset.
+fn placed(at: u64, new: NewPart) -> KeptPart
+    ensures payload { payload_kept result ≡ new_payload new }
+    ensures offset { offset_kept result ≡ at }
+{
+    let NewPart { mut part, .. } = new;
+    part.at = at;
+    part
+}
+
+/// The base, which stands at an offset.
+pub(crate) fn placed_base(at: u64, new: NewPart) -> BasePart
+    requires { new_low new ≡ low_at_front (new_payload new) }
+    ensures payload { base_payload result ≡ new_payload new }
+    ensures offset { base_offset result ≡ at }
+{
+    let NewPart {
+        mut part,
+        term,
+        number,
+        ..
+    } = new;
+    part.at = at;
+    BasePart { part, term, number }
 }
 
 /// A part, where the position is the first.

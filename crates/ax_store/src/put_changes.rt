@@ -8,7 +8,6 @@ ghost use Rattle.ax_store.specs.Kept.{offsets_after, deltas_by_kind, room_of};
 ghost use Rattle.ax_store.specs.Putting.{AreWithin, IsWithin, CanTake, Puts};
 
 use crate::change::Change;
-use crate::kept_part::KeptPart;
 use crate::pages::Pages;
 use ax_pages::kind_of_number;
 
@@ -25,7 +24,7 @@ pub(crate) fn put_changes(pages: &mut Pages, changes: Vec<Change>, at: u64)
 {
     let mut here = at;
     for change in changes {
-        let len = HEAD_BYTES + change.payload.len() as u64;
+        let len = HEAD_BYTES + u64::from(change.new.part.len);
         put_change(pages, change, here);
         here += len;
     }
@@ -41,9 +40,9 @@ fn put_change(pages: &mut Pages, change: Change, at: u64)
     ensures room { pages.old.spare ≤ pages.new.spare + 1 }
     ensures rooms { (page : ℕ) → room_of page pages.old ≤ room_of page pages.new + deltas_by_kind (kind_of change.kind) change.key page }
 {
-    let Change { kind, key, payload } = change;
+    let Change { kind, key, new } = change;
     match kind_of_number(kind) {
-        Some(kind) => pages.put(kind, key, KeptPart { at, payload }),
+        Some(kind) => pages.put(kind, key, at, new),
         None => unreachable!(),
     }
 }

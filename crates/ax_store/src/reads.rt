@@ -65,11 +65,10 @@ impl<C> Store<C> {
         ensures text_at { IfSome result (λ head. head.text_at ≡ 1) }
     {
         let part = self.pages.document(number)?;
-        let policy = match part.payload.first() {
-            Some(policy) => *policy,
-            None => 0,
-        };
-        Some(Head { policy, text_at: 1 })
+        Some(Head {
+            policy: part.first,
+            text_at: 1,
+        })
     }
 
     /// The least number above another that is held. `None` exactly where there is none.
@@ -80,41 +79,11 @@ impl<C> Store<C> {
         self.pages.next_document(after)
     }
 
-    /// The text of a document. `None` exactly where the number is not held. It counts one step.
-    /// `Disk` where the store has failed before; `Memory` where there is no room for the text.
-    pub fn fetch_text<D: Disk, L: Ledger>(
-        &mut self,
-        alloc: Global,
-        disk: &mut D,
-        number: u32,
-        steps: &mut Steps<L>,
-    ) -> Result<Option<Vec<u8>>, StoreFault>
-        ensures text { IfOk result (λ found. option_map (λ text. text.items) found
-            ≡ option_map (λ payload. drop 1 payload) (map.get (store_contents self.old).documents number)) }
-        ensures memory_alone { store_failed self.old ≡ false → IfErr result (λ fault. fault ≡ StoreFault.Memory) }
-        ensures same { self.new ≡ self.old }
-        ensures ticked { steps.new ≡ steps.old + 1 }
-        ensures lists { IsTrue (D.is_honest disk.old)
-            → Idles (D.history disk.old (D.attached disk.old)) (D.history disk.new (D.attached disk.new)) }
-        ensures failed_before { store_failed self.old ≡ true → result ≡ Err StoreFault.Disk }
-        ensures cause { store_failed self.old ≡ false → HasDiskCause result (D.faults disk.old) (D.faults disk.new) }
-        ensures same_faults { D.faults disk.new ≡ D.faults disk.old }
-        ensures attached { D.attached disk.new ≡ D.attached disk.old }
-        ensures honest { D.is_honest disk.new ≡ D.is_honest disk.old }
+    /// How many documents are held.
+    pub fn documents(&self) -> usize
+        ensures { result ≡ map.len (store_contents self.now).documents }
     {
-        // All payloads are in memory.
-        let _ = disk;
-        steps.tick();
-        if self.failed {
-            return Err(StoreFault::Disk);
-        }
-        let Some(part) = self.pages.document(number) else {
-            return Ok(None);
-        };
-        match Vec::from_slice(alloc, text_in(&part.payload)) {
-            Ok(text) => Ok(Some(text)),
-            Err(_) => Err(StoreFault::Memory),
-        }
+        self.pages.document_count()
     }
 }
 
@@ -125,15 +94,5 @@ fn offset(part: Option<&KeptPart>) -> u64
     match part {
         Some(part) => part.at,
         None => 0,
-    }
-}
-
-/// The text in a document's payload: what stands behind the number of its policy.
-pub(crate) fn text_in(payload: &[u8]) -> &[u8]
-    ensures { result.now ≡ drop 1 payload.now }
-{
-    match payload.split_first() {
-        Some((_, text)) => text,
-        None => payload,
     }
 }

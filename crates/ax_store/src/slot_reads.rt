@@ -1,26 +1,40 @@
 //! Reading parts and documents into slots.
 
-ghost use Rattle.std.specs.Prelude.{◌≡◌, ◌+◌, ◌<◌, ◌≤◌, true, false, Err, IsTrue, IfOk, IfErr, is_ok, length};
+ghost use Rattle.std.specs.Prelude.{◌≡◌, ◌+◌, ◌-◌, ◌^◌, ◌<◌, ◌≤◌, min, ℕ, List, true, false, Err, IsTrue, IfOk, IfErr, IfSome, OnOk, OnErr, length, take, drop, option_map, Some, None};
 ghost use Rattle.std.specs.FinMap as map;
+ghost use Rattle.ax_faults.specs.Faults.{HasCause};
 ghost use Rattle.ax_disk.specs.model.Calls.{Idles};
+ghost use Rattle.ax_pages.specs.Area.{frames_bytes};
 ghost use Rattle.ax_pages.specs.Contents.{parts_of};
-ghost use Rattle.ax_pool.specs.Frames.{IsTaken, frame_size, written_over};
+ghost use Rattle.ax_log.specs.Log.{log_area, log_end, log_generation};
+ghost use Rattle.ax_log.specs.Agreement as logged;
+ghost use Rattle.ax_pool.specs.Frames.{IsTaken, bytes_at};
+ghost use Rattle.ax_store.specs.Cached.{HoldsParts};
+ghost use Rattle.ax_store.specs.Rows.{payload_kept, offset_kept};
 ghost use Rattle.ax_store.specs.Faults.{HasDiskCause};
 ghost use Rattle.ax_store.specs.Slots.{IsSlotOf, AreOthersSame, IsRead, IsFetched, part_at, ticks_of};
-ghost use Rattle.ax_store.specs.Store.{SameButSlots, store_contents, store_slots, store_failed};
+ghost use Rattle.ax_store.specs.Store.{AgreesUnlessFailed, SameButReads, store_contents, store_slots, store_failed};
 
+use crate::cached::read_bytes;
 use crate::fault::StoreFault;
-use crate::reads::text_in;
+use crate::kept_part::KeptPart;
 use crate::store::Store;
 use ax_base::Steps;
-use ax_disk::Disk;
+use ax_cache::PageCache;
+use ax_disk::{Disk, DiskFailed};
+use ax_log::Log;
 use ax_pages::Page;
 use ax_pool::{Pool, Slot};
+use std::alloc::{AllocError, Global};
 use std::sync::ledger::Ledger;
 
-impl<C> Store<C> {
+/// How many bytes stand before a part's payload.
+const HEAD_BYTES: u64 = 9;
+
+impl<C: PageCache> Store<C> {
     /// Reads a part of a page into the front of a slot, and answers how many bytes it has. For a
-    /// document it counts one step. Its only error is `Disk`, where the store has failed before.
+    /// document it counts one step. Its only error is `Disk`, where a read failed or the store has
+    /// failed before.
     pub fn read_part<D: Disk, L: Ledger>(
         &mut self,
         disk: &mut D,
@@ -31,9 +45,18 @@ impl<C> Store<C> {
     ) -> Result<usize, StoreFault>
         requires part { i < length (parts_of page (store_contents self.old)) }
         requires slot { IsSlotOf self.old slot.old }
-        ensures read { IfOk result (IsRead (part_at page i (store_contents self.old)) (store_slots self.new) slot.old.number) }
+        requires agrees { AgreesUnlessFailed C.pages (D.is_honest disk.old) self.old
+            (D.history disk.old (D.attached disk.old)) }
+        ensures read { IsTrue (D.is_honest disk.old)
+            → IfOk result (IsRead (part_at page i (store_contents self.old)) (store_slots self.new) slot.old.number) }
+        ensures len { IfOk result (λ len. len ≡ length (part_at page i (store_contents self.old))) }
+        ensures most { IfOk result (λ len. len ≤ 65536) }
+        ensures agrees { AgreesUnlessFailed C.pages (D.is_honest disk.old) self.new
+            (D.history disk.new (D.attached disk.new)) }
         ensures others { AreOthersSame slot.old.number (store_slots self.old) (store_slots self.new) }
-        ensures same { SameButSlots self.old self.new }
+        ensures same { SameButReads self.old self.new }
+        ensures works { OnOk result (store_failed self.new ≡ false) }
+        ensures fails { OnErr result (store_failed self.new ≡ true) }
         ensures slot { slot.new ≡ slot.old }
         ensures ticked { steps.new ≡ steps.old + ticks_of page }
         ensures lists { IsTrue (D.is_honest disk.old)
@@ -41,7 +64,7 @@ impl<C> Store<C> {
         ensures disk_alone { IfErr result (λ fault. fault ≡ StoreFault.Disk) }
         ensures failed_before { store_failed self.old ≡ true → result ≡ Err StoreFault.Disk }
         ensures cause { store_failed self.old ≡ false → HasDiskCause result (D.faults disk.old) (D.faults disk.new) }
-        ensures same_faults { D.faults disk.new ≡ D.faults disk.old }
+        ensures never_falls { D.faults disk.old ≤ D.faults disk.new }
         ensures attached { D.attached disk.new ≡ D.attached disk.old }
         ensures honest { D.is_honest disk.new ≡ D.is_honest disk.old }
     {
@@ -59,16 +82,25 @@ impl<C> Store<C> {
     ) -> Result<usize, StoreFault>
         requires part { i < length (parts_of (Page.Term page) (store_contents self.old)) }
         requires slot { IsSlotOf self.old slot.old }
-        ensures read { IfOk result (IsRead (part_at (Page.Term page) i (store_contents self.old)) (store_slots self.new) slot.old.number) }
+        requires agrees { AgreesUnlessFailed C.pages (D.is_honest disk.old) self.old
+            (D.history disk.old (D.attached disk.old)) }
+        ensures read { IsTrue (D.is_honest disk.old)
+            → IfOk result (IsRead (part_at (Page.Term page) i (store_contents self.old)) (store_slots self.new) slot.old.number) }
+        ensures len { IfOk result (λ len. len ≡ length (part_at (Page.Term page) i (store_contents self.old))) }
+        ensures most { IfOk result (λ len. len ≤ 65536) }
+        ensures agrees { AgreesUnlessFailed C.pages (D.is_honest disk.old) self.new
+            (D.history disk.new (D.attached disk.new)) }
         ensures others { AreOthersSame slot.old.number (store_slots self.old) (store_slots self.new) }
-        ensures same { SameButSlots self.old self.new }
+        ensures same { SameButReads self.old self.new }
+        ensures works { OnOk result (store_failed self.new ≡ false) }
+        ensures fails { OnErr result (store_failed self.new ≡ true) }
         ensures slot { slot.new ≡ slot.old }
         ensures lists { IsTrue (D.is_honest disk.old)
             → Idles (D.history disk.old (D.attached disk.old)) (D.history disk.new (D.attached disk.new)) }
         ensures disk_alone { IfErr result (λ fault. fault ≡ StoreFault.Disk) }
         ensures failed_before { store_failed self.old ≡ true → result ≡ Err StoreFault.Disk }
         ensures cause { store_failed self.old ≡ false → HasDiskCause result (D.faults disk.old) (D.faults disk.new) }
-        ensures same_faults { D.faults disk.new ≡ D.faults disk.old }
+        ensures never_falls { D.faults disk.old ≤ D.faults disk.new }
         ensures attached { D.attached disk.new ≡ D.attached disk.old }
         ensures honest { D.is_honest disk.new ≡ D.is_honest disk.old }
     {
@@ -85,29 +117,53 @@ impl<C> Store<C> {
     ) -> Result<usize, StoreFault>
         requires part { i < length (parts_of page (store_contents self.old)) }
         requires slot { IsSlotOf self.old slot.old }
-        ensures read { IfOk result (IsRead (part_at page i (store_contents self.old)) (store_slots self.new) slot.old.number) }
+        requires agrees { AgreesUnlessFailed C.pages (D.is_honest disk.old) self.old
+            (D.history disk.old (D.attached disk.old)) }
+        ensures read { IsTrue (D.is_honest disk.old)
+            → IfOk result (IsRead (part_at page i (store_contents self.old)) (store_slots self.new) slot.old.number) }
+        ensures len { IfOk result (λ len. len ≡ length (part_at page i (store_contents self.old))) }
+        ensures most { IfOk result (λ len. len ≤ 65536) }
+        ensures agrees { AgreesUnlessFailed C.pages (D.is_honest disk.old) self.new
+            (D.history disk.new (D.attached disk.new)) }
         ensures others { AreOthersSame slot.old.number (store_slots self.old) (store_slots self.new) }
-        ensures same { SameButSlots self.old self.new }
+        ensures same { SameButReads self.old self.new }
+        ensures works { OnOk result (store_failed self.new ≡ false) }
+        ensures fails { OnErr result (store_failed self.new ≡ true) }
         ensures slot { slot.new ≡ slot.old }
-        ensures disk { disk.new ≡ disk.old }
+        ensures lists { IsTrue (D.is_honest disk.old)
+            → Idles (D.history disk.old (D.attached disk.old)) (D.history disk.new (D.attached disk.new)) }
         ensures disk_alone { IfErr result (λ fault. fault ≡ StoreFault.Disk) }
         ensures failed_before { store_failed self.old ≡ true → result ≡ Err StoreFault.Disk }
-        ensures works { store_failed self.old ≡ false → IsTrue (is_ok result) }
+        ensures cause { store_failed self.old ≡ false → HasDiskCause result (D.faults disk.old) (D.faults disk.new) }
+        ensures never_falls { D.faults disk.old ≤ D.faults disk.new }
+        ensures attached { D.attached disk.new ≡ D.attached disk.old }
+        ensures honest { D.is_honest disk.new ≡ D.is_honest disk.old }
     {
-        // All payloads are in memory.
-        let _ = disk;
         if self.failed {
             return Err(StoreFault::Disk);
         }
-        match self.pages.part(page, i) {
-            Some(part) => Ok(fill(&mut self.pool, slot, &part.payload)),
-            None => unreachable!(),
-        }
+        let Some(part) = self.pages.part(page, i) else {
+            unreachable!()
+        };
+        let (from, len) = (part.at.saturating_add(HEAD_BYTES), part.len as usize);
+        let Ok(()) = load(
+            &mut self.pool,
+            &self.log,
+            &mut self.cache,
+            disk,
+            from,
+            slot,
+            len,
+        ) else {
+            self.failed = true;
+            return Err(StoreFault::Disk);
+        };
+        Ok(len)
     }
 
     /// Reads the text of a document into the front of a slot, and answers how many bytes it has.
     /// `None` exactly where the number is not held. It counts one step, and its only error is
-    /// `Disk`, where the store has failed before.
+    /// `Disk`, where a read failed or the store has failed before.
     pub fn fetch<D: Disk, L: Ledger>(
         &mut self,
         disk: &mut D,
@@ -116,9 +172,18 @@ impl<C> Store<C> {
         steps: &mut Steps<L>,
     ) -> Result<Option<usize>, StoreFault>
         requires slot { IsSlotOf self.old slot.old }
-        ensures text { IfOk result (IsFetched (map.get (store_contents self.old).documents number) (store_slots self.new) slot.old.number) }
+        requires agrees { AgreesUnlessFailed C.pages (D.is_honest disk.old) self.old
+            (D.history disk.old (D.attached disk.old)) }
+        ensures text { IsTrue (D.is_honest disk.old)
+            → IfOk result (IsFetched (map.get (store_contents self.old).documents number) (store_slots self.new) slot.old.number) }
+        ensures len { IfOk result (λ found. found ≡ option_map (λ payload. length (drop 1 payload)) (map.get (store_contents self.old).documents number)) }
+        ensures most { IfOk result (λ found. IfSome found (λ len. len ≤ 65536)) }
+        ensures agrees { AgreesUnlessFailed C.pages (D.is_honest disk.old) self.new
+            (D.history disk.new (D.attached disk.new)) }
         ensures others { AreOthersSame slot.old.number (store_slots self.old) (store_slots self.new) }
-        ensures same { SameButSlots self.old self.new }
+        ensures same { SameButReads self.old self.new }
+        ensures works { OnOk result (store_failed self.new ≡ false) }
+        ensures fails { OnErr result (store_failed self.new ≡ true) }
         ensures slot { slot.new ≡ slot.old }
         ensures ticked { steps.new ≡ steps.old + 1 }
         ensures lists { IsTrue (D.is_honest disk.old)
@@ -126,21 +191,133 @@ impl<C> Store<C> {
         ensures disk_alone { IfErr result (λ fault. fault ≡ StoreFault.Disk) }
         ensures failed_before { store_failed self.old ≡ true → result ≡ Err StoreFault.Disk }
         ensures cause { store_failed self.old ≡ false → HasDiskCause result (D.faults disk.old) (D.faults disk.new) }
-        ensures same_faults { D.faults disk.new ≡ D.faults disk.old }
+        ensures never_falls { D.faults disk.old ≤ D.faults disk.new }
         ensures attached { D.attached disk.new ≡ D.attached disk.old }
         ensures honest { D.is_honest disk.new ≡ D.is_honest disk.old }
     {
-        // All payloads are in memory.
-        let _ = disk;
+        steps.tick();
+        self.read_text(disk, number, slot)
+    }
+
+    /// Reads the text of a document as `fetch` does, and counts no step.
+    pub fn read_text<D: Disk>(
+        &mut self,
+        disk: &mut D,
+        number: u32,
+        slot: &mut Slot,
+    ) -> Result<Option<usize>, StoreFault>
+        requires slot { IsSlotOf self.old slot.old }
+        requires agrees { AgreesUnlessFailed C.pages (D.is_honest disk.old) self.old
+            (D.history disk.old (D.attached disk.old)) }
+        ensures text { IsTrue (D.is_honest disk.old)
+            → IfOk result (IsFetched (map.get (store_contents self.old).documents number) (store_slots self.new) slot.old.number) }
+        ensures len { IfOk result (λ found. found ≡ option_map (λ payload. length (drop 1 payload)) (map.get (store_contents self.old).documents number)) }
+        ensures most { IfOk result (λ found. IfSome found (λ len. len ≤ 65536)) }
+        ensures agrees { AgreesUnlessFailed C.pages (D.is_honest disk.old) self.new
+            (D.history disk.new (D.attached disk.new)) }
+        ensures others { AreOthersSame slot.old.number (store_slots self.old) (store_slots self.new) }
+        ensures same { SameButReads self.old self.new }
+        ensures works { OnOk result (store_failed self.new ≡ false) }
+        ensures fails { OnErr result (store_failed self.new ≡ true) }
+        ensures slot { slot.new ≡ slot.old }
+        ensures lists { IsTrue (D.is_honest disk.old)
+            → Idles (D.history disk.old (D.attached disk.old)) (D.history disk.new (D.attached disk.new)) }
+        ensures disk_alone { IfErr result (λ fault. fault ≡ StoreFault.Disk) }
+        ensures failed_before { store_failed self.old ≡ true → result ≡ Err StoreFault.Disk }
+        ensures cause { store_failed self.old ≡ false → HasDiskCause result (D.faults disk.old) (D.faults disk.new) }
+        ensures never_falls { D.faults disk.old ≤ D.faults disk.new }
+        ensures attached { D.attached disk.new ≡ D.attached disk.old }
+        ensures honest { D.is_honest disk.new ≡ D.is_honest disk.old }
+    {
+        if self.failed {
+            return Err(StoreFault::Disk);
+        }
+        let Some(part) = self.pages.document(number) else {
+            return Ok(None);
+        };
+        let (from, len) = text_place(part);
+        let Ok(()) = load(
+            &mut self.pool,
+            &self.log,
+            &mut self.cache,
+            disk,
+            from,
+            slot,
+            len,
+        ) else {
+            self.failed = true;
+            return Err(StoreFault::Disk);
+        };
+        Ok(Some(len))
+    }
+
+    /// The text of a document. `None` exactly where the number is not held. It counts one step.
+    /// `Disk` where a read failed or the store has failed before; `Memory` where there is no room for the text.
+    pub fn fetch_text<D: Disk, L: Ledger>(
+        &mut self,
+        alloc: Global,
+        disk: &mut D,
+        number: u32,
+        steps: &mut Steps<L>,
+    ) -> Result<Option<Vec<u8>>, StoreFault>
+        requires agrees { AgreesUnlessFailed C.pages (D.is_honest disk.old) self.old
+            (D.history disk.old (D.attached disk.old)) }
+        ensures text { IsTrue (D.is_honest disk.old) → IfOk result (λ found. option_map (λ text. text.items) found
+            ≡ option_map (λ payload. drop 1 payload) (map.get (store_contents self.old).documents number)) }
+        ensures len { IfOk result (λ found. option_map (λ text. length text.items) found
+            ≡ option_map (λ payload. length (drop 1 payload)) (map.get (store_contents self.old).documents number)) }
+        ensures agrees { AgreesUnlessFailed C.pages (D.is_honest disk.old) self.new
+            (D.history disk.new (D.attached disk.new)) }
+        ensures same { SameButReads self.old self.new }
+        ensures slots { store_slots self.new ≡ store_slots self.old }
+        ensures ticked { steps.new ≡ steps.old + 1 }
+        ensures lists { IsTrue (D.is_honest disk.old)
+            → Idles (D.history disk.old (D.attached disk.old)) (D.history disk.new (D.attached disk.new)) }
+        ensures failed_before { store_failed self.old ≡ true → result ≡ Err StoreFault.Disk }
+        ensures works { OnOk result (store_failed self.new ≡ false) }
+        ensures fails { result ≡ Err StoreFault.Disk → store_failed self.new ≡ true }
+        ensures memory { result ≡ Err StoreFault.Memory → store_failed self.new ≡ store_failed self.old }
+        ensures cause { store_failed self.old ≡ false → HasDiskCause result (D.faults disk.old) (D.faults disk.new) }
+        ensures never_falls { D.faults disk.old ≤ D.faults disk.new }
+        ensures attached { D.attached disk.new ≡ D.attached disk.old }
+        ensures honest { D.is_honest disk.new ≡ D.is_honest disk.old }
+    {
         steps.tick();
         if self.failed {
             return Err(StoreFault::Disk);
         }
-        match self.pages.document(number) {
-            Some(part) => Ok(Some(fill(&mut self.pool, slot, text_in(&part.payload)))),
-            None => Ok(None),
-        }
+        let Some(part) = self.pages.document(number) else {
+            return Ok(None);
+        };
+        let (from, len) = text_place(part);
+        let Ok(mut text) = blank(alloc, len) else {
+            return Err(StoreFault::Memory);
+        };
+        let Ok(()) = read_bytes(&self.log, &mut self.cache, disk, from, &mut text, len) else {
+            self.failed = true;
+            return Err(StoreFault::Disk);
+        };
+        Ok(Some(text))
     }
+}
+
+/// Where the text of a document stands in the area, and how many bytes it has.
+fn text_place(part: &KeptPart) -> (u64, usize)
+    ensures from { result.0 ≡ min (offset_kept part.now + (9 + min (length (payload_kept part.now)) 1)) (2 ^ 64 - 1) }
+    ensures len { result.1 ≡ length (payload_kept part.now) - min (length (payload_kept part.now)) 1 }
+    ensures most { result.1 ≤ 65536 }
+{
+    // The number of the policy stands in front of the text.
+    let skip = part.len.min(1);
+    let from = part.at.saturating_add(HEAD_BYTES + u64::from(skip));
+    (from, (part.len - skip) as usize)
+}
+
+/// So many bytes, all 0.
+fn blank(alloc: Global, len: usize) -> Result<Vec<u8>, AllocError>
+    ensures { IfOk result (λ bytes. length bytes.items ≡ len) }
+{
+    vec![in alloc; 0; len]
 }
 
 /// Counts one step where the page is of a document.
@@ -153,23 +330,35 @@ fn count<L: Ledger>(page: Page, steps: &mut Steps<L>)
     }
 }
 
-/// Puts bytes into the front of a slot, and answers how many they are.
-fn fill(pool: &mut Pool, slot: &mut Slot, bytes: &[u8]) -> usize
+/// Reads so many bytes of the log's frames, from an offset on, into the front of a slot.
+fn load<D: Disk, C: PageCache>(
+    pool: &mut Pool,
+    log: &Log,
+    cache: &mut C,
+    disk: &mut D,
+    from: u64,
+    slot: &mut Slot,
+    len: usize,
+) -> Result<(), DiskFailed>
     requires slot { IsTaken pool.old slot.old.number }
-    requires room { length bytes.now ≤ frame_size }
-    ensures read { IsRead bytes.now pool.new slot.old.number result }
+    requires most { len ≤ 65536 }
+    ensures read { IsTrue (D.is_honest disk.old) → (frames : List (List ℕ))
+        → logged.Agrees log.now frames (D.history disk.old (D.attached disk.old))
+        → HoldsParts (C.pages cache.old) (log_area log.now) (log_generation log.now) (frames_bytes frames)
+        → from + len ≤ log_end log.now
+        → OnOk result (take len (bytes_at pool.new slot.old.number) ≡ take len (drop from (frames_bytes frames))) }
+    ensures caches { IsTrue (D.is_honest disk.old) → (frames : List (List ℕ))
+        → logged.Agrees log.now frames (D.history disk.old (D.attached disk.old))
+        → HoldsParts (C.pages cache.old) (log_area log.now) (log_generation log.now) (frames_bytes frames)
+        → from + len ≤ log_end log.now
+        → HoldsParts (C.pages cache.new) (log_area log.now) (log_generation log.now) (frames_bytes frames) }
     ensures others { AreOthersSame slot.old.number pool.old pool.new }
     ensures slot { slot.new ≡ slot.old }
+    ensures lists { IsTrue (D.is_honest disk.old)
+        → Idles (D.history disk.old (D.attached disk.old)) (D.history disk.new (D.attached disk.new)) }
+    ensures cause { HasCause result (D.faults disk.old) (D.faults disk.new) }
+    ensures attached { D.attached disk.new ≡ D.attached disk.old }
+    ensures honest { D.is_honest disk.new ≡ D.is_honest disk.old }
 {
-    put_front(pool.bytes_mut(slot), bytes);
-    bytes.len()
-}
-
-/// Writes bytes over the front of a frame.
-fn put_front(frame: &mut [u8], bytes: &[u8])
-    requires { length bytes.now ≤ length frame.old }
-    ensures { frame.new ≡ written_over bytes.now frame.old }
-{
-    let (front, _) = frame.split_at_mut(bytes.len());
-    front.copy_from_slice(bytes);
+    read_bytes(log, cache, disk, from, pool.bytes_mut(slot), len)
 }

@@ -14,7 +14,7 @@ pub struct Store<C> {
     pub(crate) pages: Pages,
     // The slots into which callers read.
     pub(crate) pool: Pool,
-    // All parts are in memory, so it is asked nothing.
+    // It is asked for a part before the disk is.
     pub(crate) cache: C,
     pub(crate) failed: bool,
 }

@@ -1,11 +1,11 @@
-//! The parts of a log frame are taken into the pages, one after another.
+//! A part is taken into the pages.
 
-ghost use Rattle.std.specs.Prelude.{◌≡◌, ◌+◌, ◌<◌, ◌≤◌, ◌^◌, length, OnOk, Some};
+ghost use Rattle.std.specs.Prelude.{◌≡◌, ◌<◌, ◌≤◌, length, OnOk, Some};
 ghost use Rattle.ax_frame.specs.Part.{part_value};
 ghost use Rattle.ax_store.specs.Kept.{room_of};
-ghost use Rattle.ax_store.specs.Taking.{TellsPart, TellsParts};
+ghost use Rattle.ax_store.specs.Taking.{TellsPart, TellsFront};
 
-use crate::kept_part::KeptPart;
+use crate::making::new_part;
 use crate::out_of_memory::Memory;
 use crate::pages::Pages;
 use ax_frame::{Part, split_part};
@@ -24,29 +24,23 @@ pub(crate) enum TakeFault {
     Memory,
 }
 
-/// Takes the parts of the bytes that a frame spans, which stand at an offset of the area.
-pub(crate) fn take_parts(
+/// Takes the part at the front of bytes that stand at an offset of the area, and answers how many
+/// bytes it has with its head.
+pub(crate) fn take_front(
     alloc: Global,
     pages: &mut Pages,
     bytes: &[u8],
     at: u64,
-) -> Result<(), TakeFault>
-    requires { at + length bytes.now < 2 ^ 64 }
-    ensures { TellsParts result bytes.now at pages.old pages.new }
+) -> Result<usize, TakeFault>
+    ensures { TellsFront result bytes.now at pages.old pages.new }
 {
-    let mut rest = bytes;
-    while !rest.is_empty() {
-        let here = at + (bytes.len() - rest.len()) as u64;
-        let Some((part, after)) = split_part(rest) else {
-            return Err(TakeFault::Spoiled { at: here });
-        };
-        let taken = take_part(alloc, pages, part, here);
-        let Ok(()) = taken else {
-            return taken;
-        };
-        rest = after;
+    let Some((part, after)) = split_part(bytes) else {
+        return Err(TakeFault::Spoiled { at });
+    };
+    match take_part(alloc, pages, part, at) {
+        Ok(()) => Ok(bytes.len() - after.len()),
+        Err(fault) => Err(fault),
     }
-    Ok(())
 }
 
 /// Takes one part, which stands at an offset of the area.
@@ -60,13 +54,13 @@ fn take_part(alloc: Global, pages: &mut Pages, part: Part<'_>, at: u64) -> Resul
     if !pages.admits(kind, part.key, part.payload) {
         return Err(TakeFault::Spoiled { at });
     }
-    let Ok(payload) = Vec::from_slice(alloc, part.payload) else {
+    let Ok(new) = new_part(alloc, part.kind, part.payload) else {
         return Err(TakeFault::Memory);
     };
     let Ok(()) = make_room(pages, kind, part.key) else {
         return Err(TakeFault::Memory);
     };
-    pages.put(kind, part.key, KeptPart { at, payload });
+    pages.put(kind, part.key, at, new);
     Ok(())
 }
 

@@ -3,19 +3,20 @@
 ghost use Rattle.std.specs.Prelude.{◌≡◌, ℕ, ◌+◌, ◌<◌, ◌≤◌, ◌==◌, [], ◌∷◌, ◌++◌, length, map, vec_len, vec_capacity, option_map, slice_get, slice_index_or, if◌then◌else◌, IfOk, OnOk, IfSome, IfNone, IsTrue, is_some};
 ghost use Rattle.std.specs.List.{insert};
 ghost use Rattle.std.specs.Ordering.{is_le};
-ghost use Rattle.ax_leaf.specs.Low.{low_in};
-ghost use Rattle.ax_leaf.specs.Pairs.{pair_cmp};
+ghost use Rattle.ax_pair.specs.Low.{low_in};
+ghost use Rattle.ax_pair.specs.Order.{pair_cmp};
 ghost use Rattle.ax_pages.specs.AfterPart.{is_base, is_delta, is_same, is_taken, low_at_front, after_base, after_delta, with_base};
 ghost use Rattle.ax_pages.specs.Contents.{no_term_page, term_page, term_parts};
 ghost use Rattle.ax_pages.specs.TermPages.{IsPageOf, IsNextPage, IsLastPage, low_pair};
 ghost use Rattle.ax_store.specs.Kept.{with_base_at, with_delta_at};
 ghost use Rattle.ax_store.specs.Rows.{payload_kept, offset_kept};
-ghost use Rattle.ax_store.specs.TermRows.{page_in, IsOrderOf, IsCountUpTo};
+ghost use Rattle.ax_store.specs.TermRows.{base_payload, base_offset, page_in, IsOrderOf, IsCountUpTo};
 
+use crate::base_part::BasePart;
 use crate::kept_part::KeptPart;
 use crate::out_of_memory::Memory;
 use crate::term_row::TermRow;
-use ax_leaf::split_low;
+use ax_pair::split_low;
 use std::alloc::Global;
 use std::marker::Model;
 
@@ -176,18 +177,18 @@ impl TermPages {
     }
 
     /// Puts a base that is within the format, in the room that there is.
-    pub(crate) fn put_base(&mut self, key: u32, part: KeptPart)
+    pub(crate) fn put_base(&mut self, key: u32, base: BasePart)
         requires room { 0 < self.old.spare }
-        requires within { IsTrue (is_base key (payload_kept part) self.old.pages) }
-        ensures pages { self.new.pages ≡ after_base key (payload_kept part) self.old.pages }
-        ensures offsets { self.new.offsets ≡ with_base_at key (offset_kept part) self.old.offsets }
+        requires within { IsTrue (is_base key (base_payload base) self.old.pages) }
+        ensures pages { self.new.pages ≡ after_base key (base_payload base) self.old.pages }
+        ensures offsets { self.new.offsets ≡ with_base_at key (base_offset base) self.old.offsets }
         ensures room { self.old.spare ≤ self.new.spare + 1 }
         ensures rooms { (page : ℕ) → slice_index_or self.old.rooms page 0 ≤ slice_index_or self.new.rooms page 0 }
     {
         if (key as usize) < self.rows.len() {
-            self.rows[key as usize].put_base(part);
+            self.rows[key as usize].put_base(base);
         } else {
-            self.put_page(part);
+            self.put_page(base);
         }
     }
 
@@ -220,19 +221,19 @@ impl TermPages {
     }
 
     /// Puts the first base of a new page.
-    fn put_page(&mut self, part: KeptPart)
+    fn put_page(&mut self, base: BasePart)
         requires room { 0 < self.old.spare }
-        requires within { IsTrue (is_base (length self.old.pages) (payload_kept part) self.old.pages) }
-        ensures pages { self.new.pages ≡ self.old.pages ++ with_base (payload_kept part) ∷ [] }
-        ensures offsets { self.new.offsets ≡ self.old.offsets ++ (offset_kept part ∷ []) ∷ [] }
+        requires within { IsTrue (is_base (length self.old.pages) (base_payload base) self.old.pages) }
+        ensures pages { self.new.pages ≡ self.old.pages ++ with_base (base_payload base) ∷ [] }
+        ensures offsets { self.new.offsets ≡ self.old.offsets ++ (base_offset base ∷ []) ∷ [] }
         ensures room { self.old.spare ≤ self.new.spare + 1 }
         ensures rooms { (page : ℕ) → slice_index_or self.old.rooms page 0 ≤ slice_index_or self.new.rooms page 0 }
     {
         let page = self.len();
-        let at = place_of(&self.order, &self.rows, &part.payload);
+        let at = place_of(&self.order, &self.rows, &base);
         insert_within(&mut self.order, at, page);
         let mut row = TermRow::new(self.alloc);
-        row.put_base(part);
+        row.put_base(base);
         self.rows.push_reserved(row);
     }
 }
@@ -286,16 +287,12 @@ fn page_behind(order: &[u32], rows: &[TermRow], page: u32) -> Option<u32>
     order.get(behind).copied()
 }
 
-/// The position in the order at which a new page would stand that has a base of that payload.
-fn place_of(order: &[u32], rows: &[TermRow], payload: &[u8]) -> usize
-    requires order { IsOrderOf order.now (map page_in rows.now) }
-    requires low { IsTrue (is_some (low_in payload.now)) }
-    ensures { IsCountUpTo (low_at_front payload.now) result order.now (map page_in rows.now) }
+/// The position in the order at which a new page would stand that has that base.
+fn place_of(order: &[u32], rows: &[TermRow], base: &BasePart) -> usize
+    requires { IsOrderOf order.now (map page_in rows.now) }
+    ensures { IsCountUpTo (low_at_front (base_payload base.now)) result order.now (map page_in rows.now) }
 {
-    match split_low(payload) {
-        Some((term, number, _)) => count_up_to(order, rows, term, number),
-        None => 0,
-    }
+    count_up_to(order, rows, &base.term, base.number)
 }
 
 /// Puts a page at a position of the order, in the room that there is.

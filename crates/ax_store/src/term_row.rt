@@ -4,18 +4,18 @@ ghost use Rattle.std.specs.Prelude.{◌≡◌, ◌+◌, ◌<◌, ◌≤◌, [], 
 ghost use Rattle.ax_pages.specs.AfterPart.{with_base, with_delta};
 ghost use Rattle.ax_pages.specs.Contents.{low_of, no_term_page, term_parts};
 ghost use Rattle.ax_store.specs.Rows.{payload_kept, offset_kept};
-ghost use Rattle.ax_store.specs.TermRows.{page_in, offsets_in, room_in};
+ghost use Rattle.ax_store.specs.TermRows.{base_payload, base_offset, page_in, offsets_in, room_in};
 
+use crate::base_part::BasePart;
 use crate::kept_part::KeptPart;
 use crate::out_of_memory::Memory;
-use ax_leaf::split_low;
 use std::alloc::Global;
 
 /// The parts of a term page from its last base on.
 #[derive(Drop)]
 pub(crate) struct TermRow {
     /// None before the first base, which only page 0 can lack.
-    pub(crate) base: Option<KeptPart>,
+    pub(crate) base: Option<BasePart>,
     /// The deltas behind the base, in order.
     pub(crate) deltas: Vec<KeptPart>,
 }
@@ -42,7 +42,7 @@ impl TermRow {
             None => self.deltas.get(i),
             Some(base) => {
                 if i == 0 {
-                    return Some(base);
+                    return Some(&base.part);
                 }
                 self.deltas.get(i - 1)
             }
@@ -67,19 +67,16 @@ impl TermRow {
         let Some(base) = &self.base else {
             return (&[], 0);
         };
-        match split_low(&base.payload) {
-            Some((term, number, _)) => (term, number),
-            None => (&[], 0),
-        }
+        (&base.term, base.number)
     }
 
     /// Puts a base in the place of all parts.
-    pub(crate) fn put_base(&mut self, part: KeptPart)
-        ensures page { page_in self.new ≡ with_base (payload_kept part) }
-        ensures offsets { offsets_in self.new ≡ offset_kept part ∷ [] }
+    pub(crate) fn put_base(&mut self, base: BasePart)
+        ensures page { page_in self.new ≡ with_base (base_payload base) }
+        ensures offsets { offsets_in self.new ≡ base_offset base ∷ [] }
         ensures room { room_in self.old ≤ room_in self.new }
     {
-        self.base = Some(part);
+        self.base = Some(base);
         self.deltas.clear();
     }
 

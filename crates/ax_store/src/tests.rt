@@ -1,12 +1,13 @@
 //! What a store does on a disk in memory.
 
 ghost use Rattle.std.specs.Prelude.{◌≡◌, ◌<◌, IsTrue};
+ghost use Rattle.std.specs.FinMap as map;
 ghost use Rattle.ax_frame.specs.Part.{part_value};
-ghost use Rattle.ax_store.specs.Store.{Agrees};
+ghost use Rattle.ax_store.specs.Store.{Agrees, AgreesUnlessFailed};
 
 use crate::{Batch, Head, Store, StoreFault};
 use ax_base::Steps;
-use ax_cache::NoPages;
+use ax_cache::{LruPages, NoPages, PageCache};
 use ax_disk::{Disk, Extent, MemDisk};
 use ax_frame::Part;
 use ax_pages::Page;
@@ -57,31 +58,27 @@ fn a_fresh_store_is_formed(rt: HostRuntime) -> Result<(), Fail> {
 fn a_document_is_there_again(rt: HostRuntime) -> Result<(), Fail> {
     let alloc = rt.alloc();
     let mut disk = empty_disk(alloc)?;
-    let Ok(mut store) = Store::open_store(alloc, &mut disk, NoPages) else {
-        assert!(rt; false);
-        return Ok(());
-    };
-    let committed = commit_document(alloc, &mut disk, &mut store);
-    assert_eq!(rt; committed, Ok(()));
-    let Ok(mut store) = Store::open_store(alloc, &mut disk, NoPages) else {
-        assert!(rt; false);
-        return Ok(());
-    };
-    assert_eq!(rt; store.meta().next, 2);
-    assert_eq!(rt; store.next_document(0), Some(1));
-    assert_eq!(rt;
-        store.head_of(1),
-        Some(Head {
-            policy: 0,
-            text_at: 1
-        })
-    );
-    // Behind gate, length, and the meta's part of 17 bytes.
-    assert_eq!(rt; place_of(&store, Page::Document(1), 0), Some((1, 26)));
-    let fetched = fetches::<Brand>(Blank::new(1), &mut disk, &mut store);
-    assert!(rt; fetched);
-    let whole = fetches_text::<Brand>(alloc, Blank::new(1), &mut disk, &mut store);
-    assert!(rt; whole);
+    assert!(rt; puts_document(alloc, &mut disk));
+    assert!(rt; has_document(alloc, &mut disk));
+    assert!(rt; reads_document::<MemDisk, Brand>(alloc, &mut disk, Blank::new(1)));
+    Ok(())
+}
+
+/// Each fetch reads the disk once where the cache holds nothing. Where it holds what was read, the
+/// second fetch of a document reads nothing.
+#[test]
+fn a_cache_spares_the_second_read(rt: HostRuntime) -> Result<(), Fail> {
+    let alloc = rt.alloc();
+    let mut disk = empty_disk(alloc)?;
+    assert!(rt; puts_document(alloc, &mut disk));
+    let once = reads_for(alloc, &mut disk, NoPages, false);
+    let twice = reads_for(alloc, &mut disk, NoPages, true);
+    let held_once = reads_for(alloc, &mut disk, LruPages::make(alloc, 4)?, false);
+    let held_twice = reads_for(alloc, &mut disk, LruPages::make(alloc, 4)?, true);
+    assert!(rt; once.is_some());
+    assert_eq!(rt; twice, once.and_then(|count| count.checked_add(1)));
+    assert_eq!(rt; held_once, once);
+    assert_eq!(rt; held_twice, once);
     Ok(())
 }
 
@@ -91,22 +88,9 @@ fn a_document_is_there_again(rt: HostRuntime) -> Result<(), Fail> {
 fn term_pages_are_there_again(rt: HostRuntime) -> Result<(), Fail> {
     let alloc = rt.alloc();
     let mut disk = empty_disk(alloc)?;
-    let Ok(mut store) = Store::open_store(alloc, &mut disk, NoPages) else {
-        assert!(rt; false);
-        return Ok(());
-    };
-    assert_eq!(rt; store.pages(), 1);
-    assert!(rt; !store.has_base(0));
-    let committed = commit_term_pages(alloc, &mut disk, &mut store);
-    assert_eq!(rt; committed, Ok(()));
-    let Ok(mut store) = Store::open_store(alloc, &mut disk, NoPages) else {
-        assert!(rt; false);
-        return Ok(());
-    };
-    assert!(rt; has_the_parts(&store));
-    assert!(rt; has_the_low_pairs(&store));
-    assert!(rt; finds_the_pages(&store));
-    assert!(rt; reads_the_parts(&mut disk, &mut store));
+    assert!(rt; puts_term_pages(alloc, &mut disk));
+    assert!(rt; has_term_pages(alloc, &mut disk));
+    assert!(rt; reads_term_pages(alloc, &mut disk));
     Ok(())
 }
 
@@ -131,13 +115,134 @@ fn empty_disk(alloc: Global) -> Result<MemDisk, ax_disk::Memory> {
     MemDisk::make(alloc, root, a, b, 1000, 100, Vec::new(alloc))
 }
 
-/// Commits the meta and one document.
-fn commit_document<D: Disk>(
+/// Whether a document is committed to the store of a disk.
+fn puts_document<D: Disk>(alloc: Global, disk: &mut D) -> bool {
+    match Store::open_store(alloc, disk, NoPages) {
+        Ok(mut store) => commit_document(alloc, disk, &mut store).is_ok(),
+        Err(_) => false,
+    }
+}
+
+/// Whether what the store keeps of the document is right.
+fn has_document<D: Disk>(alloc: Global, disk: &mut D) -> bool {
+    match Store::open_store(alloc, disk, NoPages) {
+        Ok(store) => keeps_document(&store),
+        Err(_) => false,
+    }
+}
+
+fn keeps_document(store: &Store<NoPages>) -> bool {
+    let head = Head {
+        policy: 0,
+        text_at: 1,
+    };
+    // Behind gate, length, and the meta's part of 17 bytes.
+    let place = place_of(store, Page::Document(1), 0);
+    store.meta().next == 2
+        && store.next_document(0) == Some(1)
+        && store.head_of(1) == Some(head)
+        && place == Some((1, 26))
+}
+
+/// Whether the document's text is read, into a slot and as a vector.
+fn reads_document<D: Disk, L: Ledger>(alloc: Global, disk: &mut D, blank: Blank) -> bool
+    requires name { blank.name ≡ L.name }
+    requires parts { blank.parts ≡ L.parts }
+    requires some { 0 < blank.parts }
+{
+    let mut steps = Steps::<L>::begin(blank);
+    let Ok(mut store) = Store::open_store(alloc, disk, NoPages) else {
+        return false;
+    };
+    if !fetches(disk, &mut store, &mut steps) {
+        return false;
+    }
+    fetches_text(alloc, disk, &mut store, &mut steps)
+}
+
+/// How often the disk is read while the store is opened with a cache and the document is fetched,
+/// once or twice. `None` where it is not fetched.
+fn reads_for<C: PageCache + Drop>(
+    alloc: Global,
+    disk: &mut MemDisk,
+    cache: C,
+    twice: bool,
+) -> Option<u64>
+    requires { C.pages cache ≡ map.empty }
+{
+    let before = disk.reads();
+    if !opens_and_fetches::<MemDisk, C, Brand>(alloc, disk, cache, twice, Blank::new(1)) {
+        return None;
+    }
+    disk.reads().checked_sub(before)
+}
+
+/// Opens the store with a cache, and fetches the document, once or twice.
+fn opens_and_fetches<D: Disk, C: PageCache + Drop, L: Ledger>(
     alloc: Global,
     disk: &mut D,
-    store: &mut Store<NoPages>,
+    cache: C,
+    twice: bool,
+    blank: Blank,
+) -> bool
+    requires empty { C.pages cache ≡ map.empty }
+    requires name { blank.name ≡ L.name }
+    requires parts { blank.parts ≡ L.parts }
+    requires some { 0 < blank.parts }
+{
+    let mut steps = Steps::<L>::begin(blank);
+    let Ok(mut store) = Store::open_store(alloc, disk, cache) else {
+        return false;
+    };
+    if !fetches(disk, &mut store, &mut steps) {
+        return false;
+    }
+    if twice {
+        return fetches(disk, &mut store, &mut steps);
+    }
+    true
+}
+
+/// Whether term pages are committed to the store of a disk, which has one without a part.
+fn puts_term_pages<D: Disk>(alloc: Global, disk: &mut D) -> bool {
+    match Store::open_store(alloc, disk, NoPages) {
+        Ok(mut store) => commit_term_pages(alloc, disk, &mut store).is_ok(),
+        Err(_) => false,
+    }
+}
+
+/// Whether what the store keeps of the term pages is right.
+fn has_term_pages<D: Disk>(alloc: Global, disk: &mut D) -> bool {
+    match Store::open_store(alloc, disk, NoPages) {
+        Ok(store) => has_the_parts(&store) && has_the_low_pairs(&store) && finds_the_pages(&store),
+        Err(_) => false,
+    }
+}
+
+/// Whether each part of the term pages is read.
+fn reads_term_pages<D: Disk>(alloc: Global, disk: &mut D) -> bool {
+    let Ok(mut store) = Store::open_store(alloc, disk, NoPages) else {
+        return false;
+    };
+    if !reads_term(disk, &mut store, 0, 0, &FIRST_BASE) {
+        return false;
+    }
+    if !reads_term(disk, &mut store, 0, 1, &FIRST_DELTA) {
+        return false;
+    }
+    if !reads_term(disk, &mut store, 0, 2, &SECOND_DELTA) {
+        return false;
+    }
+    reads_term(disk, &mut store, 1, 0, &SECOND_BASE)
+}
+
+/// Commits the meta and one document.
+fn commit_document<D: Disk, C: PageCache>(
+    alloc: Global,
+    disk: &mut D,
+    store: &mut Store<C>,
 ) -> Result<(), StoreFault>
-    requires agrees { IsTrue (D.is_honest disk.old) → Agrees store.old (D.history disk.old (D.attached disk.old)) }
+    requires agrees { IsTrue (D.is_honest disk.old) → Agrees C.pages store.old (D.history disk.old (D.attached disk.old)) }
 {
     let mut batch = Batch::begin(alloc);
     let meta = Part {
@@ -169,12 +274,12 @@ fn commit_document<D: Disk>(
 }
 
 /// Commits bases of two term pages, and two deltas of the first, to a store that has none.
-fn commit_term_pages<D: Disk>(
+fn commit_term_pages<D: Disk, C: PageCache>(
     alloc: Global,
     disk: &mut D,
-    store: &mut Store<NoPages>,
+    store: &mut Store<C>,
 ) -> Result<(), StoreFault>
-    requires agrees { IsTrue (D.is_honest disk.old) → Agrees store.old (D.history disk.old (D.attached disk.old)) }
+    requires agrees { IsTrue (D.is_honest disk.old) → Agrees C.pages store.old (D.history disk.old (D.attached disk.old)) }
 {
     let mut batch = Batch::begin(alloc);
     let first_base = term_part(5, 0, &FIRST_BASE);
@@ -251,13 +356,6 @@ fn finds_the_pages(store: &Store<NoPages>) -> bool {
         && page_behind(store, 1).is_none()
 }
 
-fn reads_the_parts(disk: &mut MemDisk, store: &mut Store<NoPages>) -> bool {
-    reads_term(disk, store, 0, 0, &FIRST_BASE)
-        && reads_term(disk, store, 0, 1, &FIRST_DELTA)
-        && reads_term(disk, store, 0, 2, &SECOND_DELTA)
-        && reads_term(disk, store, 1, 0, &SECOND_BASE)
-}
-
 fn low_is(store: &Store<NoPages>, page: u32, term: &[u8], number: u32) -> bool {
     page < store.pages() && store.low(page) == (term, number)
 }
@@ -270,51 +368,64 @@ fn page_behind(store: &Store<NoPages>, page: u32) -> Option<u32> {
 }
 
 /// Whether a part of a term page is read into a slot.
-fn reads_term(
-    disk: &mut MemDisk,
-    store: &mut Store<NoPages>,
+fn reads_term<D: Disk, C: PageCache>(
+    disk: &mut D,
+    store: &mut Store<C>,
     page: u32,
     i: usize,
     payload: &[u8],
-) -> bool {
+) -> bool
+    requires agrees { AgreesUnlessFailed C.pages (D.is_honest disk.old) store.old
+        (D.history disk.old (D.attached disk.old)) }
+    ensures agrees { AgreesUnlessFailed C.pages (D.is_honest disk.new) store.new
+        (D.history disk.new (D.attached disk.new)) }
+{
     if i >= store.parts(Page::Term(page)) {
         return false;
     }
     let Some(mut slot) = store.take_slot() else {
         return false;
     };
-    let read = store.read_term(disk, page, i, &mut slot);
-    read == Ok(payload.len()) && store.slot_bytes(&slot).starts_with(payload)
+    match store.read_term(disk, page, i, &mut slot) {
+        Ok(len) => len == payload.len() && store.slot_bytes(&slot).starts_with(payload),
+        Err(_) => false,
+    }
 }
 
 /// Whether the document's text is read into a slot.
-fn fetches<L: Ledger>(blank: Blank, disk: &mut MemDisk, store: &mut Store<NoPages>) -> bool
-    requires name { blank.name ≡ L.name }
-    requires parts { blank.parts ≡ L.parts }
-    requires some { 0 < blank.parts }
+fn fetches<D: Disk, C: PageCache, L: Ledger>(
+    disk: &mut D,
+    store: &mut Store<C>,
+    steps: &mut Steps<L>,
+) -> bool
+    requires agrees { AgreesUnlessFailed C.pages (D.is_honest disk.old) store.old
+        (D.history disk.old (D.attached disk.old)) }
+    ensures agrees { AgreesUnlessFailed C.pages (D.is_honest disk.new) store.new
+        (D.history disk.new (D.attached disk.new)) }
 {
-    let mut steps = Steps::<L>::begin(blank);
     let Some(mut slot) = store.take_slot() else {
         return false;
     };
-    let fetched = store.fetch(disk, 1, &mut slot, &mut steps);
-    fetched == Ok(Some(TEXT.len())) && store.slot_bytes(&slot).starts_with(&TEXT)
+    match store.fetch(disk, 1, &mut slot, steps) {
+        Ok(Some(len)) => len == TEXT.len() && store.slot_bytes(&slot).starts_with(&TEXT),
+        Ok(None) => false,
+        Err(_) => false,
+    }
 }
 
 /// Whether the document's text is read as a vector.
-fn fetches_text<L: Ledger>(
+fn fetches_text<D: Disk, C: PageCache, L: Ledger>(
     alloc: Global,
-    blank: Blank,
-    disk: &mut MemDisk,
-    store: &mut Store<NoPages>,
+    disk: &mut D,
+    store: &mut Store<C>,
+    steps: &mut Steps<L>,
 ) -> bool
-    requires name { blank.name ≡ L.name }
-    requires parts { blank.parts ≡ L.parts }
-    requires some { 0 < blank.parts }
+    requires agrees { AgreesUnlessFailed C.pages (D.is_honest disk.old) store.old
+        (D.history disk.old (D.attached disk.old)) }
 {
-    let mut steps = Steps::<L>::begin(blank);
-    match store.fetch_text(alloc, disk, 1, &mut steps) {
+    match store.fetch_text(alloc, disk, 1, steps) {
         Ok(Some(text)) => text.as_slice() == TEXT.as_slice(),
-        _ => false,
+        Ok(None) => false,
+        Err(_) => false,
     }
 }

@@ -12,7 +12,7 @@ use ax_disk::Disk;
 use ax_log::Log;
 use std::alloc::Global;
 
-/// How many bytes a window shows where so many are left, until a longer frame asks for more.
+/// How many bytes a window shows where so many are left.
 const WINDOW_BYTES: u64 = 262_144;
 
 /// Bytes of a log's frames, from an offset on.
@@ -83,10 +83,8 @@ impl Window {
         if self.reaches(at, len) {
             return Ok(());
         }
-        // Once grown the window stays as large, so that it does not grow again for each long frame.
-        let widest = WINDOW_BYTES.max(self.bytes.len() as u64);
         let left = log.end() - at;
-        self.show(disk, log, at, len.max(widest.min(left)))
+        self.show(disk, log, at, len.max(WINDOW_BYTES.min(left)))
     }
 
     /// Whether so many bytes at an offset are within the window.

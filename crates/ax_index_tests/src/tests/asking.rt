@@ -2,11 +2,11 @@
 
 ghost use Rattle.ax_index_support.specs.Ready.{IsReady};
 
-use ax_cache::NoPages;
+use ax_cache::PageCache;
 use ax_disk::{Disk, MemDisk};
 use ax_index::{Change, TermRange};
 use ax_index_support as support;
-use ax_leaf::Bytes;
+use ax_pair::Bytes;
 use ax_store::Store;
 use std::alloc::Global;
 use std::test::Fail;
@@ -21,30 +21,30 @@ pub fn fresh_disk(alloc: Global, room: usize) -> Result<MemDisk, Fail> {
 }
 
 /// Whether the pair of a term and a number is in the index.
-pub fn has_pair<D: Disk>(
+pub fn has_pair<D: Disk, C: PageCache>(
     alloc: Global,
     disk: &mut D,
-    store: &mut Store<NoPages>,
+    store: &mut Store<C>,
     term: &[u8],
     number: u32,
 ) -> Result<bool, Fail>
-    requires { IsReady store.old (D.is_honest disk.old) (D.history disk.old (D.attached disk.old)) }
-    ensures { IsReady store.new (D.is_honest disk.new) (D.history disk.new (D.attached disk.new)) }
+    requires { IsReady C.pages store.old (D.is_honest disk.old) (D.history disk.old (D.attached disk.old)) }
+    ensures { IsReady C.pages store.new (D.is_honest disk.new) (D.history disk.new (D.attached disk.new)) }
 {
     let pair = support::pair_of(alloc, term, number)?;
     Ok(support::ask(disk, store, &pair)?)
 }
 
 /// The numbers with a term from one on and before another.
-pub fn numbers<D: Disk>(
+pub fn numbers<D: Disk, C: PageCache>(
     alloc: Global,
     disk: &mut D,
-    store: &mut Store<NoPages>,
+    store: &mut Store<C>,
     from: &[u8],
     below: &[u8],
 ) -> Result<Vec<u32>, Fail>
-    requires { IsReady store.old (D.is_honest disk.old) (D.history disk.old (D.attached disk.old)) }
-    ensures { IsReady store.new (D.is_honest disk.new) (D.history disk.new (D.attached disk.new)) }
+    requires { IsReady C.pages store.old (D.is_honest disk.old) (D.history disk.old (D.attached disk.old)) }
+    ensures { IsReady C.pages store.new (D.is_honest disk.new) (D.history disk.new (D.attached disk.new)) }
 {
     let range = range_of(alloc, from, below)?;
     Ok(support::look(alloc, disk, store, &range)?)

@@ -3,8 +3,8 @@
 ghost use Rattle.ax_index_support.specs.Ready.{IsReady};
 
 use crate::tests::asking::{changes_of_rows, fresh_disk, has_pair, numbers};
-use ax_cache::NoPages;
-use ax_disk::Disk;
+use ax_cache::{NoPages, PageCache};
+use ax_disk::{Disk, MemDisk};
 use ax_index_support::{change, open};
 use ax_store::Store;
 use std::alloc::Global;
@@ -19,13 +19,13 @@ struct Answers {
 }
 
 /// The answers of a1, a2, b1, b9 and c3, of all terms, and of those from b on and before c.
-fn all_answers<D: Disk>(
+fn all_answers<D: Disk, C: PageCache>(
     alloc: Global,
     disk: &mut D,
-    store: &mut Store<NoPages>,
+    store: &mut Store<C>,
 ) -> Result<Answers, Fail>
-    requires { IsReady store.old (D.is_honest disk.old) (D.history disk.old (D.attached disk.old)) }
-    ensures { IsReady store.new (D.is_honest disk.new) (D.history disk.new (D.attached disk.new)) }
+    requires { IsReady C.pages store.old (D.is_honest disk.old) (D.history disk.old (D.attached disk.old)) }
+    ensures { IsReady C.pages store.new (D.is_honest disk.new) (D.history disk.new (D.attached disk.new)) }
 {
     let has = [
         has_pair(alloc, disk, store, b"a", 1)?,
@@ -48,7 +48,7 @@ impl Answers {
 
 /// The answers of a store that is opened on a disk.
 fn found_on<D: Disk>(alloc: Global, disk: &mut D) -> Result<Answers, Fail> {
-    let mut store = open(alloc, disk)?;
+    let mut store = open(alloc, disk, NoPages)?;
     all_answers(alloc, disk, &mut store)
 }
 
@@ -59,9 +59,25 @@ fn changed<D: Disk>(
     rows: &[(bool, &[u8], u32)],
 ) -> Result<Answers, Fail> {
     let changes = changes_of_rows(alloc, rows)?;
-    let mut store = open(alloc, disk)?;
+    let mut store = open(alloc, disk, NoPages)?;
     change(alloc, disk, &mut store, changes.as_slice())?;
     all_answers(alloc, disk, &mut store)
+}
+
+/// How often the disk is read while rows are put in. `None` where a page is merged.
+fn reads_of_a_change(
+    alloc: Global,
+    disk: &mut MemDisk,
+    rows: &[(bool, &[u8], u32)],
+) -> Result<Option<u64>, Fail> {
+    let changes = changes_of_rows(alloc, rows)?;
+    let mut store = open(alloc, disk, NoPages)?;
+    let before = disk.reads();
+    let merged = change(alloc, disk, &mut store, changes.as_slice())?;
+    if merged > 0 {
+        return Ok(None);
+    }
+    Ok(disk.reads().checked_sub(before))
 }
 
 const FIRST: &[(bool, &[u8], u32)] = &[
@@ -92,5 +108,14 @@ fn pairs_are_added_and_dropped(rt: HostRuntime) -> Result<(), Fail> {
     assert!(rt; after.are([true, true, false, true, true], &[1, 2, 3, 9], &[9]));
     let again = found_on(alloc, &mut disk)?;
     assert!(rt; again.are([true, true, false, true, true], &[1, 2, 3, 9], &[9]));
+    Ok(())
+}
+
+#[test]
+fn a_change_that_merges_nothing_reads_nothing(rt: HostRuntime) -> Result<(), Fail> {
+    let alloc = rt.alloc();
+    let mut disk = fresh_disk(alloc, 4096)?;
+    assert_eq!(rt; reads_of_a_change(alloc, &mut disk, FIRST)?, Some(0));
+    assert_eq!(rt; reads_of_a_change(alloc, &mut disk, SECOND)?, Some(0));
     Ok(())
 }

@@ -1,6 +1,7 @@
 //! The largest lists.
 
 use crate::tests::asking::{fresh_disk, numbers};
+use ax_cache::NoPages;
 use ax_disk::Disk;
 use ax_index::Change;
 use ax_index_support::{change, open, put};
@@ -36,7 +37,7 @@ fn put_numbers(
 
 /// Opens the store and makes changes: how many pages were merged, and how many there are.
 fn changed<D: Disk>(alloc: Global, disk: &mut D, changes: &[Change]) -> Result<(u32, u32), Fail> {
-    let mut store = open(alloc, disk)?;
+    let mut store = open(alloc, disk, NoPages)?;
     let merged = change(alloc, disk, &mut store, changes)?;
     Ok((merged, store.pages()))
 }
@@ -48,7 +49,7 @@ fn found_on<D: Disk>(
     from: &[u8],
     below: &[u8],
 ) -> Result<Vec<u32>, Fail> {
-    let mut store = open(alloc, disk)?;
+    let mut store = open(alloc, disk, NoPages)?;
     numbers(alloc, disk, &mut store, from, below)
 }
 

@@ -3,7 +3,7 @@
 ghost use Rattle.ax_index_support.specs.Ready.{IsReady};
 
 use crate::tests::asking::{fresh_disk, numbers};
-use ax_cache::NoPages;
+use ax_cache::{NoPages, PageCache};
 use ax_disk::Disk;
 use ax_index::Change;
 use ax_index_support::{change, merge, open, put};
@@ -58,14 +58,14 @@ fn put_own(alloc: Global, changes: &mut Vec<Change>, add: bool, number: u32) -> 
 }
 
 /// Makes all changes, list by list.
-fn change_all<D: Disk>(
+fn change_all<D: Disk, C: PageCache>(
     alloc: Global,
     disk: &mut D,
-    store: &mut Store<NoPages>,
+    store: &mut Store<C>,
     add: bool,
 ) -> Result<Most, Fail>
-    requires { IsReady store.old (D.is_honest disk.old) (D.history disk.old (D.attached disk.old)) }
-    ensures { IsReady store.new (D.is_honest disk.new) (D.history disk.new (D.attached disk.new)) }
+    requires { IsReady C.pages store.old (D.is_honest disk.old) (D.history disk.old (D.attached disk.old)) }
+    ensures { IsReady C.pages store.new (D.is_honest disk.new) (D.history disk.new (D.attached disk.new)) }
 {
     let mut most = Most {
         merged: 0,
@@ -83,9 +83,13 @@ fn change_all<D: Disk>(
 }
 
 /// Merges four pages at a time, as often as there are lists, and answers how many were merged last.
-fn merge_all<D: Disk>(alloc: Global, disk: &mut D, store: &mut Store<NoPages>) -> Result<u32, Fail>
-    requires { IsReady store.old (D.is_honest disk.old) (D.history disk.old (D.attached disk.old)) }
-    ensures { IsReady store.new (D.is_honest disk.new) (D.history disk.new (D.attached disk.new)) }
+fn merge_all<D: Disk, C: PageCache>(
+    alloc: Global,
+    disk: &mut D,
+    store: &mut Store<C>,
+) -> Result<u32, Fail>
+    requires { IsReady C.pages store.old (D.is_honest disk.old) (D.history disk.old (D.attached disk.old)) }
+    ensures { IsReady C.pages store.new (D.is_honest disk.new) (D.history disk.new (D.attached disk.new)) }
 {
     let mut last = 0;
     for round in 0..LISTS {
@@ -95,7 +99,7 @@ fn merge_all<D: Disk>(alloc: Global, disk: &mut D, store: &mut Store<NoPages>) -
 }
 
 /// How many parts the page has that has the most.
-fn most_parts(store: &Store<NoPages>) -> usize {
+fn most_parts<C>(store: &Store<C>) -> usize {
     let mut most = 0;
     for page in 0..store.pages() {
         most = most.max(store.parts(Page::Term(page)));
@@ -114,13 +118,13 @@ fn are_all(numbers: &[u32]) -> bool {
 }
 
 /// Whether all numbers are found by both kinds of term together, and by each alone.
-fn all_are_found<D: Disk>(
+fn all_are_found<D: Disk, C: PageCache>(
     alloc: Global,
     disk: &mut D,
-    store: &mut Store<NoPages>,
+    store: &mut Store<C>,
 ) -> Result<bool, Fail>
-    requires { IsReady store.old (D.is_honest disk.old) (D.history disk.old (D.attached disk.old)) }
-    ensures { IsReady store.new (D.is_honest disk.new) (D.history disk.new (D.attached disk.new)) }
+    requires { IsReady C.pages store.old (D.is_honest disk.old) (D.history disk.old (D.attached disk.old)) }
+    ensures { IsReady C.pages store.new (D.is_honest disk.new) (D.history disk.new (D.attached disk.new)) }
 {
     let both = numbers(alloc, disk, store, b"", END)?;
     let shared = numbers(alloc, disk, store, SHARED, OWN)?;
@@ -137,7 +141,7 @@ struct Found {
 }
 
 fn found_on<D: Disk>(alloc: Global, disk: &mut D) -> Result<Found, Fail> {
-    let mut store = open(alloc, disk)?;
+    let mut store = open(alloc, disk, NoPages)?;
     let all = all_are_found(alloc, disk, &mut store)?;
     Ok(Found {
         all,
@@ -148,13 +152,13 @@ fn found_on<D: Disk>(alloc: Global, disk: &mut D) -> Result<Found, Fail> {
 
 /// Opens the store and makes all changes.
 fn changed<D: Disk>(alloc: Global, disk: &mut D, add: bool) -> Result<Most, Fail> {
-    let mut store = open(alloc, disk)?;
+    let mut store = open(alloc, disk, NoPages)?;
     change_all(alloc, disk, &mut store, add)
 }
 
 /// Opens the store and merges two pages at most, and then all: how many were merged first and last.
 fn merged<D: Disk>(alloc: Global, disk: &mut D) -> Result<(u32, u32), Fail> {
-    let mut store = open(alloc, disk)?;
+    let mut store = open(alloc, disk, NoPages)?;
     let first = merge(alloc, disk, &mut store, 2)?;
     let last = merge_all(alloc, disk, &mut store)?;
     Ok((first, last))
@@ -162,7 +166,7 @@ fn merged<D: Disk>(alloc: Global, disk: &mut D) -> Result<(u32, u32), Fail> {
 
 /// How many numbers are found on a disk.
 fn count_on<D: Disk>(alloc: Global, disk: &mut D) -> Result<usize, Fail> {
-    let mut store = open(alloc, disk)?;
+    let mut store = open(alloc, disk, NoPages)?;
     let found = numbers(alloc, disk, &mut store, b"", END)?;
     Ok(found.len())
 }

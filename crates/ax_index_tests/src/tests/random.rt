@@ -4,7 +4,7 @@ ghost use Rattle.std.specs.Prelude.{◌<◌};
 ghost use Rattle.ax_index_support.specs.Ready.{IsReady};
 
 use crate::tests::asking::{fresh_disk, has_pair, numbers};
-use ax_cache::NoPages;
+use ax_cache::{NoPages, PageCache};
 use ax_disk::Disk;
 use ax_index::Change;
 use ax_index_support::{change, open, put};
@@ -106,15 +106,15 @@ fn has_number(set: &BTreeSet<u32>, from: u32, below: u32, number: u32) -> bool {
 }
 
 /// Whether the index answers of a random pair what a set does.
-fn agree_on_a_pair<D: Disk>(
+fn agree_on_a_pair<D: Disk, C: PageCache>(
     alloc: Global,
     disk: &mut D,
-    store: &mut Store<NoPages>,
+    store: &mut Store<C>,
     set: &BTreeSet<u32>,
     draws: &mut Draws,
 ) -> Result<bool, Fail>
-    requires { IsReady store.old (D.is_honest disk.old) (D.history disk.old (D.attached disk.old)) }
-    ensures { IsReady store.new (D.is_honest disk.new) (D.history disk.new (D.attached disk.new)) }
+    requires { IsReady C.pages store.old (D.is_honest disk.old) (D.history disk.old (D.attached disk.old)) }
+    ensures { IsReady C.pages store.new (D.is_honest disk.new) (D.history disk.new (D.attached disk.new)) }
 {
     let code = draws.below(TERMS * NUMBERS);
     let term = term_of(alloc, code / NUMBERS)?;
@@ -123,15 +123,15 @@ fn agree_on_a_pair<D: Disk>(
 }
 
 /// Whether the index answers of a random range what a set does.
-fn agree_on_a_range<D: Disk>(
+fn agree_on_a_range<D: Disk, C: PageCache>(
     alloc: Global,
     disk: &mut D,
-    store: &mut Store<NoPages>,
+    store: &mut Store<C>,
     set: &BTreeSet<u32>,
     draws: &mut Draws,
 ) -> Result<bool, Fail>
-    requires { IsReady store.old (D.is_honest disk.old) (D.history disk.old (D.attached disk.old)) }
-    ensures { IsReady store.new (D.is_honest disk.new) (D.history disk.new (D.attached disk.new)) }
+    requires { IsReady C.pages store.old (D.is_honest disk.old) (D.history disk.old (D.attached disk.old)) }
+    ensures { IsReady C.pages store.new (D.is_honest disk.new) (D.history disk.new (D.attached disk.new)) }
 {
     let from = draws.below(TERMS);
     let below = from + draws.below(4);
@@ -142,15 +142,15 @@ fn agree_on_a_range<D: Disk>(
 }
 
 /// Whether the index and a set still agree when both have had one more random change list.
-fn agree_after_a_list<D: Disk>(
+fn agree_after_a_list<D: Disk, C: PageCache>(
     alloc: Global,
     disk: &mut D,
-    store: &mut Store<NoPages>,
+    store: &mut Store<C>,
     set: &mut BTreeSet<u32>,
     draws: &mut Draws,
 ) -> Result<bool, Fail>
-    requires { IsReady store.old (D.is_honest disk.old) (D.history disk.old (D.attached disk.old)) }
-    ensures { IsReady store.new (D.is_honest disk.new) (D.history disk.new (D.attached disk.new)) }
+    requires { IsReady C.pages store.old (D.is_honest disk.old) (D.history disk.old (D.attached disk.old)) }
+    ensures { IsReady C.pages store.new (D.is_honest disk.new) (D.history disk.new (D.attached disk.new)) }
 {
     let drawn = drawn(alloc, draws)?;
     let changes = changes_of(alloc, &drawn)?;
@@ -161,7 +161,7 @@ fn agree_after_a_list<D: Disk>(
 
 /// The first of random change lists after which the index on a fresh disk and a set differ.
 fn first_difference<D: Disk>(alloc: Global, disk: &mut D, seed: u32) -> Result<Option<u32>, Fail> {
-    let mut store = open(alloc, disk)?;
+    let mut store = open(alloc, disk, NoPages)?;
     let mut set = BTreeSet::new(alloc);
     let mut draws = Draws { state: seed };
     for list in 0..LISTS {

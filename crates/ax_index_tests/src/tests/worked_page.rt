@@ -1,6 +1,7 @@
 //! The bytes of a page that has two documents, one of which was replaced.
 
 use crate::tests::asking::{changes_of_rows, fresh_disk};
+use ax_cache::NoPages;
 use ax_disk::{Disk, Extent};
 use ax_index_support::{change, merge, open};
 use std::alloc::Global;
@@ -49,7 +50,7 @@ fn has_payload(bytes: &[u8], payload: &[u8]) -> bool {
 
 /// Document 1 comes and is merged, document 2 comes, document 1 is replaced, and the page is merged.
 fn write_page<D: Disk>(alloc: Global, disk: &mut D) -> Result<u32, Fail> {
-    let mut store = open(alloc, disk)?;
+    let mut store = open(alloc, disk, NoPages)?;
     let first = changes_of_rows(alloc, &[(true, ID_A, 1), (true, FIVE, 1)])?;
     change(alloc, disk, &mut store, first.as_slice())?;
     merge(alloc, disk, &mut store, 1)?;

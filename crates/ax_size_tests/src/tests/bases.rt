@@ -1,6 +1,7 @@
 //! Bases of term pages. Their lengths are worked out by hand from docs/FORMAT.md: the low pair, an
 //! empty term and number 0, has two bytes.
-use ax_leaf::{Bytes, Pair, encode, is_in_order};
+use ax_leaf::{encode, is_in_order};
+use ax_pair::{Bytes, Pair};
 use std::alloc::{AllocError, Global};
 use std::test::Fail;
 

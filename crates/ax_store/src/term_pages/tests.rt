@@ -1,7 +1,8 @@
 //! What term pages are found by pairs, worked by hand.
 
-use crate::kept_part::KeptPart;
+use crate::making::new_part;
 use crate::out_of_memory::Memory;
+use crate::pages::placed_base;
 use crate::term_pages::TermPages;
 use std::alloc::Global;
 use std::test::Fail;
@@ -50,15 +51,11 @@ fn a_base_has_the_low_pair_of_its_page(rt: HostRuntime) -> Result<(), Fail> {
 /// Puts a base where it is within the format, and answers whether it is.
 fn put(alloc: Global, pages: &mut TermPages, key: u32, low: &[u8]) -> Result<bool, Memory> {
     pages.reserve(1)?;
-    let mut payload = Vec::new(alloc);
-    if low.len() > 9 {
+    if low.len() > 9 || !pages.admits_base(key, low) {
         return Ok(false);
     }
-    payload.extend_from_slice(low)?;
-    if !pages.admits_base(key, &payload) {
-        return Ok(false);
-    }
-    pages.put_base(key, KeptPart { at: 0, payload });
+    let new = new_part(alloc, 5, low)?;
+    pages.put_base(key, placed_base(0, new));
     Ok(true)
 }
 

@@ -1,5 +1,5 @@
 use Rattle.std.proofs.Common.{◌≡◌, ◌++◌, List, length}
-use Rattle.ax_leaf.specs.declared.pair.Pair.{Pair}
+use Rattle.ax_pair.specs.declared.pair.Pair.{Pair}
 use Rattle.ax_delta.specs.declared.change.Change.{Change}
 use Rattle.ax_delta.specs.Pass.{put_among}
 use Rattle.ax_delta.specs.View.{IsReady, changes_left}

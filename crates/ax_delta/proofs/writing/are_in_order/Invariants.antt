@@ -1,5 +1,5 @@
 use Rattle.std.proofs.Common.{◌↔◌, drop}
-use Rattle.ax_leaf.specs.Pairs.{Rise, RiseAfter}
+use Rattle.ax_pair.specs.Order.{Rise, RiseAfter}
 use Rattle.ax_delta.specs.Changes.{changed_pairs}
 use Rattle.ax_delta.proofs.writing.are_in_order.Given as goal
 

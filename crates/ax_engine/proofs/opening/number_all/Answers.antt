@@ -3,7 +3,7 @@ use Rattle.std.proofs.Common.{◌≡◌, Some, None, cond, find, sym, ap, ◌∙
 use Rattle.std.specs.Str.{bytes_eq}
 use Rattle.ax_ids.specs.Ids.{number_under}
 use Rattle.ax_container.specs.Container.{has_id, entry_of}
-use Rattle.ax_store.specs.Store.{store_contents}
+use Rattle.ax_resident_store.specs.Store.{store_contents}
 use Rattle.ax_text.proofs.RoundTrip.{text-stands}
 use Rattle.ax_text.specs.Reading.{reading, Stands}
 use Rattle.ax_tree.specs.CanonicalText.{canonical_text}

@@ -1,5 +1,5 @@
 use Rattle.std.proofs.Common.{◌≡◌, ◌<◌, List, length}
-use Rattle.ax_leaf.specs.Pairs.{Rise}
+use Rattle.ax_pair.specs.Order.{Rise}
 use Rattle.ax_pages.specs.Contents.{TermPage}
 use Rattle.ax_pages.specs.TermPages.{low_pair}
 use Rattle.ax_pairs.specs.Index.{AllBelong}

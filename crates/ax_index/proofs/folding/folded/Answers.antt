@@ -1,11 +1,13 @@
-use Rattle.std.proofs.Common.{◌+◌, ◌<◌, length, refl, sym, subst, ◌∙◌, arith}
+use Rattle.std.proofs.Common.{Bool, ◌+◌, ◌<◌, length, refl, sym, subst, ◌∙◌, arith}
 use Rattle.std.specs.Prelude.{IsTrue}
-use Rattle.ax_disk.specs.laws.StaysLaws.{idles_join}
 use Rattle.ax_pages.specs.Contents.{term_page, term_parts}
 use Rattle.ax_store.specs.Store.{store_contents}
 use Rattle.ax_index.proofs.DeltaParts.{count_parts, delta_there}
 use Rattle.ax_index.proofs.FoldedPairs.{folded_end, folded_start, folded_step}
-use Rattle.ax_index.proofs.Unmoved.{same_contents, unmoved_then}
+use Rattle.ax_index.proofs.Unmoved.{same_contents}
+use Rattle.ax_index.proofs.ReadsLaws.{read_then, of_honest}
+use Rattle.ax_faults.specs.FaultLaws.{rose_since}
+use Rattle.ax_index.specs.Damage.{FailsWith}
 use Rattle.ax_index.proofs.folding.folded.Goals as goal
 
 pub loop-i-init : goal.loop-i-init
@@ -13,14 +15,13 @@ loop-i-init g c =
     let page = term_page c.args.page (store_contents c.args.store.now).terms in
     let first = c.in-Ok.ensures in
     record {
-      folded = folded_start c.args.wanted.now page c.oldest_delta-first.result c.in-Ok.pairs.items c.oldest_delta-first.ensures first.has;
+      folded = λ honest. folded_start c.args.wanted.now page c.oldest_delta-first.result c.in-Ok.pairs.items c.oldest_delta-first.ensures (first.has honest);
       rise = first.rise;
       from = omega (arith, c.oldest_delta-first.ensures);
       within = omega (arith, c.oldest_delta-first.ensures, count_parts page);
-      same = first.same;
+      reads = first.reads;
+      failed = first.fails;
       slot = first.slot;
-      idles = first.lists;
-      count = λ works. (first.cause works).never_falls;
       attached = first.attached;
       honest = first.honest;
     }
@@ -32,23 +33,39 @@ loop-i-preserved g c =
     let more = c.in-Ok-merge_at.ensures in
     let there : c.loop-i.i < length (term_parts page) = omega (arith, c.loop-i-test.true, c.parts-parts.ensures) in
     record {
-      folded = folded_step c.args.wanted.now page c.loop-i.i (c.loop-i.i + 1) c.loop-i.pairs.items c.in-Ok-merge_at.after.items inv.from there refl
-          (λ deltas are. more.merged _ (delta_there _ _ c.args.page deltas (same_contents _ _ inv.same.same) are c.loop-i.i inv.from there))
-          inv.folded;
+      folded = λ honest. folded_step c.args.wanted.now page c.loop-i.i (c.loop-i.i + 1) c.loop-i.pairs.items c.in-Ok-merge_at.after.items inv.from there refl
+          (λ deltas are. more.merged (subst IsTrue (sym inv.honest) honest) _ (delta_there _ _ c.args.page deltas (same_contents _ _ inv.reads.same.same) are c.loop-i.i inv.from there))
+          (inv.folded honest);
       rise = more.rise;
       from = omega (arith, inv.from);
       within = omega (arith, there);
-      same = unmoved_then _ _ _ inv.same more.same;
+      reads = read_then g.C.PageCache.pages _ _ _ _ _ _ _ _ _ _ inv.reads (of_honest g.C.PageCache.pages _ _ inv.honest _ _ _ _ _ _ more.reads);
+      failed = more.fails ∙ inv.failed;
       slot = more.slot ∙ inv.slot;
-      idles = λ honest. idles_join _ _ _ (inv.idles honest) (more.lists (subst IsTrue (sym inv.honest) honest));
-      count = λ works. omega (arith, inv.count works, (more.cause (inv.same.same.failed ∙ works)).never_falls);
       attached = more.attached ∙ inv.attached;
       honest = more.honest ∙ inv.honest;
     }
 
 pub returns-clause-has : goal.returns-clause-has
-returns-clause-has g c = λ pairs of.
+returns-clause-has g c = λ honest pairs of.
     let page = term_page c.args.page (store_contents c.args.store.now).terms in
     let inv = c.loop-i.invariant in
     folded_end c.args.wanted.now page c.loop-i.i c.loop-i.pairs.items pairs (omega (arith, c.loop-i-test.false, c.parts-parts.ensures, inv.within))
-    inv.rise inv.folded of
+    inv.rise (inv.folded honest) of
+
+pub merge_at-requires-clause-agrees : goal.merge_at-requires-clause-agrees
+merge_at-requires-clause-agrees g c = λ honest works. c.loop-i.invariant.reads.agrees (subst IsTrue c.loop-i.invariant.honest honest) works
+
+pub returns-in-Err-merge_at-clause-fails : goal.returns-in-Err-merge_at-clause-fails
+returns-in-Err-merge_at-clause-fails g c = subst (λ (before : Bool). FailsWith c.in-Err-merge_at.fault before c.merge_at.new.store.failed) c.loop-i.invariant.failed c.in-Err-merge_at.ensures.fails
+
+pub returns-in-Err-merge_at-clause-reads : goal.returns-in-Err-merge_at-clause-reads
+returns-in-Err-merge_at-clause-reads g c = read_then g.C.PageCache.pages _ _ _ _ _ _ _ _ _ _ c.loop-i.invariant.reads (of_honest g.C.PageCache.pages _ _ c.loop-i.invariant.honest _ _ _ _ _ _ c.in-Err-merge_at.ensures.reads)
+
+pub returns-in-Err-merge_at-clause-cause : goal.returns-in-Err-merge_at-clause-cause
+returns-in-Err-merge_at-clause-cause g c = λ works.
+    let cause = c.in-Err-merge_at.ensures.cause (c.loop-i.invariant.failed ∙ works) in
+    record {
+      never_falls = omega (arith, c.loop-i.invariant.reads.never_falls, cause.never_falls);
+      failed = λ fails. rose_since _ _ _ _ c.loop-i.invariant.reads.never_falls (omega arith) (cause.failed fails);
+    }

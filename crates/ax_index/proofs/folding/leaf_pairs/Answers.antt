@@ -1,5 +1,6 @@
 use Rattle.std.proofs.Common.{ap, sym, subst, ◌∙◌}
-use Rattle.ax_leaf.specs.Pairs.{Rise, pairs_of}
+use Rattle.ax_pair.specs.Order.{Rise}
+use Rattle.ax_leaf.specs.Pairs.{pairs_of}
 use Rattle.ax_leaf.proofs.FromLow.{pairs_rise}
 use Rattle.ax_index.specs.Reading.{wanted_of}
 use Rattle.ax_index.proofs.FoldedPairs.{wanted_rise}

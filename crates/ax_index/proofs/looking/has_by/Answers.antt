@@ -1,18 +1,29 @@
-use Rattle.std.proofs.Common.{ap}
+use Rattle.std.proofs.Common.{ap, sym, subst}
+use Rattle.std.specs.Prelude.{IsTrue}
 use Rattle.ax_pages.specs.Contents.{Contents}
 use Rattle.ax_index.proofs.IndexPages.{by_base, by_delta}
+use Rattle.ax_index.proofs.ReadsLaws.{agrees_told, of_honest, read_then}
 use Rattle.ax_index.proofs.Unmoved.{same_contents}
 use Rattle.ax_index.proofs.looking.has_by.Goals as goal
 
 pub returns-in-Some-clause-has : goal.returns-in-Some-clause-has
-returns-in-Some-clause-has g c = λ set is.
+returns-in-Some-clause-has g c = λ honest set is.
     by_delta _ set c.args.pair.now c.page_of_pair-page.result is
     c.page_of_pair-page.ensures
-    c.in-Ok.said c.in-Ok.ensures.said c.in-Some.added c.in-Some.is
+    c.in-Ok.said (c.in-Ok.ensures.said honest) c.in-Some.added c.in-Some.is
 
 pub returns-in-None-clause-has : goal.returns-in-None-clause-has
-returns-in-None-clause-has g c = λ set is.
+returns-in-None-clause-has g c = λ honest set is.
     by_base _ set c.args.pair.now c.page_of_pair-page.result is
     c.page_of_pair-page.ensures
-    c.in-Ok.said c.in-Ok.ensures.said _ c.base_has.result c.in-None.is
-    (ap (λ (k : Contents). k.terms) (same_contents _ _ c.in-Ok.ensures.same.same)) c.base_has.ensures.has
+    c.in-Ok.said (c.in-Ok.ensures.said honest) _ c.base_has.result c.in-None.is
+    (ap (λ (k : Contents). k.terms) (same_contents _ _ c.in-Ok.ensures.reads.same.same)) (c.base_has.ensures.has (subst IsTrue (sym c.look_back.ensures.honest) honest))
+
+pub base_has-requires-clause-agrees : goal.base_has-requires-clause-agrees
+base_has-requires-clause-agrees g c =
+    agrees_told g.C.PageCache.pages _ _ c.look_back.ensures.honest _ _ c.in-Ok.ensures.reads.agrees
+
+pub returns-in-None-clause-reads : goal.returns-in-None-clause-reads
+returns-in-None-clause-reads g c =
+    read_then g.C.PageCache.pages _ _ _ _ _ _ _ _ _ _ c.in-Ok.ensures.reads
+    (of_honest g.C.PageCache.pages _ _ c.look_back.ensures.honest _ _ _ _ _ _ c.base_has.ensures.reads)

@@ -1,34 +1,35 @@
-use Rattle.std.proofs.Common.{◌-◌, sym, subst, ◌∙◌, arith, rules}
+use Rattle.std.proofs.Common.{◌-◌, Bool, refl, sym, subst, ◌∙◌, arith, rules}
 use Rattle.std.specs.Prelude.{IsTrue}
-use Rattle.ax_disk.specs.laws.StaysLaws.{idles_join, idles_start}
+use Rattle.ax_faults.specs.FaultLaws.{rose_since}
+use Rattle.ax_index.specs.Damage.{FailsWith}
 use Rattle.ax_pages.specs.Contents.{term_page}
 use Rattle.ax_store.specs.Store.{store_contents}
 use Rattle.ax_index.proofs.DeltaParts.{count_parts, delta_there, newest_says, quiet_before, quiet_end}
-use Rattle.ax_index.proofs.Unmoved.{same_contents, unmoved, unmoved_then}
+use Rattle.ax_index.proofs.Unmoved.{same_contents}
+use Rattle.ax_index.proofs.ReadsLaws.{nothing_read, read_then, of_honest}
 use Rattle.ax_index.proofs.looking.look_back.Goals as goal
 
 pub loop-i-init : goal.loop-i-init
 loop-i-init g c =
     let page = term_page c.args.page (store_contents c.args.store.now).terms in
     record {
-      quiet = λ deltas are. quiet_end page deltas are c.args.pair.now c.parts-i.result c.parts-i.ensures;
+      quiet = λ honest deltas are. quiet_end page deltas are c.args.pair.now c.parts-i.result c.parts-i.ensures;
       from = omega (arith, count_parts page, c.parts-i.ensures);
       within = omega (arith, c.parts-i.ensures);
-      same = unmoved c.args.store.now;
+      reads = nothing_read g.C.PageCache.pages _ c.args.store.now _ _ c.requires.agrees;
+      failed = refl;
       slot = search rules;
-      idles = λ honest. idles_start _;
-      count = search rules;
       attached = search rules;
       honest = search rules;
     }
 
 pub returns-then-is_some-clause-said : goal.returns-then-is_some-clause-said
-returns-then-is_some-clause-said g c = λ deltas are.
+returns-then-is_some-clause-said g c = λ honest deltas are.
     let page = term_page c.args.page (store_contents c.args.store.now).terms in
     let inv = c.loop-i.invariant in
     newest_says page deltas are c.args.pair.now (c.loop-i.i - 1) c.loop-i.i c.in-Ok.said (omega arith) (omega arith) (omega arith)
-    (inv.quiet deltas are)
-    (c.in-Ok.ensures.said _ (delta_there _ _ c.args.page deltas (same_contents _ _ inv.same.same) are (c.loop-i.i - 1) (omega arith) (omega arith)))
+    (inv.quiet honest deltas are)
+    (c.in-Ok.ensures.said (subst IsTrue (sym inv.honest) honest) _ (delta_there _ _ c.args.page deltas (same_contents _ _ inv.reads.same.same) are (c.loop-i.i - 1) (omega arith) (omega arith)))
     (sym c.is_some.ensures ∙ c.if-is_some.true)
 
 pub loop-i-preserved : goal.loop-i-preserved
@@ -37,17 +38,42 @@ loop-i-preserved g c =
     let inv = c.loop-i.invariant in
     let more = c.in-Ok.ensures in
     record {
-      quiet = λ deltas are.
+      quiet = λ honest deltas are.
           quiet_before page deltas are c.args.pair.now (c.loop-i.i - 1) c.loop-i.i c.in-Ok.said (omega arith) (omega arith) (omega arith)
-          (inv.quiet deltas are)
-          (more.said _ (delta_there _ _ c.args.page deltas (same_contents _ _ inv.same.same) are (c.loop-i.i - 1) (omega arith) (omega arith)))
+          (inv.quiet honest deltas are)
+          (more.said (subst IsTrue (sym inv.honest) honest) _ (delta_there _ _ c.args.page deltas (same_contents _ _ inv.reads.same.same) are (c.loop-i.i - 1) (omega arith) (omega arith)))
           (sym c.is_some.ensures ∙ c.if-is_some.false);
       from = omega arith;
       within = omega arith;
-      same = unmoved_then _ _ _ inv.same more.same;
+      reads = read_then g.C.PageCache.pages _ _ _ _ _ _ _ _ _ _ inv.reads (of_honest g.C.PageCache.pages _ _ inv.honest _ _ _ _ _ _ more.reads);
+      failed = more.fails ∙ inv.failed;
       slot = more.slot ∙ inv.slot;
-      idles = λ honest. idles_join _ _ _ (inv.idles honest) (more.lists (subst IsTrue (sym inv.honest) honest));
-      count = λ works. omega (arith, inv.count works, (more.cause (inv.same.same.failed ∙ works)).never_falls);
       attached = more.attached ∙ inv.attached;
       honest = more.honest ∙ inv.honest;
     }
+
+pub look_at-requires-clause-agrees : goal.look_at-requires-clause-agrees
+look_at-requires-clause-agrees g c = λ honest works. c.loop-i.invariant.reads.agrees (subst IsTrue c.loop-i.invariant.honest honest) works
+
+pub returns-in-Err-clause-fails : goal.returns-in-Err-clause-fails
+returns-in-Err-clause-fails g c = subst (λ (before : Bool). FailsWith c.in-Err.fault before c.look_at.new.store.failed) c.loop-i.invariant.failed c.in-Err.ensures.fails
+
+pub returns-in-Err-clause-reads : goal.returns-in-Err-clause-reads
+returns-in-Err-clause-reads g c = read_then g.C.PageCache.pages _ _ _ _ _ _ _ _ _ _ c.loop-i.invariant.reads (of_honest g.C.PageCache.pages _ _ c.loop-i.invariant.honest _ _ _ _ _ _ c.in-Err.ensures.reads)
+
+pub returns-then-is_some-clause-reads : goal.returns-then-is_some-clause-reads
+returns-then-is_some-clause-reads g c = read_then g.C.PageCache.pages _ _ _ _ _ _ _ _ _ _ c.loop-i.invariant.reads (of_honest g.C.PageCache.pages _ _ c.loop-i.invariant.honest _ _ _ _ _ _ c.in-Ok.ensures.reads)
+
+pub returns-in-Err-clause-cause : goal.returns-in-Err-clause-cause
+returns-in-Err-clause-cause g c = λ works.
+    let cause = c.in-Err.ensures.cause (c.loop-i.invariant.failed ∙ works) in
+    record {
+      never_falls = omega (arith, c.loop-i.invariant.reads.never_falls, cause.never_falls);
+      failed = λ fails. rose_since _ _ _ _ c.loop-i.invariant.reads.never_falls (omega arith) (cause.failed fails);
+    }
+
+pub returns-then-is_some-clause-fails : goal.returns-then-is_some-clause-fails
+returns-then-is_some-clause-fails g c = c.in-Ok.ensures.fails ∙ c.loop-i.invariant.failed
+
+pub returns-clause-fails : goal.returns-clause-fails
+returns-clause-fails g c = c.loop-i.invariant.failed

@@ -1,25 +1,24 @@
 use Rattle.std.proofs.Common.{◌≡◌, ◌-◌, ◌≤◌, List, length, drop, false, None}
 use Rattle.std.specs.Prelude.{IsTrue}
-use Rattle.ax_disk.specs.model.Calls.{Idles}
 use Rattle.ax_delta.specs.Changes.{TermChange}
 use Rattle.ax_delta.specs.Said.{last_said}
 use Rattle.ax_pages.specs.Contents.{parts_of, term_page}
 use Rattle.ax_pages.specs.declared.page.Page.TheVariants.{Term}
 use Rattle.ax_pairs.specs.PagePairs.{AreDeltas}
 use Rattle.ax_store.specs.Store.{store_contents, store_failed}
-use Rattle.ax_index.specs.Reading.{SameButBytes, first_delta}
+use Rattle.ax_index.specs.Reading.{first_delta}
+use Rattle.ax_index.specs.Reads.{Reads}
 use Rattle.ax_index.proofs.looking.look_back.Given as goal
 
 abbrev pub invariant-loop-i : goal.invariant-loop-i
 invariant-loop-i g l = record {
-  quiet : (deltas : List (List TermChange)) → AreDeltas (term_page l.page (store_contents l.fn.store).terms).deltas deltas
+  quiet : IsTrue (g.D.Disk.is_honest l.fn.disk) → (deltas : List (List TermChange)) → AreDeltas (term_page l.page (store_contents l.fn.store).terms).deltas deltas
       → last_said l.pair (drop (l.i - first_delta (term_page l.page (store_contents l.fn.store).terms)) deltas) ≡ None;
   from : first_delta (term_page l.page (store_contents l.fn.store).terms) ≤ l.i;
   within : l.i ≤ length (parts_of (Term l.page) (store_contents l.fn.store));
-  same : SameButBytes l.fn.store l.store;
+  reads : Reads g.C.PageCache.pages (g.D.Disk.is_honest l.fn.disk) l.fn.store l.store (g.D.Disk.history l.fn.disk (g.D.Disk.attached l.fn.disk)) (g.D.Disk.history l.disk (g.D.Disk.attached l.disk)) (g.D.Disk.faults l.fn.disk) (g.D.Disk.faults l.disk);
+  failed : store_failed l.store ≡ store_failed l.fn.store;
   slot : l.slot ≡ l.fn.slot;
-  idles : IsTrue (g.D.Disk.is_honest l.fn.disk) → Idles (g.D.Disk.history l.fn.disk (g.D.Disk.attached l.fn.disk)) (g.D.Disk.history l.disk (g.D.Disk.attached l.disk));
-  count : store_failed l.fn.store ≡ false → g.D.Disk.faults l.fn.disk ≤ g.D.Disk.faults l.disk;
   attached : g.D.Disk.attached l.disk ≡ g.D.Disk.attached l.fn.disk;
   honest : g.D.Disk.is_honest l.disk ≡ g.D.Disk.is_honest l.fn.disk;
 }

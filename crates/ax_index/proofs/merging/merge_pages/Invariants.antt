@@ -1,21 +1,20 @@
-use Rattle.std.proofs.Common.{◌≡◌, ◌≤◌, false}
-use Rattle.std.specs.Prelude.{IsTrue}
-use Rattle.ax_disk.specs.model.Calls.{Idles}
+use Rattle.std.proofs.Common.{◌≡◌, ◌≤◌}
 use Rattle.ax_store.specs.Batch.{batch_parts}
 use Rattle.ax_store.specs.Store.{store_contents, store_failed}
 use Rattle.ax_index.specs.Merging.{IsMergedTo}
-use Rattle.ax_index.specs.Reading.{SameButBytes}
+use Rattle.ax_index.specs.Reads.{Reads}
 use Rattle.ax_index.proofs.PageWalk.{steps_left}
 use Rattle.ax_index.proofs.merging.merge_pages.Given as goal
 
 abbrev pub invariant-loop-at : goal.invariant-loop-at
 invariant-loop-at g l = record {
-  merging : IsMergedTo l.at (store_contents l.fn.store).terms l.merged l.next (batch_parts l.fn.batch) (batch_parts l.batch);
+  merging : IsMergedTo (g.D.Disk.is_honest l.fn.disk) l.at (store_contents l.fn.store).terms l.merged l.next (batch_parts l.fn.batch) (batch_parts l.batch);
   most : l.merged ≤ l.n;
-  same : SameButBytes l.fn.store l.store;
+  reads : Reads g.C.PageCache.pages (g.D.Disk.is_honest l.fn.disk) l.fn.store l.store
+      (g.D.Disk.history l.fn.disk (g.D.Disk.attached l.fn.disk)) (g.D.Disk.history l.disk (g.D.Disk.attached l.disk))
+      (g.D.Disk.faults l.fn.disk) (g.D.Disk.faults l.disk);
+  failed : store_failed l.store ≡ store_failed l.fn.store;
   slot : l.slot ≡ l.fn.slot;
-  lists : IsTrue (g.D.Disk.is_honest l.fn.disk) → Idles (g.D.Disk.history l.fn.disk (g.D.Disk.attached l.fn.disk)) (g.D.Disk.history l.disk (g.D.Disk.attached l.disk));
-  faults : store_failed l.fn.store ≡ false → g.D.Disk.faults l.fn.disk ≤ g.D.Disk.faults l.disk;
   attached : g.D.Disk.attached l.disk ≡ g.D.Disk.attached l.fn.disk;
   honest : g.D.Disk.is_honest l.disk ≡ g.D.Disk.is_honest l.fn.disk;
 }

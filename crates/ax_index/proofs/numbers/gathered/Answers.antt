@@ -1,35 +1,65 @@
-use Rattle.std.proofs.Common.{◌≡◌, ℕ, ◌<◌, List, Option, length, sym, ap, subst, ◌∙◌, arith}
+use Rattle.std.proofs.Common.{◌≡◌, ℕ, ◌<◌, List, Option, length, refl, sym, ap, subst, ◌∙◌, rules}
 use Rattle.std.specs.Prelude.{IfSome, IsTrue}
-use Rattle.ax_disk.specs.laws.StaysLaws.{idles_join}
 use Rattle.ax_pages.specs.Contents.{Contents, TermPage}
 use Rattle.ax_store.specs.Store.{store_contents}
+use Rattle.ax_index.proofs.CallLemmas.{fails_as, rose_later}
 use Rattle.ax_index.proofs.Gathering.{IsGathered, step_by, stop}
-use Rattle.ax_index.proofs.Unmoved.{same_contents, unmoved_then}
+use Rattle.ax_index.proofs.ReadsLaws.{agrees_told, nothing_read, of_honest, read_then}
+use Rattle.ax_index.proofs.Unmoved.{same_contents}
 use Rattle.ax_index.proofs.numbers.gathered.Goals as goal
+
+pub loop-next-init : goal.loop-next-init
+loop-next-init g c = record {
+  gathered = search rules;
+  there = search rules;
+  reads = nothing_read g.C.PageCache.pages _ c.args.store.now _ _ c.requires.agrees;
+  failed = refl;
+  slot = search rules;
+  attached = search rules;
+  honest = search rules;
+}
+
+pub gather-requires-clause-agrees : goal.gather-requires-clause-agrees
+gather-requires-clause-agrees g c =
+    agrees_told g.C.PageCache.pages _ _ c.loop-next.invariant.honest _ _ c.loop-next.invariant.reads.agrees
 
 pub loop-next-preserved : goal.loop-next-preserved
 loop-next-preserved g c =
     let terms = (store_contents c.args.store.now).terms in
     let inv = c.loop-next.invariant in
     let more = c.in-Ok.ensures in
-    let now : (store_contents c.loop-next.store).terms ≡ terms = ap (λ (k : Contents). k.terms) (same_contents _ _ inv.same.same) in
-    let after : (store_contents c.gather.new.store).terms ≡ terms = ap (λ (k : Contents). k.terms) (same_contents _ _ more.same.same) ∙ now in
+    let now : (store_contents c.loop-next.store).terms ≡ terms = ap (λ (k : Contents). k.terms) (same_contents _ _ inv.reads.same.same) in
+    let after : (store_contents c.gather.new.store).terms ≡ terms = ap (λ (k : Contents). k.terms) (same_contents _ _ more.reads.same.same) ∙ now in
     record {
-      gathered = λ set is.
-          step_by c.args.range.now set terms (store_contents c.loop-next.store).terms (store_contents c.gather.new.store).terms c.in-Some.page c.page_behind-next.result
-          c.loop-next.numbers.items c.gather.new.numbers.items now after more.numbers c.page_behind-next.ensures.reaches
+      gathered = λ told set is.
+          step_by c.args.range.now set terms (store_contents c.loop-next.store).terms (store_contents c.gather.new.store).terms
+          c.in-Some.page c.page_behind-next.result c.loop-next.numbers.items c.gather.new.numbers.items now after
+          (more.numbers (subst IsTrue (sym inv.honest) told)) c.page_behind-next.ensures.reaches
           (subst (λ (o : Option ℕ). IfSome o (λ page. page < length terms)) c.in-Some.is inv.there)
           is
-          (subst (λ (o : Option ℕ). IsGathered c.args.range.now set terms o c.loop-next.numbers.items) c.in-Some.is (inv.gathered set is));
+          (subst (λ (o : Option ℕ). IsGathered c.args.range.now set terms o c.loop-next.numbers.items) c.in-Some.is (inv.gathered told set is));
       there = subst (λ (ts : List TermPage). IfSome c.page_behind-next.result (λ page. page < length ts)) after c.page_behind-next.ensures.there;
-      same = unmoved_then _ _ _ inv.same more.same;
+      reads = read_then g.C.PageCache.pages _ _ _ _ _ _ _ _ _ _ inv.reads
+          (of_honest g.C.PageCache.pages _ _ inv.honest _ _ _ _ _ _ more.reads);
+      failed = more.fails ∙ inv.failed;
       slot = more.slot ∙ inv.slot;
-      idles = λ honest. idles_join _ _ _ (inv.idles honest) (more.lists (subst IsTrue (sym inv.honest) honest));
-      count = λ works. omega (arith, inv.count works, (more.cause (inv.same.same.failed ∙ works)).never_falls);
       attached = more.attached ∙ inv.attached;
       honest = more.honest ∙ inv.honest;
     }
 
+pub returns-in-Err-clause-fails : goal.returns-in-Err-clause-fails
+returns-in-Err-clause-fails g c = fails_as c.in-Err.fault _ _ _ c.loop-next.invariant.failed c.in-Err.ensures.fails
+
+pub returns-in-Err-clause-reads : goal.returns-in-Err-clause-reads
+returns-in-Err-clause-reads g c =
+    read_then g.C.PageCache.pages _ _ _ _ _ _ _ _ _ _ c.loop-next.invariant.reads
+    (of_honest g.C.PageCache.pages _ _ c.loop-next.invariant.honest _ _ _ _ _ _ c.in-Err.ensures.reads)
+
+pub returns-in-Err-clause-cause : goal.returns-in-Err-clause-cause
+returns-in-Err-clause-cause g c = λ works.
+    rose_later c.in-Err.fault _ _ _ c.loop-next.invariant.reads.never_falls (c.in-Err.ensures.cause (c.loop-next.invariant.failed ∙ works))
+
 pub returns-clause-numbers : goal.returns-clause-numbers
-returns-clause-numbers g c = λ set is.
-    stop c.args.range.now set (store_contents c.args.store.now).terms c.loop-next.next c.loop-next.numbers.items c.in_default.is (c.loop-next.invariant.gathered set is)
+returns-clause-numbers g c = λ told set is.
+    stop c.args.range.now set (store_contents c.args.store.now).terms c.loop-next.next c.loop-next.numbers.items c.in_default.is
+    (c.loop-next.invariant.gathered told set is)

@@ -1,9 +1,9 @@
-use Rattle.std.proofs.Common.{◌∙◌, ap, arith, refl, rules, subst, sym}
+use Rattle.std.proofs.Common.{◌∙◌, ap, arith, refl, subst, sym}
 use Rattle.std.specs.Prelude.{IsTrue}
-use Rattle.ax_disk.specs.laws.StaysLaws.{idles_join}
 use Rattle.ax_store.specs.Store.{store_contents}
-use Rattle.ax_index.proofs.CallLemmas.{planned_begin, planned_end, planned_on, room_for_all, rose_later, same_itself, same_then, told_planned}
+use Rattle.ax_index.proofs.CallLemmas.{fails_as, planned_begin, planned_end, planned_on, room_for_all, rose_later, told_planned}
 use Rattle.ax_index.proofs.PlanningLemmas.{planned_all}
+use Rattle.ax_index.proofs.ReadsLaws.{agrees_told, nothing_reserved, of_honest_too, reserve_then, room_behind}
 use Rattle.ax_index.proofs.plan.plan_by.Goals as goal
 
 pub loop-rest-init : goal.loop-rest-init
@@ -11,10 +11,9 @@ loop-rest-init g c = record {
   rise = c.requires.rise;
   planned = planned_begin c.args.changes.now (store_contents c.args.store.now).terms c.pages.result _ _ c.pages.ensures;
   few = omega arith;
-  same = same_itself c.args.store.now;
+  reserves = nothing_reserved g.C.PageCache.pages _ c.args.store.now _ _ c.requires.agrees;
+  failed = refl;
   slot = refl;
-  lists = search rules;
-  faults = λ works. omega arith;
   attached = refl;
   honest = refl;
 }
@@ -25,29 +24,46 @@ loop-rest-preserved g c =
     let more = c.in-Ok-plan_first.ensures in
     record {
       rise = more.rise;
-      planned = planned_on c.args.changes.now c.loop-rest.rest.now c.in-Ok-plan_first.behind.now _ (store_contents c.args.store.now).terms _ _ _ _ _ _ _ _ _
-          (ap (λ contents. contents.terms) inv.same.contents) (more.planned c.args.changes.now _) inv.planned;
+      planned = planned_on _ _ c.args.changes.now c.loop-rest.rest.now c.in-Ok-plan_first.behind.now _ (store_contents c.args.store.now).terms _ _ _ _ _ _ _ _ _
+          inv.honest (ap (λ contents. contents.terms) inv.reserves.same.contents) (more.planned c.args.changes.now _) inv.planned;
       few = more.few;
-      same = same_then _ _ _ inv.same more.same;
+      reserves = reserve_then g.C.PageCache.pages _ _ _ _ _ _ _ _ _ _ inv.reserves
+          (of_honest_too g.C.PageCache.pages _ _ inv.honest _ _ _ _ _ _ more.reserves);
+      failed = more.fails ∙ inv.failed;
       slot = more.slot ∙ inv.slot;
-      lists = λ honest. idles_join _ _ _ (inv.lists honest) (more.lists (subst IsTrue (sym inv.honest) honest));
-      faults = λ works. omega (arith, inv.faults works, (more.cause (inv.same.failed ∙ works)).never_falls);
       attached = more.attached ∙ inv.attached;
       honest = more.honest ∙ inv.honest;
     }
 
-pub returns-in-Err-clause-told : goal.returns-in-Err-clause-told
-returns-in-Err-clause-told g c = told_planned c.args.store.now _ c.in-Err.fault c.loop-rest.invariant.same c.in-Err.ensures.told
+pub plan_first-requires-clause-agrees : goal.plan_first-requires-clause-agrees
+plan_first-requires-clause-agrees g c =
+    agrees_told g.C.PageCache.pages _ _ c.loop-rest.invariant.honest _ _ c.loop-rest.invariant.reserves.agrees
 
-pub returns-in-Err-clause-lists : goal.returns-in-Err-clause-lists
-returns-in-Err-clause-lists g c = λ honest.
-    let inv = c.loop-rest.invariant in
-    idles_join _ _ _ (inv.lists honest) (c.in-Err.ensures.lists (subst IsTrue (sym inv.honest) honest))
+pub returns-in-Err-clause-told : goal.returns-in-Err-clause-told
+returns-in-Err-clause-told g c = λ told.
+    told_planned c.args.store.now _ c.in-Err.fault c.loop-rest.invariant.reserves.same
+    (c.in-Err.ensures.told (subst IsTrue (sym c.loop-rest.invariant.honest) told))
+
+pub returns-in-Err-clause-fails : goal.returns-in-Err-clause-fails
+returns-in-Err-clause-fails g c = fails_as c.in-Err.fault _ _ _ c.loop-rest.invariant.failed c.in-Err.ensures.fails
+
+pub returns-in-Err-clause-reserves : goal.returns-in-Err-clause-reserves
+returns-in-Err-clause-reserves g c =
+    reserve_then g.C.PageCache.pages _ _ _ _ _ _ _ _ _ _ c.loop-rest.invariant.reserves
+    (of_honest_too g.C.PageCache.pages _ _ c.loop-rest.invariant.honest _ _ _ _ _ _ c.in-Err.ensures.reserves)
 
 pub returns-in-Err-clause-cause : goal.returns-in-Err-clause-cause
 returns-in-Err-clause-cause g c = λ works.
     let inv = c.loop-rest.invariant in
-    rose_later c.in-Err.fault _ _ _ (inv.faults works) (c.in-Err.ensures.cause (inv.same.failed ∙ works))
+    rose_later c.in-Err.fault _ _ _ inv.reserves.never_falls (c.in-Err.ensures.cause (inv.failed ∙ works))
+
+pub returns-in-Ok-reserve-clause-reserves : goal.returns-in-Ok-reserve-clause-reserves
+returns-in-Ok-reserve-clause-reserves g c =
+    room_behind g.C.PageCache.pages _ _ _ _ _ _ _ _ c.loop-rest.invariant.reserves c.reserve.ensures.same
+
+pub returns-in-Err-reserve-clause-reserves : goal.returns-in-Err-reserve-clause-reserves
+returns-in-Err-reserve-clause-reserves g c =
+    room_behind g.C.PageCache.pages _ _ _ _ _ _ _ _ c.loop-rest.invariant.reserves c.reserve.ensures.same
 
 pub returns-in-Ok-reserve-clause-planned : goal.returns-in-Ok-reserve-clause-planned
 returns-in-Ok-reserve-clause-planned g c =

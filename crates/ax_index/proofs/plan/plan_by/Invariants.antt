@@ -1,24 +1,23 @@
-use Rattle.std.proofs.Common.{◌≡◌, ◌≤◌, false, length}
-use Rattle.std.specs.Prelude.{IsTrue}
+use Rattle.std.proofs.Common.{◌≡◌, ◌≤◌, length}
 use Rattle.ax_delta.specs.Changes.{changed_pairs}
-use Rattle.ax_disk.specs.model.Calls.{Idles}
-use Rattle.ax_leaf.specs.Pairs.{Rise}
+use Rattle.ax_pair.specs.Order.{Rise}
 use Rattle.ax_store.specs.Batch.{batch_parts}
 use Rattle.ax_store.specs.Store.{store_contents, store_failed, store_room}
 use Rattle.ax_index.specs.Planning.{IsPlannedTo}
-use Rattle.ax_index.specs.Plans.{SameButRoomAndBytes}
+use Rattle.ax_index.specs.Reads.{Reserves}
 use Rattle.ax_index.proofs.plan.plan_by.Given as goal
 
 abbrev pub invariant-loop-rest : goal.invariant-loop-rest
 invariant-loop-rest g l = record {
   rise : Rise (changed_pairs l.rest);
-  planned : IsPlannedTo l.changes l.rest (store_contents l.fn.store).terms l.plan.merged l.plan.next (λ number. store_room number l.store)
+  planned : IsPlannedTo (g.D.Disk.is_honest l.fn.disk) l.changes l.rest (store_contents l.fn.store).terms l.plan.merged l.plan.next (λ number. store_room number l.store)
       (batch_parts l.fn.batch) (batch_parts l.batch);
   few : l.plan.merged ≤ 16;
-  same : SameButRoomAndBytes l.fn.store l.store;
+  reserves : Reserves g.C.PageCache.pages (g.D.Disk.is_honest l.fn.disk) l.fn.store l.store
+      (g.D.Disk.history l.fn.disk (g.D.Disk.attached l.fn.disk)) (g.D.Disk.history l.disk (g.D.Disk.attached l.disk))
+      (g.D.Disk.faults l.fn.disk) (g.D.Disk.faults l.disk);
+  failed : store_failed l.store ≡ store_failed l.fn.store;
   slot : l.slot ≡ l.fn.slot;
-  lists : IsTrue (g.D.Disk.is_honest l.fn.disk) → Idles (g.D.Disk.history l.fn.disk (g.D.Disk.attached l.fn.disk)) (g.D.Disk.history l.disk (g.D.Disk.attached l.disk));
-  faults : store_failed l.fn.store ≡ false → g.D.Disk.faults l.fn.disk ≤ g.D.Disk.faults l.disk;
   attached : g.D.Disk.attached l.disk ≡ g.D.Disk.attached l.fn.disk;
   honest : g.D.Disk.is_honest l.disk ≡ g.D.Disk.is_honest l.fn.disk;
 }

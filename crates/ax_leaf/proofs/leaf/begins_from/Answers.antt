@@ -1,7 +1,8 @@
 use Rattle.std.proofs.Common.{◌-◌, ℕ, arith, subst}
 use Rattle.ax_leaf.specs.TermList.{HasTermList}
 use Rattle.ax_leaf.proofs.Listed.{no_first}
-use Rattle.ax_leaf.proofs.Whole.{the_pair, first_pair, begins_where}
+use Rattle.ax_pair.proofs.PairOrder.{the_pair}
+use Rattle.ax_leaf.proofs.Whole.{first_pair, begins_where}
 use Rattle.ax_leaf.proofs.leaf.begins_from.Goals as goal
 
 pub returns-in_default : goal.returns-in_default

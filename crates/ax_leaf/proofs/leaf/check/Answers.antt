@@ -1,12 +1,14 @@
 use Rattle.std.proofs.Common.{◌≡◌, ◌∙◌, ◌++◌, List, [], length, sym, subst}
 use Rattle.std.proofs.lemmas.Bool.{false≢true}
 use Rattle.ax_gap.specs.Varint.{varint}
-use Rattle.ax_leaf.specs.declared.pair.Pair.{Pair}
-use Rattle.ax_leaf.specs.Pairs.{Posting, BeginsFrom, pairs_of}
+use Rattle.ax_pair.specs.declared.pair.Pair.{Pair}
+use Rattle.ax_pair.specs.Order.{BeginsFrom}
+use Rattle.ax_leaf.specs.Pairs.{Posting, pairs_of}
 use Rattle.ax_leaf.specs.Payload.{list_after, IsLeaf}
 use Rattle.ax_leaf.specs.TermList.{IsTermList}
-use Rattle.ax_leaf.proofs.Whole.{the_pair, leaf_parts, term_list_of, whole_leaf, listed, listed_seen}
-use Rattle.ax_leaf.proofs.OneSpelling.{same_pair}
+use Rattle.ax_pair.proofs.PairOrder.{the_pair}
+use Rattle.ax_leaf.proofs.Whole.{leaf_parts, term_list_of, whole_leaf, listed, listed_seen}
+use Rattle.ax_pair.proofs.PairOrder.{same_pair}
 use Rattle.ax_leaf.proofs.leaf.check.Goals as goal
 use Rattle.ax_leaf.proofs.leaf.check.Goals.{In_ok-term, In_ok-count}
 

@@ -1,5 +1,5 @@
 use Rattle.std.proofs.Common.{sym, subst}
-use Rattle.ax_leaf.specs.Pairs.{BeginsFrom}
+use Rattle.ax_pair.specs.Order.{BeginsFrom}
 use Rattle.ax_leaf.proofs.Ordered.{ordered}
 use Rattle.ax_leaf.proofs.SamePairs.{same_pairs}
 use Rattle.ax_leaf.proofs.writing.encode.Goals as goal

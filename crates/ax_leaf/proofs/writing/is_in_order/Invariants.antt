@@ -1,5 +1,5 @@
 use Rattle.std.proofs.Common.{◌↔◌, ◌-◌, ◌≤◌, drop, get_or}
-use Rattle.ax_leaf.specs.Pairs.{Rise, RiseAfter, BeginsFrom}
+use Rattle.ax_pair.specs.Order.{Rise, RiseAfter, BeginsFrom}
 use Rattle.ax_leaf.proofs.writing.is_in_order.Given as goal
 
 abbrev pub invariant-loop-i : goal.invariant-loop-i

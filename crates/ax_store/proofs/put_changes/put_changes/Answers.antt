@@ -21,4 +21,4 @@ put_change-requires-clause-deltas c =
 pub loop-change-preserved : goal.loop-change-preserved
 loop-change-preserved c =
     one_put _ _ _ _ _ _ c.loop-change.invariant (change_value c.in-Some.change) _ (ap changes_value c.in-Some.ensures.steps.0) c.put_change.new.pages _
-    c.put_change.ensures.lead c.put_change.ensures.offsets c.put_change.ensures.room c.put_change.ensures.rooms (omega (arith, c.len.ensures, c.in-Some.change.payload.ok.0))
+    c.put_change.ensures.lead c.put_change.ensures.offsets c.put_change.ensures.room c.put_change.ensures.rooms (omega (arith, c.in-Some.change.new.part.whole))

@@ -2,8 +2,8 @@
 use Rattle.std.proofs.Common.{rules, map}
 use Rattle.std.specs.Ordering.{is_le}
 use Rattle.std.proofs.lemmas.Fn.{always_returns_same}
-use Rattle.ax_leaf.specs.Pairs.{pair_cmp}
-use Rattle.ax_leaf.proofs.Whole.{the_pair}
+use Rattle.ax_pair.specs.Order.{pair_cmp}
+use Rattle.ax_pair.proofs.PairOrder.{the_pair}
 use Rattle.ax_pages.specs.TermPages.{low_pair}
 use Rattle.ax_store.specs.TermRows.{page_in}
 use Rattle.ax_store.proofs.TermOrder.{counted}

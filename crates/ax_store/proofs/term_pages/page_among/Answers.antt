@@ -1,5 +1,5 @@
 use Rattle.std.proofs.Common.{map}
-use Rattle.ax_leaf.proofs.Whole.{the_pair}
+use Rattle.ax_pair.proofs.PairOrder.{the_pair}
 use Rattle.ax_store.specs.TermRows.{page_in}
 use Rattle.ax_store.proofs.TermOrder.{page_found}
 use Rattle.ax_store.proofs.term_pages.page_among.Goals as goal

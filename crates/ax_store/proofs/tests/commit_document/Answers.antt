@@ -26,7 +26,7 @@ within contents few =
     (new, ap (λ (b : Bool). option_and_then (after_parts []) (if b then Some new else None)) room)
 
 pub commit-requires-clause-agrees : goal.commit-requires-clause-agrees
-commit-requires-clause-agrees g c = λ honest works. agrees_same c.args.store.now c.reserve.new.self _ c.reserve.ensures.same (c.requires.agrees honest)
+commit-requires-clause-agrees g c = λ honest works. agrees_same g.C.PageCache.pages c.args.store.now c.reserve.new.self _ c.reserve.ensures.same (c.requires.agrees honest)
 
 pub commit-requires-clause-deltas : goal.commit-requires-clause-deltas
 commit-requires-clause-deltas g c =

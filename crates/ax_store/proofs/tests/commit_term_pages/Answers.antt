@@ -80,5 +80,5 @@ commit-requires-clause-deltas g c =
 
 pub commit-requires-clause-agrees : goal.commit-requires-clause-agrees
 commit-requires-clause-agrees g c = λ honest works.
-    agrees_same c.reserve.new.self c.reserve_deltas.new.self _ c.reserve_deltas.ensures.same
-    (agrees_same c.args.store.now c.reserve.new.self _ c.reserve.ensures.same (c.requires.agrees honest))
+    agrees_same g.C.PageCache.pages c.reserve.new.self c.reserve_deltas.new.self _ c.reserve_deltas.ensures.same
+    (agrees_same g.C.PageCache.pages c.args.store.now c.reserve.new.self _ c.reserve.ensures.same (c.requires.agrees honest))

@@ -1,5 +1,5 @@
 use Rattle.std.proofs.Common.{◌∙◌, ap, sym}
-use Rattle.ax_leaf.specs.Pairs.{pair_cmp}
+use Rattle.ax_pair.specs.Order.{pair_cmp}
 use Rattle.ax_delta.specs.Pass.{first_cmp}
 use Rattle.ax_delta.proofs.SamePair.{the_pair}
 use Rattle.ax_delta.proofs.Taking.{at_end, cmp_it}

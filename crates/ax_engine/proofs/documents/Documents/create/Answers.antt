@@ -5,10 +5,10 @@ use Rattle.ax_container.specs.Upsert.{created}
 use Rattle.ax_frame.specs.Part.{PartValue}
 use Rattle.ax_image.specs.UpsertParts.{creating_parts}
 use Rattle.ax_pages.specs.Contents.{Contents}
-use Rattle.ax_store.specs.Store.{store_contents}
-use Rattle.ax_store.specs.Batch.{batch_parts}
-use Rattle.ax_store.specs.Putting.{AreWithin}
-use Rattle.ax_store.proofs.StoreLemmas.{agrees_same}
+use Rattle.ax_resident_store.specs.Store.{store_contents}
+use Rattle.ax_resident_store.specs.Batch.{batch_parts}
+use Rattle.ax_resident_store.specs.Putting.{AreWithin}
+use Rattle.ax_resident_store.proofs.StoreLemmas.{agrees_same}
 use Rattle.ax_engine.specs.Documents.{contents_in}
 use Rattle.ax_engine.proofs.Holding.{still, holds_room, holds_same, works_room, made_by, turned_by}
 use Rattle.ax_engine.proofs.Writing.{within_text, within_next, is_refused, creates, created_leads, numbers_created}

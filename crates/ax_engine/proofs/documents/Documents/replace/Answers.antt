@@ -4,10 +4,10 @@ use Rattle.ax_container.specs.Upsert.{replaced}
 use Rattle.ax_frame.specs.Part.{PartValue}
 use Rattle.ax_image.specs.UpsertParts.{replacing_parts}
 use Rattle.ax_pages.specs.Contents.{Contents}
-use Rattle.ax_store.specs.Store.{store_contents}
-use Rattle.ax_store.specs.Batch.{batch_parts}
-use Rattle.ax_store.specs.Putting.{AreWithin}
-use Rattle.ax_store.proofs.StoreLemmas.{agrees_same}
+use Rattle.ax_resident_store.specs.Store.{store_contents}
+use Rattle.ax_resident_store.specs.Batch.{batch_parts}
+use Rattle.ax_resident_store.specs.Putting.{AreWithin}
+use Rattle.ax_resident_store.proofs.StoreLemmas.{agrees_same}
 use Rattle.ax_engine.specs.Documents.{contents_in}
 use Rattle.ax_engine.proofs.Holding.{still, holds_room, works_room, made_by, turned_by}
 use Rattle.ax_engine.proofs.Writing.{within_text, within_replacing, replaces, replaced_leads, numbers_replaced}

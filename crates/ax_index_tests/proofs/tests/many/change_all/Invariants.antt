@@ -2,4 +2,4 @@ use Rattle.ax_index_support.specs.Ready.{IsReady}
 use Rattle.ax_index_tests.proofs.tests.many.change_all.Given as goal
 
 abbrev pub invariant-loop-list : goal.invariant-loop-list
-invariant-loop-list g l = IsReady l.store (g.D.Disk.is_honest l.disk) (g.D.Disk.history l.disk (g.D.Disk.attached l.disk))
+invariant-loop-list g l = IsReady g.C.PageCache.pages l.store (g.D.Disk.is_honest l.disk) (g.D.Disk.history l.disk (g.D.Disk.attached l.disk))

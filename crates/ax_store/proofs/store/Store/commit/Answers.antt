@@ -1,4 +1,4 @@
-use Rattle.std.proofs.Common.{sym, subst, ◌+◌}
+use Rattle.std.proofs.Common.{refl, sym, subst, ◌+◌}
 use Rattle.ax_frame.specs.Part.{parts_bytes}
 use Rattle.ax_log.specs.Commit.{IsCommitSpelling}
 use Rattle.ax_store.specs.Putting.{AreWithin, CanTake, Puts}
@@ -11,7 +11,7 @@ returns-in_default-clause-any_moment g c = λ honest works new lead.
     let agrees = c.requires.agrees honest works in
     let can = can_from c.args.batch.text (c.args.batch.can c.requires.sealed) in
     let text = text_of c.args.batch.frame.items c.args.batch.text can (c.args.batch.spelled c.requires.sealed) in
-    turns c.args.self.now _ agrees c.args.batch.text can _ new lead
+    turns g.C.PageCache.pages c.args.self.now _ agrees c.args.batch.text can _ new lead
     (c.commit.ensures.any_moment honest agrees.frames (parts_bytes c.args.batch.text) agrees.logged (subst (λ bytes. IsCommitSpelling bytes (parts_bytes c.args.batch.text)) (sym c.deref.ensures.value) text))
 
 pub put_changes-requires-clause-within : goal.put_changes-requires-clause-within
@@ -27,13 +27,14 @@ returns-clause-agrees g c = λ honest.
     let text = text_of c.args.batch.frame.items c.args.batch.text can (c.args.batch.spelled c.requires.sealed) in
     let logged = c.in-Ok.ensures.acknowledged honest agrees.frames (parts_bytes c.args.batch.text) agrees.logged (subst (λ bytes. IsCommitSpelling bytes (parts_bytes c.args.batch.text)) (sym c.deref.ensures.value) text) in
     let puts = subst (λ parts. Puts parts (c.end-at.result + 9) c.args.self.now.pages c.put_changes.new.pages) (sym c.args.batch.same) c.put_changes.ensures in
-    committed c.args.self.now _ agrees c.args.batch.text can _ _ logged
+    committed g.C.PageCache.pages c.args.self.now _ agrees c.args.batch.text can _ _ logged
     (subst (λ end. Puts c.args.batch.text (end + 9) c.args.self.now.pages c.put_changes.new.pages) c.end-at.ensures puts)
+    c.commit.ensures.area c.commit.ensures.generation refl
 
 pub returns-clause-any_moment : goal.returns-clause-any_moment
 returns-clause-any_moment g c = λ honest works new lead.
     let agrees = c.requires.agrees honest works in
     let can = can_from c.args.batch.text (c.args.batch.can c.requires.sealed) in
     let text = text_of c.args.batch.frame.items c.args.batch.text can (c.args.batch.spelled c.requires.sealed) in
-    turns c.args.self.now _ agrees c.args.batch.text can _ new lead
+    turns g.C.PageCache.pages c.args.self.now _ agrees c.args.batch.text can _ new lead
     (c.commit.ensures.any_moment honest agrees.frames (parts_bytes c.args.batch.text) agrees.logged (subst (λ bytes. IsCommitSpelling bytes (parts_bytes c.args.batch.text)) (sym c.deref.ensures.value) text))

@@ -11,7 +11,7 @@ pub returns-in-Ok-make-clause-tells : goal.returns-in-Ok-make-clause-tells
 returns-in-Ok-make-clause-tells g c = λ honest.
     let opened = c.in-Ok.ensures.tells honest in
     let still = subst IsTrue (sym c.open_log.ensures.honest) honest in
-    load_opened _ _ _ _ opened (c.in-Ok-load.ensures.tells still opened.frames opened.agrees) (c.load.ensures.lists still) refl
+    load_opened g.C.PageCache.pages _ _ _ _ opened (c.in-Ok-load.ensures.tells still opened.frames opened.agrees) (c.load.ensures.lists still) c.requires.empty refl
 
 pub returns-in-Ok-make-clause-any_moment : goal.returns-in-Ok-make-clause-any_moment
 returns-in-Ok-make-clause-any_moment g c = λ honest contents has.

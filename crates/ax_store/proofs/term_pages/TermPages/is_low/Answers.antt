@@ -1,5 +1,5 @@
 use Rattle.std.proofs.Common.{◌∙◌}
-use Rattle.ax_leaf.proofs.Whole.{the_pair}
+use Rattle.ax_pair.proofs.PairOrder.{the_pair}
 use Rattle.ax_store.proofs.TermBases.{taken_where}
 use Rattle.ax_store.proofs.term_pages.TermPages.is_low.Goals as goal
 

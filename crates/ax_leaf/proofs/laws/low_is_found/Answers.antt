@@ -1,5 +1,0 @@
-use Rattle.ax_leaf.proofs.Lows.{low_where}
-use Rattle.ax_leaf.proofs.laws.low_is_found.Goals as goal
-
-pub returns : goal.returns
-returns c = low_where

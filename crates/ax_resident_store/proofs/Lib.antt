@@ -1,0 +1,16 @@
+pub mod Searching
+pub mod RowsNear
+pub mod RowMaps
+pub mod KeptRows
+pub mod MapLens
+pub mod TakingLemmas
+pub mod CanFrames
+pub mod PuttingLemmas
+pub mod WindowLemmas
+pub mod LoadLemmas
+pub mod StoreLemmas
+pub mod NextHeld
+pub mod PartPlaces
+pub mod TermOrder
+pub mod TermBases
+pub mod ChangedRows

@@ -1,0 +1,44 @@
+use Rattle.std.proofs.Common.{sym, subst, refl}
+use Rattle.std.specs.Prelude.{IsTrue}
+use Rattle.ax_resident_store.proofs.StoreLemmas.{contents_since, contents_since_on, load_opened, load_refused, load_keeps}
+use Rattle.ax_resident_store.proofs.store.Store.open_store.Goals as goal
+
+pub returns-in-Err-clause-any_moment : goal.returns-in-Err-clause-any_moment
+returns-in-Err-clause-any_moment g c = λ honest contents has.
+    contents_since _ _ contents _ has (c.open_log.ensures.any_moment honest)
+
+pub returns-in-Ok-make-clause-tells : goal.returns-in-Ok-make-clause-tells
+returns-in-Ok-make-clause-tells g c = λ honest.
+    let opened = c.in-Ok.ensures.tells honest in
+    let still = subst IsTrue (sym c.open_log.ensures.honest) honest in
+    load_opened _ _ _ _ opened (c.in-Ok-load.ensures.tells still opened.frames opened.agrees) (c.load.ensures.lists still) refl
+
+pub returns-in-Ok-make-clause-any_moment : goal.returns-in-Ok-make-clause-any_moment
+returns-in-Ok-make-clause-any_moment g c = λ honest contents has.
+    let opened = c.in-Ok.ensures.tells honest in
+    let still = subst IsTrue (sym c.open_log.ensures.honest) honest in
+    contents_since_on c.in-Ok.log _ _ _ contents opened has (c.open_log.ensures.any_moment honest) (c.load.ensures.lists still)
+
+pub returns-in-Err-load-clause-tells : goal.returns-in-Err-load-clause-tells
+returns-in-Err-load-clause-tells g c = λ honest.
+    let opened = c.in-Ok.ensures.tells honest in
+    let still = subst IsTrue (sym c.open_log.ensures.honest) honest in
+    load_refused c.in-Err-load.fault c.in-Ok.log _ _ opened (c.in-Err-load.ensures.tells still opened.frames opened.agrees)
+
+pub returns-in-Err-load-clause-refused : goal.returns-in-Err-load-clause-refused
+returns-in-Err-load-clause-refused g c = λ honest refused.
+    let opened = c.in-Ok.ensures.tells honest in
+    let still = subst IsTrue (sym c.open_log.ensures.honest) honest in
+    load_keeps c.in-Err-load.fault c.in-Ok.log _ _ _ opened (c.in-Err-load.ensures.tells still opened.frames opened.agrees) (c.open_log.ensures.unchanged honest) (c.load.ensures.lists still) refused
+
+pub returns-in-Err-load-clause-any_moment : goal.returns-in-Err-load-clause-any_moment
+returns-in-Err-load-clause-any_moment g c = λ honest contents has.
+    let opened = c.in-Ok.ensures.tells honest in
+    let still = subst IsTrue (sym c.open_log.ensures.honest) honest in
+    contents_since_on c.in-Ok.log _ _ _ contents opened has (c.open_log.ensures.any_moment honest) (c.load.ensures.lists still)
+
+pub returns-in-Err-make-clause-any_moment : goal.returns-in-Err-make-clause-any_moment
+returns-in-Err-make-clause-any_moment g c = λ honest contents has.
+    let opened = c.in-Ok.ensures.tells honest in
+    let still = subst IsTrue (sym c.open_log.ensures.honest) honest in
+    contents_since_on c.in-Ok.log _ _ _ contents opened has (c.open_log.ensures.any_moment honest) (c.load.ensures.lists still)

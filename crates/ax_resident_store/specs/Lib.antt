@@ -1,0 +1,14 @@
+pub mod Rows
+pub mod Listed
+pub mod TermRows
+pub mod Kept
+pub mod Taking
+pub mod Change
+pub mod Batch
+pub mod Putting
+pub mod Faults
+pub mod Window
+pub mod Loading
+pub mod Store
+pub mod Slots
+pub mod Places

@@ -1,0 +1,97 @@
+-- A store as contracts see it, when it agrees with a disk, and what opening it answers.
+-- It is this project's own; it comes from no public document.
+use Rattle.std.specs.Prelude.{◌≡◌, ◌⊎◌, ℕ, Bool, false, List, Result, Ok, Err}
+use Rattle.ax_disk.specs.declared.extent.Extent.{Extent}
+use Rattle.ax_disk.specs.model.Image.{Image}
+use Rattle.ax_disk.specs.model.Moments.{History}
+use Rattle.ax_pages.specs.Image.{IsNewer, extent_number}
+use Rattle.ax_pages.specs.Contents.{Contents}
+use Rattle.ax_pages.specs.HasContents.{HasContents, IsSpoiledImage}
+use Rattle.ax_log.specs.Log.{log_area}
+use Rattle.ax_log.specs.Agreement as log
+use Rattle.ax_log.specs.Opening.{IsDamagedAt}
+use Rattle.ax_log.specs.declared.fault.LogFault.{LogFault}
+use Rattle.ax_log.specs.declared.fault.LogFault.TheVariants as by_log
+use Rattle.ax_pool.specs.Frames.{Frames}
+use Rattle.ax_resident_store.specs.declared.store.Store.{Store}
+use Rattle.ax_resident_store.specs.declared.fault.StoreFault.{StoreFault}
+use Rattle.ax_resident_store.specs.declared.fault.StoreFault.TheVariants.{Disk, Damaged, Newer, Memory}
+use Rattle.ax_resident_store.specs.Kept.{PageOffsets, room_of}
+use Rattle.ax_resident_store.specs.Loading.{nothing_kept, TakesOn}
+
+-- what the pages have
+abbrev pub store_contents : {C : Type 0} → Store C → Contents
+store_contents store = store.pages.contents
+
+-- where the parts of each page stand in the area
+abbrev pub store_offsets : {C : Type 0} → Store C → PageOffsets
+store_offsets store = store.pages.offsets
+
+-- how many parts may be committed without memory
+abbrev pub store_spare : {C : Type 0} → Store C → ℕ
+store_spare store = store.pages.spare
+
+-- how many deltas of a term page may be committed without memory
+abbrev pub store_room : {C : Type 0} → ℕ → Store C → ℕ
+store_room number store = room_of number store.pages
+
+-- the frames of the slots
+abbrev pub store_slots : {C : Type 0} → Store C → Frames
+store_slots store = store.pool
+
+-- a call answered that the disk failed
+abbrev pub store_failed : {C : Type 0} → Store C → Bool
+store_failed store = store.failed
+
+-- the area that counts
+abbrev pub store_area : {C : Type 0} → Store C → Extent
+store_area store = log_area store.log
+
+-- The log agrees with the disk by some frames, and these lead from nothing to the store's pages.
+pub record Agrees {C : Type 0} (store : Store C) (history : History) : Type 0 where
+  pub frames : List (List ℕ)
+  pub logged : log.Agrees store.log frames history
+  pub takes : TakesOn frames 0 nothing_kept store.pages
+
+-- nothing changed but the room
+pub record SameButRoom {C : Type 0} (old new : Store C) : Type 0 where
+  pub logged : new.log ≡ old.log
+  pub contents : store_contents new ≡ store_contents old
+  pub offsets : store_offsets new ≡ store_offsets old
+  pub failed : store_failed new ≡ store_failed old
+  pub slots : store_slots new ≡ store_slots old
+
+-- nothing changed but which slots are free, and their bytes
+pub record SameButSlots {C : Type 0} (old new : Store C) : Type 0 where
+  pub logged : new.log ≡ old.log
+  pub pages : new.pages ≡ old.pages
+  pub failed : store_failed new ≡ store_failed old
+
+-- The store agrees with the disk by the contents that the image before has.
+pub record IsOpened {C : Type 0} (store : Store C) (before : Image) (history : History) : Type 0 where
+  pub agrees : Agrees store history
+  pub has : HasContents (store_contents store) before
+  pub works : store_failed store ≡ false
+
+-- the image is damaged at this place of this list: in its root, in a frame, or in a part
+abbrev pub IsDamagedStore : Image → ℕ → ℕ → Type 0
+IsDamagedStore before extent at =
+    IsDamagedAt before extent at ⊎ ((area : Extent) × (extent ≡ extent_number area) × IsSpoiledImage before area at)
+
+-- what each answer says
+abbrev pub TellsFault : StoreFault → Image → Type 0
+TellsFault Disk before = Unit {0}
+TellsFault (Damaged extent at) before = IsDamagedStore before extent at
+TellsFault (Newer version) before = IsNewer before version
+TellsFault Memory before = Unit {0}
+
+abbrev pub TellsStore : {C : Type 0} → Result (Store C) StoreFault → Image → History → Type 0
+TellsStore (Ok store) before history = IsOpened store before history
+TellsStore (Err fault) before history = TellsFault fault before
+
+-- a fault of the log as one of the store
+abbrev pub of_log : LogFault → StoreFault
+of_log by_log.Disk = Disk
+of_log (by_log.Damaged extent at) = Damaged extent at
+of_log (by_log.Newer version) = Newer version
+of_log by_log.Memory = Memory

@@ -1,0 +1,97 @@
+//! Committing a batch.
+
+ghost use Rattle.std.specs.Prelude.{◌≡◌, ◌≢◌, ◌≤◌, ◌<◌, [], ℕ, List, Some, Err, true, false, length, IsTrue, IfErr, OnOk, OnErr};
+ghost use Rattle.ax_disk.specs.model.Calls.{Idles};
+ghost use Rattle.ax_disk.specs.model.Stays.{Turns};
+ghost use Rattle.ax_pages.specs.Contents.{Contents};
+ghost use Rattle.ax_pages.specs.HasContents.{HasContents};
+ghost use Rattle.ax_pages.specs.AfterPart.{after_parts};
+ghost use Rattle.ax_resident_store.specs.Batch.{batch_parts, is_sealed};
+ghost use Rattle.ax_resident_store.specs.Faults.{HasDiskCause};
+ghost use Rattle.ax_resident_store.specs.Putting.{AreWithin};
+ghost use Rattle.ax_resident_store.specs.Kept.{deltas_of};
+ghost use Rattle.ax_resident_store.specs.Store.{Agrees, SameButRoom, store_contents, store_area, store_slots, store_spare, store_room, store_failed};
+
+use crate::batch::Batch;
+use crate::fault::StoreFault;
+use crate::out_of_memory::Memory;
+use crate::put_changes::put_changes;
+use crate::store::Store;
+use ax_disk::Disk;
+
+/// How many bytes stand before what a frame spans.
+const HEAD_BYTES: u64 = 9;
+
+impl<C> Store<C> {
+    /// Makes room for a batch of so many parts. `Memory` where there is none; the store is then as
+    /// before but for the room.
+    pub fn reserve(&mut self, parts: usize) -> Result<(), Memory>
+        ensures room { OnOk result (parts ≤ store_spare self.new) }
+        ensures never_less { store_spare self.old ≤ store_spare self.new }
+        ensures rooms { (number : ℕ) → store_room number self.new ≡ store_room number self.old }
+        ensures same { SameButRoom self.old self.new }
+    {
+        self.pages.reserve(parts)
+    }
+
+    /// Makes room for so many deltas of a term page, beside the room for their batch. `Memory` where
+    /// there is none; the store is then as before but for the room.
+    pub fn reserve_deltas(&mut self, page: u32, deltas: usize) -> Result<(), Memory>
+        requires { page < length (store_contents self.old).terms }
+        ensures room { OnOk result (deltas ≤ store_room page self.new) }
+        ensures spare { store_spare self.old ≤ store_spare self.new }
+        ensures never_less { (number : ℕ) → store_room number self.old ≤ store_room number self.new }
+        ensures same { SameButRoom self.old self.new }
+    {
+        self.pages.reserve_deltas(page, deltas)
+    }
+
+    /// Makes the parts of a sealed batch durable together, and changes the pages by them. It takes no
+    /// memory, and its only error is `Disk`: the pages are then as before, in memory, and the store
+    /// has failed. Room for the parts was made by `reserve`, and for deltas of term pages by
+    /// `reserve_deltas` besides; and the parts are within the format after the store's contents.
+    pub fn commit<D: Disk>(&mut self, disk: &mut D, batch: Batch) -> Result<(), StoreFault>
+        requires agrees { IsTrue (D.is_honest disk.old) → store_failed self.old ≡ false
+            → Agrees self.old (D.history disk.old (D.attached disk.old)) }
+        requires sealed { is_sealed batch ≡ true }
+        requires room { length (batch_parts batch) ≤ store_spare self.old }
+        requires deltas { (number : ℕ) → deltas_of number (batch_parts batch) ≤ store_room number self.old }
+        requires within { AreWithin (batch_parts batch) (store_contents self.old) }
+
+        ensures ok { OnOk result (after_parts (batch_parts batch) (store_contents self.old) ≡ Some (store_contents self.new)) }
+        ensures err { OnErr result (store_contents self.new ≡ store_contents self.old) }
+        ensures agrees { IsTrue (D.is_honest disk.old)
+            → OnOk result (Agrees self.new (D.history disk.new (D.attached disk.new))) }
+
+        // A crash at any moment of the call, and after it, leaves the contents before it or the new ones.
+        ensures any_moment { IsTrue (D.is_honest disk.old) → store_failed self.old ≡ false → (new : Contents)
+            → after_parts (batch_parts batch) (store_contents self.old) ≡ Some new
+            → Turns (D.history disk.old (D.attached disk.old)) (D.history disk.new (D.attached disk.new))
+            (HasContents (store_contents self.old)) (HasContents new) }
+
+        ensures works { OnOk result (store_failed self.new ≡ false) }
+        ensures fails { OnErr result (store_failed self.new ≡ true) }
+        ensures failed_before { store_failed self.old ≡ true → result ≡ Err StoreFault.Disk }
+        ensures untouched { IsTrue (D.is_honest disk.old) → store_failed self.old ≡ true
+            → Idles (D.history disk.old (D.attached disk.old)) (D.history disk.new (D.attached disk.new)) }
+        ensures disk_alone { IfErr result (λ fault. fault ≡ StoreFault.Disk) }
+        ensures area { store_area self.new ≡ store_area self.old }
+        ensures slots { store_slots self.new ≡ store_slots self.old }
+        ensures cause { store_failed self.old ≡ false → HasDiskCause result (D.faults disk.old) (D.faults disk.new) }
+        ensures never_falls { D.faults disk.old ≤ D.faults disk.new }
+        ensures attached { D.attached disk.new ≡ D.attached disk.old }
+        ensures honest { D.is_honest disk.new ≡ D.is_honest disk.old }
+    {
+        if self.failed {
+            return Err(StoreFault::Disk);
+        }
+        let at = self.log.end() + HEAD_BYTES;
+        let Ok(()) = self.log.commit(disk, &batch.frame) else {
+            self.failed = true;
+            return Err(StoreFault::Disk);
+        };
+        let Batch { changes, .. } = batch;
+        put_changes(&mut self.pages, changes, at);
+        Ok(())
+    }
+}

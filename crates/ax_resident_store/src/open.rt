@@ -1,0 +1,74 @@
+//! Opening a store.
+
+ghost use Rattle.std.specs.Prelude.{◌≡◌, ℕ, List, IsTrue, IfOk, false};
+ghost use Rattle.ax_disk.specs.model.Stays.{SinceBarrier};
+ghost use Rattle.ax_pages.specs.Contents.{Contents};
+ghost use Rattle.ax_pages.specs.HasContents.{HasContents};
+ghost use Rattle.ax_log.specs.Opening.{Keeps};
+ghost use Rattle.ax_resident_store.specs.Faults.{IsRefused, HasDiskCause};
+ghost use Rattle.std.specs.FinMap as map;
+ghost use Rattle.ax_resident_store.specs.Slots.{HasAllFree};
+ghost use Rattle.ax_resident_store.specs.Store.{TellsStore, store_failed};
+
+use crate::fault::{StoreFault, store_fault};
+use crate::load::load;
+use crate::store::Store;
+use ax_cache::PageCache;
+use ax_disk::Disk;
+use ax_log::Log;
+use ax_pool::Pool;
+use std::alloc::Global;
+
+/// How many slots a store has.
+const SLOTS: u32 = 64;
+
+impl<C: PageCache + Drop> Store<C> {
+    /// Opens the store attached, or forms one where it is fresh.
+    ///
+    /// It begins with a sync, the barrier: until that succeeds a crash leaves what it might have left
+    /// before, and from then on the contents that reads gave. `Damaged` is answered where root, frames
+    /// or parts are outside the format, and `Newer` where the root slot that counts names a later
+    /// version; both leave the store's lists as they were. At `Disk` or
+    /// `Memory` a fresh store may have been formed. At Ok all slots are free.
+    pub fn open_store<D: Disk>(
+        alloc: Global,
+        disk: &mut D,
+        cache: C,
+    ) -> Result<Store<C>, StoreFault>
+        requires empty { C.pages cache ≡ map.empty }
+        ensures tells { IsTrue (D.is_honest disk.old)
+            → TellsStore result (D.history disk.old (D.attached disk.old)).reads (D.history disk.new (D.attached disk.new)) }
+        ensures slots { IfOk result HasAllFree }
+        ensures works { IfOk result (λ store. store_failed store ≡ false) }
+        ensures refused { IsTrue (D.is_honest disk.old) → IsRefused result
+            → Keeps (D.history disk.old (D.attached disk.old)) (D.history disk.new (D.attached disk.new)) }
+
+        // A crash at any moment since the barrier, and after the call, leaves the contents that were there.
+        ensures any_moment { IsTrue (D.is_honest disk.old) → (contents : Contents)
+            → HasContents contents (D.history disk.old (D.attached disk.old)).reads
+            → SinceBarrier (D.history disk.old (D.attached disk.old)) (D.history disk.new (D.attached disk.new)) (HasContents contents) }
+
+        ensures cause { HasDiskCause result (D.faults disk.old) (D.faults disk.new) }
+        ensures attached { D.attached disk.new ≡ D.attached disk.old }
+        ensures honest { D.is_honest disk.new ≡ D.is_honest disk.old }
+    {
+        let log = match Log::open_log(alloc, disk) {
+            Ok(log) => log,
+            Err(fault) => return Err(store_fault(fault)),
+        };
+        let pages = match load(alloc, disk, &log) {
+            Ok(pages) => pages,
+            Err(fault) => return Err(fault),
+        };
+        match Pool::make(alloc, SLOTS) {
+            Ok(pool) => Ok(Store {
+                log,
+                pages,
+                pool,
+                cache,
+                failed: false,
+            }),
+            Err(_) => Err(StoreFault::Memory),
+        }
+    }
+}

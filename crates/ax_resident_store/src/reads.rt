@@ -1,0 +1,139 @@
+//! What a store answers of its pages.
+
+ghost use Rattle.std.specs.Prelude.{◌≡◌, ◌+◌, ◌<◌, ℕ, true, false, Err, IsTrue, Some, None, IfErr, IfOk, IfSome, IfNone, option_map, length, drop, slice_index, slice_get};
+ghost use Rattle.std.specs.FinMap as map;
+ghost use Rattle.ax_disk.specs.model.Calls.{Idles};
+ghost use Rattle.ax_pages.specs.Contents.{next_number, policy_now, parts_of};
+ghost use Rattle.ax_resident_store.specs.Faults.{HasDiskCause};
+ghost use Rattle.ax_resident_store.specs.Listed.{IsNextAfter};
+ghost use Rattle.ax_pages.specs.Image.{extent_number};
+ghost use Rattle.ax_resident_store.specs.Rows.{offset_kept};
+ghost use Rattle.ax_resident_store.specs.Kept.{offsets_of};
+ghost use Rattle.ax_resident_store.specs.Store.{store_contents, store_offsets, store_area, store_failed};
+
+use crate::fault::{StoreFault, number_of};
+use crate::kept_part::KeptPart;
+use crate::pages::Meta;
+use crate::store::Store;
+use ax_base::Steps;
+use ax_disk::Disk;
+use ax_pages::Page;
+use std::alloc::Global;
+use std::sync::ledger::Ledger;
+
+/// What a document's part says in front of its text.
+#[derive(Clone, Copy, Debug, PartialEq, Eq)]
+pub struct Head {
+    /// The number of the policy under which the document is indexed.
+    pub policy: u8,
+    /// Where the text begins in the payload.
+    pub text_at: u32,
+}
+
+impl<C> Store<C> {
+    /// The next number, and the number of the policy now.
+    pub fn meta(&self) -> Meta
+        ensures next { result.next ≡ next_number (store_contents self.now) }
+        ensures now { result.now ≡ policy_now (store_contents self.now) }
+    {
+        self.pages.numbers()
+    }
+
+    /// How many parts a page has: of the meta, of a policy and of a document one, where it has
+    /// something; of a term page its base and the deltas behind that.
+    pub fn parts(&self, page: Page) -> usize
+        ensures { result ≡ length (parts_of page (store_contents self.now)) }
+    {
+        self.pages.parts(page)
+    }
+
+    /// Where a part of a page stands: the extent as a number, and the offset of its head in it.
+    pub fn place(&self, page: Page, i: usize) -> (u8, u64)
+        requires { i < length (parts_of page (store_contents self.now)) }
+        ensures extent { result.0 ≡ extent_number (store_area self.now) }
+        ensures offset { slice_get (offsets_of page (store_offsets self.now)) i ≡ Some result.1 }
+    {
+        let extent = number_of(self.log.area());
+        (extent, offset(self.pages.part(page, i)))
+    }
+
+    /// What the part of a document says in front of its text. `None` exactly where the number is not
+    /// held.
+    pub fn head_of(&self, number: u32) -> Option<Head>
+        ensures policy { option_map (λ head. head.policy) result
+            ≡ option_map (λ payload. slice_index payload 0) (map.get (store_contents self.now).documents number) }
+        ensures text_at { IfSome result (λ head. head.text_at ≡ 1) }
+    {
+        let part = self.pages.document(number)?;
+        let policy = match part.payload.first() {
+            Some(policy) => *policy,
+            None => 0,
+        };
+        Some(Head { policy, text_at: 1 })
+    }
+
+    /// The least number above another that is held. `None` exactly where there is none.
+    pub fn next_document(&self, after: u32) -> Option<u32>
+        ensures found { IfSome result (IsNextAfter (store_contents self.now).documents after) }
+        ensures none { IfNone result ((number : ℕ) → after < number → map.get (store_contents self.now).documents number ≡ None) }
+    {
+        self.pages.next_document(after)
+    }
+
+    /// The text of a document. `None` exactly where the number is not held. It counts one step.
+    /// `Disk` where the store has failed before; `Memory` where there is no room for the text.
+    pub fn fetch_text<D: Disk, L: Ledger>(
+        &mut self,
+        alloc: Global,
+        disk: &mut D,
+        number: u32,
+        steps: &mut Steps<L>,
+    ) -> Result<Option<Vec<u8>>, StoreFault>
+        ensures text { IfOk result (λ found. option_map (λ text. text.items) found
+            ≡ option_map (λ payload. drop 1 payload) (map.get (store_contents self.old).documents number)) }
+        ensures memory_alone { store_failed self.old ≡ false → IfErr result (λ fault. fault ≡ StoreFault.Memory) }
+        ensures same { self.new ≡ self.old }
+        ensures ticked { steps.new ≡ steps.old + 1 }
+        ensures lists { IsTrue (D.is_honest disk.old)
+            → Idles (D.history disk.old (D.attached disk.old)) (D.history disk.new (D.attached disk.new)) }
+        ensures failed_before { store_failed self.old ≡ true → result ≡ Err StoreFault.Disk }
+        ensures cause { store_failed self.old ≡ false → HasDiskCause result (D.faults disk.old) (D.faults disk.new) }
+        ensures same_faults { D.faults disk.new ≡ D.faults disk.old }
+        ensures attached { D.attached disk.new ≡ D.attached disk.old }
+        ensures honest { D.is_honest disk.new ≡ D.is_honest disk.old }
+    {
+        // All payloads are in memory.
+        let _ = disk;
+        steps.tick();
+        if self.failed {
+            return Err(StoreFault::Disk);
+        }
+        let Some(part) = self.pages.document(number) else {
+            return Ok(None);
+        };
+        match Vec::from_slice(alloc, text_in(&part.payload)) {
+            Ok(text) => Ok(Some(text)),
+            Err(_) => Err(StoreFault::Memory),
+        }
+    }
+}
+
+/// The offset of a part that is kept, or 0.
+fn offset(part: Option<&KeptPart>) -> u64
+    ensures { IfSome part.entry (λ part. result ≡ offset_kept part.now) }
+{
+    match part {
+        Some(part) => part.at,
+        None => 0,
+    }
+}
+
+/// The text in a document's payload: what stands behind the number of its policy.
+pub(crate) fn text_in(payload: &[u8]) -> &[u8]
+    ensures { result.now ≡ drop 1 payload.now }
+{
+    match payload.split_first() {
+        Some((_, text)) => text,
+        None => payload,
+    }
+}

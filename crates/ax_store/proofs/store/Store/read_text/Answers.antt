@@ -1,0 +1,27 @@
+use Rattle.std.proofs.Common.{refl, sym, ap, subst, ◌∙◌, length, Some}
+use Rattle.ax_pool.specs.Frames.{bytes_at}
+use Rattle.ax_store.specs.Rows.{payload_kept, offset_kept}
+use Rattle.ax_store.specs.Slots.{IsFetched}
+use Rattle.ax_store.proofs.PartPlaces.{text_readable}
+use Rattle.ax_store.proofs.StoreLemmas.{agrees_read}
+use Rattle.ax_store.proofs.store.Store.read_text.Goals as goal
+
+pub returns-clause-text : goal.returns-clause-text
+returns-clause-text g c = λ honest.
+    let agrees = c.requires.agrees honest c.if-self.false in
+    let part = c.in-Some.part.now in
+    let is = text_readable g.C.PageCache.pages c.args.self.now _ agrees c.args.self.now.log.small (offset_kept part) c.text_place-from.result.0 c.text_place-from.result.1 (payload_kept part) c.args.number
+    c.in-Some.ensures.payload c.in-Some.ensures.offset c.text_place-from.ensures.from c.text_place-from.ensures.len in
+    subst (λ held. IsFetched held c.load.new.pool c.args.slot.now.number (Some c.text_place-from.result.1)) c.in-Some.ensures.payload
+    (record {
+      len_is = is.len_is;
+      begins = is.begins (bytes_at c.load.new.pool c.args.slot.now.number) (c.in-Ok.ensures.read honest agrees.frames agrees.logged agrees.caches is.within);
+    })
+
+pub returns-clause-agrees : goal.returns-clause-agrees
+returns-clause-agrees g c = λ honest works.
+    let agrees = c.requires.agrees honest works in
+    let part = c.in-Some.part.now in
+    let is = text_readable g.C.PageCache.pages c.args.self.now _ agrees c.args.self.now.log.small (offset_kept part) c.text_place-from.result.0 c.text_place-from.result.1 (payload_kept part) c.args.number
+    c.in-Some.ensures.payload c.in-Some.ensures.offset c.text_place-from.ensures.from c.text_place-from.ensures.len in
+    agrees_read g.C.PageCache.pages c.args.self.now _ _ _ agrees refl refl (c.load.ensures.caches honest agrees.frames agrees.logged agrees.caches is.within) (c.load.ensures.lists honest)
