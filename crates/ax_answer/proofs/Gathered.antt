@@ -62,17 +62,18 @@ module _ (query : Query) (entries : List (ℕ × Tree)) (number : ℕ) (tree : T
   )
 
   pub in_front : (old new : front.FrontRows)
-      → ((distinct : Bool) (room : Option ℕ) (rows : List KeyedRow) → IsFront old distinct room rows
-      → IsFront new distinct room (rows ++ keyed_rows query number tree))
+      → ((distinct : Bool) (skip : ℕ) (limit : Option ℕ) (rows : List KeyedRow)
+      → IsFront old distinct skip limit rows
+      → IsFront new distinct skip limit (rows ++ keyed_rows query number tree))
       → GathersIn (Front old) query entries
       → GathersIn (Front new) query (entries ++ (number, tree) ∷ [])
   in_front old new added gathers = (
     gathers.0,
     gathers.1,
     gathers.2,
-    subst (λ (rows : List KeyedRow). IsFront new query.distinct (room_of query.skip query.limit) rows)
+    subst (λ (rows : List KeyedRow). IsFront new query.distinct query.skip query.limit rows)
         (sym more_rows)
-        (added query.distinct (room_of query.skip query.limit) (all_rows query entries) gathers.3),
+        (added query.distinct query.skip query.limit (all_rows query entries) gathers.3),
   )
 
   pub in_least : (old new : least.LeastRows)
@@ -178,40 +179,41 @@ answered_in_least query entries held found is gathers =
 
 pub answered_in_front : (query : Query) (entries : List (ℕ × Tree)) (held : front.FrontRows)
     (found : List KeyedRow)
-    → ((distinct : Bool) (rows : List KeyedRow)
-    → IsFront held distinct (room_of query.skip query.limit) rows
-    → found ≡ limited query.limit (drop query.skip (distinct_where distinct rows)))
+    → ((distinct : Bool) (skip : ℕ) (limit : Option ℕ) (rows : List KeyedRow)
+    → IsFront held distinct skip limit rows
+    → found ≡ limited limit (drop skip (distinct_where distinct rows)))
     → GathersIn (Front held) query entries → IsStrictlySortedBy nat_cmp (map (λ e. e.0) entries)
     → found ≡ answer_of query entries
 answered_in_front query entries held found is gathers rising =
-    is query.distinct (all_rows query entries) gathers.3
+    is query.distinct query.skip query.limit (all_rows query entries) gathers.3
     ∙ sym (answer_from query entries rising gathers.1 gathers.2)
     ∙ without_groups query entries gathers.1
 
 -- ---- where no further document is needed
 
 pub full_gathers : (held : front.FrontRows) (query : Query) (entries more : List (ℕ × Tree))
-    → ((distinct : Bool) (room : Option ℕ) (rows others : List KeyedRow)
-    → IsFront held distinct room rows → IsFront held distinct room (rows ++ others))
+    → ((distinct : Bool) (skip : ℕ) (limit : Option ℕ) (rows others : List KeyedRow)
+    → IsFront held distinct skip limit rows → IsFront held distinct skip limit (rows ++ others))
     → GathersIn (Front held) query entries → GathersIn (Front held) query (entries ++ more)
 full_gathers held query entries more sound gathers = (
   gathers.0,
   gathers.1,
   gathers.2,
-  subst (λ (rows : List KeyedRow). IsFront held query.distinct (room_of query.skip query.limit) rows)
+  subst (λ (rows : List KeyedRow). IsFront held query.distinct query.skip query.limit rows)
       (sym (flat_map-append (λ e. keyed_rows query e.0 e.1) entries more))
-      (sound query.distinct (room_of query.skip query.limit) (all_rows query entries)
+      (sound query.distinct query.skip query.limit (all_rows query entries)
       (all_rows query more) gathers.3),
 )
 
 pub full_enough : (held : front.FrontRows) (full : Bool) (query : Query) (entries : List (ℕ × Tree))
-    → ((distinct : Bool) (most : ℕ) (rows : List KeyedRow) → IsFront held distinct (Some most) rows
-    → most ≤ length (distinct_where distinct rows) → full ≡ true)
+    → ((distinct : Bool) (skip most : ℕ) (rows : List KeyedRow)
+    → IsFront held distinct skip (Some most) rows
+    → skip + most ≤ length (distinct_where distinct rows) → full ≡ true)
     → GathersIn (Front held) query entries → HasEnough query entries → full ≡ true
 full_enough held full query entries told gathers enough =
-    told query.distinct (query.skip + enough.limit) (all_rows query entries)
-    (subst (λ (room : Option ℕ). IsFront held query.distinct room (all_rows query entries))
-    (ap (room_of query.skip) enough.limited) gathers.3)
+    told query.distinct query.skip enough.limit (all_rows query entries)
+    (subst (λ (limit : Option ℕ). IsFront held query.distinct query.skip limit (all_rows query entries))
+    enough.limited gathers.3)
     enough.many
 
 limit_wanted : (limit : Option ℕ) → wants_rows limit ≡ true → limit ≡ Some 0 → ⊥
@@ -261,8 +263,8 @@ rows_put old new query tree gains by asked envs holds =
 
 pub full_done : (kept : held.Held) (rows : front.FrontRows) (query : Query)
     (entries more : List (ℕ × Tree)) → kept ≡ Front rows
-    → ((distinct : Bool) (room : Option ℕ) (some others : List KeyedRow)
-    → IsFront rows distinct room some → IsFront rows distinct room (some ++ others))
+    → ((distinct : Bool) (skip : ℕ) (limit : Option ℕ) (some others : List KeyedRow)
+    → IsFront rows distinct skip limit some → IsFront rows distinct skip limit (some ++ others))
     → GathersIn kept query entries → GathersIn kept query (entries ++ more)
 full_done kept rows query entries more is sound gathers =
     subst (λ (h : held.Held). GathersIn h query (entries ++ more)) (sym is)

@@ -7,7 +7,7 @@ use Rattle.ax_mean.specs.declared.query.Query.{Query}
 use Rattle.ax_mean.specs.Answer.{all_rows}
 use Rattle.ax_mean.specs.Meaning.{Env}
 use Rattle.ax_mean.specs.Rows.{envs_of_tree, keyed_rows}
-use Rattle.ax_rows.specs.Front.{IsFront, room_of}
+use Rattle.ax_rows.specs.Front.{IsFront}
 use Rattle.ax_rows.specs.Least.{HoldsLeast}
 use Rattle.ax_group.specs.States.{Holds}
 use Rattle.ax_result.specs.Groups.{all_envs}
@@ -43,7 +43,7 @@ module _ (query : Query) (entries : List (ℕ × Tree)) (number : ℕ) (tree : T
     gathers.0,
     gathers.1,
     gathers.2,
-    subst (λ (rows : List KeyedRow). IsFront front query.distinct (room_of query.skip query.limit) rows)
+    subst (λ (rows : List KeyedRow). IsFront front query.distinct query.skip query.limit rows)
         same_rows gathers.3,
   )
   gathers_in (Least least) gathers =

@@ -27,7 +27,8 @@ KeepsLeast least query entries =
     × HoldsLeast least query.orders most (all_rows query entries)
 
 -- Where rows are wanted, the groups of the rows are kept, where the query has groups; without ORDER BY
--- the front in which OFFSET and LIMIT choose; with it as many of the least rows, or every row.
+-- the front, less the rows that OFFSET leaves out; with it as many of the least rows as OFFSET and LIMIT
+-- choose among, or every row.
 abbrev pub GathersIn : held.Held → Query → List (ℕ × Tree) → Type 0
 GathersIn Nothing query entries = wants_rows query.limit ≡ false
 GathersIn (InGroups groups) query entries =
@@ -35,7 +36,7 @@ GathersIn (InGroups groups) query entries =
     × Holds groups query (all_envs query entries)
 GathersIn (Front front) query entries =
     (wants_rows query.limit ≡ true) × (has_groups query ≡ false) × (has_some query.orders ≡ false)
-    × IsFront front query.distinct (room_of query.skip query.limit) (all_rows query entries)
+    × IsFront front query.distinct query.skip query.limit (all_rows query entries)
 GathersIn (Least least) query entries =
     (wants_rows query.limit ≡ true) × (has_groups query ≡ false) × (has_some query.orders ≡ true)
     × (query.distinct ≡ false) × KeepsLeast least query entries

@@ -7,7 +7,6 @@ ghost use Rattle.ax_mean.specs.Aggregates.{has_groups as there_are_groups, has_s
 ghost use Rattle.ax_mean.specs.declared.query.Query as queries;
 ghost use Rattle.ax_result.specs.Answers.{answer_of};
 ghost use Rattle.ax_rows.specs.Front.{room_of};
-ghost use Rattle.ax_answer.specs.declared.held.Held.TheVariants.{Front};
 ghost use Rattle.ax_answer.specs.Gathering.{GathersIn, HasEnough, wants_rows};
 
 use crate::group_rows::add_rows;
@@ -24,7 +23,7 @@ pub enum Held<'a> {
     Nothing,
     /// The groups of the rows, where the query has groups.
     InGroups(Groups<'a>),
-    /// The first rows, where they come in their order.
+    /// The first rows behind those that OFFSET leaves out, where they come in their order.
     Front(FrontRows),
     /// The least rows, where they are put in order and not all are wanted.
     Least(LeastRows),
@@ -60,11 +59,11 @@ impl<'a> Held<'a> {
         ensures { wants_rows query.now.limit ≡ true → there_are_groups query.now ≡ false
             → GathersIn result query.now [] }
     {
-        let room = room_in(query.skip, query.limit);
         if query.orders.as_slice().is_empty() {
-            return Held::Front(FrontRows::new(alloc, query.distinct, room));
+            let front = FrontRows::new(alloc, query.distinct, query.skip, query.limit);
+            return Held::Front(front);
         }
-        match room {
+        match room_in(query.skip, query.limit) {
             Some(most) if !query.distinct => {
                 let least = LeastRows::new(alloc, most);
                 Held::Least(least)
@@ -130,20 +129,11 @@ impl<'a> Held<'a> {
                 let rows = groups.finish(alloc)?;
                 Ok(finish(alloc, query, rows)?)
             }
-            Held::Front(front) => Ok(chosen_rows(query, front)),
+            Held::Front(front) => Ok(front.finish()),
             Held::Least(least) => Ok(least.finish(alloc, query.skip, query.limit)?),
             Held::Every(rows) => Ok(finish(alloc, query, rows)?),
         }
     }
-}
-
-/// The rows of a query without ORDER BY that OFFSET and LIMIT choose.
-fn chosen_rows(query: &Query, front: FrontRows) -> Vec<KeyedRow>
-    ensures { (entries : List (ℕ × trees.Tree)) → GathersIn (Front front) query.now entries
-        → IsStrictlySortedBy nat_cmp (map (λ e. e.0) entries)
-        → result.items ≡ answer_of query.now entries }
-{
-    front.finish(query.skip, query.limit)
 }
 
 /// Whether any row is wanted.

@@ -1,7 +1,7 @@
 -- The front of the rows of a query without ORDER BY: the first so many of them, and of rows that show
--- the same text the first where DISTINCT is written. As OFFSET, LIMIT and DISTINCT of Azure Cosmos DB
--- for NoSQL.
-use Rattle.std.specs.Prelude.{◌≡◌, ℕ, ◌+◌, List, ◌++◌, Bool, Option, Some, None}
+-- the same text the first where DISTINCT is written; and what OFFSET and LIMIT choose there. As OFFSET,
+-- LIMIT and DISTINCT of Azure Cosmos DB for NoSQL.
+use Rattle.std.specs.Prelude.{◌≡◌, ℕ, ◌+◌, List, ◌++◌, drop, Bool, Option, Some, None}
 use Rattle.std.specs.BTreeSet.{BTreeSet, contains}
 use Rattle.std.specs.Cmp.Lexicographic.{slice_cmp}
 use Rattle.std.specs.Ordering.{nat_cmp}
@@ -22,20 +22,27 @@ room_of skip (Some limit) = Some (skip + limit)
 abbrev pub front_of : Bool → Option ℕ → List KeyedRow → List KeyedRow
 front_of distinct room rows = limited room (distinct_where distinct rows)
 
+-- the rows that OFFSET and LIMIT choose
+abbrev pub window_of : Bool → ℕ → Option ℕ → List KeyedRow → List KeyedRow
+window_of distinct skip limit rows = limited limit (drop skip (distinct_where distinct rows))
+
 -- the rows whose text is not in the set, where one is kept
 abbrev pub fresh : Option (BTreeSet (List ℕ)) → List KeyedRow → List KeyedRow
 fresh None rows = rows
 fresh (Some seen) rows = unseen (λ text. contains (slice_cmp nat_cmp) seen text) rows
 
--- what the rows kept come to with those that follow
+-- what the rows kept come to with those that follow, less the first of these, which are to be left out
 abbrev pub front_after : FrontRows → List KeyedRow → List KeyedRow
-front_after front more = limited front.room (front.rows.items ++ fresh front.seen more)
+front_after front more =
+    limited front.limit (front.rows.items ++ drop front.left (fresh front.seen more))
 
--- Of these rows the front is kept: whatever follows, what is kept and that have the front of all.
-pub record IsFront (front : FrontRows) (distinct : Bool) (room : Option ℕ) (rows : List KeyedRow)
-    : Type 0 where
-  pub has_room : front.room ≡ room
-  pub leads : (more : List KeyedRow) → front_after front more ≡ front_of distinct room (rows ++ more)
+-- Of these rows the front is kept, without those that OFFSET leaves out: whatever follows, what is kept
+-- and that come to what OFFSET and LIMIT choose of all.
+pub record IsFront (front : FrontRows) (distinct : Bool) (skip : ℕ) (limit : Option ℕ)
+    (rows : List KeyedRow) : Type 0 where
+  pub has_limit : front.limit ≡ limit
+  pub leads : (more : List KeyedRow)
+      → front_after front more ≡ window_of distinct skip limit (rows ++ more)
 
 -- whose rows are taken, and which front of all is asked for
 pub record FrontAsked : Type 0 where
@@ -43,7 +50,8 @@ pub record FrontAsked : Type 0 where
   pub number : ℕ
   pub tree : Tree
   pub distinct : Bool
-  pub room : Option ℕ
+  pub skip : ℕ
+  pub limit : Option ℕ
 
 abbrev pub front_keeps : FrontAsked → Bound → Option KeyedRow
 front_keeps asked = keyed_where asked.query asked.number (order_values asked.query asked.tree)
@@ -52,4 +60,4 @@ pub record TakesFront (taker : FrontTaker) (asked : FrontAsked) (rows : List Key
   pub by : taker.query.now ≡ asked.query
   pub under : taker.number ≡ asked.number
   pub within : taker.tree.now ≡ asked.tree
-  pub front : IsFront taker.front asked.distinct asked.room rows
+  pub front : IsFront taker.front asked.distinct asked.skip asked.limit rows

@@ -61,7 +61,7 @@ fn leave_out(rows: &mut Vec<KeyedRow>, skip: u32)
 }
 
 /// Keeps at most as many rows as the limit.
-fn cut(rows: &mut Vec<KeyedRow>, limit: Option<u32>)
+pub fn cut(rows: &mut Vec<KeyedRow>, limit: Option<u32>)
     ensures { rows.new.items ≡ limited limit rows.old.items }
 {
     if let Some(limit) = limit {

@@ -1,15 +1,17 @@
 //! The first rows of a query without ORDER BY, from documents that come in the order of their numbers.
-ghost use Rattle.std.specs.Prelude.{◌≡◌, ◌≤◌, ℕ, List, [], ◌∷◌, ◌++◌, length, drop, Bool, true, if◌then◌else◌, Option, Some, IfOk, OnOk};
+//! Of rows that OFFSET leaves out nothing is kept but how many are still to come, and what they show
+//! where DISTINCT is written.
+ghost use Rattle.std.specs.Prelude.{◌≡◌, ◌≤◌, ◌+◌, ℕ, suc, List, [], ◌∷◌, ◌++◌, length, drop, Bool, true, if◌then◌else◌, Option, Some, None, IfOk, OnOk, IfSome};
 ghost use Rattle.ax_mean.specs.Answer.{distinct_where, limited};
 ghost use Rattle.ax_mean.specs.Rows.{keyed_rows};
 ghost use Rattle.ax_mean.specs.declared.query.KeyedRow as keyed;
-ghost use Rattle.ax_rows.specs.Front.{IsFront, TakesFront, fresh, front_after, front_keeps, room_of};
+ghost use Rattle.ax_rows.specs.Front.{IsFront, TakesFront, fresh, front_after, front_keeps};
 ghost use Rattle.ax_rows.specs.Taking.{Gains, gains_none, gains_both};
 
-use crate::answer::chosen;
+use crate::answer::cut;
 use crate::flow::Flow;
 use crate::key_bytes::KeyBytes;
-use crate::keyed::keyed_in;
+use crate::keyed::{has_row, keyed_in};
 use crate::out_of_memory::Memory;
 use crate::walk::{Taker, walk_tree};
 use ax_eval::Scope;
@@ -17,12 +19,14 @@ use ax_mean::{KeyedRow, Query, Tree};
 use std::alloc::Global;
 use std::collections::BTreeSet;
 
-/// The first rows of all, as many as there is room for; of those that show the same text the first,
-/// where DISTINCT is written.
+/// The first rows behind those that OFFSET leaves out, as many as are wanted; of those that show the
+/// same text the first, where DISTINCT is written.
 #[derive(Drop)]
 pub struct FrontRows {
+    /// How many rows are still to be left out.
+    left: u32,
     /// How many rows are wanted; all where there is none.
-    room: Option<usize>,
+    limit: Option<u32>,
     /// The texts of the rows so far, where DISTINCT is written.
     seen: Option<BTreeSet<KeyBytes>>,
     rows: Vec<KeyedRow>,
@@ -31,28 +35,28 @@ pub struct FrontRows {
 impl FrontRows {
     /// No row yet.
     #[tactic(auto, using(crate::proofs::FrontKept::begins))]
-    pub fn new(alloc: Global, distinct: bool, room: Option<usize>) -> FrontRows
-        ensures { IsFront result distinct room [] }
+    pub fn new(alloc: Global, distinct: bool, skip: u32, limit: Option<u32>) -> FrontRows
+        ensures { IsFront result distinct skip limit [] }
     {
         FrontRows {
-            room,
+            left: skip,
+            limit,
             seen: texts_seen(alloc, distinct),
             rows: Vec::new(alloc),
         }
     }
 
-    /// Whether there is room for no further row.
-    #[tactic(auto, using(crate::proofs::FrontKept::full_stays))]
+    /// Whether there are as many rows as are wanted.
     pub fn is_full(&self) -> bool
-        ensures sound { result ≡ true → (distinct : Bool) → (room : Option ℕ)
-            → (rows more : List keyed.KeyedRow) → IsFront self.now distinct room rows
-            → IsFront self.now distinct room (rows ++ more) }
-        ensures full { (distinct : Bool) → (most : ℕ) → (rows : List keyed.KeyedRow)
-            → IsFront self.now distinct (Some most) rows
-            → most ≤ length (distinct_where distinct rows) → result ≡ true }
+        ensures sound { result ≡ true → (distinct : Bool) → (skip : ℕ) → (limit : Option ℕ)
+            → (rows more : List keyed.KeyedRow) → IsFront self.now distinct skip limit rows
+            → IsFront self.now distinct skip limit (rows ++ more) }
+        ensures full { (distinct : Bool) → (skip most : ℕ) → (rows : List keyed.KeyedRow)
+            → IsFront self.now distinct skip (Some most) rows
+            → skip + most ≤ length (distinct_where distinct rows) → result ≡ true }
     {
-        match self.room {
-            Some(room) => self.has_rows(room),
+        match self.limit {
+            Some(limit) => self.has_rows(limit as usize),
             None => false,
         }
     }
@@ -65,7 +69,7 @@ impl FrontRows {
         count <= self.rows.len()
     }
 
-    /// With the rows of a document, which is not looked at where there is room for no row.
+    /// With the rows of a document, which is not looked at where no further row is wanted.
     pub fn with_document(
         self,
         alloc: Global,
@@ -73,9 +77,9 @@ impl FrontRows {
         number: u32,
         tree: &Tree,
     ) -> Result<FrontRows, Memory>
-        ensures { IfOk result (λ after. (distinct : Bool) → (room : Option ℕ)
-            → (rows : List keyed.KeyedRow) → IsFront self distinct room rows
-            → IsFront after distinct room (rows ++ keyed_rows query.now number tree.now)) }
+        ensures { IfOk result (λ after. (distinct : Bool) → (skip : ℕ) → (limit : Option ℕ)
+            → (rows : List keyed.KeyedRow) → IsFront self distinct skip limit rows
+            → IsFront after distinct skip limit (rows ++ keyed_rows query.now number tree.now)) }
     {
         if self.is_full() {
             return Ok(self);
@@ -91,29 +95,42 @@ impl FrontRows {
     }
 
     /// The rows that OFFSET and LIMIT choose.
-    pub fn finish(self, skip: u32, limit: Option<u32>) -> Vec<KeyedRow>
-        ensures { (distinct : Bool) → (rows : List keyed.KeyedRow)
-            → IsFront self distinct (room_of skip limit) rows
+    pub fn finish(self) -> Vec<KeyedRow>
+        ensures { (distinct : Bool) → (skip : ℕ) → (limit : Option ℕ)
+            → (rows : List keyed.KeyedRow) → IsFront self distinct skip limit rows
             → result.items ≡ limited limit (drop skip (distinct_where distinct rows)) }
     {
         let FrontRows {
-            room: _,
+            left: _,
+            limit,
             seen,
-            rows,
+            mut rows,
         } = self;
         drop(seen);
-        chosen(rows, skip, limit)
+        cut(&mut rows, limit);
+        rows
+    }
+
+    /// How many rows are to be left out behind the next one, where that is left out whatever it
+    /// shows.
+    fn left_behind(&self) -> Option<u32>
+        ensures { IfSome result (λ left. (self.now.left ≡ suc left) × (self.now.seen ≡ None)) }
+    {
+        match &self.seen {
+            Some(_) => None,
+            None => self.left.checked_sub(1),
+        }
     }
 
     /// One row more.
     #[tactic(auto, using(crate::proofs::FrontKept::put_one, crate::proofs::FrontKept::put_none))]
     fn put(&mut self, alloc: Global, row: KeyedRow) -> Result<(), Memory>
-        ensures room { OnOk result (self.new.room ≡ self.old.room) }
+        ensures limit { OnOk result (self.new.limit ≡ self.old.limit) }
         ensures rows { OnOk result ((more : List keyed.KeyedRow)
             → front_after self.new more ≡ front_after self.old (row ∷ more)) }
     {
         match is_new(alloc, &mut self.seen, &row) {
-            Ok(true) => Ok(self.rows.push(row)?),
+            Ok(true) => self.put_new(row),
             Ok(false) => {
                 drop(row);
                 Ok(())
@@ -122,6 +139,24 @@ impl FrontRows {
                 drop(row);
                 Err(fault)
             }
+        }
+    }
+
+    /// One row more, which is none that was seen.
+    fn put_new(&mut self, row: KeyedRow) -> Result<(), Memory>
+        ensures limit { OnOk result (self.new.limit ≡ self.old.limit) }
+        ensures seen { OnOk result (self.new.seen ≡ self.old.seen) }
+        ensures rows { OnOk result ((more : List keyed.KeyedRow)
+            → self.new.rows.items ++ drop self.new.left more
+            ≡ self.old.rows.items ++ drop self.old.left (row ∷ more)) }
+    {
+        match self.left.checked_sub(1) {
+            Some(left) => {
+                self.left = left;
+                drop(row);
+                Ok(())
+            }
+            None => Ok(self.rows.push(row)?),
         }
     }
 }
@@ -185,9 +220,24 @@ impl<'a> FrontTaker<'a> {
         front
     }
 
-    /// Takes the row, where it passes WHERE and shows something.
-    #[tactic(auto, using(crate::proofs::FrontKept::gains_no_row, crate::proofs::FrontKept::gains_row))]
+    /// Takes the row, where it passes WHERE and shows something. Where it is left out whatever it
+    /// shows, it is only counted.
+    #[tactic(auto, using(crate::proofs::FrontKept::gains_none_counted, crate::proofs::FrontKept::gains_counted))]
     fn keep(&mut self, alloc: Global, scope: &Scope, place: &[u32]) -> Result<(), Memory>
+        ensures { OnOk result (Gains TakesFront front_keeps self.old
+            (record { env = scope.now; place = place.now } ∷ []) self.new) }
+    {
+        let Some(left) = self.front.left_behind() else {
+            return self.keep_row(alloc, scope, place);
+        };
+        if has_row(alloc, self.query, scope)? {
+            self.front.left = left;
+        }
+        Ok(())
+    }
+
+    #[tactic(auto, using(crate::proofs::FrontKept::gains_no_row, crate::proofs::FrontKept::gains_row))]
+    fn keep_row(&mut self, alloc: Global, scope: &Scope, place: &[u32]) -> Result<(), Memory>
         ensures { OnOk result (Gains TakesFront front_keeps self.old
             (record { env = scope.now; place = place.now } ∷ []) self.new) }
     {

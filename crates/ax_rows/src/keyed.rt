@@ -1,12 +1,13 @@
 //! The rows of a document that pass WHERE, each with its key.
-ghost use Rattle.std.specs.Prelude.{◌≡◌, [], IfOk};
-ghost use Rattle.ax_mean.specs.Rows.{keyed_where, order_values as order_values_of};
+ghost use Rattle.std.specs.Prelude.{◌≡◌, ◌&&◌, [], IfOk};
+ghost use Rattle.ax_mean.specs.Rows.{keyed_where, order_values as order_values_of, passes, shown as is_shown};
+ghost use Rattle.ax_mean.specs.Values.{is_defined};
 ghost use Rattle.ax_rows.specs.Collected.{Collected, none_collected, both_collected};
 
 use crate::flow::Flow;
 use crate::out_of_memory::Memory;
 use crate::parts::order_values;
-use crate::shown::{passes_in, shown_in};
+use crate::shown::{passes_in, shown_in, shows_in};
 use crate::walk::Taker;
 use ax_eval::Scope;
 use ax_mean::{Items, KeyedRow, Query, Tree, Value};
@@ -76,6 +77,17 @@ pub fn keyed_in(
             Ok(Some(row))
         }
     }
+}
+
+/// Whether the row passes WHERE and what it shows is defined. Nothing is copied.
+pub fn has_row(alloc: Global, query: &Query, scope: &Scope) -> Result<bool, Memory>
+    ensures { IfOk result (λ found. found ≡ (passes query.now.condition scope.now
+        && is_defined (is_shown query.now.pick scope.now))) }
+{
+    if !passes_in(alloc, &query.condition, scope)? {
+        return Ok(false);
+    }
+    shows_in(alloc, &query.pick, scope)
 }
 
 fn with_key(

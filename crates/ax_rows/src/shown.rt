@@ -3,6 +3,7 @@ ghost use Rattle.std.specs.Prelude.{◌≡◌, map, IfOk};
 ghost use Rattle.ax_mean.specs.Building.{members_of};
 ghost use Rattle.ax_mean.specs.Meaning.{meaning};
 ghost use Rattle.ax_mean.specs.Rows.{first_bound, passes, shown, named_member};
+ghost use Rattle.ax_mean.specs.Values.{is_defined};
 ghost use Rattle.ax_mean.specs.declared.value.Value.TheVariants.{Defined};
 
 use crate::out_of_memory::Memory;
@@ -28,6 +29,17 @@ pub fn shown_in(alloc: Global, pick: &Pick, scope: &Scope) -> Result<Value, Memo
         Pick::Star => first_in(alloc, scope),
         Pick::Value(expr) => value_in(alloc, expr, scope),
         Pick::Named(items) => Ok(Value::Defined(Tree::Object(named_in(alloc, items, scope)?))),
+    }
+}
+
+/// Whether what is shown of the row is defined. Nothing is copied.
+pub fn shows_in(alloc: Global, pick: &Pick, scope: &Scope) -> Result<bool, Memory>
+    ensures { IfOk result (λ found. found ≡ is_defined (shown pick.now scope.now)) }
+{
+    match pick {
+        Pick::Star => Ok(scope.first().is_some()),
+        Pick::Value(expr) => Ok(eval_in(alloc, expr, scope)?.is_defined()),
+        Pick::Named(_) => Ok(true),
     }
 }
 

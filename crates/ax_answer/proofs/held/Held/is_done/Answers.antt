@@ -1,10 +1,17 @@
--- Where the front is full, what follows changes nothing of it.
+-- Where the front is full, what follows changes nothing of it; where there are enough rows, it is full.
 use Rattle.std.proofs.Common.{rules}
-use Rattle.ax_answer.proofs.Gathered.{full_done}
+use Rattle.ax_answer.specs.declared.held.Held.TheVariants.{Front}
+use Rattle.ax_answer.proofs.Gathered.{full_done, full_enough, seen_as}
 use Rattle.ax_answer.proofs.held.Held.is_done.Goals as goal
 
 pub returns-in-Front-clause-sound : goal.returns-in-Front-clause-sound
 returns-in-Front-clause-sound c = λ full query entries more gathers.
     full_done c.args.self.now c.in-Front.front query entries more (search rules)
-    (λ distinct room some others holds. c.is_full.ensures.sound full distinct room some others holds)
+    (λ distinct skip limit some others holds.
+    c.is_full.ensures.sound full distinct skip limit some others holds)
     gathers
+
+pub returns-in-Front-clause-enough : goal.returns-in-Front-clause-enough
+returns-in-Front-clause-enough c = λ query entries gathers enough.
+    full_enough c.in-Front.front c.is_full.result query entries c.is_full.ensures.full
+    (seen_as c.args.self.now (Front c.in-Front.front) query entries (search rules) gathers) enough

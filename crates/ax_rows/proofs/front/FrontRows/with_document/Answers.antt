@@ -8,12 +8,12 @@ use Rattle.ax_rows.proofs.FrontKept.{of_document}
 use Rattle.ax_rows.proofs.front.FrontRows.with_document.Goals as goal
 
 pub returns-then-is_full : goal.returns-then-is_full
-returns-then-is_full c = λ distinct room rows holds.
-    c.if-is_full.ensures.sound refl distinct room rows
+returns-then-is_full c = λ distinct skip limit rows holds.
+    c.if-is_full.ensures.sound refl distinct skip limit rows
     (keyed_rows c.args.query.now c.args.number c.args.tree.now) holds
 
 pub returns : goal.returns
-returns c = λ distinct room rows holds.
+returns c = λ distinct skip limit rows holds.
     let old : FrontTaker = record {
       query = c.args.query;
       number = c.args.number;
@@ -21,7 +21,8 @@ returns c = λ distinct room rows holds.
       front = c.args.self;
     } in
     subst
-    (λ (f : FrontRows). IsFront f distinct room (rows ++ keyed_rows c.args.query.now c.args.number c.args.tree.now))
+    (λ (f : FrontRows). IsFront f distinct skip limit
+    (rows ++ keyed_rows c.args.query.now c.args.number c.args.tree.now))
     (sym c.into_front.ensures)
     (of_document old _ c.args.query.now c.args.number c.args.tree.now refl refl refl
-    c.in_ok-taker.ensures distinct room rows holds)
+    c.in_ok-taker.ensures distinct skip limit rows holds)
