@@ -1,22 +1,23 @@
 -- One document more, the end of a walk, and the answer.
-use Rattle.std.proofs.Common.{◌≡◌, ℕ, List, [], ◌∷◌, ◌++◌, map, true, Option, Some, None, refl, sym, ap, subst, ◌∙◌}
+use Rattle.std.proofs.Common.{◌≡◌, ◌≤◌, ◌+◌, ℕ, List, [], ◌∷◌, ◌++◌, length, map, Bool, true, Option, Some, None, refl, sym, ap, subst, ◌∙◌}
 use Rattle.std.specs.Option.{IfSome}
 use Rattle.std.specs.List.Sorted.{IsStrictlySortedBy}
 use Rattle.std.specs.Ordering.{nat_cmp}
 use Rattle.ax_tree.specs.declared.tree.Tree.{Tree}
 use Rattle.ax_mean.specs.declared.query.KeyedRow.{KeyedRow}
 use Rattle.ax_mean.specs.declared.query.Query.{Query}
+use Rattle.ax_mean.specs.Answer.{distinct_where}
 use Rattle.ax_excerpt.specs.declared.excerpt.Excerpt.{Excerpt}
 use Rattle.ax_excerpt.specs.Enough.{is_enough}
 use Rattle.ax_excerpt.specs.Plain.{are_plain}
 use Rattle.ax_sieve.specs.Conditions.{is_dropped}
 use Rattle.ax_result.specs.Answers.{answer_of}
 use Rattle.ax_answer.proofs.Rowless.{nothing_added}
-use Rattle.ax_answer.specs.Gathering.{Gathers}
+use Rattle.ax_answer.specs.Gathering.{Gathers, HasEnough}
 use Rattle.ax_answer_text.specs.declared.text_answer.TextAnswer.{TextAnswer}
 use Rattle.ax_answer_text.specs.Parts.{Suffices, is_plain, part_of, parts_of}
 use Rattle.ax_answer_text.specs.TextAnswers.{Answers}
-use Rattle.ax_answer_text.proofs.SameParts.{and_parts, no_envs, no_rows, same_answer, same_numbers}
+use Rattle.ax_answer_text.proofs.SameParts.{all_the_same, and_parts, no_envs, no_rows, same_answer, same_numbers}
 
 pub found_suffices : (found : Option Excerpt) (query : Query)
     → IfSome found (λ excerpt. (is_enough excerpt query ≡ true) × (are_plain excerpt ≡ true))
@@ -76,6 +77,31 @@ done held sound query entries more answers = record {
   gathers = subst (Gathers held.answer query) (sym (and_parts held.excerpt entries more))
       (sound query (parts_of held.excerpt entries) (parts_of held.excerpt more) answers.gathers);
 }
+
+-- as many rows as OFFSET and LIMIT choose among, of documents and of what is read of them
+pub enough_is_told : (held : TextAnswer) (done : Bool)
+    → ((query : Query) (entries : List (ℕ × Tree)) → Gathers held.answer query entries
+    → HasEnough query entries → done ≡ true)
+    → (query : Query) (entries : List (ℕ × Tree)) → Answers held query entries
+    → HasEnough query entries → done ≡ true
+enough_is_told held done told query entries answers enough =
+    told query (parts_of held.excerpt entries) answers.gathers (record {
+      no_groups = enough.no_groups;
+      no_orders = enough.no_orders;
+      limit = enough.limit;
+      limited = enough.limited;
+      many = subst (λ (rows : List KeyedRow). query.skip + enough.limit
+          ≤ length (distinct_where query.distinct rows))
+          (sym (all_the_same held.excerpt query entries answers.enough)) enough.many;
+    })
+
+pub none_wanted_is_told : (held : TextAnswer) (done : Bool)
+    → ((query : Query) (entries : List (ℕ × Tree)) → Gathers held.answer query entries
+    → query.limit ≡ Some 0 → done ≡ true)
+    → (query : Query) (entries : List (ℕ × Tree)) → Answers held query entries
+    → query.limit ≡ Some 0 → done ≡ true
+none_wanted_is_told held done told query entries answers limited =
+    told query (parts_of held.excerpt entries) answers.gathers limited
 
 pub finished : (held : TextAnswer) (rows : List KeyedRow)
     → ((query : Query) (entries : List (ℕ × Tree)) → Gathers held.answer query entries

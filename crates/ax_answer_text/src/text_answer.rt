@@ -31,13 +31,14 @@ pub struct TextAnswer<'a> {
 }
 
 impl<'a> TextAnswer<'a> {
-    ghost use Rattle.std.specs.Prelude.{◌≡◌, ◌≢◌, ◌≤◌, ◌+◌, ℕ, List, [], ◌∷◌, ◌++◌, map, true, Err, IfOk, OnOk};
+    ghost use Rattle.std.specs.Prelude.{◌≡◌, ◌≢◌, ◌≤◌, ◌+◌, ℕ, List, [], ◌∷◌, ◌++◌, map, true, Some, Err, IfOk, OnOk};
     ghost use Rattle.std.specs.Ordering.{nat_cmp};
     ghost use Rattle.std.specs.List.Sorted.{IsStrictlySortedBy};
     ghost use Rattle.ax_tree.specs.CanonicalText.{canonical_text};
     ghost use Rattle.ax_mean.specs.declared.query.Query as queries;
     ghost use Rattle.ax_excerpt_text.specs.Left.{IsReadable};
     ghost use Rattle.ax_result.specs.Answers.{answer_of};
+    ghost use Rattle.ax_answer.specs.Gathering.{HasEnough};
     ghost use Rattle.ax_answer_text.specs.TextAnswers.{Answers};
 
     /// No document yet.
@@ -94,11 +95,17 @@ impl<'a> TextAnswer<'a> {
         }
     }
 
-    /// Whether no further document can change the answer.
-    #[tactic(auto, using(crate::proofs::TextLaws::done))]
+    /// Whether no further document can change the answer, as `Answer::is_done` says it: also where
+    /// documents were passed over.
+    #[tactic(auto, using(crate::proofs::TextLaws::done, crate::proofs::TextLaws::none_wanted_is_told))]
     pub fn is_done(&self) -> bool
-        ensures { result ≡ true → (query : queries.Query) → (entries more : List (ℕ × TreeOf))
-            → Answers self.now query entries → Answers self.now query (entries ++ more) }
+        ensures sound { result ≡ true → (query : queries.Query)
+            → (entries more : List (ℕ × TreeOf)) → Answers self.now query entries
+            → Answers self.now query (entries ++ more) }
+        ensures enough { (query : queries.Query) → (entries : List (ℕ × TreeOf))
+            → Answers self.now query entries → HasEnough query entries → result ≡ true }
+        ensures none_wanted { (query : queries.Query) → (entries : List (ℕ × TreeOf))
+            → Answers self.now query entries → query.limit ≡ Some 0 → result ≡ true }
     {
         self.answer.is_done()
     }

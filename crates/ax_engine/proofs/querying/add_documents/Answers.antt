@@ -53,7 +53,8 @@ pub returns-then-is_done-clause-added : goal.returns-then-is_done-clause-added
 returns-then-is_done-clause-added g c = λ container query holds answers.
     let all = c.texts.invariant.added container query holds answers in
     subst (Answers c.texts.answer query) all.1
-    (c.is_done.ensures c.if-is_done.true query all.0 (pairs (above c.texts.number container.entries)) all.2)
+    (c.is_done.ensures.sound c.if-is_done.true query all.0
+    (pairs (above c.texts.number container.entries)) all.2)
 
 pub returns-in_default-add-clause-bound : goal.returns-in_default-add-clause-bound
 returns-in_default-add-clause-bound g c = λ container holds.
