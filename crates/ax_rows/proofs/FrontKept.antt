@@ -19,7 +19,7 @@ use Rattle.ax_mean.specs.Rows.{Bound, keyed, keyed_rows, keyed_where, order_valu
 use Rattle.ax_mean.specs.Values.{is_defined}
 use Rattle.ax_rows.specs.declared.front.FrontRows.{FrontRows}
 use Rattle.ax_rows.specs.declared.front.FrontTaker.{FrontTaker}
-use Rattle.ax_rows.specs.Front.{FrontAsked, IsFront, TakesFront, fresh, front_after, front_keeps, window_of}
+use Rattle.ax_rows.specs.Front.{FrontAsked, IsFront, TakesFront, fresh, front_after, front_keeps, left_behind, window_of}
 use Rattle.ax_rows.specs.Taking.{Gains}
 use Rattle.ax_rows.proofs.Seen.{has, has_more}
 
@@ -262,18 +262,25 @@ one_less_left old new row more left own none is limit seen rows =
     (λ i. limited (limit i) (rows i ++ drop (is i) (fresh ((seen ∙ none) i) more)))
     ∙ (λ i. limited old.limit (old.rows.items ++ drop (sym own i) (fresh (sym none i) (row ∷ more))))
 
-pub gains_counted : (old new : FrontTaker) (bound : Bound) (found : Bool) (left : ℕ)
+left_so : (seen : Option (BTreeSet (List ℕ))) (own left : ℕ) → left_behind seen own ≡ Some left
+    → (own ≡ suc left) × (seen ≡ None)
+left_so (Some texts) own left e = absurd (cc)
+left_so None zero left e = absurd (cc)
+left_so None (suc own) left e = let same : own ≡ left = cc in (ap suc same, refl)
+
+pub gains_counted : (old new : FrontTaker) (bound : Bound) (found : Bool) (behind : Option ℕ) (left : ℕ)
     → found ≡ (passes old.query.now.condition bound.env && is_defined (shown old.query.now.pick bound.env))
-    → found ≡ true → old.front.left ≡ suc left → old.front.seen ≡ None
+    → found ≡ true → behind ≡ left_behind old.front.seen old.front.left → behind ≡ Some left
     → new.query.now ≡ old.query.now → new.number ≡ old.number → new.tree.now ≡ old.tree.now
     → new.front.left ≡ left → new.front.limit ≡ old.front.limit → new.front.seen ≡ old.front.seen
     → new.front.rows.items ≡ old.front.rows.items
     → Gains TakesFront front_keeps old (bound ∷ []) new
-gains_counted old new bound found left is some own none by under within less limit seen rows =
+gains_counted old new bound found behind left is some told so by under within less limit seen rows =
     let there = row_there (order_values old.query.now old.tree.now) old.number bound.place
     (passes old.query.now.condition bound.env) (shown old.query.now.pick bound.env) (sym is ∙ some) in
+    let counted = left_so old.front.seen old.front.left left (sym told ∙ so) in
     gains_row old new bound _ there.0 refl there.1 by under within limit
-    (λ more. one_less_left old.front new.front there.0 more left own none less limit seen rows)
+    (λ more. one_less_left old.front new.front there.0 more left counted.0 counted.1 less limit seen rows)
 
 -- all rows of a document
 pub of_document : (old new : FrontTaker) (query : Query) (number : ℕ) (tree : Tree)

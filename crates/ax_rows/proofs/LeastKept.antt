@@ -44,10 +44,15 @@ none_bound : (most : ℕ) → bound_at most [] ≡ None
 none_bound zero = refl
 none_bound (suc last) = refl
 
+none_long : (rows : List Ranked) (n : ℕ) → rows ≡ [] → length rows ≤ n
+none_long rows n e = let none : length rows ≡ 0 = ap length e in omega (arith, none)
+
 pub begins : (held : LeastRows) (orders : List Order) (most : ℕ) → held.most ≡ most
     → held.least.items ≡ [] → held.later.items ≡ [] → HoldsLeast held orders most []
 begins held orders most count none later = record {
   count = count;
+  few_least = none_long held.least.items most none;
+  few_later = none_long held.later.items most later;
   behind = λ row e.
       let wanted : is_wanted held row ≡ true =
       ap (is_below row.keys row.row.number row.row.place)
@@ -80,17 +85,35 @@ with_one : (orders : List Order) (rows : List KeyedRow) (row : Ranked) (shown : 
 with_one orders rows row shown is =
     ap (λ r. map (ranked orders) rows ++ r ∷ []) is ∙ sym (map-append (ranked orders) rows (shown ∷ []))
 
+with_pushed : (old new : LeastRows) (row : Ranked) → new.least.items ≡ old.least.items
+    → new.later.items ≡ old.later.items ++ row ∷ [] → kept_rows new ≡ kept_rows old ++ row ∷ []
+with_pushed old new row least later =
+    (λ i. least i ++ later i) ∙ sym (append_assoc old.least.items old.later.items (row ∷ []))
+
+pub pushed_least : (old new : LeastRows) (orders : List Order) (most : ℕ) (rows : List KeyedRow)
+    (row : Ranked) (shown : KeyedRow) → HoldsLeast old orders most rows
+    → row ≡ ranked orders shown → new.least.items ≡ old.least.items
+    → new.later.items ≡ old.later.items ++ row ∷ []
+    → take most (sorted order (kept_rows new))
+    ≡ take most (sorted order (map (ranked orders) (rows ++ shown ∷ [])))
+pushed_least old new orders most rows row shown holds is least later =
+    ap (λ (rs : List Ranked). take most (sorted order rs)) (with_pushed old new row least later)
+    ∙ least_more order ranks most (kept_rows old) (map (ranked orders) rows) (row ∷ []) holds.least
+    ∙ ap (λ (rs : List Ranked). take most (sorted order rs)) (with_one orders rows row shown is)
+
 pub pushed : (old new : LeastRows) (orders : List Order) (most : ℕ) (rows : List KeyedRow)
     (row : Ranked) (shown : KeyedRow) → HoldsLeast old orders most rows
     → row ≡ ranked orders shown → is_wanted old row ≡ true
     → new.most ≡ old.most → new.least.items ≡ old.least.items
-    → new.later.items ≡ old.later.items ++ row ∷ []
+    → new.later.items ≡ old.later.items ++ row ∷ [] → length new.later.items < new.most
     → HoldsLeast new orders most (rows ++ shown ∷ [])
-pushed old new orders most rows row shown holds is wanted count least later =
-    let all : kept_rows new ≡ kept_rows old ++ row ∷ [] =
-    (λ i. least i ++ later i) ∙ sym (append_assoc old.least.items old.later.items (row ∷ [])) in
+pushed old new orders most rows row shown holds is wanted count least later short =
+    let all : kept_rows new ≡ kept_rows old ++ row ∷ [] = with_pushed old new row least later in
+    let same : new.most ≡ most = count ∙ holds.count in
     record {
-      count = count ∙ holds.count;
+      count = same;
+      few_least = subst (λ (rs : List Ranked). length rs ≤ most) (sym least) holds.few_least;
+      few_later = omega (arith, same, short);
       behind = λ other e.
           let before : is_wanted old other ≡ false =
           (λ i. is_below other.keys other.row.number other.row.place
@@ -102,9 +125,7 @@ pushed old new orders most rows row shown holds is wanted count least later =
                 (one_behind other row (kept_rows old) known.1
                 (wanted_behind (bound_at old.most old.least.items) other row before wanted)),
           );
-      least = ap (λ (rs : List Ranked). take most (sorted order rs)) all
-          ∙ least_more order ranks most (kept_rows old) (map (ranked orders) rows) (row ∷ []) holds.least
-          ∙ ap (λ (rs : List Ranked). take most (sorted order rs)) (with_one orders rows row shown is);
+      least = pushed_least old new orders most rows row shown holds is least later;
     }
 
 -- a row that is not wanted changes nothing
@@ -117,6 +138,8 @@ passed_by held orders most rows shown holds e =
     let known = holds.behind row e in
     record {
       count = holds.count;
+      few_least = holds.few_least;
+      few_later = holds.few_later;
       behind = holds.behind;
       least = ap (λ (rs : List Ranked). take most (sorted order rs)) (sym (append-nil (kept_rows held)))
           ∙ sym (one_less order ranks most row (kept_rows held) [] known.1 known.0)
@@ -177,27 +200,32 @@ taken_short : (n : ℕ) (rows : List Ranked) → length (take n rows) ≤ n
 taken_short n rows = let e = length-take n rows in omega (arith, e)
 
 pub settled : (old new : LeastRows) (orders : List Order) (most : ℕ) (rows : List KeyedRow)
-    → HoldsLeast old orders most rows → new.most ≡ old.most
+    → old.most ≡ most
+    → take most (sorted order (kept_rows old)) ≡ take most (sorted order (map (ranked orders) rows))
+    → new.most ≡ old.most
     → new.least.items ≡ take old.most (sorted order (kept_rows old)) → new.later.items ≡ []
     → HoldsLeast new orders most rows
-settled old new orders most rows holds count least later =
+settled old new orders most rows own known_least count least later =
     let kept : List Ranked = take most (sorted order (kept_rows old)) in
-    let is : new.least.items ≡ kept = least ∙ ap (λ (n : ℕ). take n (sorted order (kept_rows old))) holds.count in
+    let is : new.least.items ≡ kept = least ∙ ap (λ (n : ℕ). take n (sorted order (kept_rows old))) own in
     let all : kept_rows new ≡ kept = (λ i. is i ++ later i) ∙ append-nil kept in
     let rises : Rises order ranks kept =
     rises_taken most (sorted order (kept_rows old)) (rises_sorted order ranks (kept_rows old)) in
     record {
-      count = count ∙ holds.count;
+      count = count ∙ own;
+      few_least = subst (λ (rs : List Ranked). length rs ≤ most) (sym is)
+          (taken_short most (sorted order (kept_rows old)));
+      few_later = none_long new.later.items most later;
       behind = λ row e.
           let so : is_below row.keys row.row.number row.row.place (bound_at most kept) ≡ false =
           (λ i. is_below row.keys row.row.number row.row.place
-          (bound_at (sym (count ∙ holds.count) i) (sym is i))) ∙ e in
+          (bound_at (sym (count ∙ own) i) (sym is i))) ∙ e in
           let known = bound_behind most kept row rises (taken_short most (sorted order (kept_rows old))) so in (
             subst (λ (rs : List Ranked). most ≤ length rs) (sym all) known.0,
             subst (AllBehind row) (sym all) known.1,
           );
       least = ap (λ (rs : List Ranked). take most (sorted order rs)) all
-          ∙ least_again order ranks most (kept_rows old) ∙ holds.least;
+          ∙ least_again order ranks most (kept_rows old) ∙ known_least;
     }
 
 pub least_of : (held : LeastRows) (orders : List Order) (most : ℕ) (rows : List KeyedRow)

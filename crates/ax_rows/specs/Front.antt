@@ -1,7 +1,7 @@
 -- The front of the rows of a query without ORDER BY: the first so many of them, and of rows that show
 -- the same text the first where DISTINCT is written; and what OFFSET and LIMIT choose there. As OFFSET,
 -- LIMIT and DISTINCT of Azure Cosmos DB for NoSQL.
-use Rattle.std.specs.Prelude.{◌≡◌, ℕ, ◌+◌, List, ◌++◌, drop, Bool, Option, Some, None}
+use Rattle.std.specs.Prelude.{◌≡◌, ℕ, zero, suc, ◌+◌, List, ◌++◌, drop, Bool, Option, Some, None}
 use Rattle.std.specs.BTreeSet.{BTreeSet, contains}
 use Rattle.std.specs.Cmp.Lexicographic.{slice_cmp}
 use Rattle.std.specs.Ordering.{nat_cmp}
@@ -30,6 +30,12 @@ window_of distinct skip limit rows = limited limit (drop skip (distinct_where di
 abbrev pub fresh : Option (BTreeSet (List ℕ)) → List KeyedRow → List KeyedRow
 fresh None rows = rows
 fresh (Some seen) rows = unseen (λ text. contains (slice_cmp nat_cmp) seen text) rows
+
+-- how many rows are to be left out behind the next one, where that is left out whatever it shows
+abbrev pub left_behind : Option (BTreeSet (List ℕ)) → ℕ → Option ℕ
+left_behind (Some seen) left = None
+left_behind None zero = None
+left_behind None (suc left) = Some left
 
 -- what the rows kept come to with those that follow, less the first of these, which are to be left out
 abbrev pub front_after : FrontRows → List KeyedRow → List KeyedRow

@@ -42,10 +42,12 @@ is_wanted held row =
     is_below row.keys row.row.number row.row.place (bound_at held.most held.least.items)
 
 -- What is kept of these rows tells which are the least so many of them, and a row that is not wanted
--- is behind as many.
+-- is behind as many. At most twice so many are kept.
 pub record HoldsLeast (held : LeastRows) (orders : List Order) (most : ℕ)
     (rows : List KeyedRow) : Type 0 where
   pub count : held.most ≡ most
+  pub few_least : length held.least.items ≤ most
+  pub few_later : length held.later.items ≤ most
   pub behind : (row : Ranked) → is_wanted held row ≡ false
       → (most ≤ length (kept_rows held))
       × AllByRecursion (λ other. is_lt (ranked_cmp directed_cmp row other) ≡ false) (kept_rows held)

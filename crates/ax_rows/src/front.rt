@@ -1,11 +1,11 @@
 //! The first rows of a query without ORDER BY, from documents that come in the order of their numbers.
 //! Of rows that OFFSET leaves out nothing is kept but how many are still to come, and what they show
 //! where DISTINCT is written.
-ghost use Rattle.std.specs.Prelude.{◌≡◌, ◌≤◌, ◌+◌, ℕ, suc, List, [], ◌∷◌, ◌++◌, length, drop, Bool, true, if◌then◌else◌, Option, Some, None, IfOk, OnOk, IfSome};
+ghost use Rattle.std.specs.Prelude.{◌≡◌, ◌≤◌, ◌+◌, ℕ, List, [], ◌∷◌, ◌++◌, length, drop, Bool, true, if◌then◌else◌, Option, Some, IfOk, OnOk};
 ghost use Rattle.ax_mean.specs.Answer.{distinct_where, limited};
 ghost use Rattle.ax_mean.specs.Rows.{keyed_rows};
 ghost use Rattle.ax_mean.specs.declared.query.KeyedRow as keyed;
-ghost use Rattle.ax_rows.specs.Front.{IsFront, TakesFront, fresh, front_after, front_keeps};
+ghost use Rattle.ax_rows.specs.Front.{IsFront, TakesFront, fresh, front_after, front_keeps, left_behind as left_after_one};
 ghost use Rattle.ax_rows.specs.Taking.{Gains, gains_none, gains_both};
 
 use crate::answer::cut;
@@ -114,7 +114,7 @@ impl FrontRows {
     /// How many rows are to be left out behind the next one, where that is left out whatever it
     /// shows.
     fn left_behind(&self) -> Option<u32>
-        ensures { IfSome result (λ left. (self.now.left ≡ suc left) × (self.now.seen ≡ None)) }
+        ensures { result ≡ left_after_one self.now.seen self.now.left }
     {
         match &self.seen {
             Some(_) => None,

@@ -1,5 +1,5 @@
 //! The least rows of a query with ORDER BY and LIMIT, from documents that come one after another.
-ghost use Rattle.std.specs.Prelude.{◌≡◌, ℕ, List, [], ◌∷◌, ◌++◌, drop, map, take, true, Some, IfOk, OnOk};
+ghost use Rattle.std.specs.Prelude.{◌≡◌, ◌<◌, ℕ, List, [], ◌∷◌, ◌++◌, length, drop, map, take, true, Some, IfOk, OnOk};
 ghost use Rattle.std.specs.List.{filter_map};
 ghost use Rattle.std.specs.Option.{option_copied};
 ghost use Rattle.ax_mean.specs.Answer.{limited, sorted as in_order};
@@ -139,6 +139,13 @@ impl LeastRows {
         }
     }
 
+    /// Whether fewer rows came since the last order than are wanted.
+    fn is_short(&self) -> bool
+        ensures { result ≡ true → length self.now.later.items < self.now.most }
+    {
+        self.later.len() < self.most
+    }
+
     /// One row more, which is wanted.
     fn put(&mut self, row: Ranked) -> Result<(), Memory>
         ensures { OnOk result ((orders : List directions.Order) → (most : ℕ)
@@ -149,7 +156,7 @@ impl LeastRows {
             → HoldsLeast self.new orders most (rows ++ shown ∷ [])) }
     {
         self.later.push(row)?;
-        if self.later.len() < self.most {
+        if self.is_short() {
             return Ok(());
         }
         settle(&mut self.least, &mut self.later, self.most)?;
