@@ -1,5 +1,5 @@
 -- Which of a store's three files count as written or cut since they were last synced.
-use Rattle.std.specs.Prelude.{Bool, true, false}
+use Rattle.std.specs.Prelude.{Bool, true, false, if◌then◌else◌}
 use Rattle.ax_disk.specs.declared.extent.Extent.{Extent}
 use Rattle.ax_disk.specs.declared.extent.Extent.TheVariants.{Root, A, B}
 
@@ -24,3 +24,7 @@ abbrev pub marked : Extent → Marks → Marks
 marked Root marks = record marks { root = true }
 marked A marks = record marks { a = true }
 marked B marks = record marks { b = true }
+
+-- the first of the files that count as unsynced, in the order in which they are synced; the root where no area does
+abbrev pub first_marked : Marks → Extent
+first_marked marks = if marks.a then A else if marks.b then B else Root

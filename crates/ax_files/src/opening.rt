@@ -1,7 +1,7 @@
 //! Opening the files of a store: each is locked, a store of which files have been lost is refused, and
 //! only then are absent files made.
 
-ghost use Rattle.std.specs.Prelude.{◌≡◌, ◌^◌, ◌<◌, ◌≤◌, ◌+◌, ◌⊎◌, length, take, drop, IsTrue, IfOk, IfErr, OnOk, option_map};
+ghost use Rattle.std.specs.Prelude.{◌≡◌, ◌^◌, ◌<◌, ◌≤◌, ◌+◌, ◌⊎◌, length, take, drop, IsTrue, IsOk, IfOk, IfErr, OnOk, option_map};
 ghost use Rattle.std.specs.Option.{ForSome};
 ghost use Rattle.ax_files.specs.Faults.{IsOfSomeCall};
 ghost use Rattle.ax_files.specs.Judging.{IsAtRoot, IsRootFile, IsSound, IsUnsound};
@@ -123,6 +123,9 @@ pub(crate) fn refuse_lost<F: SystemFile>(
         → ForSome a.entry (λ f. IsTrue (F.is_honest f.now)) → ForSome b.entry (λ f. IsTrue (F.is_honest f.now))
         → IfErr result (λ fault. IsOfSomeCall fault ⊎ IsUnsound (option_map (λ f. F.content f.now) root.entry)
         (option_map (λ f. F.content f.now) a.entry) (option_map (λ f. F.content f.now) b.entry) fault) }
+    ensures works { ForSome root.entry (λ f. IsTrue (F.is_working f.now))
+        → ForSome a.entry (λ f. IsTrue (F.is_working f.now)) → ForSome b.entry (λ f. IsTrue (F.is_working f.now))
+        → IfErr result (λ fault. ¬ IsOfSomeCall fault) }
 {
     let state = root_state(root)?;
     let a_len = area_len(a, Extent::A)?;
@@ -135,6 +138,7 @@ fn root_state<F: SystemFile>(root: Option<&F>) -> Result<RootState, FileFault>
     ensures state { ForSome root.entry (λ f. IsTrue (F.is_honest f.now) × (length (F.content f.now) < 2 ^ 63))
         → IfOk result (λ state. IsAtRoot (option_map (λ f. F.content f.now) root.entry) state) }
     ensures fault { IfErr result (λ fault. IsOfSomeCall fault) }
+    ensures works { ForSome root.entry (λ f. IsTrue (F.is_working f.now)) → IsOk result }
 {
     match root {
         Some(root) => file_state(root),
@@ -147,6 +151,7 @@ fn file_state<F: SystemFile>(root: &F) -> Result<RootState, FileFault>
     ensures state { IsTrue (F.is_honest root.now) → length (F.content root.now) < 2 ^ 63
         → IfOk result (λ state. IsRootFile (F.content root.now) state) }
     ensures fault { IfErr result (λ fault. IsOfSomeCall fault) }
+    ensures works { IsTrue (F.is_working root.now) → IsOk result }
 {
     let len = named(Extent::Root, FileCall::Length, root.size())?;
     if len < WHOLE_ROOT {
@@ -161,6 +166,7 @@ fn slot_at<F: SystemFile>(root: &F, at: u64) -> Result<RootSlot, FileFault>
         → at + 16 ≤ length (F.content root.now)
         → IfOk result (λ slot. IsSlot (take 16 (drop at (F.content root.now))) slot) }
     ensures fault { IfErr result (λ fault. IsOfSomeCall fault) }
+    ensures works { IsTrue (F.is_working root.now) → IsOk result }
 {
     let mut bytes = [0; 16];
     named(
@@ -176,6 +182,7 @@ fn area_len<F: SystemFile>(area: Option<&F>, extent: Extent) -> Result<Option<u6
     ensures len { ForSome area.entry (λ f. IsTrue (F.is_honest f.now))
         → IfOk result (λ len. len ≡ option_map length (option_map (λ f. F.content f.now) area.entry)) }
     ensures fault { IfErr result (λ fault. IsOfSomeCall fault) }
+    ensures works { ForSome area.entry (λ f. IsTrue (F.is_working f.now)) → IsOk result }
 {
     match area {
         Some(area) => Ok(Some(named(extent, FileCall::Length, area.size())?)),

@@ -34,16 +34,18 @@ impl<F: SystemFile> StoreFile<F> {
 
     /// The length in bytes.
     pub fn len(&self) -> io::Result<u64>
-        ensures { IsTrue (F.is_honest self.now.file)
+        ensures len { IsTrue (F.is_honest self.now.file)
             → IfOk result (λ len. len ≡ length (F.content self.now.file)) }
+        ensures works { IsTrue (F.is_working self.now.file) → IsOk result }
     {
         self.file.size()
     }
 
     /// Fills `buf` with the bytes at `at`, and with 0 past the end of the file.
     pub fn read(&self, at: u64, buf: &mut [u8]) -> io::Result<()>
-        ensures { IsTrue (F.is_honest self.now.file) → length (F.content self.now.file) < 2 ^ 63
+        ensures bytes { IsTrue (F.is_honest self.now.file) → length (F.content self.now.file) < 2 ^ 63
             → OnOk result (buf.new ≡ bytes_from (F.content self.now.file) at (length buf.old)) }
+        ensures works { IsTrue (F.is_working self.now.file) → IsOk result }
     {
         fill_from(&self.file, at, buf)
     }
@@ -53,6 +55,7 @@ impl<F: SystemFile> StoreFile<F> {
         ensures unsynced { self.new.is_unsynced ≡ true }
         ensures written { IsTrue (F.is_honest self.old.file) → at ≤ length (F.content self.old.file)
             → OnOk result (F.content self.new.file ≡ overwritten (F.content self.old.file) at bytes.now) }
+        ensures works { IsTrue (F.is_working self.old.file) → IsOk result }
         ensures honest { F.is_honest self.new.file ≡ F.is_honest self.old.file }
     {
         self.is_unsynced = true;
@@ -65,6 +68,7 @@ impl<F: SystemFile> StoreFile<F> {
         ensures unsynced { self.new.is_unsynced ≡ true }
         ensures shortened { IsTrue (F.is_honest self.old.file)
             → OnOk result (F.content self.new.file ≡ take len (F.content self.old.file)) }
+        ensures works { IsTrue (F.is_working self.old.file) → IsOk result }
         ensures honest { F.is_honest self.new.file ≡ F.is_honest self.old.file }
     {
         self.is_unsynced = true;
@@ -81,6 +85,7 @@ impl<F: SystemFile> StoreFile<F> {
             → OnOk result (IsTrue (F.is_settled self.new.file)) }
         ensures content { IsTrue (F.is_honest self.old.file)
             → F.content self.new.file ≡ F.content self.old.file }
+        ensures works { IsTrue (F.is_working self.old.file) → IsOk result }
         ensures honest { F.is_honest self.new.file ≡ F.is_honest self.old.file }
     {
         if !self.is_unsynced {
@@ -94,8 +99,9 @@ impl<F: SystemFile> StoreFile<F> {
 
 /// Fills `buf` with the bytes at `at`, and with 0 past the end of the file.
 pub(crate) fn fill_from<F: SystemFile>(file: &F, at: u64, buf: &mut [u8]) -> io::Result<()>
-    ensures { IsTrue (F.is_honest file.now) → length (F.content file.now) < 2 ^ 63
+    ensures bytes { IsTrue (F.is_honest file.now) → length (F.content file.now) < 2 ^ 63
         → OnOk result (buf.new ≡ bytes_from (F.content file.now) at (length buf.old)) }
+    ensures works { IsTrue (F.is_working file.now) → IsOk result }
 {
     let reachable = LAST_OFFSET.saturating_sub(at).min(buf.len() as u64) as usize;
     let filled = read_up_to_end(file, at, &mut buf[..reachable])?;
@@ -111,6 +117,7 @@ fn read_up_to_end<F: SystemFile>(file: &F, at: u64, buf: &mut [u8]) -> io::Resul
         → IfOk result (λ filled. take filled buf.new ≡ take filled (drop at (F.content file.now))) }
     ensures ended { IsTrue (F.is_honest file.now)
         → IfOk result (λ filled. filled < length buf.old → length (F.content file.now) ≤ at + filled) }
+    ensures works { IsTrue (F.is_working file.now) → IsOk result }
 {
     let mut filled = 0;
     while filled < buf.len() {
@@ -130,12 +137,22 @@ fn read_uninterrupted<F: SystemFile>(file: &F, at: u64, buf: &mut [u8]) -> io::R
         → IfOk result (λ count. take count buf.new ≡ take count (drop at (F.content file.now))) }
     ensures end { IsTrue (F.is_honest file.now) → 0 < length buf.old
         → IfOk result (λ count. count ≡ 0 → length (F.content file.now) ≤ at) }
+    ensures works { IsTrue (F.is_working file.now) → IsOk result }
 {
-    for _ in 0..TURNS {
-        match file.read_piece(buf, at) {
-            Err(error) if error.kind() == ErrorKind::Interrupted => {}
-            outcome => return outcome,
+    let mut outcome = file.read_piece(buf, at);
+    for _ in 1..TURNS {
+        if !is_interrupted(&outcome) {
+            return outcome;
         }
+        outcome = file.read_piece(buf, at);
     }
-    Err(ErrorKind::Interrupted.into())
+    outcome
+}
+
+/// Whether the system interrupted the call.
+fn is_interrupted(outcome: &io::Result<usize>) -> bool {
+    match outcome {
+        Ok(_) => false,
+        Err(error) => error.kind() == ErrorKind::Interrupted,
+    }
 }

@@ -1,9 +1,9 @@
 //! The three files of a store: where it writes, cuts and syncs.
-ghost use Rattle.std.specs.Prelude.{◌≡◌, ◌≢◌, ◌≤◌, ◌<◌, ◌+◌, ◌^◌, ◌↔◌, ◌⊎◌, false, length, take, IsTrue, IsOk, IsErr, OnOk, IfOk, IfErr};
+ghost use Rattle.std.specs.Prelude.{◌≡◌, ◌≢◌, ◌≤◌, ◌<◌, ◌+◌, ◌^◌, ◌↔◌, ◌⊎◌, false, length, take, IsTrue, IsOk, OnOk, IfOk, IfErr, Err};
 ghost use Rattle.ax_disk.specs.model.Calls.{overwritten, bytes_from};
 ghost use Rattle.ax_files.specs.Content.{at_extent};
 ghost use Rattle.ax_files.specs.Faults.{IsOfCall, IsOfSomeCall};
-ghost use Rattle.ax_files.specs.Marks.{marks, marked, none_marked, all_marked};
+ghost use Rattle.ax_files.specs.Marks.{marks, marked, none_marked, all_marked, first_marked};
 
 use crate::file_fault::{FileCall, FileFault};
 use crate::store_file::StoreFile;
@@ -42,6 +42,11 @@ impl<F: SystemFile> StoreFiles<F> {
             → IfOk result (λ len. len
             ≡ length (F.content (at_extent extent self.now.root.file self.now.a.file self.now.b.file))) }
         ensures fault { IfErr result (λ fault. IsOfCall extent FileCall.Length fault ⊎ (fault ≡ FileFault.Bound extent)) }
+        ensures bound { IsTrue (F.is_honest (at_extent extent self.now.root.file self.now.a.file self.now.b.file))
+            → result ≡ Err (FileFault.Bound extent)
+            → 2 ^ 62 < length (F.content (at_extent extent self.now.root.file self.now.a.file self.now.b.file)) }
+        ensures works { IsTrue (F.is_working (at_extent extent self.now.root.file self.now.a.file self.now.b.file))
+            → IfErr result (λ fault. fault ≡ FileFault.Bound extent) }
     {
         let len = named(extent, FileCall::Length, self.file(extent).len())?;
         if len > MOST_BYTES {
@@ -58,6 +63,8 @@ impl<F: SystemFile> StoreFiles<F> {
             ≡ bytes_from (F.content (at_extent extent self.now.root.file self.now.a.file self.now.b.file))
             at (length buf.old)) }
         ensures fault { IfErr result (λ fault. IsOfCall extent FileCall.Read fault) }
+        ensures works { IsTrue (F.is_working (at_extent extent self.now.root.file self.now.a.file self.now.b.file))
+            → IsOk result }
     {
         named(extent, FileCall::Read, self.file(extent).read(at, buf))
     }
@@ -65,7 +72,9 @@ impl<F: SystemFile> StoreFiles<F> {
     /// Writes all the bytes at `at`. An end above 2^62 is refused. Else the file counts as unsynced
     /// from here on, whatever comes of it.
     pub fn write(&mut self, extent: Extent, at: u64, bytes: &[u8]) -> Result<(), FileFault>
-        ensures limit { 2 ^ 62 < at + length bytes.now → IsErr result }
+        ensures limit { (result ≡ Err (FileFault.Bound extent)) ↔ (2 ^ 62 < at + length bytes.now) }
+        ensures works { IsTrue (F.is_working (at_extent extent self.old.root.file self.old.a.file self.old.b.file))
+            → IfErr result (λ fault. fault ≡ FileFault.Bound extent) }
         ensures unsynced { at + length bytes.now ≤ 2 ^ 62
             → marks self.new.root.is_unsynced self.new.a.is_unsynced self.new.b.is_unsynced
             ≡ marked extent (marks self.old.root.is_unsynced self.old.a.is_unsynced self.old.b.is_unsynced) }
@@ -102,6 +111,8 @@ impl<F: SystemFile> StoreFiles<F> {
         ensures a_stays { extent ≢ Extent.A → self.new.a ≡ self.old.a }
         ensures b_stays { extent ≢ Extent.B → self.new.b ≡ self.old.b }
         ensures fault { IfErr result (λ fault. IsOfCall extent FileCall.Cut fault) }
+        ensures works { IsTrue (F.is_working (at_extent extent self.old.root.file self.old.a.file self.old.b.file))
+            → IsOk result }
     {
         let outcome = match extent {
             Extent::Root => self.root.cut(len),
@@ -111,8 +122,14 @@ impl<F: SystemFile> StoreFiles<F> {
         named(extent, FileCall::Cut, outcome)
     }
 
-    /// Syncs the files that count as unsynced. It is Ok exactly where none counts as unsynced then.
+    /// Syncs the files that count as unsynced, the root as the last. It is Ok exactly where none counts
+    /// as unsynced then; a fault is of the first that does.
     pub fn sync(&mut self) -> Result<(), FileFault>
+        ensures fault { IfErr result (λ fault. IsOfCall
+            (first_marked (marks self.new.root.is_unsynced self.new.a.is_unsynced self.new.b.is_unsynced))
+            FileCall.Sync fault) }
+        ensures works { IsTrue (F.is_working self.old.root.file) → IsTrue (F.is_working self.old.a.file)
+            → IsTrue (F.is_working self.old.b.file) → IsOk result }
         ensures synced { IsOk result
             ↔ (marks self.new.root.is_unsynced self.new.a.is_unsynced self.new.b.is_unsynced
             ≡ none_marked) }

@@ -1,5 +1,5 @@
 //! A file as the system gives it.
-ghost use Rattle.std.specs.Prelude.{◌≡◌, ◌≤◌, ◌<◌, ℕ, Bool, false, List, [], length, take, drop, OnOk, IfOk, IsTrue};
+ghost use Rattle.std.specs.Prelude.{◌≡◌, ◌≤◌, ◌<◌, ℕ, Bool, false, List, [], length, take, drop, IsOk, OnOk, IfOk, IsTrue};
 ghost use Rattle.std.specs.Io.{ReadsAtMost};
 ghost use Rattle.ax_disk.specs.model.Calls.{overwritten};
 
@@ -19,10 +19,14 @@ pub(crate) trait SystemFile: Drop {
     /// What it holds.
     ghost content: { Self → List ℕ };
 
+    /// Whether the system does what it is asked: then no call on the file fails.
+    ghost is_working: { Self → Bool };
+
     /// The length in bytes.
     fn size(&self) -> io::Result<u64>
         ensures length { IsTrue (is_honest self.now)
-            → IfOk result (λ size. size ≡ length (content self.now)) };
+            → IfOk result (λ size. size ≡ length (content self.now)) }
+        ensures works { IsTrue (is_working self.now) → IsOk result };
 
     /// Reads bytes at `at` into the front of `buf`, and answers how many: 0 at the end of the file.
     fn read_piece(&self, buf: &mut [u8], at: u64) -> io::Result<usize>
@@ -30,18 +34,21 @@ pub(crate) trait SystemFile: Drop {
         ensures piece { IsTrue (is_honest self.now)
             → IfOk result (λ count. take count buf.new ≡ take count (drop at (content self.now))) }
         ensures end { IsTrue (is_honest self.now) → 0 < length buf.old
-            → IfOk result (λ count. count ≡ 0 → length (content self.now) ≤ at) };
+            → IfOk result (λ count. count ≡ 0 → length (content self.now) ≤ at) }
+        ensures works { IsTrue (is_working self.now) → IsOk result };
 
     /// Writes all the bytes at `at`.
     fn write_whole(&mut self, bytes: &[u8], at: u64) -> io::Result<()>
         ensures written { IsTrue (is_honest self.old) → at ≤ length (content self.old)
             → OnOk result (content self.new ≡ overwritten (content self.old) at bytes.now) }
+        ensures works { IsTrue (is_working self.old) → IsOk result }
         ensures honest { is_honest self.new ≡ is_honest self.old };
 
     /// Makes the file, which is longer, `len` bytes long.
     fn shorten(&mut self, len: u64) -> io::Result<()>
         ensures shortened { IsTrue (is_honest self.old) → len ≤ length (content self.old)
             → OnOk result (content self.new ≡ take len (content self.old)) }
+        ensures works { IsTrue (is_working self.old) → IsOk result }
         ensures honest { is_honest self.new ≡ is_honest self.old };
 
     /// Makes a crash leave what reads give.
@@ -49,6 +56,7 @@ pub(crate) trait SystemFile: Drop {
         ensures settled { IsTrue (is_honest self.old)
             → OnOk result (IsTrue (is_settled self.new)) }
         ensures content { IsTrue (is_honest self.old) → content self.new ≡ content self.old }
+        ensures works { IsTrue (is_working self.old) → IsOk result }
         ensures honest { is_honest self.new ≡ is_honest self.old };
 }
 
@@ -58,6 +66,8 @@ impl SystemFile for File {
     ghost is_settled = { λ _. false };
 
     ghost content = { λ _. [] };
+
+    ghost is_working = { λ _. false };
 
     fn size(&self) -> io::Result<u64> {
         Ok(self.metadata()?.len())

@@ -27,6 +27,8 @@ impl SystemFile for FakeFile {
 
     ghost content = { λ file. file.bytes.items };
 
+    ghost is_working = { λ _. false };
+
     fn size(&self) -> io::Result<u64> {
         Ok(self.bytes.len() as u64)
     }
@@ -76,6 +78,8 @@ impl SystemFile for PlainFile {
     ghost is_settled = { λ _. false };
 
     ghost content = { λ _. [] };
+
+    ghost is_working = { λ _. false };
 
     fn size(&self) -> io::Result<u64> {
         Ok(self.bytes.len() as u64)

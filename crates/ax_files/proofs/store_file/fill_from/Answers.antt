@@ -3,8 +3,8 @@ use Rattle.std.proofs.lemmas.List.{length-take}
 use Rattle.ax_files.proofs.Reading.{filled_behind}
 use Rattle.ax_files.proofs.store_file.fill_from.Goals as goal
 
-pub returns : goal.returns
-returns g c = λ honest small.
+pub returns-clause-bytes : goal.returns-clause-bytes
+returns-clause-bytes g c = λ honest small.
     let content = g.F.SystemFile.content c.args.file.now in
     let buffer = c.args.buf.now in
     let reachable = c.min-reachable.result in
