@@ -1,7 +1,7 @@
 -- The front of the rows of a query without ORDER BY: the first so many of them, and of rows that show
 -- the same text the first where DISTINCT is written; and what OFFSET and LIMIT choose there. As OFFSET,
 -- LIMIT and DISTINCT of Azure Cosmos DB for NoSQL.
-use Rattle.std.specs.Prelude.{◌≡◌, ℕ, zero, suc, ◌+◌, List, ◌++◌, drop, Bool, Option, Some, None}
+use Rattle.std.specs.Prelude.{◌≡◌, ℕ, zero, suc, ◌+◌, List, ◌++◌, drop, nat_le, Bool, false, Option, Some, None}
 use Rattle.std.specs.BTreeSet.{BTreeSet, contains}
 use Rattle.std.specs.Cmp.Lexicographic.{slice_cmp}
 use Rattle.std.specs.Ordering.{nat_cmp}
@@ -36,6 +36,11 @@ abbrev pub left_behind : Option (BTreeSet (List ℕ)) → ℕ → Option ℕ
 left_behind (Some seen) left = None
 left_behind None zero = None
 left_behind None (suc left) = Some left
+
+-- whether so many rows are as many as are wanted, where there is a limit
+abbrev pub reaches : Option ℕ → ℕ → Bool
+reaches None count = false
+reaches (Some most) count = nat_le most count
 
 -- what the rows kept come to with those that follow, less the first of these, which are to be left out
 abbrev pub front_after : FrontRows → List KeyedRow → List KeyedRow

@@ -1,11 +1,11 @@
 //! The first rows of a query without ORDER BY, from documents that come in the order of their numbers.
 //! Of rows that OFFSET leaves out nothing is kept but how many are still to come, and what they show
 //! where DISTINCT is written.
-ghost use Rattle.std.specs.Prelude.{◌≡◌, ◌≤◌, ◌+◌, ℕ, List, [], ◌∷◌, ◌++◌, length, drop, Bool, true, if◌then◌else◌, Option, Some, IfOk, OnOk};
+ghost use Rattle.std.specs.Prelude.{◌≡◌, ◌≤◌, ◌+◌, ℕ, List, [], ◌∷◌, ◌++◌, length, nat_le, drop, Bool, true, not, if◌then◌else◌, Option, Some, IfOk, OnOk};
 ghost use Rattle.ax_mean.specs.Answer.{distinct_where, limited};
 ghost use Rattle.ax_mean.specs.Rows.{keyed_rows};
 ghost use Rattle.ax_mean.specs.declared.query.KeyedRow as keyed;
-ghost use Rattle.ax_rows.specs.Front.{IsFront, TakesFront, fresh, front_after, front_keeps, left_behind as left_after_one};
+ghost use Rattle.ax_rows.specs.Front.{IsFront, TakesFront, fresh, front_after, front_keeps, left_behind as left_after_one, reaches};
 ghost use Rattle.ax_rows.specs.Taking.{Gains, gains_none, gains_both};
 
 use crate::answer::cut;
@@ -54,6 +54,7 @@ impl FrontRows {
         ensures full { (distinct : Bool) → (skip most : ℕ) → (rows : List keyed.KeyedRow)
             → IsFront self.now distinct skip (Some most) rows
             → skip + most ≤ length (distinct_where distinct rows) → result ≡ true }
+        ensures reaches { result ≡ reaches self.now.limit (length self.now.rows.items) }
     {
         match self.limit {
             Some(limit) => self.has_rows(limit as usize),
@@ -65,6 +66,7 @@ impl FrontRows {
     fn has_rows(&self, count: usize) -> bool
         ensures yes { result ≡ true → count ≤ length self.now.rows.items }
         ensures found { count ≤ length self.now.rows.items → result ≡ true }
+        ensures reaches { result ≡ nat_le count (length self.now.rows.items) }
     {
         count <= self.rows.len()
     }
@@ -251,6 +253,10 @@ impl<'a> FrontTaker<'a> {
 
 impl<'a> Taker for FrontTaker<'a> {
     ghost Took = { Gains TakesFront front_keeps };
+
+    ghost wants_more = {
+        λ taker. not (reaches taker.front.limit (length taker.front.rows.items))
+    };
 
     fn take(&mut self, alloc: Global, scope: &Scope, place: &[u32]) -> Result<Flow, Memory> {
         self.keep(alloc, scope, place)?;

@@ -1,11 +1,11 @@
 //! The walk over what the sources of a query bind in a document. Nothing of the document is copied,
 //! and it stops at once where what takes the rows has enough.
-ghost use Rattle.std.specs.Prelude.{◌≡◌, List, [], ◌∷◌, ◌++◌, IfOk, OnOk};
+ghost use Rattle.std.specs.Prelude.{◌≡◌, List, [], ◌∷◌, ◌++◌, Bool, true, IfOk, OnOk};
 ghost use Rattle.std.specs.List.{flat_map};
 ghost use Rattle.ax_mean.specs.Rows.{Bound, choices, elements_from, rows_from, rows_of_tree, with_choice};
 ghost use Rattle.ax_mean.specs.Steps.{steps_from};
 ghost use Rattle.ax_mean.specs.declared.value.Value.TheVariants.{Defined};
-ghost use Rattle.ax_rows.specs.declared.flow.Flow.TheVariants.{Enough};
+ghost use Rattle.ax_rows.specs.declared.flow.Flow.TheVariants.{More, Enough};
 
 use crate::flow::Flow;
 use crate::out_of_memory::Memory;
@@ -19,13 +19,18 @@ pub trait Taker {
     /// What a taker is after it took some rows.
     ghost Took: { Self → List Bound → Self → Type 0 };
 
+    /// Whether a taker may be given a further row.
+    ghost wants_more: { Self → Bool } = { λ _. true };
+
     /// Takes the row whose aliases stand for what they do in `scope`, and answers whether it wants
-    /// more.
+    /// more. What answered that it has enough is given no row.
     fn take(&mut self, alloc: Global, scope: &Scope, place: &[u32]) -> Result<Flow, Memory>
+        requires wants { wants_more self.old ≡ true }
         ensures took { OnOk result
             (Took self.old (record { env = scope.now; place = place.now } ∷ []) self.new) }
         ensures enough { IfOk result (λ flow. flow ≡ Enough
-            → (rows : List Bound) → Took self.new rows self.new) };
+            → (rows : List Bound) → Took self.new rows self.new) }
+        ensures more { IfOk result (λ flow. flow ≡ More → wants_more self.new ≡ true) };
 
     /// Taking no row leaves a taker as it is.
     ghost none: { (taker : Self) → Took taker [] taker };
@@ -44,13 +49,14 @@ pub struct Walk<'a, T> {
     taker: T,
 }
 
-/// Gives a taker the rows of a document, in their order.
+/// Gives a taker that wants them the rows of a document, in their order, until it has enough.
 pub fn walk_tree<'a, T: Taker + Drop>(
     alloc: Global,
     froms: &'a FromList,
     tree: &'a Tree,
     taker: T,
 ) -> Result<T, Memory>
+    requires wants { T.wants_more taker ≡ true }
     ensures { IfOk result (λ after. T.Took taker (rows_of_tree froms.now tree.now) after) }
 {
     let Some((first, rest)) = froms.as_slice().split_first() else {
@@ -70,10 +76,12 @@ impl<'a, T: Taker> Walk<'a, T> {
     /// The rows that the row so far grows to.
     #[cycle(walk)]
     fn rows(&mut self, items: &'a [FromItem]) -> Result<Flow, Memory>
+        requires wants { T.wants_more self.old.taker ≡ true }
         ensures took { OnOk result (T.Took self.old.taker (rows_from items.now
             (record { env = self.old.scope; place = self.old.place.items })) self.new.taker) }
         ensures enough { IfOk result (λ flow. flow ≡ Enough
             → (rows : List Bound) → T.Took self.new.taker rows self.new.taker) }
+        ensures more { IfOk result (λ flow. flow ≡ More → T.wants_more self.new.taker ≡ true) }
         ensures scope { OnOk result (self.new.scope ≡ self.old.scope) }
         ensures place { OnOk result (self.new.place.items ≡ self.old.place.items) }
     {
@@ -96,12 +104,14 @@ impl<'a, T: Taker> Walk<'a, T> {
         rest: &'a [FromItem],
         tree: &'a Tree,
     ) -> Result<Flow, Memory>
+        requires wants { T.wants_more self.old.taker ≡ true }
         ensures took { OnOk result (T.Took self.old.taker
             (flat_map (λ choice. rows_from rest.now (with_choice item.now.alias
             (record { env = self.old.scope; place = self.old.place.items }) choice))
             (choices item.now.each (steps_from (Defined tree.now) item.now.steps))) self.new.taker) }
         ensures enough { IfOk result (λ flow. flow ≡ Enough
             → (rows : List Bound) → T.Took self.new.taker rows self.new.taker) }
+        ensures more { IfOk result (λ flow. flow ≡ More → T.wants_more self.new.taker ≡ true) }
         ensures scope { OnOk result (self.new.scope ≡ self.old.scope) }
         ensures place { OnOk result (self.new.place.items ≡ self.old.place.items) }
     {
@@ -124,17 +134,20 @@ impl<'a, T: Taker> Walk<'a, T> {
         trees: &'a Items<Tree>,
         rest: &'a [FromItem],
     ) -> Result<Flow, Memory>
+        requires wants { T.wants_more self.old.taker ≡ true }
         ensures took { OnOk result (T.Took self.old.taker
             (flat_map (λ choice. rows_from rest.now (with_choice alias.now
             (record { env = self.old.scope; place = self.old.place.items }) choice))
             (elements_from 0 trees.now)) self.new.taker) }
         ensures enough { IfOk result (λ flow. flow ≡ Enough
             → (rows : List Bound) → T.Took self.new.taker rows self.new.taker) }
+        ensures more { IfOk result (λ flow. flow ≡ More → T.wants_more self.new.taker ≡ true) }
         ensures scope { OnOk result (self.new.scope ≡ self.old.scope) }
         ensures place { OnOk result (self.new.place.items ≡ self.old.place.items) }
     {
         for (at, tree) in trees.as_slice().iter().enumerate() {
-            if let Flow::Enough = self.bind_at(alias, tree, at, rest)? {
+            let flow = self.bind_at(alias, tree, at, rest)?;
+            if flow.is_enough() {
                 return Ok(Flow::Enough);
             }
         }
@@ -151,12 +164,14 @@ impl<'a, T: Taker> Walk<'a, T> {
         at: usize,
         rest: &'a [FromItem],
     ) -> Result<Flow, Memory>
+        requires wants { T.wants_more self.old.taker ≡ true }
         ensures took { OnOk result (T.Took self.old.taker (rows_from rest.now (record {
           env = self.old.scope ++ (alias.now, Defined tree.now) ∷ [];
           place = self.old.place.items ++ at ∷ [];
         })) self.new.taker) }
         ensures enough { IfOk result (λ flow. flow ≡ Enough
             → (rows : List Bound) → T.Took self.new.taker rows self.new.taker) }
+        ensures more { IfOk result (λ flow. flow ≡ More → T.wants_more self.new.taker ≡ true) }
         ensures scope { OnOk result (self.new.scope ≡ self.old.scope) }
         ensures place { OnOk result (self.new.place.items ≡ self.old.place.items) }
     {
@@ -177,12 +192,14 @@ impl<'a, T: Taker> Walk<'a, T> {
         tree: &'a Tree,
         rest: &'a [FromItem],
     ) -> Result<Flow, Memory>
+        requires wants { T.wants_more self.old.taker ≡ true }
         ensures took { OnOk result (T.Took self.old.taker (rows_from rest.now (record {
           env = self.old.scope ++ (alias.now, Defined tree.now) ∷ [];
           place = self.old.place.items;
         })) self.new.taker) }
         ensures enough { IfOk result (λ flow. flow ≡ Enough
             → (rows : List Bound) → T.Took self.new.taker rows self.new.taker) }
+        ensures more { IfOk result (λ flow. flow ≡ More → T.wants_more self.new.taker ≡ true) }
         ensures scope { OnOk result (self.new.scope ≡ self.old.scope) }
         ensures place { OnOk result (self.new.place.items ≡ self.old.place.items) }
     {

@@ -1,6 +1,6 @@
 -- The sources that are left get fewer. What takes the rest of the rows from here has taken all of
 -- them from the beginning.
-use Rattle.std.proofs.Common.{◌≡◌, ◌+◌, ◌*◌, length}
+use Rattle.std.proofs.Common.{◌≡◌, ◌+◌, ◌*◌, length, true}
 use Rattle.ax_rows.proofs.Walking.{rows_after}
 use Rattle.ax_rows.proofs.walk.Walk.+walk.Given as goal
 
@@ -23,6 +23,7 @@ abbrev pub invariant-bind_each-loop-at : goal.invariant-bind_each-loop-at
 invariant-bind_each-loop-at g l = record {
   scope : l.self.scope ≡ l.fn.self.scope;
   place : l.self.place.items ≡ l.fn.self.place.items;
+  wants : g.T.Taker.wants_more l.self.taker ≡ true;
   goes : (after : g.row.T.Denot)
       → g.T.Taker.Took l.self.taker
       (rows_after l.rest l.alias l.fn.self.scope l.fn.self.place.items l.at l.tree-items) after
