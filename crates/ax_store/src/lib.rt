@@ -29,6 +29,7 @@ mod open;
 mod out_of_memory;
 mod pages;
 mod put_changes;
+mod read_ahead;
 mod reads;
 mod row;
 mod slot_reads;
@@ -44,6 +45,7 @@ pub use batch::Batch;
 pub use fault::StoreFault;
 pub use out_of_memory::Memory;
 pub use pages::Meta;
+pub use read_ahead::ReadAhead;
 pub use reads::Head;
 pub use store::Store;
 
