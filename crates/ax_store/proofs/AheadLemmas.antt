@@ -1,5 +1,5 @@
 -- What was read ahead stands in the log's frames: of nothing, and over calls that change no frame.
-use Rattle.std.proofs.Common.{◌≡◌, ℕ, ◌+◌, ◌-◌, ◌≤◌, List, [], length, take, drop, refl, sym, ap, subst, ◌∙◌, arith}
+use Rattle.std.proofs.Common.{◌≡◌, ℕ, ◌+◌, ◌-◌, ◌≤◌, true, List, [], length, take, drop, Option, Some, refl, sym, ap, subst, ◌∙◌, arith}
 use Rattle.std.proofs.lemmas.List.{drop-take, take-take, drop-drop, length-take-le}
 use Rattle.ax_disk.specs.model.Moments.{History}
 use Rattle.ax_disk.specs.model.Calls.{Idles}
@@ -10,7 +10,7 @@ use Rattle.ax_store.specs.declared.read_ahead.ReadAhead.{ReadAhead}
 use Rattle.ax_store.specs.declared.store.Store.{Store}
 use Rattle.ax_store.specs.Cached.{HasBytesAt}
 use Rattle.ax_store.specs.Store.{Agrees}
-use Rattle.ax_store.specs.ReadAhead.{AgreesAhead, IsNothingAhead, SameAhead, IsShown, ahead_bytes, ahead_text}
+use Rattle.ax_store.specs.ReadAhead.{AgreesAhead, IsNothingAhead, SameAhead, IsShown, IsAhead, ahead_bytes, ahead_text}
 use Rattle.ax_store.specs.Loading.{nothing_kept, TakesOn}
 use Rattle.ax_store.proofs.PartPlaces.{IsReadable}
 use Rattle.ax_store.proofs.StoreLemmas.{agrees_idle, caches_same}
@@ -97,3 +97,20 @@ pub stands_same : (old new : ReadAhead) (text : List ℕ) → SameAhead old new 
 stands_same old new text same has =
     subst (λ (n : ℕ). HasBytesAt text n (ahead_bytes new)) (sym same.from)
     (subst (λ (bytes : List ℕ). HasBytesAt text old.from bytes) (sym same.bytes) has)
+
+-- ---- of a document
+
+-- the text that is shown is that of the document
+pub is_ahead : (ahead : ReadAhead) (text : List ℕ) (end from len : ℕ) (payload : List ℕ) (held : Option (List ℕ)) → Some payload ≡ held
+    → HasBytesAt text ahead.from (ahead_bytes ahead) → ahead.filled ≤ length ahead.bytes.items
+    → IsShown ahead from len → IsReadable text end from len (drop 1 payload) → IsAhead held true (ahead_text ahead)
+is_ahead ahead text end from len payload held there has room shown is =
+    subst (λ (h : Option (List ℕ)). IsAhead h true (ahead_text ahead)) there (refl, shown_is ahead text end from len (drop 1 payload) has room shown is)
+
+-- the store and what was read ahead agree still where the same bytes of the same place are kept
+pub same_ahead : {C : Type 0} (pages : C → CachedPages) (store : Store C) (old new : ReadAhead) (history : History) → SameAhead old new
+    → AgreesAhead pages store old history → AgreesAhead pages store new history
+same_ahead pages store old new history same before = record {
+  agrees = before.agrees;
+  stands = stands_same old new (frames_bytes before.agrees.frames) same before.stands;
+}
