@@ -1,5 +1,6 @@
 -- What was read ahead stands in the log's frames: of nothing, and over calls that change no frame.
-use Rattle.std.proofs.Common.{◌≡◌, ℕ, ◌+◌, ◌-◌, ◌≤◌, true, List, [], length, take, drop, Option, Some, refl, sym, ap, subst, ◌∙◌, arith}
+use Rattle.std.proofs.Common.{◌≡◌, ℕ, ◌+◌, ◌-◌, ◌≤◌, Bool, true, List, [], length, take, drop, Option, Some, refl, sym, ap, subst, ◌∙◌, arith}
+use Rattle.std.specs.Prelude.{IsTrue}
 use Rattle.std.proofs.lemmas.List.{drop-take, take-take, drop-drop, length-take-le}
 use Rattle.ax_disk.specs.model.Moments.{History}
 use Rattle.ax_disk.specs.model.Calls.{Idles}
@@ -10,7 +11,7 @@ use Rattle.ax_store.specs.declared.read_ahead.ReadAhead.{ReadAhead}
 use Rattle.ax_store.specs.declared.store.Store.{Store}
 use Rattle.ax_store.specs.Cached.{HasBytesAt}
 use Rattle.ax_store.specs.Store.{Agrees}
-use Rattle.ax_store.specs.ReadAhead.{AgreesAhead, IsNothingAhead, SameAhead, IsShown, IsAhead, ahead_bytes, ahead_text}
+use Rattle.ax_store.specs.ReadAhead.{AgreesAhead, AgreesAheadUnlessFailed, IsNothingAhead, SameAhead, IsShown, IsAhead, ahead_bytes, ahead_text}
 use Rattle.ax_store.specs.Loading.{nothing_kept, TakesOn}
 use Rattle.ax_store.proofs.PartPlaces.{IsReadable}
 use Rattle.ax_store.proofs.StoreLemmas.{agrees_idle, caches_same}
@@ -52,6 +53,11 @@ without_ahead pages store ahead history agrees = agrees.agrees
 pub ahead_still : {C : Type 0} (pages : C → CachedPages) (store : Store C) (ahead : ReadAhead) (old new : History) → AgreesAhead pages store ahead old → Idles old new
     → AgreesAhead pages store ahead new
 ahead_still pages store ahead old new agrees idles = ahead_read pages store store ahead old new agrees.agrees refl refl refl idles agrees.stands
+
+-- and with a disk that is as honest as before
+pub ahead_honest : {C : Type 0} (pages : C → CachedPages) (before after : Bool) (store : Store C) (ahead : ReadAhead) (history : History) → after ≡ before
+    → AgreesAheadUnlessFailed pages before store ahead history → AgreesAheadUnlessFailed pages after store ahead history
+ahead_honest pages before after store ahead history same agrees = λ honest. agrees (subst IsTrue same honest)
 
 -- ---- what was read
 
