@@ -20,9 +20,18 @@ fn texts_together_are_read_once(rt: HostRuntime) -> Result<(), Fail> {
     assert!(rt; puts_texts(alloc, &mut disk, 5, 20, 0));
     let opening = reads_for(alloc, &mut disk, &[], 20);
     assert!(rt; opening.is_some());
-    assert_eq!(rt; reads_for(alloc, &mut disk, &[1, 2, 3, 4, 5], 20), more(opening, 1));
-    assert_eq!(rt; reads_for(alloc, &mut disk, &[5, 4, 2], 20), more(opening, 3));
-    assert_eq!(rt; reads_for(alloc, &mut disk, &[4, 5, 5], 20), more(opening, 1));
+    assert_eq!(rt;
+        reads_for(alloc, &mut disk, &[1, 2, 3, 4, 5], 20),
+        more(opening, 1)
+    );
+    assert_eq!(rt;
+        reads_for(alloc, &mut disk, &[5, 4, 2], 20),
+        more(opening, 3)
+    );
+    assert_eq!(rt;
+        reads_for(alloc, &mut disk, &[4, 5, 5], 20),
+        more(opening, 1)
+    );
     Ok(())
 }
 
@@ -34,7 +43,10 @@ fn scattered_texts_are_read_one_by_one(rt: HostRuntime) -> Result<(), Fail> {
     assert!(rt; puts_texts(alloc, &mut disk, 5, 20, 60));
     let opening = reads_for(alloc, &mut disk, &[], 20);
     assert!(rt; opening.is_some());
-    assert_eq!(rt; reads_for(alloc, &mut disk, &[1, 2, 3, 4, 5], 20), more(opening, 5));
+    assert_eq!(rt;
+        reads_for(alloc, &mut disk, &[1, 2, 3, 4, 5], 20),
+        more(opening, 5)
+    );
     Ok(())
 }
 
@@ -47,8 +59,14 @@ fn a_text_across_the_end_begins_a_window(rt: HostRuntime) -> Result<(), Fail> {
     assert!(rt; puts_texts(alloc, &mut disk, 6, 60_000, 0));
     let opening = reads_for(alloc, &mut disk, &[], 60_000);
     assert!(rt; opening.is_some());
-    assert_eq!(rt; reads_for(alloc, &mut disk, &[1, 2, 3, 4], 60_000), more(opening, 1));
-    assert_eq!(rt; reads_for(alloc, &mut disk, &[1, 2, 3, 4, 5, 6], 60_000), more(opening, 2));
+    assert_eq!(rt;
+        reads_for(alloc, &mut disk, &[1, 2, 3, 4], 60_000),
+        more(opening, 1)
+    );
+    assert_eq!(rt;
+        reads_for(alloc, &mut disk, &[1, 2, 3, 4, 5, 6], 60_000),
+        more(opening, 2)
+    );
     Ok(())
 }
 
