@@ -11,6 +11,7 @@ pub mod SpanLemmas
 pub mod LoadLemmas
 pub mod CacheLemmas
 pub mod StoreLemmas
+pub mod AheadLemmas
 pub mod NextHeld
 pub mod PartPlaces
 pub mod TermOrder

@@ -15,3 +15,4 @@ pub mod Reading
 pub mod Store
 pub mod Slots
 pub mod Places
+pub mod ReadAhead
