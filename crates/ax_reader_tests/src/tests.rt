@@ -1,5 +1,6 @@
 mod excerpts;
 mod large;
+mod random;
 
 use ax_excerpt::{Excerpt, has_plain_names};
 use ax_excerpt_text::read_excerpt;

@@ -254,9 +254,7 @@ impl<'a> FrontTaker<'a> {
 impl<'a> Taker for FrontTaker<'a> {
     ghost Took = { Gains TakesFront front_keeps };
 
-    ghost wants_more = {
-        λ taker. not (reaches taker.front.limit (length taker.front.rows.items))
-    };
+    ghost wants_more = { λ taker. not (reaches taker.front.limit (length taker.front.rows.items)) };
 
     fn take(&mut self, alloc: Global, scope: &Scope, place: &[u32]) -> Result<Flow, Memory> {
         self.keep(alloc, scope, place)?;
