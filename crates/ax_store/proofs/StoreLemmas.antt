@@ -80,7 +80,7 @@ agrees_still pages store old new agrees idles = record { frames = agrees.frames;
 abbrev pub CachesOf : {C : Type 0} → (C → CachedPages) → Store C → List (List ℕ) → Type 0
 CachesOf pages store frames = HoldsParts (pages store.cache) (log_area store.log) (log_generation store.log) (frames_bytes frames)
 
-caches_same : {C : Type 0} (pages : C → CachedPages) (old new : Store C) (frames : List (List ℕ)) → new.log ≡ old.log → new.cache ≡ old.cache → CachesOf pages old frames → CachesOf pages new frames
+pub caches_same : {C : Type 0} (pages : C → CachedPages) (old new : Store C) (frames : List (List ℕ)) → new.log ≡ old.log → new.cache ≡ old.cache → CachesOf pages old frames → CachesOf pages new frames
 caches_same pages old new frames logged cache caches =
     subst (λ c. HoldsParts (pages c) (log_area new.log) (log_generation new.log) (frames_bytes frames)) (sym cache)
     (subst (λ l. HoldsParts (pages old.cache) (log_area l) (log_generation l) (frames_bytes frames)) (sym logged) caches)

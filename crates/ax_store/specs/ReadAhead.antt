@@ -31,7 +31,7 @@ pub record SameAhead (old new : ReadAhead) : Type 0 where
 -- the text is the one of that place and length, which is among the bytes
 pub record IsShown (ahead : ReadAhead) (from len : ℕ) : Type 0 where
   pub place : ahead.from + ahead.at ≡ from
-  pub len : ahead.len ≡ len
+  pub long : ahead.len ≡ len
   pub within : ahead.at + len ≤ ahead.filled
 
 -- The store agrees with the disk by some frames, and what was read ahead stands in these.

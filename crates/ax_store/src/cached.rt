@@ -100,7 +100,12 @@ fn read_through<D: Disk, C: PageCache>(
 }
 
 /// Fills a buffer with bytes of the log's frames from the disk.
-fn read_disk<D: Disk>(log: &Log, disk: &mut D, from: u64, buf: &mut [u8]) -> Result<(), DiskFailed>
+pub(crate) fn read_disk<D: Disk>(
+    log: &Log,
+    disk: &mut D,
+    from: u64,
+    buf: &mut [u8],
+) -> Result<(), DiskFailed>
     ensures read { IsTrue (D.is_honest disk.old) → (frames : List (List ℕ))
         → Agrees log.now frames (D.history disk.old (D.attached disk.old))
         → from + length buf.old ≤ log_end log.now

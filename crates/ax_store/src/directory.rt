@@ -1,6 +1,6 @@
 //! A directory: the parts that count, by number.
 
-ghost use Rattle.std.specs.Prelude.{◌≡◌, ℕ, ◌+◌, ◌<◌, ◌≤◌, None, OnOk, IfSome, IfNone, option_map};
+ghost use Rattle.std.specs.Prelude.{◌≡◌, ℕ, ◌+◌, ◌<◌, ◌≤◌, None, OnOk, IfSome, IfNone, max, option_map};
 ghost use Rattle.std.specs.FinMap as map;
 ghost use Rattle.ax_store.specs.Rows.{payload_kept, offset_kept};
 ghost use Rattle.ax_store.specs.Listed.{IsNextAfter};
@@ -8,6 +8,7 @@ ghost use Rattle.ax_store.specs.Listed.{IsNextAfter};
 use crate::kept_part::KeptPart;
 use crate::out_of_memory::Memory;
 use crate::row::{Row, clear_row, drop_cleared_rows, first_held, put_row, search};
+use crate::together::{Stretch, WINDOW_BYTES, together};
 use std::alloc::Global;
 use std::marker::Model;
 
@@ -72,6 +73,18 @@ impl Directory {
         match search(&self.rows, after) {
             Ok(at) => first_held(&self.rows, after, at + 1),
             Err(at) => first_held(&self.rows, after, at),
+        }
+    }
+
+    /// How many bytes of the area a stretch from the text of a number on has, with the texts of the
+    /// next numbers that lie together with it.
+    pub(crate) fn together(&self, number: u32, text: Stretch) -> u64
+        ensures most { result ≤ max text.len WINDOW_BYTES }
+        ensures least { text.len ≤ result }
+    {
+        match search(&self.rows, number) {
+            Ok(at) => together(&self.rows[at + 1..], text),
+            Err(_) => text.len,
         }
     }
 

@@ -14,6 +14,7 @@
 //! `agrees_rests`, `agrees_still` and `agrees_same` of `proofs/StoreLemmas.antt`.
 #![tactic(auto)]
 
+mod ahead_reads;
 mod base_part;
 mod batch;
 mod cached;
@@ -39,6 +40,7 @@ mod take_parts;
 mod term_pages;
 mod term_reads;
 mod term_row;
+mod together;
 mod window;
 
 pub use batch::Batch;

@@ -1,6 +1,6 @@
 //! What a store keeps of its pages in memory, changed part by part.
 
-ghost use Rattle.std.specs.Prelude.{◌≡◌, ℕ, ◌+◌, ◌≤◌, ◌<◌, ◌==◌, length, IsTrue, IfOk, OnOk, IfSome, IfNone, is_some, Some, None, option_map, slice_get, if◌then◌else◌};
+ghost use Rattle.std.specs.Prelude.{◌≡◌, ℕ, ◌+◌, ◌≤◌, ◌<◌, ◌==◌, length, IsTrue, IfOk, OnOk, IfSome, IfNone, is_some, Some, None, max, option_map, slice_get, if◌then◌else◌};
 ghost use Rattle.ax_store.specs.Listed.{IsNextAfter};
 ghost use Rattle.std.specs.FinMap as map;
 ghost use Rattle.std.specs.Option.{option_to_list};
@@ -18,6 +18,7 @@ use crate::making::numbers_in;
 use crate::new_part::NewPart;
 use crate::out_of_memory::Memory;
 use crate::term_pages::TermPages;
+use crate::together::{Stretch, WINDOW_BYTES};
 use ax_pages::{Kind, Page};
 use std::alloc::Global;
 use std::marker::Model;
@@ -171,6 +172,15 @@ impl Pages {
         ensures none { IfNone result ((number : ℕ) → after < number → map.get self.now.contents.documents number ≡ None) }
     {
         self.documents.next_after(after)
+    }
+
+    /// How many bytes of the area a stretch from the text of a document on has, with the texts of the
+    /// next documents that lie together with it.
+    pub(crate) fn together(&self, number: u32, text: Stretch) -> u64
+        ensures most { result ≤ max text.len WINDOW_BYTES }
+        ensures least { text.len ≤ result }
+    {
+        self.documents.together(number, text)
     }
 
     /// Drops what is kept of documents that are gone.

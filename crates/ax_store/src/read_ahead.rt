@@ -1,27 +1,28 @@
-//! Texts of documents, read ahead of a scan in the order of their numbers.
+//! Texts of documents that were read ahead of a scan.
 
-ghost use Rattle.std.specs.Prelude.{◌≡◌, ◌⊎◌, ◌+◌, ◌≤◌, ℕ, List, true, false, Err, IsTrue, IfOk, IfErr, OnOk, length};
-ghost use Rattle.std.specs.FinMap as map;
+ghost use Rattle.std.specs.Prelude.{◌≡◌, ◌+◌, ◌≤◌, ℕ, List, false, IsTrue, IfSome, OnOk, length, take, drop};
+ghost use Rattle.ax_faults.specs.Faults.{HasCause};
 ghost use Rattle.ax_disk.specs.model.Calls.{Idles};
-ghost use Rattle.ax_store.specs.Faults.{HasDiskCause};
-ghost use Rattle.ax_store.specs.ReadAhead.{AgreesAheadUnlessFailed, IsAhead, ahead_text};
-ghost use Rattle.ax_store.specs.Store.{SameButReads, store_contents, store_slots, store_failed};
+ghost use Rattle.ax_pages.specs.Area.{frames_bytes};
+ghost use Rattle.ax_log.specs.Log.{log_end};
+ghost use Rattle.ax_log.specs.Agreement.{Agrees};
+ghost use Rattle.ax_store.specs.Cached.{HasBytesAt};
 
-use crate::fault::StoreFault;
-use crate::store::Store;
-use ax_cache::PageCache;
-use ax_disk::Disk;
-use std::alloc::Global;
+use crate::cached::read_disk;
+use crate::together::Stretch;
+use ax_disk::{Disk, DiskFailed};
+use ax_log::Log;
+use std::alloc::{AllocError, Global};
 
 /// Texts that were read ahead: bytes of the area that counts, and which of them is the text that was
-/// asked for last. It serves the store with which it was used from the start, until that is committed to.
+/// asked for last. It serves one store, from the first call on until that store is committed to.
 #[derive(Drop)]
 pub struct ReadAhead {
-    // The first of them stand in the area, and what is behind these is room.
+    // Behind those that were read last stand older ones, which are kept for their room.
     bytes: Vec<u8>,
-    // How many of them that are.
+    // How many were read last.
     filled: usize,
-    // Where the first of them stands.
+    // Where the first of these stands in the area.
     from: u64,
     // The text: where it begins among the bytes, and how many bytes it has.
     at: usize,
@@ -31,7 +32,7 @@ pub struct ReadAhead {
 }
 
 impl ReadAhead {
-    ghost use Rattle.ax_store.specs.ReadAhead.{IsNothingAhead};
+    ghost use Rattle.ax_store.specs.ReadAhead.{IsNothingAhead, SameAhead, IsShown, ahead_bytes, ahead_text};
 
     /// Nothing was read. It takes no memory yet.
     pub fn new(alloc: Global) -> ReadAhead
@@ -52,52 +53,115 @@ impl ReadAhead {
     {
         &self.bytes[self.at..self.at + self.len]
     }
-}
 
-impl<C: PageCache> Store<C> {
-    /// Finds the text of a document, which `ahead` shows from then on, and answers whether the number
-    /// is held. Where texts of the numbers behind it lie together with it, and it lies behind the text
-    /// that was asked for last, one read takes a window of them, of at most 256 KiB; so a scan in the
-    /// order of numbers reads the disk once for many texts. The cache is not asked and not changed,
-    /// and no step is counted.
-    ///
-    /// `Disk` where a read failed or the store has failed before; `Memory` where there is none for
-    /// the window, and what `ahead` shows is then as it was.
-    pub fn read_ahead<D: Disk>(
+    /// Shows the text of a place and a length, if it is among the bytes. `false`, with all as it was,
+    /// where it is not.
+    pub(crate) fn show(&mut self, from: u64, len: usize) -> bool
+        ensures same { SameAhead self.old self.new }
+        ensures shown { IsTrue result → IsShown self.new from len }
+        ensures text { result ≡ false → ahead_text self.new ≡ ahead_text self.old }
+    {
+        let Some(at) = self.place_of(from, len) else {
+            return false;
+        };
+        self.at = at;
+        self.len = len;
+        true
+    }
+
+    /// Where the text of a place and a length stands among the bytes.
+    fn place_of(&self, from: u64, len: usize) -> Option<usize>
+        ensures place { IfSome result (λ at. self.now.from + at ≡ from) }
+        ensures within { IfSome result (λ at. at + len ≤ self.now.filled) }
+    {
+        let at = from.checked_sub(self.from)?;
+        let last = self.filled.checked_sub(len)?;
+        if at > last as u64 {
+            return None;
+        }
+        Some(at as usize)
+    }
+
+    /// Whether a text lies together with the one that was asked for last, behind it; or none was asked
+    /// for yet. So a text that is asked for out of order is read alone.
+    pub(crate) fn is_next(&self, from: u64, len: usize) -> bool {
+        let last = self.from.saturating_add(self.at as u64);
+        self.filled == 0 || Stretch::of_text(last, self.len).with_text(from, len).is_some()
+    }
+
+    /// Makes room for so many bytes. `Err` where there is none; all is then as it was.
+    pub(crate) fn make_room(&mut self, span: usize) -> Result<(), AllocError>
+        ensures room { OnOk result (span ≤ length self.new.bytes.items) }
+        ensures same { SameAhead self.old self.new }
+        ensures text { ahead_text self.new ≡ ahead_text self.old }
+    {
+        lengthen(&mut self.bytes, span)
+    }
+
+    /// Reads so many bytes at a place, the first of which are the text.
+    pub(crate) fn fill<D: Disk>(
         &mut self,
+        log: &Log,
         disk: &mut D,
-        number: u32,
-        ahead: &mut ReadAhead,
-    ) -> Result<bool, StoreFault>
-        requires agrees { AgreesAheadUnlessFailed C.pages (D.is_honest disk.old) self.old ahead.old
-            (D.history disk.old (D.attached disk.old)) }
-        ensures text { IsTrue (D.is_honest disk.old)
-            → IfOk result (λ found. IsAhead (map.get (store_contents self.old).documents number) found (ahead_text ahead.new)) }
-        ensures found { IfOk result (λ found. found ≡ map.contains_key (store_contents self.old).documents number) }
-        ensures agrees { AgreesAheadUnlessFailed C.pages (D.is_honest disk.old) self.new ahead.new
-            (D.history disk.new (D.attached disk.new)) }
-        ensures same { SameButReads self.old self.new }
-        ensures cache { self.new.cache ≡ self.old.cache }
-        ensures slots { store_slots self.new ≡ store_slots self.old }
-        ensures works { OnOk result (store_failed self.new ≡ false) }
-        ensures fails { result ≡ Err StoreFault.Disk → store_failed self.new ≡ true }
-        ensures memory { result ≡ Err StoreFault.Memory → store_failed self.new ≡ store_failed self.old }
-        ensures kept { result ≡ Err StoreFault.Memory → ahead_text ahead.new ≡ ahead_text ahead.old }
-        ensures only { IfErr result (λ fault. (fault ≡ StoreFault.Disk) ⊎ (fault ≡ StoreFault.Memory)) }
+        from: u64,
+        len: usize,
+        span: usize,
+    ) -> Result<(), DiskFailed>
+        requires text { len ≤ span }
+        requires room { span ≤ length self.old.bytes.items }
+        ensures read { IsTrue (D.is_honest disk.old) → (frames : List (List ℕ))
+            → Agrees log.now frames (D.history disk.old (D.attached disk.old))
+            → from + span ≤ log_end log.now
+            → OnOk result (HasBytesAt (frames_bytes frames) self.new.from (ahead_bytes self.new)) }
+        ensures shown { OnOk result (IsShown self.new from len) }
         ensures lists { IsTrue (D.is_honest disk.old)
             → Idles (D.history disk.old (D.attached disk.old)) (D.history disk.new (D.attached disk.new)) }
-        ensures failed_before { store_failed self.old ≡ true → result ≡ Err StoreFault.Disk }
-        ensures cause { store_failed self.old ≡ false → HasDiskCause result (D.faults disk.old) (D.faults disk.new) }
-        ensures never_falls { D.faults disk.old ≤ D.faults disk.new }
+        ensures cause { HasCause result (D.faults disk.old) (D.faults disk.new) }
         ensures attached { D.attached disk.new ≡ D.attached disk.old }
         ensures honest { D.is_honest disk.new ≡ D.is_honest disk.old }
     {
-        if self.failed {
-            return Err(StoreFault::Disk);
-        }
-        let Some(_part) = self.pages.document(number) else {
-            return Ok(false);
+        let Ok(()) = read_front(log, disk, from, &mut self.bytes, span) else {
+            return Err(DiskFailed);
         };
-        Err(StoreFault::Memory)
+        self.from = from;
+        self.filled = span;
+        self.at = 0;
+        self.len = len;
+        Ok(())
     }
+}
+
+/// Fills the front of a buffer with so many bytes of the log's frames from the disk.
+fn read_front<D: Disk>(
+    log: &Log,
+    disk: &mut D,
+    from: u64,
+    buf: &mut [u8],
+    len: usize,
+) -> Result<(), DiskFailed>
+    requires { len ≤ length buf.old }
+    ensures read { IsTrue (D.is_honest disk.old) → (frames : List (List ℕ))
+        → Agrees log.now frames (D.history disk.old (D.attached disk.old))
+        → from + len ≤ log_end log.now
+        → OnOk result (take len buf.new ≡ take len (drop from (frames_bytes frames))) }
+    ensures lists { IsTrue (D.is_honest disk.old)
+        → Idles (D.history disk.old (D.attached disk.old)) (D.history disk.new (D.attached disk.new)) }
+    ensures cause { HasCause result (D.faults disk.old) (D.faults disk.new) }
+    ensures attached { D.attached disk.new ≡ D.attached disk.old }
+    ensures honest { D.is_honest disk.new ≡ D.is_honest disk.old }
+{
+    let (front, _) = buf.split_at_mut(len);
+    read_disk(log, disk, from, front)
+}
+
+/// Makes a vector so long, unless it is longer. `Err` where there is no memory; it is then as it was.
+fn lengthen(bytes: &mut Vec<u8>, len: usize) -> Result<(), AllocError>
+    ensures long { OnOk result (len ≤ length bytes.new.items) }
+    ensures never_less { length bytes.old.items ≤ length bytes.new.items }
+    ensures front { take (length bytes.old.items) bytes.new.items ≡ bytes.old.items }
+{
+    if len <= bytes.len() {
+        return Ok(());
+    }
+    bytes.resize(len, 0)
 }

@@ -302,7 +302,7 @@ impl<C: PageCache> Store<C> {
 }
 
 /// Where the text of a document stands in the area, and how many bytes it has.
-fn text_place(part: &KeptPart) -> (u64, usize)
+pub(crate) fn text_place(part: &KeptPart) -> (u64, usize)
     ensures from { result.0 ≡ min (offset_kept part.now + (9 + min (length (payload_kept part.now)) 1)) (2 ^ 64 - 1) }
     ensures len { result.1 ≡ length (payload_kept part.now) - min (length (payload_kept part.now)) 1 }
     ensures most { result.1 ≤ 65536 }

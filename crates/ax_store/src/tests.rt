@@ -5,6 +5,8 @@ ghost use Rattle.std.specs.FinMap as map;
 ghost use Rattle.ax_frame.specs.Part.{part_value};
 ghost use Rattle.ax_store.specs.Store.{Agrees, AgreesUnlessFailed};
 
+mod reading_ahead;
+
 use crate::{Batch, Head, Store, StoreFault};
 use ax_base::Steps;
 use ax_cache::{LruPages, NoPages, PageCache};
