@@ -1,5 +1,5 @@
 -- What an engine answers to a line, from what its documents tell.
-use Rattle.std.proofs.Common.{◌≡◌, ℕ, ◌≤◌, Bool, List, Some, Result, Ok, Err, OnOk, refl, sym, ap, subst, ◌∙◌}
+use Rattle.std.proofs.Common.{◌≡◌, ℕ, ◌≤◌, Bool, List, Some, None, Result, Ok, Err, OnOk, refl, sym, ap, subst, ◌∙◌}
 use Rattle.std.specs.Prelude.{IfOk, IfErr, IsTrue}
 use Rattle.ax_cache.specs.declared.lru_pages.LruPages.{LruPages}
 use Rattle.ax_disk.specs.model.Moments.{History}
@@ -24,7 +24,7 @@ use Rattle.ax_machine.specs.Run.{Outcome, Served, OutOfMemory}
 use Rattle.ax_machine.specs.Step.{served, upsert_by, written}
 use Rattle.ax_engine.specs.Damage.{Meets}
 use Rattle.ax_engine.specs.Documents.{DocumentsHold, DocumentsWork, TellsUpsert, WorksAfterUpsert}
-use Rattle.ax_engine.specs.Engine.{Holds, Tells, Works}
+use Rattle.ax_engine.specs.Engine.{Applies, Holds, Tells, Works}
 use Rattle.ax_engine.specs.Replies.{IsOfReading, IsReply, read_answer, upsert_answer}
 use Rattle.ax_engine.specs.Scans.{Scanned, Scans}
 use Rattle.ax_engine.specs.Stores.{Shows}
@@ -32,6 +32,7 @@ use Rattle.ax_engine.specs.declared.documents.Documents.{Documents}
 use Rattle.ax_engine.specs.declared.documents.UpsertFault.{UpsertFault}
 use Rattle.ax_engine.specs.declared.documents.UpsertFault.TheVariants as upsert
 use Rattle.ax_engine.specs.declared.engine.Engine.{Engine}
+use Rattle.ax_engine.specs.declared.engine.Fault.{Fault}
 use Rattle.ax_engine.specs.declared.engine.Fault.TheVariants as fault
 use Rattle.ax_engine.specs.declared.reply.Reply.{Reply}
 use Rattle.ax_engine.specs.declared.reply.Reply.TheVariants as given
@@ -185,12 +186,12 @@ module _ (honest : Bool) (documents : Documents) (store : Store LruPages)
     tells_read (Err store_fault.Memory) scans is h = (OutOfMemory, refl, stands_scanned scans, turns_scanned scans)
 
 pub of_reading : (honest : Bool) (read : Result Reply StoreFault) (old new : Store LruPages) (ahead : ReadAhead)
-    (before after : History) (l m : ℕ) → Scans honest read old new ahead before after l m → IfErr read IsOfReading
-of_reading honest (Ok reply) old new ahead before after l m scans = tt
-of_reading honest (Err store_fault.Disk) old new ahead before after l m scans = tt
-of_reading honest (Err (store_fault.Damaged extent at)) old new ahead before after l m scans = tt
-of_reading honest (Err (store_fault.Newer version)) old new ahead before after l m scans = absurd scans
-of_reading honest (Err store_fault.Memory) old new ahead before after l m scans = tt
+    (entry exit : History) (l m : ℕ) → Scans honest read old new ahead entry exit l m → IfErr read IsOfReading
+of_reading honest (Ok reply) old new ahead entry exit l m scans = tt
+of_reading honest (Err store_fault.Disk) old new ahead entry exit l m scans = tt
+of_reading honest (Err (store_fault.Damaged extent at)) old new ahead entry exit l m scans = tt
+of_reading honest (Err (store_fault.Newer version)) old new ahead entry exit l m scans = absurd scans
+of_reading honest (Err store_fault.Memory) old new ahead entry exit l m scans = tt
 
 -- ---- an engine
 
@@ -205,3 +206,12 @@ pub still_over : (honest : Type 0) (engine : Engine) (history : History) (before
     → honest → Turns history history (Shows before) (Shows other)
 still_over honest engine history before other works holds =
     still honest engine.documents history before other (works.documents holds.unfaulted) holds.documents
+
+-- the documents' answer as the engine's
+pub applies_told : (honest : Type 0) (before : Container) (asked : Line) (result : Result Reply Fault) (engine : Engine)
+    (old new : History) → OnOk result (engine.fault ≡ None) → Tells honest before asked result engine.documents old new
+    → Applies honest before asked result engine old new
+applies_told honest before asked (Ok reply) engine old new none told =
+    (told.0, told.1, record { unfaulted = none; documents = told.2 }, told.3)
+applies_told honest before asked (Err fault.Disk) engine old new none told = told
+applies_told honest before asked (Err (fault.Damaged extent at)) engine old new none told = told

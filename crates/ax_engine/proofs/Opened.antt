@@ -145,6 +145,11 @@ rose_numbered honest (Err (fault.Damaged extent at)) store new first l m tells s
 rose_numbered honest (Err (fault.Newer version)) store new first l m tells since is = absurd tells
 rose_numbered honest (Err fault.Memory) store new first l m tells since is = absurd cc
 
+-- what holds whatever was opened
+pub in_any : {P : Type 0} → (result : Result Documents StoreFault) → P → IfOk result (λ _. P)
+in_any (Ok documents) p = p
+in_any (Err why) p = tt
+
 -- ---- an image with contents is neither damaged nor of a later version
 
 pub not_damaged : (image : Image) (contents : Contents) (extent at : ℕ) → HasContents contents image

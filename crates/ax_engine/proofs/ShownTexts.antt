@@ -1,5 +1,5 @@
 -- The text of a document's page is that of the tree which stands under its number.
-use Rattle.std.proofs.Common.{◌≡◌, ◌==◌, ℕ, Bool, true, false, List, [], ◌∷◌, Option, Some, None, find, drop, inl, inr, refl, sym, ap, ◌∙◌}
+use Rattle.std.proofs.Common.{◌≡◌, ◌==◌, ℕ, Bool, true, false, List, [], ◌∷◌, Option, Some, None, find, drop, inl, inr, refl, sym, ap, ◌∙◌, codes, rules}
 use Rattle.std.specs.Prelude.{◌≢◌, if◌then◌else◌}
 use Rattle.std.specs.FinMap as finite
 use Rattle.std.specs.Ordering.{nat_cmp}
@@ -25,6 +25,9 @@ numbered_later : (number : ℕ) (e : ℕ × Tree) (es : List (ℕ × Tree)) → 
 numbered_later number e es apart =
     ap (λ b. tree_at (if b then Some e else find (λ (f : ℕ × Tree). f.0 == number) es))
     (ne_eqb e.0 number apart)
+
+pub null_text : codes "null" ≡ canonical_text trees.Null
+null_text = search (rules, trees.the_lemmas)
 
 no_some : (a : List ℕ) → None ≡ Some a → ⊥
 no_some a e = cc

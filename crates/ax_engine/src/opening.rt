@@ -1,6 +1,6 @@
 //! Opening a store, and finding under which number each id stands.
 
-ghost use Rattle.std.specs.Prelude.{◌≡◌, ◌⊎◌, ◌≤◌, ℕ, List, Err, IsTrue, IfOk, IfErr, IfSome, OnOk, Some, None, cond, drop, option_map};
+ghost use Rattle.std.specs.Prelude.{◌≡◌, ◌⊎◌, ◌≤◌, ℕ, List, Err, IsTrue, IfOk, IfErr, IfSome, OnOk, Some, None, cond, drop, false, option_map};
 ghost use Rattle.std.specs.FinMap as map;
 ghost use Rattle.std.specs.Str.{bytes_eq};
 ghost use Rattle.ax_faults.specs.Faults.{Rose};

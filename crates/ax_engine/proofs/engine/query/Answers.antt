@@ -12,10 +12,12 @@ use Rattle.ax_engine.specs.declared.reply.Reply.{Reply}
 use Rattle.ax_engine.proofs.Applying.{met_read, never_falls_read, of_reading, rose_read, tells_read, works_read}
 use Rattle.ax_engine.proofs.engine.query.Goals as goal
 
-pub reply_to_query-read-requires-clause-ready : goal.reply_to_query-read-requires-clause-ready
-reply_to_query-read-requires-clause-ready g c = record {
-  works = c.requires.works.unfailed;
-  agrees = λ honest. ahead_of_nothing held c.args.documents.now.store _ (c.requires.works.agrees honest) _ c.new-ahead.ensures;
+pub reply_to_query-read-requires : goal.reply_to_query-read-requires
+reply_to_query-read-requires g c = record {
+  ready = record {
+    works = c.requires.works.unfailed;
+    agrees = λ honest. ahead_of_nothing held c.args.documents.now.store _ (c.requires.works.agrees honest) _ c.new-ahead.ensures;
+  };
 }
 
 pub answer_of_read-requires : goal.answer_of_read-requires

@@ -1,5 +1,5 @@
 -- What the documents tell of an upsert, as the answer to its line.
-use Rattle.std.proofs.Common.{ap, subst, sym, ◌∙◌}
+use Rattle.std.proofs.Common.{◌≡◌, ap, subst, sym, ◌∙◌}
 use Rattle.std.specs.Prelude.{IfErr, IsTrue, OnOk, Result}
 use Rattle.ax_lines.specs.declared.line.Line.TheVariants as line
 use Rattle.ax_engine.specs.Documents.{DocumentsWork}

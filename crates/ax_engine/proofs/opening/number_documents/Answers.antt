@@ -22,9 +22,10 @@ texts-init g c = record {
   honest = refl;
 }
 
-pub number_document-requires-clause-ready : goal.number_document-requires-clause-ready
-number_document-requires-clause-ready g c =
-    ready_now _ _ c.texts.store _ _ c.texts.invariant.honest c.texts.invariant.scans.ready
+pub number_document-requires : goal.number_document-requires
+number_document-requires g c = record {
+  ready = ready_now _ _ c.texts.store _ _ c.texts.invariant.honest c.texts.invariant.scans.ready;
+}
 
 pub texts-preserved : goal.texts-preserved
 texts-preserved g c =

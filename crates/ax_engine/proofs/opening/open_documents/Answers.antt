@@ -3,8 +3,9 @@ use Rattle.std.proofs.Common.{IsTrue, sym, subst, ◌∙◌, Bool, Err}
 use Rattle.std.specs.Prelude.{IfOk}
 use Rattle.ax_disk.specs.laws.StaysLaws.{idles_start}
 use Rattle.ax_engine.specs.Documents.{DocumentsWork}
+use Rattle.ax_store.specs.Store.{store_contents}
 use Rattle.ax_engine.specs.Stores.{Shows}
-use Rattle.ax_engine.proofs.Opened.{holds_opened, idle_since, refuses_none, rose_numbered, since_opening, since_reading, works_numbered}
+use Rattle.ax_engine.proofs.Opened.{holds_opened, idle_since, in_any, refuses_none, rose_numbered, since_opening, since_reading, works_numbered}
 use Rattle.ax_engine.proofs.opening.open_documents.Goals as goal
 
 pub returns-in_default-clause-any_moment : goal.returns-in_default-clause-any_moment
@@ -39,3 +40,7 @@ returns-in-Ok-open_store-clause-cause g c =
 pub returns-in-Err-clause-any_moment : goal.returns-in-Err-clause-any_moment
 returns-in-Err-clause-any_moment g c = λ honest before store.
     since_opening _ _ before store (c.open_store.ensures.any_moment honest)
+
+pub returns-in-Ok-open_store-clause-opened : goal.returns-in-Ok-open_store-clause-opened
+returns-in-Ok-open_store-clause-opened g c = λ honest.
+    in_any c.number_all.result (store_contents c.in-Ok-open_store.store, (c.in-Ok-open_store.ensures.tells honest).has)

@@ -2,3 +2,9 @@
 use Rattle.ax_machine.specs.Querying.{numbered}
 use Rattle.ax_engine.proofs.Numbers.{numbers_rise}
 use Rattle.ax_engine.proofs.querying.answer_rows.Goals as goal
+
+pub returns-in-Ok-finish-clause-rows : goal.returns-in-Ok-finish-clause-rows
+returns-in-Ok-finish-clause-rows g c = λ honest container stand.
+    c.in-Ok-finish.ensures c.args.query.now (numbered container)
+    (c.in_default-add_documents.ensures.added honest container stand c.args.query.now c.in-Ok.ensures)
+    (numbers_rise container stand.sound)
