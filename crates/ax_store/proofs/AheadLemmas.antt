@@ -1,5 +1,6 @@
 -- What was read ahead stands in the log's frames: of nothing, and over calls that change no frame.
-use Rattle.std.proofs.Common.{◌≡◌, ℕ, ◌+◌, ◌-◌, ◌≤◌, true, List, [], length, take, drop, Option, Some, refl, sym, ap, subst, ◌∙◌, arith}
+use Rattle.std.proofs.Common.{◌≡◌, ℕ, ◌+◌, ◌-◌, ◌≤◌, Bool, true, List, [], length, take, drop, Option, Some, refl, sym, ap, subst, ◌∙◌, arith}
+use Rattle.std.specs.Prelude.{IsTrue}
 use Rattle.std.proofs.lemmas.List.{drop-take, take-take, drop-drop, length-take-le}
 use Rattle.ax_disk.specs.model.Moments.{History}
 use Rattle.ax_disk.specs.model.Calls.{Idles}
@@ -10,7 +11,7 @@ use Rattle.ax_store.specs.declared.read_ahead.ReadAhead.{ReadAhead}
 use Rattle.ax_store.specs.declared.store.Store.{Store}
 use Rattle.ax_store.specs.Cached.{HasBytesAt}
 use Rattle.ax_store.specs.Store.{Agrees}
-use Rattle.ax_store.specs.ReadAhead.{AgreesAhead, IsNothingAhead, SameAhead, IsShown, IsAhead, ahead_bytes, ahead_text}
+use Rattle.ax_store.specs.ReadAhead.{AgreesAhead, AgreesAheadUnlessFailed, IsNothingAhead, SameAhead, IsShown, IsAhead, ahead_bytes, ahead_text}
 use Rattle.ax_store.specs.Loading.{nothing_kept, TakesOn}
 use Rattle.ax_store.proofs.PartPlaces.{IsReadable}
 use Rattle.ax_store.proofs.StoreLemmas.{agrees_idle, caches_same}
@@ -38,20 +39,27 @@ nothing_stands text bytes from start none = record {
 }
 
 -- where nothing was read
-pub ahead_of_nothing : {C : Type 0} (pages : C → CachedPages) (store : Store C) (history : History) → Agrees pages store history → (ahead : ReadAhead) → IsNothingAhead ahead → AgreesAhead pages store ahead history
+pub ahead_of_nothing : {C : Type 0} (pages : C → CachedPages) (store : Store C) (history : History) → Agrees pages store history → (ahead : ReadAhead)
+    → IsNothingAhead ahead → AgreesAhead pages store ahead history
 ahead_of_nothing pages store history agrees ahead nothing = record {
   agrees = agrees;
   stands = nothing_stands (frames_bytes agrees.frames) (ahead_bytes ahead) ahead.from nothing.from nothing.bytes;
 }
 
 -- the store alone
-pub without_ahead : {C : Type 0} (pages : C → CachedPages) (store : Store C) (ahead : ReadAhead) (history : History) → AgreesAhead pages store ahead history → Agrees pages store history
+pub without_ahead : {C : Type 0} (pages : C → CachedPages) (store : Store C) (ahead : ReadAhead) (history : History) → AgreesAhead pages store ahead history
+    → Agrees pages store history
 without_ahead pages store ahead history agrees = agrees.agrees
 
 -- it agrees still where no list changed
-pub ahead_still : {C : Type 0} (pages : C → CachedPages) (store : Store C) (ahead : ReadAhead) (old new : History) → AgreesAhead pages store ahead old → Idles old new
-    → AgreesAhead pages store ahead new
+pub ahead_still : {C : Type 0} (pages : C → CachedPages) (store : Store C) (ahead : ReadAhead) (old new : History) → AgreesAhead pages store ahead old
+    → Idles old new → AgreesAhead pages store ahead new
 ahead_still pages store ahead old new agrees idles = ahead_read pages store store ahead old new agrees.agrees refl refl refl idles agrees.stands
+
+-- and with a disk that is as honest as before
+pub ahead_honest : {C : Type 0} (pages : C → CachedPages) (before after : Bool) (store : Store C) (ahead : ReadAhead) (history : History) → after ≡ before
+    → AgreesAheadUnlessFailed pages before store ahead history → AgreesAheadUnlessFailed pages after store ahead history
+ahead_honest pages before after store ahead history same agrees = λ honest. agrees (subst IsTrue same honest)
 
 -- ---- what was read
 
@@ -64,8 +72,8 @@ front_of at len filled items within =
     ∙ take-take len more (drop at items) (omega (arith, within))
 
 -- bytes among those that stand at a place are those at their own place
-pub shown_text : (text items : List ℕ) (start filled from at len : ℕ) → HasBytesAt text start (take filled items) → filled ≤ length items → start + at ≡ from → at + len ≤ filled
-    → take len (drop at items) ≡ take len (drop from text)
+pub shown_text : (text items : List ℕ) (start filled from at len : ℕ) → HasBytesAt text start (take filled items) → filled ≤ length items → start + at ≡ from
+    → at + len ≤ filled → take len (drop at items) ≡ take len (drop from text)
 shown_text text items start filled from at len has room place within =
     let long : length (take filled items) ≡ filled = length-take-le filled items room in
     let same : take filled (drop start text) ≡ take filled items = ap (λ (n : ℕ). take n (drop start text)) (sym long) ∙ has.is in
@@ -75,17 +83,9 @@ shown_text text items start filled from at len has room place within =
     ∙ ap (take len) (drop-drop at start text)
     ∙ ap (λ (n : ℕ). take len (drop n text)) place
 
--- bytes that were read stand where they were read
-pub read_stands : (text items : List ℕ) (from span : ℕ) → span ≤ length items → from + span ≤ length text → take span items ≡ take span (drop from text) → HasBytesAt text from (take span items)
-read_stands text items from span room within read =
-    let long : length (take span items) ≡ span = length-take-le span items room in record {
-      within = omega (arith, long, within);
-      is = ap (λ (n : ℕ). take n (drop from text)) long ∙ sym read;
-    }
-
 -- the text that is shown is the one that stands there
-pub shown_is : (ahead : ReadAhead) (text : List ℕ) (end from len : ℕ) (bytes : List ℕ) → HasBytesAt text ahead.from (ahead_bytes ahead) → ahead.filled ≤ length ahead.bytes.items
-    → IsShown ahead from len → IsReadable text end from len bytes → ahead_text ahead ≡ bytes
+pub shown_is : (ahead : ReadAhead) (text : List ℕ) (end from len : ℕ) (bytes : List ℕ) → HasBytesAt text ahead.from (ahead_bytes ahead)
+    → ahead.filled ≤ length ahead.bytes.items → IsShown ahead from len → IsReadable text end from len bytes → ahead_text ahead ≡ bytes
 shown_is ahead text end from len bytes has room shown is =
     ap (λ (n : ℕ). take n (drop ahead.at ahead.bytes.items)) shown.long
     ∙ shown_text text ahead.bytes.items ahead.from ahead.filled from ahead.at len has room shown.place shown.within
@@ -93,7 +93,8 @@ shown_is ahead text end from len bytes has room shown is =
     ∙ is.begins (drop from text) refl
 
 -- the same bytes stand there still
-pub stands_same : (old new : ReadAhead) (text : List ℕ) → SameAhead old new → HasBytesAt text old.from (ahead_bytes old) → HasBytesAt text new.from (ahead_bytes new)
+pub stands_same : (old new : ReadAhead) (text : List ℕ) → SameAhead old new → HasBytesAt text old.from (ahead_bytes old)
+    → HasBytesAt text new.from (ahead_bytes new)
 stands_same old new text same has =
     subst (λ (n : ℕ). HasBytesAt text n (ahead_bytes new)) (sym same.from)
     (subst (λ (bytes : List ℕ). HasBytesAt text old.from bytes) (sym same.bytes) has)

@@ -1,17 +1,15 @@
 -- The parts of a frame are taken from a window, one after another.
-use Rattle.std.proofs.Common.{◌≡◌, ℕ, ◌+◌, ◌-◌, ◌<◌, ◌≤◌, min, List, [], ◌∷◌, ◌++◌, length, take, drop, Result, Ok, Err, refl, sym, ap, subst, ◌∙◌, length-append, arith}
-use Rattle.std.specs.Prelude.{◌≢◌}
+use Rattle.std.proofs.Common.{◌≡◌, ℕ, ◌+◌, ◌-◌, ◌<◌, ◌≤◌, min, List, [], ◌∷◌, ◌++◌, length, take, drop, Err, refl, sym, ap, subst, ◌∙◌, length-append, arith}
 use Rattle.std.proofs.lemmas.List.{append_assoc, take-append-drop, drop_at, drop-take, drop-drop, take-take, length-take-le, length-drop}
 use Rattle.std.proofs.Math.Seq.{take-append-add}
 use Rattle.ax_disk.specs.declared.extent.Extent.{Extent}
 use Rattle.ax_frame.specs.Part.{PartValue, part_bytes, head_bytes, BeginsWithPart}
-use Rattle.ax_pages.specs.AfterPart.{after_part}
-use Rattle.ax_pages.specs.Leads.{IsSpoiled, IsRefused}
+use Rattle.ax_pages.specs.Leads.{IsRefused}
 use Rattle.ax_pages.specs.Image.{extent_number}
 use Rattle.ax_store.specs.declared.fault.StoreFault.{StoreFault}
 use Rattle.ax_store.specs.declared.fault.StoreFault.TheVariants.{Disk, Damaged, Newer, Memory}
 use Rattle.ax_store.specs.Kept.{Kept, Takes}
-use Rattle.ax_store.specs.Taking.{TakesPart, IsFrontTaken, IsTakenTo}
+use Rattle.ax_store.specs.Taking.{IsFrontTaken, IsTakenTo}
 use Rattle.ax_store.specs.Loading.{TellsNext, TellsSpan}
 use Rattle.ax_store.proofs.TakingLemmas.{not_begun, all_taken, one_more_here}
 

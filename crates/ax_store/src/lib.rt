@@ -1,7 +1,8 @@
 //! The page store: a map from each page to the parts that count, which stand, by the log, on a disk.
 //! In memory are their places, lengths and first bytes, and the low pairs of term pages; a payload is
 //! read from the disk when it is asked for, through a page cache. The store knows kinds, keys and
-//! lengths of parts; what a payload means is for the layers above.
+//! lengths of parts; what a payload means is for the layers above. A scan of documents reads ahead:
+//! texts that lie together come from one read.
 //!
 //! It stands on `ax_log` for the frames, on `ax_frame` for parts, on `ax_cache` for what was read
 //! before, on `ax_shown` for payloads that contracts see and no code holds, and on `ax_pages` for what
@@ -11,7 +12,8 @@
 //!
 //! Upper layers speak of `HasContents` before a call and after it. That a store which agrees with a
 //! disk has its contents there, and that it agrees still where nothing changed, are the lemmas
-//! `agrees_rests`, `agrees_still` and `agrees_same` of `proofs/StoreLemmas.antt`.
+//! `agrees_rests`, `agrees_still` and `agrees_same` of `proofs/StoreLemmas.antt`; of what was read
+//! ahead `ahead_of_nothing`, `ahead_still` and `without_ahead` of `proofs/AheadLemmas.antt`.
 #![tactic(auto)]
 
 mod ahead_reads;

@@ -86,7 +86,10 @@ impl ReadAhead {
     /// for yet. So a text that is asked for out of order is read alone.
     pub(crate) fn is_next(&self, from: u64, len: usize) -> bool {
         let last = self.from.saturating_add(self.at as u64);
-        self.filled == 0 || Stretch::of_text(last, self.len).with_text(from, len).is_some()
+        self.filled == 0
+            || Stretch::of_text(last, self.len)
+                .with_text(from, len)
+                .is_some()
     }
 
     /// Makes room for so many bytes. `Err` where there is none; all is then as it was.

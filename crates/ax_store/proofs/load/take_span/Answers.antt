@@ -2,7 +2,7 @@ use Rattle.std.proofs.Common.{refl, sym, subst, ◌∙◌, ◌+◌, ◌≤◌, a
 use Rattle.std.specs.Prelude.{IsTrue}
 use Rattle.ax_disk.specs.laws.StaysLaws.{idles_start, idles_join}
 use Rattle.ax_pages.specs.Area.{frames_bytes}
-use Rattle.ax_store.proofs.SpanLemmas.{nothing_taken, step, done, refused}
+use Rattle.ax_store.proofs.SpanLemmas.{nothing_taken, step, refused}
 use Rattle.ax_store.proofs.load.take_span.Goals as goal
 
 pub loop-here-init : goal.loop-here-init

@@ -1,4 +1,4 @@
-use Rattle.std.proofs.Common.{◌≡◌, ℕ, List, refl, sym, ap, subst, ◌∙◌, length, drop, Some, option_map, arith}
+use Rattle.std.proofs.Common.{◌≡◌, ℕ, List, refl, ap, ◌∙◌, length, drop, Some, option_map, arith}
 use Rattle.std.proofs.lemmas.List.{take_at}
 use Rattle.ax_store.specs.Rows.{payload_kept, offset_kept}
 use Rattle.ax_store.proofs.PartPlaces.{whole_frame, text_readable}

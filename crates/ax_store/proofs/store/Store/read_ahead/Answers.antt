@@ -10,8 +10,8 @@ returns-then-show-clause-text g c = λ honest.
     let before = c.requires.agrees honest c.if-self.false in
     let part = c.in-Some.part.now in
     let is = text_readable g.C.PageCache.pages c.args.self.now _ before.agrees c.args.self.now.log.small (offset_kept part)
-        c.text_place-from.result.0 c.text_place-from.result.1 (payload_kept part) c.args.number
-        c.in-Some.ensures.payload c.in-Some.ensures.offset c.text_place-from.ensures.from c.text_place-from.ensures.len in
+    c.text_place-from.result.0 c.text_place-from.result.1 (payload_kept part) c.args.number
+    c.in-Some.ensures.payload c.in-Some.ensures.offset c.text_place-from.ensures.from c.text_place-from.ensures.len in
     is_ahead c.show.new.self (frames_bytes before.agrees.frames) _ _ _ (payload_kept part) _ c.in-Some.ensures.payload
     (stands_same c.args.ahead.now c.show.new.self (frames_bytes before.agrees.frames) c.show.ensures.same before.stands)
     c.show.new.self.room (c.show.ensures.shown c.if-show.true) is
@@ -30,8 +30,8 @@ returns-clause-text g c = λ honest.
     let before = c.requires.agrees honest c.if-self.false in
     let part = c.in-Some.part.now in
     let is = text_readable g.C.PageCache.pages c.args.self.now _ before.agrees c.args.self.now.log.small (offset_kept part)
-        c.text_place-from.result.0 c.text_place-from.result.1 (payload_kept part) c.args.number
-        c.in-Some.ensures.payload c.in-Some.ensures.offset c.text_place-from.ensures.from c.text_place-from.ensures.len in
+    c.text_place-from.result.0 c.text_place-from.result.1 (payload_kept part) c.args.number
+    c.in-Some.ensures.payload c.in-Some.ensures.offset c.text_place-from.ensures.from c.text_place-from.ensures.len in
     is_ahead c.fill.new.self (frames_bytes before.agrees.frames) _ _ _ (payload_kept part) _ c.in-Some.ensures.payload
     (c.in-Ok-fill.ensures.read honest before.agrees.frames before.agrees.logged (c.span_from-span.ensures.within is.within))
     c.fill.new.self.room c.in-Ok-fill.ensures.shown is
@@ -41,7 +41,7 @@ returns-clause-agrees g c = λ honest works.
     let before = c.requires.agrees honest works in
     let part = c.in-Some.part.now in
     let is = text_readable g.C.PageCache.pages c.args.self.now _ before.agrees c.args.self.now.log.small (offset_kept part)
-        c.text_place-from.result.0 c.text_place-from.result.1 (payload_kept part) c.args.number
-        c.in-Some.ensures.payload c.in-Some.ensures.offset c.text_place-from.ensures.from c.text_place-from.ensures.len in
+    c.text_place-from.result.0 c.text_place-from.result.1 (payload_kept part) c.args.number
+    c.in-Some.ensures.payload c.in-Some.ensures.offset c.text_place-from.ensures.from c.text_place-from.ensures.len in
     ahead_read g.C.PageCache.pages c.args.self.now c.args.self.now c.fill.new.self _ _ before.agrees refl refl refl (c.fill.ensures.lists honest)
     (c.in-Ok-fill.ensures.read honest before.agrees.frames before.agrees.logged (c.span_from-span.ensures.within is.within))

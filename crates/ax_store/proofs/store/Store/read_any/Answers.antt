@@ -1,7 +1,6 @@
 use Rattle.std.proofs.Common.{refl, sym, ap, ◌∙◌, length}
 use Rattle.ax_pool.specs.Frames.{bytes_at}
 use Rattle.ax_store.specs.Rows.{payload_kept, offset_kept}
-use Rattle.ax_store.specs.Slots.{part_at}
 use Rattle.ax_store.specs.Store.{store_contents}
 use Rattle.ax_pages.specs.Contents.{parts_of}
 use Rattle.ax_store.proofs.PartPlaces.{got, part_readable}

@@ -1,4 +1,4 @@
-use Rattle.std.proofs.Common.{refl, sym, ap, subst, ◌∙◌, length, Some}
+use Rattle.std.proofs.Common.{refl, subst, Some}
 use Rattle.ax_pool.specs.Frames.{bytes_at}
 use Rattle.ax_store.specs.Rows.{payload_kept, offset_kept}
 use Rattle.ax_store.specs.Slots.{IsFetched}
