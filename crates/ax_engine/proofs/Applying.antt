@@ -1,7 +1,15 @@
 -- What an engine answers to a line, from what its documents tell.
-use Rattle.std.proofs.Common.{◌≡◌, ℕ, List, Some, Ok, Err, refl, sym, ap, subst, ◌∙◌}
+use Rattle.std.proofs.Common.{◌≡◌, ℕ, ◌≤◌, Bool, List, Some, None, Result, Ok, Err, OnOk, refl, sym, ap, subst, ◌∙◌}
+use Rattle.std.specs.Prelude.{IfOk, IfErr, IsTrue}
+use Rattle.ax_cache.specs.declared.lru_pages.LruPages.{LruPages}
 use Rattle.ax_disk.specs.model.Moments.{History}
+use Rattle.ax_disk.specs.model.Pending.{MayLeave}
 use Rattle.ax_disk.specs.model.Stays.{Rests, Turns}
+use Rattle.ax_faults.specs.Faults.{Rose}
+use Rattle.ax_store.specs.declared.fault.StoreFault.{StoreFault}
+use Rattle.ax_store.specs.declared.fault.StoreFault.TheVariants as store_fault
+use Rattle.ax_store.specs.declared.read_ahead.ReadAhead.{ReadAhead}
+use Rattle.ax_store.specs.declared.store.Store.{Store}
 use Rattle.ax_tree.specs.Document.{document_id}
 use Rattle.ax_tree.specs.declared.tree.Tree.{Tree}
 use Rattle.ax_container.specs.Container.{Container}
@@ -10,20 +18,26 @@ use Rattle.ax_lines.specs.declared.body.Body.{Body}
 use Rattle.ax_lines.specs.declared.line.Line.{Line}
 use Rattle.ax_lines.specs.declared.line.Line.TheVariants as line
 use Rattle.ax_lines.specs.declared.refusal.Refusal.TheVariants as refusal
+use Rattle.ax_machine.specs.Querying.{query_reply}
 use Rattle.ax_machine.specs.Reply as reply
 use Rattle.ax_machine.specs.Run.{Outcome, Served, OutOfMemory}
 use Rattle.ax_machine.specs.Step.{served, upsert_by, written}
-use Rattle.ax_engine.specs.Documents.{DocumentsHold, TellsUpsert}
-use Rattle.ax_engine.specs.Engine.{Holds, Tells, Works, made_by}
-use Rattle.ax_engine.specs.Replies.{IsReply}
+use Rattle.ax_engine.specs.Damage.{Meets}
+use Rattle.ax_engine.specs.Documents.{DocumentsHold, DocumentsWork, TellsUpsert, WorksAfterUpsert}
+use Rattle.ax_engine.specs.Engine.{Applies, Holds, Tells, Works}
+use Rattle.ax_engine.specs.Replies.{IsOfReading, IsReply, read_answer, upsert_answer}
+use Rattle.ax_engine.specs.Scans.{Scanned, Scans}
 use Rattle.ax_engine.specs.Stores.{Shows}
 use Rattle.ax_engine.specs.declared.documents.Documents.{Documents}
+use Rattle.ax_engine.specs.declared.documents.UpsertFault.{UpsertFault}
 use Rattle.ax_engine.specs.declared.documents.UpsertFault.TheVariants as upsert
 use Rattle.ax_engine.specs.declared.engine.Engine.{Engine}
+use Rattle.ax_engine.specs.declared.engine.Fault.{Fault}
 use Rattle.ax_engine.specs.declared.engine.Fault.TheVariants as fault
 use Rattle.ax_engine.specs.declared.reply.Reply.{Reply}
 use Rattle.ax_engine.specs.declared.reply.Reply.TheVariants as given
-use Rattle.ax_engine.proofs.Holding.{rests_of, still}
+use Rattle.ax_engine.proofs.Damaging.{met_outside, none_outside}
+use Rattle.ax_engine.proofs.Holding.{holds_read, idled, rests_of, still}
 
 -- ---- an upsert
 
@@ -71,26 +85,113 @@ pub tells_memory : (honest : Type 0) (before : Container) (asked : Line) (docume
     → Tells honest before asked (Ok (given.Refused refusal.Memory)) documents old new
 tells_memory honest before asked documents old new holds turns = (OutOfMemory, refl, holds, turns)
 
+-- by what the upsert came to
+pub tells_upserted : (honest : Type 0) (before : Container) (id : List ℕ) (tree : Tree) (documents : Documents)
+    (old new : History) (upserted : Result (Unit {0}) UpsertFault) → document_id tree ≡ Some id
+    → TellsUpsert honest before id tree upserted documents old new
+    → Tells honest before (line.Upsert tree) (upsert_answer upserted) documents old new
+tells_upserted honest before id tree documents old new (Ok made) doc told =
+    tells_made honest before id tree documents old new doc told
+tells_upserted honest before id tree documents old new (Err upsert.Full) doc told =
+    tells_full honest before id tree documents old new doc told
+tells_upserted honest before id tree documents old new (Err upsert.Memory) doc told =
+    tells_memory honest before (line.Upsert tree) documents old new told.0 told.1
+tells_upserted honest before id tree documents old new (Err upsert.Disk) doc told =
+    tells_disk honest before id tree documents old new doc told
+
+pub works_upserted : (honest : Type 0) (documents : Documents) (new : History) (upserted : Result (Unit {0}) UpsertFault)
+    → WorksAfterUpsert honest upserted documents new → OnOk (upsert_answer upserted) (DocumentsWork honest documents new)
+works_upserted honest documents new (Ok made) works = works
+works_upserted honest documents new (Err upsert.Full) works = works
+works_upserted honest documents new (Err upsert.Memory) works = works
+works_upserted honest documents new (Err upsert.Disk) works = tt
+
+pub rose_upserted : (upserted : Result (Unit {0}) UpsertFault) (l m : ℕ) → (upserted ≡ Err upsert.Disk → Rose l m)
+    → upsert_answer upserted ≡ Err fault.Disk → Rose l m
+rose_upserted (Ok made) l m cause is = absurd cc
+rose_upserted (Err upsert.Full) l m cause is = absurd cc
+rose_upserted (Err upsert.Memory) l m cause is = absurd cc
+rose_upserted (Err upsert.Disk) l m cause is = cause refl
+
+pub only_disk : (upserted : Result (Unit {0}) UpsertFault) → IfErr (upsert_answer upserted) (λ why. why ≡ fault.Disk)
+only_disk (Ok made) = tt
+only_disk (Err upsert.Full) = tt
+only_disk (Err upsert.Memory) = tt
+only_disk (Err upsert.Disk) = refl
+
 -- ---- a query changes nothing
 
-query_stays : (before : Container) (body : Body) (outcome : Outcome)
-    → (made_by before (line.Query body) outcome).0 ≡ before
-query_stays before body Served = refl
-query_stays before body OutOfMemory = refl
+-- what reading left, and answered
+module _ (honest : Bool) (documents : Documents) (store : Store LruPages)
+    (ahead : ReadAhead) (old new : History) (l m : ℕ) where
+  abbrev after : Documents
+  after = record documents { store = store }
 
-pub tells_query : (honest : Type 0) (before : Container) (asked : Line) (body : Body) (made : Reply)
-    (documents : Documents) (now : History) → asked ≡ line.Query body
-    → ((outcome : Outcome) × IsReply made (made_by before (line.Query body) outcome).1)
-    → DocumentsHold documents before → (honest → Turns now now (Shows before) (Shows before))
-    → Tells honest before asked (Ok made) documents now now
-tells_query honest before asked body made documents now is answers holds turns =
-    let same = query_stays before body answers.0 in
-    subst (λ (a : Line). Tells honest before a (Ok made) documents now now) (sym is) (
-      answers.0,
-      answers.1,
-      subst (DocumentsHold documents) (sym same) holds,
-      subst (λ (after : Container). honest → Turns now now (Shows before) (Shows after)) (sym same) turns,
-    )
+  works_scanned : Scanned honest documents.store store ahead old new l m → DocumentsWork (IsTrue honest) after new
+  works_scanned scanned = record {
+    unfailed = scanned.ready.works;
+    agrees = λ h. (scanned.ready.agrees h).agrees;
+  }
+
+  pub works_read : (read : Result Reply StoreFault) → Scans honest read documents.store store ahead old new l m
+      → OnOk (read_answer read) (DocumentsWork (IsTrue honest) after new)
+  works_read (Ok reply) scans = works_scanned scans
+  works_read (Err store_fault.Disk) scans = tt
+  works_read (Err (store_fault.Damaged extent at)) scans = tt
+  works_read (Err (store_fault.Newer version)) scans = absurd scans
+  works_read (Err store_fault.Memory) scans = works_scanned scans
+
+  pub never_falls_read : (read : Result Reply StoreFault) → Scans honest read documents.store store ahead old new l m → l ≤ m
+  never_falls_read (Ok reply) scans = scans.never_falls
+  never_falls_read (Err store_fault.Disk) scans = scans.never_falls
+  never_falls_read (Err (store_fault.Damaged extent at)) scans = scans.0.never_falls
+  never_falls_read (Err (store_fault.Newer version)) scans = absurd scans
+  never_falls_read (Err store_fault.Memory) scans = scans.never_falls
+
+  pub rose_read : (read : Result Reply StoreFault) → Scans honest read documents.store store ahead old new l m
+      → read_answer read ≡ Err fault.Disk → Rose l m
+  rose_read (Ok reply) scans is = absurd cc
+  rose_read (Err store_fault.Disk) scans is = scans.rose
+  rose_read (Err (store_fault.Damaged extent at)) scans is = absurd cc
+  rose_read (Err (store_fault.Newer version)) scans is = absurd scans
+  rose_read (Err store_fault.Memory) scans is = absurd cc
+
+  pub met_read : (read : Result Reply StoreFault) → Scans honest read documents.store store ahead old new l m
+      → MayLeave new.unsynced new.reads → IsTrue honest
+      → IfErr (read_answer read) (λ why. Meets why new.reads)
+  met_read (Ok reply) scans may h = tt
+  met_read (Err store_fault.Disk) scans may h = tt
+  met_read (Err (store_fault.Damaged extent at)) scans may h =
+      met_outside store ahead new extent at (scans.0.ready.agrees h) may (scans.1 h)
+  met_read (Err (store_fault.Newer version)) scans may h = absurd scans
+  met_read (Err store_fault.Memory) scans may h = tt
+
+  module _ (before : Container) (body : Body) (works : DocumentsWork (IsTrue honest) documents old) (holds : DocumentsHold documents before) where
+    turns_scanned : Scanned honest documents.store store ahead old new l m
+        → IsTrue honest → Turns old new (Shows before) (Shows before)
+    turns_scanned scanned h = idled (IsTrue honest) documents old new before works holds (scanned.lists h) h
+
+    stands_scanned : Scanned honest documents.store store ahead old new l m → DocumentsHold after before
+    stands_scanned scanned = holds_read documents store before scanned.same holds
+
+    pub tells_read : (read : Result Reply StoreFault) → Scans honest read documents.store store ahead old new l m
+        → IfOk read (λ reply. IsReply reply (query_reply body before)) → IsTrue honest
+        → Tells (IsTrue honest) before (line.Query body) (read_answer read) after old new
+    tells_read (Ok made) scans is h = (Served, is, stands_scanned scans, turns_scanned scans)
+    tells_read (Err store_fault.Disk) scans is h =
+        λ _. idled (IsTrue honest) documents old new before works holds (scans.lists h) h
+    tells_read (Err (store_fault.Damaged extent at)) scans is h =
+        none_outside store.pages before at (stands_scanned scans.0).stand (scans.1 h).1
+    tells_read (Err (store_fault.Newer version)) scans is h = absurd scans
+    tells_read (Err store_fault.Memory) scans is h = (OutOfMemory, refl, stands_scanned scans, turns_scanned scans)
+
+pub of_reading : (honest : Bool) (read : Result Reply StoreFault) (old new : Store LruPages) (ahead : ReadAhead)
+    (entry exit : History) (l m : ℕ) → Scans honest read old new ahead entry exit l m → IfErr read IsOfReading
+of_reading honest (Ok reply) old new ahead entry exit l m scans = tt
+of_reading honest (Err store_fault.Disk) old new ahead entry exit l m scans = tt
+of_reading honest (Err (store_fault.Damaged extent at)) old new ahead entry exit l m scans = tt
+of_reading honest (Err (store_fault.Newer version)) old new ahead entry exit l m scans = absurd scans
+of_reading honest (Err store_fault.Memory) old new ahead entry exit l m scans = tt
 
 -- ---- an engine
 
@@ -105,3 +206,12 @@ pub still_over : (honest : Type 0) (engine : Engine) (history : History) (before
     → honest → Turns history history (Shows before) (Shows other)
 still_over honest engine history before other works holds =
     still honest engine.documents history before other (works.documents holds.unfaulted) holds.documents
+
+-- the documents' answer as the engine's
+pub applies_told : (honest : Type 0) (before : Container) (asked : Line) (result : Result Reply Fault) (engine : Engine)
+    (old new : History) → OnOk result (engine.fault ≡ None) → Tells honest before asked result engine.documents old new
+    → Applies honest before asked result engine old new
+applies_told honest before asked (Ok reply) engine old new none told =
+    (told.0, told.1, record { unfaulted = none; documents = told.2 }, told.3)
+applies_told honest before asked (Err fault.Disk) engine old new none told = told
+applies_told honest before asked (Err (fault.Damaged extent at)) engine old new none told = told

@@ -3,20 +3,23 @@ use Rattle.std.proofs.Common.{◌≡◌, ℕ, List, Option, Some, None, refl, sy
 use Rattle.std.specs.Prelude.{IsSome}
 use Rattle.std.proofs.lemmas.Bool.{false≢true}
 use Rattle.ax_ids.specs.Ids.{number_under}
+use Rattle.ax_disk.specs.model.Calls.{Idles}
 use Rattle.ax_disk.specs.model.Image.{Image}
 use Rattle.ax_disk.specs.model.Moments.{History}
 use Rattle.ax_disk.specs.model.Stays.{Rests, Turns}
-use Rattle.ax_disk.specs.laws.StaysLaws.{rests_weaken, stays_start, stays_turn, turns_weaken}
+use Rattle.ax_disk.specs.laws.StaysLaws.{idles_stay, rests_weaken, stays_start, stays_turn, turns_weaken}
 use Rattle.ax_container.specs.Container.{Container}
 use Rattle.ax_frame.specs.Part.{PartValue}
 use Rattle.ax_pages.specs.Contents.{Contents}
 use Rattle.ax_pages.specs.AfterPart.{after_parts}
 use Rattle.ax_pages.specs.HasContents.{HasContents}
 use Rattle.ax_image.specs.StandsFor.{ContentsStandFor}
-use Rattle.ax_cache.specs.declared.no_pages.NoPages.{NoPages}
-use Rattle.ax_resident_store.specs.declared.store.Store.{Store}
-use Rattle.ax_resident_store.specs.Store.{SameButRoom}
-use Rattle.ax_resident_store.proofs.StoreLemmas.{agrees_rests, agrees_same}
+use Rattle.ax_cache.specs.Held.{held}
+use Rattle.ax_cache.specs.declared.lru_pages.LruPages.{LruPages}
+use Rattle.ax_store.specs.declared.store.Store.{Store}
+use Rattle.ax_store.specs.Kept.{Kept}
+use Rattle.ax_store.specs.Store.{SameButReads, SameButRoom}
+use Rattle.ax_store.proofs.StoreLemmas.{agrees_rests, agrees_same}
 use Rattle.ax_engine.specs.declared.documents.Documents.{Documents}
 use Rattle.ax_engine.specs.Documents.{contents_in, DocumentsHold, DocumentsWork}
 use Rattle.ax_engine.specs.Stores.{Shows}
@@ -34,7 +37,7 @@ module _ (honest : Type 0) where
   rests_of documents history before works holds h =
       rests_weaken history (HasContents (contents_in documents)) (Shows before)
       (shows_by (contents_in documents) before holds.stand)
-      (agrees_rests documents.store history (works.agrees h))
+      (agrees_rests held documents.store history (works.agrees h))
 
   -- nothing has happened
   pub still : (documents : Documents) (history : History) (before other : Container)
@@ -44,16 +47,33 @@ module _ (honest : Type 0) where
       stays_turn history history (Shows before) (Shows other)
       (stays_start history (Shows before) (rests_of documents history before works holds h))
 
+  -- no list has changed
+  pub idled : (documents : Documents) (old new : History) (before : Container)
+      → DocumentsWork honest documents old → DocumentsHold documents before → Idles old new
+      → honest → Turns old new (Shows before) (Shows before)
+  idled documents old new before works holds idles h =
+      stays_turn old new (Shows before) (Shows before)
+      (idles_stay old new (Shows before) (rests_of documents old before works holds h) idles)
+
   -- room was made
-  pub works_room : (documents : Documents) (store : Store NoPages) (history : History)
+  pub works_room : (documents : Documents) (store : Store LruPages) (history : History)
       → SameButRoom documents.store store
       → DocumentsWork honest documents history → DocumentsWork honest (record documents { store = store }) history
   works_room documents store history same works = record {
     unfailed = same.failed ∙ works.unfailed;
-    agrees = λ h. agrees_same documents.store store history same (works.agrees h);
+    agrees = λ h. agrees_same held documents.store store history same (works.agrees h);
   }
 
-pub holds_room : (documents : Documents) (store : Store NoPages) (before : Container)
+-- calls came that read
+pub holds_read : (documents : Documents) (store : Store LruPages) (before : Container)
+    → SameButReads documents.store store
+    → DocumentsHold documents before → DocumentsHold (record documents { store = store }) before
+holds_read documents store before same holds = record {
+  stand = subst (λ (kept : Kept). ContentsStandFor kept.contents before) (sym same.pages) holds.stand;
+  numbers = holds.numbers;
+}
+
+pub holds_room : (documents : Documents) (store : Store LruPages) (before : Container)
     → SameButRoom documents.store store
     → DocumentsHold documents before → DocumentsHold (record documents { store = store }) before
 holds_room documents store before same holds = record {

@@ -18,7 +18,11 @@ use Rattle.ax_pages.specs.Contents.{Contents, Numbered}
 use Rattle.ax_pages.proofs.LastPart.{same_number, other_number}
 use Rattle.ax_image.specs.StandsFor.{AreShown, ContentsStandFor}
 use Rattle.ax_tree.specs.declared.tree.Tree.{Tree}
-use Rattle.ax_resident_store.specs.Listed.{IsNextAfter}
+use Rattle.ax_cache.specs.declared.lru_pages.LruPages.{LruPages}
+use Rattle.ax_store.specs.Kept.{Kept}
+use Rattle.ax_store.specs.Listed.{IsNextAfter}
+use Rattle.ax_store.specs.Store.{SameButReads, store_contents}
+use Rattle.ax_store.specs.declared.store.Store.{Store}
 use Rattle.ax_text.proofs.RoundTrip.{text-stands}
 use Rattle.ax_text.specs.Reading.{reading, Stands}
 
@@ -248,10 +252,10 @@ module _ (contents : Contents) (container : Container)
       stand.sound.numbers
 
   -- the text that the next document's page has
-  pub text_here : (n k : ℕ) (text : Option (List ℕ)) (next : Next n k pages container.entries)
-      → text ≡ option_map (λ (payload : List ℕ). drop 1 payload) (finite.get contents.documents k)
-      → text ≡ Some (canonical_text next.entry.tree)
-  text_here n k text next is = is ∙ ap (option_map (λ (payload : List ℕ). drop 1 payload))
+  pub text_here : (n k : ℕ) (next : Next n k pages container.entries)
+      → option_map (λ (payload : List ℕ). drop 1 payload) (finite.get contents.documents k)
+      ≡ Some (canonical_text next.entry.tree)
+  text_here n k next = ap (option_map (λ (payload : List ℕ). drop 1 payload))
       (finite.get-entries contents.documents k ∙ next.payload)
 
   -- the next document is one that is stored
@@ -264,24 +268,12 @@ module _ (contents : Contents) (container : Container)
   distinct_here n k next = subst IdsAreDistinct next.here
       (distinct_above n container.entries stand.sound.distinct)
 
-  -- the next document's text is the canonical text of its tree
-  pub canonical_here : (n k : ℕ) (text : List ℕ) (next : Next n k pages container.entries)
-      → Some text ≡ option_map (λ (payload : List ℕ). drop 1 payload)
-      (finite.get contents.documents k)
-      → text ≡ canonical_text next.entry.tree
-  canonical_here n k text next is =
-      let some : Some text ≡ Some (canonical_text next.entry.tree) =
-      text_here n k (Some text) next is in cc
-
   -- the next document's text stands for its tree
-  pub read_here : (n k : ℕ) (text : List ℕ) (next : Next n k pages container.entries)
-      → Some text ≡ option_map (λ (payload : List ℕ). drop 1 payload)
-      (finite.get contents.documents k)
-      → reading text ≡ Stands next.entry.tree
-  read_here n k text next is =
+  pub reads_here : (n k : ℕ) (next : Next n k pages container.entries)
+      → reading (canonical_text next.entry.tree) ≡ Stands next.entry.tree
+  reads_here n k next =
       let stored = stored_here n k next in
-      ap reading (canonical_here n k text next is)
-      ∙ text-stands next.entry.tree stored.well_formed stored.shallow
+      text-stands next.entry.tree stored.well_formed stored.shallow
 
   -- one document more was taken in
   pub taken_on : (n k : ℕ) (done : List (ℕ × Tree)) (next : Next n k pages container.entries)
@@ -311,3 +303,22 @@ module _ (contents : Contents) (container : Container)
       ∙ sym (one_number id next.entry next.later k old next.number_is (distinct_here n k next))
       ∙ ap (λ es. number_or (find (has_id id) es) old) (sym next.here)
       ∙ known
+
+-- ---- over calls that read
+
+pub next_same : (old new : Store LruPages) (n k : ℕ) → SameButReads old new
+    → IsNextAfter (store_contents new).documents n k → IsNextAfter (store_contents old).documents n k
+next_same old new n k same next = subst (λ (kept : Kept). IsNextAfter kept.contents.documents n k) same.pages next
+
+pub none_same : (old new : Store LruPages) (n : ℕ) → SameButReads old new
+    → ((b : ℕ) → n < b → finite.get (store_contents new).documents b ≡ None)
+    → (b : ℕ) → n < b → finite.get (store_contents old).documents b ≡ None
+none_same old new n same none =
+    subst (λ (kept : Kept). (b : ℕ) → n < b → finite.get kept.contents.documents b ≡ None) same.pages none
+
+pub text_same : (old new : Store LruPages) (k : ℕ) (text : List ℕ) → SameButReads old new
+    → option_map (λ (payload : List ℕ). drop 1 payload) (finite.get (store_contents old).documents k) ≡ Some text
+    → option_map (λ (payload : List ℕ). drop 1 payload) (finite.get (store_contents new).documents k) ≡ Some text
+text_same old new k text same is =
+    subst (λ (kept : Kept). option_map (λ (payload : List ℕ). drop 1 payload) (finite.get kept.contents.documents k) ≡ Some text)
+    (sym same.pages) is

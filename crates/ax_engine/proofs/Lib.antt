@@ -1,9 +1,11 @@
 pub mod Applying
+mod Damaging
 pub mod Holding
 mod InOrder
 mod Numbers
 pub mod Opened
 mod QueryTexts
 mod RowLines
+mod Scanning
 mod ShownTexts
 mod Writing

@@ -1,28 +1,39 @@
 -- What a store that was opened stands for; and what is opened is neither damaged nor of a later version.
-use Rattle.std.proofs.Common.{◌≡◌, inl, inr, ℕ, false, List, Result, Ok, Err, sym, subst, ap, ◌∙◌}
-use Rattle.std.specs.Prelude.{IfOk, IfErr}
-use Rattle.ax_ids.specs.Ids.{number_under}
+use Rattle.std.proofs.Common.{◌≡◌, ◌⊎◌, inl, inr, ℕ, ◌≤◌, Bool, List, Result, Ok, Err, refl, sym, subst, ◌∙◌, arith}
+use Rattle.std.specs.Prelude.{IfOk, IfErr, IsTrue}
+use Rattle.ax_cache.specs.Held.{held}
+use Rattle.ax_cache.specs.declared.lru_pages.LruPages.{LruPages}
+use Rattle.ax_disk.specs.laws.MomentLaws.{progress_stays, progress_within}
+use Rattle.ax_disk.specs.laws.CallLaws.{idles_leave}
+use Rattle.ax_disk.specs.laws.StageLaws.{barrier_goes_on}
+use Rattle.ax_disk.specs.laws.StaysLaws.{idles_stay, rests_weaken}
+use Rattle.ax_disk.specs.model.Calls.{Idles}
 use Rattle.ax_disk.specs.model.Image.{Image}
 use Rattle.ax_disk.specs.model.Moments.{History}
-use Rattle.ax_disk.specs.model.Stays.{SinceBarrier}
+use Rattle.ax_disk.specs.model.Stays.{BarrierStage, Rests, SinceBarrier}
+use Rattle.ax_faults.specs.Faults.{Rose}
+use Rattle.ax_faults.specs.FaultLaws.{rose_since}
 use Rattle.ax_pages.specs.Contents.{Contents}
 use Rattle.ax_pages.specs.Image.{IsNewer}
 use Rattle.ax_pages.specs.HasContents.{HasContents}
 use Rattle.ax_pages.specs.laws.ImageLaws.{damaged_has_no_frames, newer_has_no_frames}
 use Rattle.ax_pages.proofs.ImageContents.{one_contents, either}
+use Rattle.ax_ids.specs.Ids.{number_under}
 use Rattle.ax_log.specs.Opening.{Keeps}
-use Rattle.ax_cache.specs.declared.no_pages.NoPages.{NoPages}
-use Rattle.ax_resident_store.specs.declared.store.Store.{Store}
-use Rattle.ax_resident_store.specs.declared.fault.StoreFault.{StoreFault}
-use Rattle.ax_resident_store.specs.declared.fault.StoreFault.TheVariants as fault
-use Rattle.ax_resident_store.specs.Faults.{IsRefused}
-use Rattle.ax_resident_store.specs.Store.{IsDamagedStore, IsOpened, TellsFault, store_contents, store_failed}
-use Rattle.ax_resident_store.proofs.StoreLemmas.{barrier_weaken}
+use Rattle.ax_store.specs.declared.read_ahead.ReadAhead.{ReadAhead}
+use Rattle.ax_store.specs.declared.store.Store.{Store}
+use Rattle.ax_store.specs.declared.fault.StoreFault.{StoreFault}
+use Rattle.ax_store.specs.declared.fault.StoreFault.TheVariants as fault
+use Rattle.ax_store.specs.Faults.{IsRefused}
+use Rattle.ax_store.specs.Kept.{Kept}
+use Rattle.ax_store.specs.Store.{IsDamagedStore, IsOpened, TellsFault, store_contents}
+use Rattle.ax_store.proofs.StoreLemmas.{agrees_rests, barrier_weaken}
 use Rattle.ax_container.specs.Container.{Container}
 use Rattle.ax_image.specs.StandsFor.{ContentsStandFor}
 use Rattle.ax_engine.specs.declared.documents.Documents.{Documents}
 use Rattle.ax_engine.specs.Documents.{DocumentsHold, DocumentsWork, number_in}
-use Rattle.ax_engine.specs.Opening.{RefusesBy}
+use Rattle.ax_engine.specs.Opening.{Numbers, RefusesBy, TellsNumbers}
+use Rattle.ax_engine.specs.Scans.{ScanFails, Scanned}
 use Rattle.ax_engine.specs.Stores.{IsStore, Shows}
 
 shows_by : (contents : Contents) (container : Container) → ContentsStandFor contents container
@@ -30,64 +41,114 @@ shows_by : (contents : Contents) (container : Container) → ContentsStandFor co
 shows_by contents container stand image has =
     record { contents = contents; has = has; stand = stand }
 
-module _ (old new : History) where
+-- the barrier is still to come
+pub idle_since : (old new : History) (P : Image → Type 0) → Idles old new → SinceBarrier old new P
+idle_since old new P idle = record {
+  stages = progress_within old new 0 0 0 1 (BarrierStage old.unsynced (λ _ image. P image))
+      (omega arith) (omega arith)
+      (progress_stays old new 0 (BarrierStage old.unsynced (λ _ image. P image)) idle.time);
+  rests = inl (record { each = λ image may. idles_leave old new idle image may });
+}
+
+module _ (old mid : History) where
   pub since_opening : (before : Container) → IsStore before old
       → ((contents : Contents) → HasContents contents old.reads
-      → SinceBarrier old new (HasContents contents))
-      → SinceBarrier old new (Shows before)
+      → SinceBarrier old mid (HasContents contents))
+      → SinceBarrier old mid (Shows before)
   since_opening before store since =
       let contents = store.reads.contents in
-      barrier_weaken old new (HasContents contents) (Shows before)
+      barrier_weaken old mid (HasContents contents) (Shows before)
       (shows_by contents before store.reads.stand) (since contents store.reads.has)
 
   pub refuses_by : (why : StoreFault) → TellsFault why old.reads
-      → (IsRefused {T = Unit {0}} (Err why) → Keeps old new) → RefusesBy why old new
+      → (IsRefused {T = Unit {0}} (Err why) → Keeps old mid) → RefusesBy why old mid
   refuses_by (fault.Damaged extent at) tells keeps = (tells, keeps tt)
   refuses_by (fault.Newer version) tells keeps = (tells, keeps tt)
   refuses_by fault.Disk tells keeps = tt
   refuses_by fault.Memory tells keeps = tt
 
-  -- only want of memory refuses no store
-  pub refuses_none : (result : Result Documents StoreFault)
-      → IfErr result (λ why. why ≡ fault.Memory) → IfErr result (λ why. RefusesBy why old new)
-  refuses_none (Ok documents) only = tt
-  refuses_none (Err why) only = subst (λ w. RefusesBy w old new) (sym only) tt
+  module _ (store : Store LruPages) (before : Container) (was : IsStore before old)
+      (opened : IsOpened held store old.reads mid) where
+    -- the contents that the store was opened by are those of the container
+    opened_stand : ContentsStandFor (store_contents store) before
+    opened_stand =
+        subst (λ (contents : Contents). ContentsStandFor contents before)
+        (one_contents old.reads was.reads.contents (store_contents store) was.reads.has opened.has)
+        was.reads.stand
 
-  -- the contents that the store was opened by are those of the container
-  opened_stand : (store : Store NoPages) (before : Container) → IsStore before old
-      → HasContents (store_contents store) old.reads
-      → ContentsStandFor (store_contents store) before
-  opened_stand store before was has =
-      subst (λ (contents : Contents). ContentsStandFor contents before)
-      (one_contents old.reads was.reads.contents (store_contents store) was.reads.has has)
-      was.reads.stand
+    opened_rests : Rests mid (Shows before)
+    opened_rests = rests_weaken mid (HasContents (store_contents store)) (Shows before)
+        (shows_by (store_contents store) before opened_stand) (agrees_rests held store mid opened.agrees)
 
-  pub holds_opened : (result : Result Documents StoreFault) (store : Store NoPages) (before : Container)
-      → IsStore before old → IsOpened store old.reads new
-      → IfOk result (λ documents. documents.store ≡ store)
-      → ((container : Container) → ContentsStandFor (store_contents store) container
-      → IfOk result (λ documents. (id : List ℕ) → number_under documents.numbers id
-      ≡ number_in id container))
-      → IfOk result (λ documents. DocumentsHold documents before)
-  holds_opened (Err why) store before was opened same numbers = tt
-  holds_opened (Ok documents) store before was opened same numbers =
-      let stand = opened_stand store before was opened.has in
-      record {
-        stand = subst (λ (s : Store NoPages). ContentsStandFor (store_contents s) before) (sym same) stand;
-        numbers = numbers before stand;
-      }
+    -- calls that read came behind the opening
+    pub since_reading : (new : History) → SinceBarrier old mid (Shows before) → Idles mid new
+        → SinceBarrier old new (Shows before)
+    since_reading new since idles =
+        barrier_goes_on old mid new (Shows before) since opened_rests (idles_stay mid new (Shows before) opened_rests idles)
 
--- a store that has not failed, and that agrees with an honest disk, still does under its documents
-pub works_opened : (honest : Type 0) (result : Result Documents StoreFault) (store : Store NoPages)
-    (before : Image) (history : History) → store_failed store ≡ false
-    → (honest → IsOpened store before history) → IfOk result (λ documents. documents.store ≡ store)
-    → IfOk result (λ documents. DocumentsWork honest documents history)
-works_opened honest (Err status) store before history unfailed opened same = tt
-works_opened honest (Ok documents) store before history unfailed opened same = record {
-  unfailed = ap store_failed same ∙ unfailed;
-  agrees = λ h. (let A : Store NoPages → Type 0 = λ s. IsOpened s before history in
-      subst A (sym same) (opened h)).agrees;
+    pub holds_opened : (honest : Bool) (result : Result Documents StoreFault) (new : History) (l m : ℕ)
+        → TellsNumbers honest result store new l m → IsTrue honest
+        → IfOk result (λ documents. DocumentsHold documents before)
+    holds_opened honest (Err why) new l m tells h = tt
+    holds_opened honest (Ok documents) new l m tells h = record {
+      stand = subst (λ (kept : Kept). ContentsStandFor kept.contents before) (sym tells.same.pages) opened_stand;
+      numbers = tells.numbers h before opened_stand;
+    }
+
+-- ---- what finding the numbers answers
+
+pub numbers_made : (honest : Bool) (store : Store LruPages) (documents : Documents) (ahead : ReadAhead)
+    (before after : History) (l m : ℕ) → Scanned honest store documents.store ahead before after l m
+    → (IsTrue honest → (container : Container) → ContentsStandFor (store_contents store) container
+    → (id : List ℕ) → number_under documents.numbers id ≡ number_in id container)
+    → Numbers honest (Ok documents) store before after l m
+numbers_made honest store documents ahead before after l m scanned numbers = record {
+  tells = record {
+    same = scanned.same;
+    works = record { unfailed = scanned.ready.works; agrees = λ h. (scanned.ready.agrees h).agrees };
+    numbers = numbers;
+  };
+  lists = scanned.lists;
+  never_falls = scanned.never_falls;
 }
+
+pub numbers_failed : (honest : Bool) (why : StoreFault) (store now : Store LruPages) (ahead : ReadAhead)
+    (before after : History) (l m : ℕ) → ScanFails honest why store now ahead before after l m
+    → (why ≡ fault.Disk) ⊎ (why ≡ fault.Memory) → Numbers honest (Err why) store before after l m
+numbers_failed honest fault.Disk store now ahead before after l m fails only =
+    record { tells = fails.rose; lists = fails.lists; never_falls = fails.never_falls }
+numbers_failed honest (fault.Damaged extent at) store now ahead before after l m fails (inl is) = absurd cc
+numbers_failed honest (fault.Damaged extent at) store now ahead before after l m fails (inr is) = absurd cc
+numbers_failed honest (fault.Newer version) store now ahead before after l m fails only = absurd fails
+numbers_failed honest fault.Memory store now ahead before after l m fails only =
+    record { tells = tt; lists = fails.lists; never_falls = fails.never_falls }
+
+pub works_numbered : (honest : Bool) (result : Result Documents StoreFault) (store : Store LruPages) (new : History) (l m : ℕ)
+    → TellsNumbers honest result store new l m → IfOk result (λ documents. DocumentsWork (IsTrue honest) documents new)
+works_numbered honest (Ok documents) store new l m tells = tells.works
+works_numbered honest (Err why) store new l m tells = tt
+
+-- only a read that failed and want of memory refuse no store
+pub refuses_none : (honest : Bool) (result : Result Documents StoreFault) (store : Store LruPages) (old new : History) (l m : ℕ)
+    → TellsNumbers honest result store new l m → IfErr result (λ why. RefusesBy why old new)
+refuses_none honest (Ok documents) store old new l m tells = tt
+refuses_none honest (Err fault.Disk) store old new l m tells = tt
+refuses_none honest (Err (fault.Damaged extent at)) store old new l m tells = absurd tells
+refuses_none honest (Err (fault.Newer version)) store old new l m tells = absurd tells
+refuses_none honest (Err fault.Memory) store old new l m tells = tt
+
+pub rose_numbered : (honest : Bool) (result : Result Documents StoreFault) (store : Store LruPages) (new : History) (first l m : ℕ)
+    → TellsNumbers honest result store new l m → first ≤ l → result ≡ Err fault.Disk → Rose first m
+rose_numbered honest (Ok documents) store new first l m tells since is = absurd cc
+rose_numbered honest (Err fault.Disk) store new first l m tells since is = rose_since first l m m since (omega arith) tells
+rose_numbered honest (Err (fault.Damaged extent at)) store new first l m tells since is = absurd tells
+rose_numbered honest (Err (fault.Newer version)) store new first l m tells since is = absurd tells
+rose_numbered honest (Err fault.Memory) store new first l m tells since is = absurd cc
+
+-- what holds whatever was opened
+pub in_any : {P : Type 0} → (result : Result Documents StoreFault) → P → IfOk result (λ _. P)
+in_any (Ok documents) p = p
+in_any (Err why) p = tt
 
 -- ---- an image with contents is neither damaged nor of a later version
 

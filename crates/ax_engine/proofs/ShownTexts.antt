@@ -1,10 +1,12 @@
 -- The text of a document's page is that of the tree which stands under its number.
-use Rattle.std.proofs.Common.{◌≡◌, ◌==◌, ℕ, List, [], ◌∷◌, Option, Some, None, find, drop, inl, inr, refl, sym, ap, ◌∙◌}
-use Rattle.std.specs.Prelude.{◌≢◌, option_map, if◌then◌else◌}
+use Rattle.std.proofs.Common.{◌≡◌, ◌==◌, ℕ, Bool, true, false, List, [], ◌∷◌, Option, Some, None, find, drop, inl, inr, refl, sym, ap, ◌∙◌, codes, rules}
+use Rattle.std.specs.Prelude.{◌≢◌, if◌then◌else◌}
 use Rattle.std.specs.FinMap as finite
 use Rattle.std.specs.Ordering.{nat_cmp}
 use Rattle.std.proofs.lemmas.Bool.{cases_eq, eq-eqb, ne_eqb}
+use Rattle.ax_tree.specs.declared.tree.Tree as trees
 use Rattle.ax_tree.specs.declared.tree.Tree.{Tree}
+use Rattle.ax_store.specs.ReadAhead.{IsAhead}
 use Rattle.ax_tree.specs.CanonicalText.{canonical_text}
 use Rattle.ax_container.specs.Container.{Entry, Container}
 use Rattle.ax_excerpt.specs.ShownDocuments.{tree_at, tree_numbered}
@@ -23,6 +25,12 @@ numbered_later : (number : ℕ) (e : ℕ × Tree) (es : List (ℕ × Tree)) → 
 numbered_later number e es apart =
     ap (λ b. tree_at (if b then Some e else find (λ (f : ℕ × Tree). f.0 == number) es))
     (ne_eqb e.0 number apart)
+
+pub null_text : codes "null" ≡ canonical_text trees.Null
+null_text = search (rules, trees.the_lemmas)
+
+no_some : (a : List ℕ) → None ≡ Some a → ⊥
+no_some a e = cc
 
 some_is : (a b : List ℕ) → Some a ≡ Some b → a ≡ b
 some_is a b e = cc
@@ -47,19 +55,37 @@ in_pages number (p ∷ ps) (e ∷ es) shown payload found =
           ∙ ap canonical_text (sym (numbered_later number (e.number, e.tree) (pairs es) other))
     ]
 
--- the text that is stored under a number
-pub stored_text : (contents : Contents) (container : Container)
-    → ContentsStandFor contents container → (number : ℕ) (text : List ℕ)
-    → Some text ≡ option_map (λ (payload : List ℕ). drop 1 payload) (finite.get contents.documents number)
-    → text ≡ canonical_text (tree_numbered number (pairs container.entries))
-stored_text contents container stand number text is =
-    by_page (finite.get contents.documents number) refl is
+none_in_pages : (number : ℕ) (pages : List (ℕ × List ℕ)) (entries : List Entry) → AreShown pages entries
+    → finite.find nat_cmp number pages ≡ None → tree_numbered number (pairs entries) ≡ trees.Null
+none_in_pages number [] [] shown none = refl
+none_in_pages number [] (e ∷ es) shown none = absurd shown
+none_in_pages number (p ∷ ps) [] shown none = absurd shown
+none_in_pages number (p ∷ ps) (e ∷ es) shown none =
+    elim (cases_eq number p.0) as (λ _. tree_numbered number (pairs (e ∷ es)) ≡ trees.Null) [
+      | inl same ↦ absurd (no_some p.1 (sym none ∙ found_here number p ps same))
+      | inr apart ↦
+          let other : e.number ≢ number = λ is. apart (sym (shown.0.number_is ∙ is)) in
+          numbered_later number (e.number, e.tree) (pairs es) other
+          ∙ none_in_pages number ps es shown.1 (sym (found_later number p ps apart) ∙ none)
+    ]
+
+-- the text that was read of a number, or null where none is held, is what a row of the number shows
+pub row_text_is : (contents : Contents) (container : Container)
+    → ContentsStandFor contents container → (number : ℕ) (is_held : Bool) (text row : List ℕ)
+    → IsAhead (finite.get contents.documents number) is_held text
+    → (is_held ≡ true → row ≡ text) → (is_held ≡ false → row ≡ canonical_text trees.Null)
+    → row ≡ canonical_text (tree_numbered number (pairs container.entries))
+row_text_is contents container stand number is_held text row ahead held none =
+    by_page (finite.get contents.documents number) refl ahead
   where
     by_page : (found : Option (List ℕ)) → finite.get contents.documents number ≡ found
-        → Some text ≡ option_map (λ (payload : List ℕ). drop 1 payload) found
-        → text ≡ canonical_text (tree_numbered number (pairs container.entries))
-    by_page None at is = absurd cc
-    by_page (Some payload) at is =
-        some_is text (drop 1 payload) is
+        → IsAhead found is_held text
+        → row ≡ canonical_text (tree_numbered number (pairs container.entries))
+    by_page None at ahead =
+        none ahead
+        ∙ ap canonical_text (sym (none_in_pages number (finite.entries contents.documents) container.entries stand.shown
+        (sym (finite.get-entries contents.documents number) ∙ at)))
+    by_page (Some payload) at ahead =
+        held ahead.0 ∙ ahead.1
         ∙ in_pages number (finite.entries contents.documents) container.entries stand.shown payload
         (sym (finite.get-entries contents.documents number) ∙ at)

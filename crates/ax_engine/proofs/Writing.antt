@@ -23,7 +23,7 @@ use Rattle.ax_image.specs.UpsertParts.{document_part, replacing_parts, creating_
 use Rattle.ax_image.proofs.Shown.{as_many}
 use Rattle.ax_image.proofs.Upserting.{Written, written, first_or, second_or, meta_fits, after_document}
 use Rattle.ax_image.proofs.Upserting.{with_document, any_found}
-use Rattle.ax_resident_store.specs.Putting.{AreWithin}
+use Rattle.ax_store.specs.Putting.{AreWithin}
 use Rattle.ax_engine.specs.Documents.{number_in, is_full_of}
 use Rattle.ax_engine.proofs.Holding.{LeadsTo}
 
@@ -86,6 +86,9 @@ no_entry : (o : Option Entry) → option_map (λ (e : Entry). e.number) o ≡ No
 no_entry None is = refl
 no_entry (Some e) is = absurd cc
 
+made_or_full : {made : Container} → Ok made ≡ Err Full → ⊥
+made_or_full is = cc
+
 module _ (contents : Contents) (before : Container) (tree : Tree) (id : List ℕ)
     (stand : ContentsStandFor contents before) (doc : document_id tree ≡ Some id)
     (formed : IsWellFormed tree) (shallow : nesting tree ≤ 127) where
@@ -128,6 +131,17 @@ module _ (contents : Contents) (before : Container) (tree : Tree) (id : List ℕ
       → upserted id tree before ≡ Ok (created id tree before)
   creates at full = created_or_full at
       ∙ ap (λ b. if b then Err Full else Ok (created id tree before)) full
+
+  -- a document that is held is replaced, full or not
+  pub never_full : (number : ℕ) → number_in id before ≡ Some number → upserted id tree before ≡ Err Full → ⊥
+  never_full number at is = made_or_full (sym (replaces number at) ∙ is)
+
+  pub full_then : number_in id before ≡ None → upserted id tree before ≡ Err Full → is_full_of contents ≡ true
+  full_then at is =
+      elim (is_full_of contents) as (λ b. (if b then Err Full else Ok (created id tree before)) ≡ Err Full → b ≡ true) [
+        | true ↦ λ _. refl
+        | false ↦ λ made. absurd (made_or_full made)
+      ] (sym (created_or_full at) ∙ is)
 
   pub created_leads : (number policy : ℕ) → number_in id before ≡ None → is_full_of contents ≡ false
       → number ≡ before.next_number → policy ≡ policy_now contents

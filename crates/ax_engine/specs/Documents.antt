@@ -2,10 +2,11 @@
 use Rattle.std.specs.Prelude.{◌≡◌, ℕ, List, Bool, ◌||◌, nat_le, false, Option, option_map, Result, Ok, Err}
 use Rattle.std.specs.FinMap as map
 use Rattle.ax_ids.specs.Ids.{number_under}
+use Rattle.ax_cache.specs.Held.{held}
 use Rattle.ax_disk.specs.model.Moments.{History}
 use Rattle.ax_disk.specs.model.Stays.{Turns}
 use Rattle.ax_pages.specs.Contents.{Contents, next_number}
-use Rattle.ax_resident_store.specs.Store.{Agrees, store_contents, store_failed}
+use Rattle.ax_store.specs.Store.{Agrees, store_contents, store_failed}
 use Rattle.ax_tree.specs.declared.tree.Tree.{Tree}
 use Rattle.ax_container.specs.Container.{Container, entry_of, most_documents, last_number}
 use Rattle.ax_container.specs.Upsert.{Full, upserted}
@@ -30,7 +31,7 @@ pub record DocumentsHold (documents : Documents) (container : Container) : Type 
 -- the store under the documents has not failed, and agrees with the disk where that is honest
 pub record DocumentsWork (honest : Type 0) (documents : Documents) (history : History) : Type 0 where
   pub unfailed : store_failed documents.store ≡ false
-  pub agrees : honest → Agrees documents.store history
+  pub agrees : honest → Agrees held documents.store history
 
 -- no document can be created
 abbrev pub is_full_of : Contents → Bool

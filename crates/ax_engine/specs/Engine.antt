@@ -1,12 +1,15 @@
 -- An engine at work: which container it has, and what it answers to a line.
-use Rattle.std.specs.Prelude.{◌≡◌, None, Result, Ok, Err}
+use Rattle.std.specs.Prelude.{◌≡◌, ℕ, List, None, Some, Result, Ok, Err}
 use Rattle.ax_disk.specs.model.Moments.{History}
 use Rattle.ax_disk.specs.model.Stays.{Turns}
 use Rattle.ax_container.specs.Container.{Container}
+use Rattle.ax_container.specs.Upsert.{Full, upserted}
 use Rattle.ax_lines.specs.declared.line.Line.{Line}
+use Rattle.ax_lines.specs.declared.line.Line.TheVariants as line
 use Rattle.ax_machine.specs.Reply as reply
 use Rattle.ax_machine.specs.Run.{Outcome, Served, OutOfMemory}
 use Rattle.ax_machine.specs.Step.{served}
+use Rattle.ax_tree.specs.Document.{document_id}
 use Rattle.ax_engine.specs.Documents.{DocumentsHold, DocumentsWork}
 use Rattle.ax_engine.specs.Replies.{IsReply}
 use Rattle.ax_engine.specs.Stores.{Shows}
@@ -31,7 +34,7 @@ made_by before line Served = served before (Ok line)
 made_by before line OutOfMemory = (before, reply.out_of_memory)
 
 -- What a line is answered: its step, or that memory ran out, which changes nothing; or that the disk
--- failed while the step was made.
+-- failed while the step was made. Of documents that are those of a container no text is damaged.
 abbrev pub TellsOf : Type 0 → Container → Line → Result Reply Fault → (Container → Type 0) → History
     → History → Type 0
 TellsOf honest before line (Ok given) Has old new =
@@ -40,6 +43,7 @@ TellsOf honest before line (Ok given) Has old new =
     × (honest → Turns old new (Shows before) (Shows (made_by before line outcome).0))
 TellsOf honest before line (Err fault.Disk) Has old new =
     honest → Turns old new (Shows before) (Shows (served before (Ok line)).0)
+TellsOf honest before line (Err (fault.Damaged extent at)) Has old new = ⊥
 
 -- the same of documents
 abbrev pub Tells : Type 0 → Container → Line → Result Reply Fault → Documents → History → History → Type 0
@@ -50,3 +54,9 @@ Tells honest before line result held old new =
 abbrev pub Applies : Type 0 → Container → Line → Result Reply Fault → Engine → History → History → Type 0
 Applies honest before line result engine old new =
     TellsOf honest before line result (Holds engine) old new
+
+-- the line creates a document, and the container is full
+abbrev pub FindsFull : Container → Line → Type 0
+FindsFull before (line.Upsert tree) =
+    (id : List ℕ) × (document_id tree ≡ Some id) × (upserted id tree before ≡ Err Full)
+FindsFull before (line.Query body) = ⊥

@@ -1,10 +1,20 @@
--- What opening a store answers, by what reads of it gave.
+-- What opening a store answers, by what reads of it gave, and what finding the numbers of its ids does.
+use Rattle.std.specs.Prelude.{◌≡◌, ℕ, ◌≤◌, List, Bool, IsTrue, Result, Ok, Err}
+use Rattle.ax_cache.specs.declared.lru_pages.LruPages.{LruPages}
+use Rattle.ax_container.specs.Container.{Container}
+use Rattle.ax_disk.specs.model.Calls.{Idles}
 use Rattle.ax_disk.specs.model.Moments.{History}
+use Rattle.ax_faults.specs.Faults.{Rose}
+use Rattle.ax_ids.specs.Ids.{number_under}
+use Rattle.ax_image.specs.StandsFor.{ContentsStandFor}
 use Rattle.ax_log.specs.Opening.{Keeps}
 use Rattle.ax_pages.specs.Image.{IsNewer}
-use Rattle.ax_resident_store.specs.Store.{IsDamagedStore}
-use Rattle.ax_resident_store.specs.declared.fault.StoreFault.{StoreFault}
-use Rattle.ax_resident_store.specs.declared.fault.StoreFault.TheVariants as fault
+use Rattle.ax_store.specs.Store.{IsDamagedStore, SameButReads, store_contents}
+use Rattle.ax_store.specs.declared.fault.StoreFault.{StoreFault}
+use Rattle.ax_store.specs.declared.fault.StoreFault.TheVariants as fault
+use Rattle.ax_store.specs.declared.store.Store.{Store}
+use Rattle.ax_engine.specs.Documents.{DocumentsWork, number_in}
+use Rattle.ax_engine.specs.declared.documents.Documents.{Documents}
 
 -- why a store is refused: its bytes are outside the format at that offset, or it is of that later
 -- version; its lists are then as they were
@@ -13,3 +23,24 @@ RefusesBy (fault.Damaged extent at) old new = IsDamagedStore old.reads extent at
 RefusesBy (fault.Newer version) old new = IsNewer old.reads version × Keeps old new
 RefusesBy fault.Disk old new = Unit {0}
 RefusesBy fault.Memory old new = Unit {0}
+
+-- Of a store that was opened: its documents, each number under its id; a read failed; or there was no
+-- memory. The disk's lists are as they were.
+pub record Numbered (honest : Bool) (store : Store LruPages) (documents : Documents) (after : History) : Type 0 where
+  pub same : SameButReads store documents.store
+  pub works : DocumentsWork (IsTrue honest) documents after
+  pub numbers : IsTrue honest → (container : Container) → ContentsStandFor (store_contents store) container
+      → (id : List ℕ) → number_under documents.numbers id ≡ number_in id container
+
+abbrev pub TellsNumbers : Bool → Result Documents StoreFault → Store LruPages → History → ℕ → ℕ → Type 0
+TellsNumbers honest (Ok documents) store after earlier later = Numbered honest store documents after
+TellsNumbers honest (Err fault.Disk) store after earlier later = Rose earlier later
+TellsNumbers honest (Err (fault.Damaged extent at)) store after earlier later = ⊥
+TellsNumbers honest (Err (fault.Newer version)) store after earlier later = ⊥
+TellsNumbers honest (Err fault.Memory) store after earlier later = Unit {0}
+
+pub record Numbers (honest : Bool) (result : Result Documents StoreFault) (store : Store LruPages)
+    (before after : History) (earlier later : ℕ) : Type 0 where
+  pub tells : TellsNumbers honest result store after earlier later
+  pub lists : IsTrue honest → Idles before after
+  pub never_falls : earlier ≤ later

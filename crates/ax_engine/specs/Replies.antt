@@ -1,8 +1,15 @@
 -- The reply that the engine gives as data is one of the definition.
-use Rattle.std.specs.Prelude.{◌≡◌, ℕ, List, length}
+use Rattle.std.specs.Prelude.{◌≡◌, ℕ, List, length, Result, Ok, Err}
 use Rattle.std.specs.List.{flat_map}
 use Rattle.ax_machine.specs.Reply as reply
 use Rattle.ax_machine.specs.ReplyTexts.{row_text}
+use Rattle.ax_lines.specs.declared.refusal.Refusal.TheVariants as refusal
+use Rattle.ax_store.specs.declared.fault.StoreFault.{StoreFault}
+use Rattle.ax_store.specs.declared.fault.StoreFault.TheVariants as store_fault
+use Rattle.ax_engine.specs.declared.documents.UpsertFault.{UpsertFault}
+use Rattle.ax_engine.specs.declared.documents.UpsertFault.TheVariants as upsert
+use Rattle.ax_engine.specs.declared.engine.Fault.{Fault}
+use Rattle.ax_engine.specs.declared.engine.Fault.TheVariants as fault
 use Rattle.ax_engine.specs.declared.reply.Reply.{Reply}
 use Rattle.ax_engine.specs.declared.reply.Reply.TheVariants as given
 use Rattle.ax_engine.specs.declared.rows.Rows.{Rows}
@@ -22,3 +29,25 @@ IsReply given.Ok meant = meant ≡ reply.Ok
 IsReply (given.Rows rows) meant =
     (texts : List (List ℕ)) × AreRows rows texts × (meant ≡ reply.Rows texts reply.End)
 IsReply (given.Refused why) meant = meant ≡ reply.Refused why
+
+-- the fault is one that reading an open store may answer: not that it is of a later version
+abbrev pub IsOfReading : StoreFault → Type 0
+IsOfReading store_fault.Disk = Unit {0}
+IsOfReading (store_fault.Damaged extent at) = Unit {0}
+IsOfReading (store_fault.Newer version) = ⊥
+IsOfReading store_fault.Memory = Unit {0}
+
+-- what reading answered, as the answer to a line: want of memory is a refusal
+abbrev pub read_answer : Result Reply StoreFault → Result Reply Fault
+read_answer (Ok reply) = Ok reply
+read_answer (Err store_fault.Disk) = Err fault.Disk
+read_answer (Err (store_fault.Damaged extent at)) = Err (fault.Damaged extent at)
+read_answer (Err (store_fault.Newer version)) = Ok (given.Refused refusal.Memory)
+read_answer (Err store_fault.Memory) = Ok (given.Refused refusal.Memory)
+
+-- what an upsert came to, as the answer to its line: a refusal as full, and want of memory
+abbrev pub upsert_answer : Result (Unit {0}) UpsertFault → Result Reply Fault
+upsert_answer (Ok made) = Ok given.Ok
+upsert_answer (Err upsert.Full) = Ok (given.Refused refusal.Full)
+upsert_answer (Err upsert.Memory) = Ok (given.Refused refusal.Memory)
+upsert_answer (Err upsert.Disk) = Err fault.Disk

@@ -5,10 +5,10 @@ ghost use Rattle.ax_tree.specs.CanonicalText.{canonical_text};
 ghost use Rattle.ax_lines.specs.Lines.{most_bytes};
 ghost use Rattle.ax_pages.specs.Contents.{meta_bytes};
 ghost use Rattle.ax_image.specs.UpsertParts.{replacing_parts, creating_parts};
-ghost use Rattle.ax_resident_store.specs.Batch.{batch_parts, is_sealed};
+ghost use Rattle.ax_store.specs.Batch.{batch_parts, is_sealed};
 
 use ax_frame::Part;
-use ax_resident_store::{Batch, Memory};
+use ax_store::{Batch, Memory};
 use ax_tree::{Tree, append_tree};
 use std::alloc::Global;
 

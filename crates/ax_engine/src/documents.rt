@@ -1,23 +1,23 @@
 //! The documents of an open store, and how one is upserted.
 
-ghost use Rattle.std.specs.Prelude.{◌≡◌, ◌<◌, ◌≤◌, ℕ, List, drop, Err, IsTrue, IfSome, IfNone, None, Some, option_map, true};
+ghost use Rattle.std.specs.Prelude.{◌≡◌, ◌<◌, ◌≤◌, ℕ, List, Err, IsTrue, IfSome, None, Some, true};
 ghost use Rattle.ax_faults.specs.Faults.{Rose};
 ghost use Rattle.std.specs.FinMap as map;
 ghost use Rattle.ax_tree.specs.Document.{document_id};
 ghost use Rattle.ax_ids.specs.Ids.{number_under};
 ghost use Rattle.ax_lines.specs.Asked.{IsStorable};
 ghost use Rattle.ax_container.specs.Container.{Container};
+ghost use Rattle.ax_container.specs.Upsert.{Full, upserted};
 ghost use Rattle.ax_pages.specs.Contents.{next_number as next_number_of, policy_now, is_given};
-ghost use Rattle.ax_resident_store.specs.Listed.{IsNextAfter};
-ghost use Rattle.ax_resident_store.specs.Store.{store_contents};
+ghost use Rattle.ax_store.specs.Store.{store_contents};
 ghost use Rattle.ax_engine.specs.Documents.{contents_in, DocumentsHold, DocumentsWork, is_full_of, TellsUpsert, WorksAfterUpsert};
 
 use crate::batches::{creating, replacing};
-use ax_cache::NoPages;
+use ax_cache::LruPages;
 use ax_disk::Disk;
 use ax_ids::Ids;
 use ax_pages::Page;
-use ax_resident_store::Store;
+use ax_store::Store;
 use ax_tree::{Tree, id_of};
 use std::alloc::Global;
 
@@ -29,20 +29,6 @@ const LAST_NUMBER: u32 = 4_294_967_295;
 
 /// The greatest number of a policy.
 const LAST_POLICY: u8 = 8;
-
-/// The next document after a number, with its text.
-#[tactic(auto, using(crate::proofs::InOrder::has_text))]
-pub(crate) fn next_text(store: &Store<NoPages>, after: u32) -> Option<(u32, &[u8])>
-    ensures found { IfSome result (λ next. IsNextAfter (store_contents store.now).documents after next.0) }
-    ensures text { IfSome result (λ next. Some next.1.now
-        ≡ option_map (λ payload. drop 1 payload) (map.get (store_contents store.now).documents next.0)) }
-    ensures none { IfNone result ((number : ℕ) → after < number
-        → map.get (store_contents store.now).documents number ≡ None) }
-{
-    let number = store.next_document(after)?;
-    let text = store.text_of(number)?;
-    Some((number, text))
-}
 
 /// Why an upsert was not made.
 #[derive(Clone, Copy, Debug, PartialEq, Eq)]
@@ -59,7 +45,7 @@ pub enum UpsertFault {
 /// The documents of an open store, and the number under which each id stands.
 #[derive(Drop)]
 pub struct Documents {
-    pub(crate) store: Store<NoPages>,
+    pub(crate) store: Store<LruPages>,
     pub(crate) numbers: Ids,
     pub(crate) alloc: Global,
 }
@@ -73,6 +59,8 @@ impl Documents {
         ensures tells { (before : Container) → (id : List ℕ) → DocumentsHold self.old before → document_id tree.now ≡ Some id
             → TellsUpsert (IsTrue (D.is_honest disk.old)) before id tree.now result self.new
             (D.history disk.old (D.attached disk.old)) (D.history disk.new (D.attached disk.new)) }
+        ensures full { (before : Container) → (id : List ℕ) → DocumentsHold self.old before → document_id tree.now ≡ Some id
+            → upserted id tree.now before ≡ Err Full → result ≡ Err UpsertFault.Full }
         ensures works { WorksAfterUpsert (IsTrue (D.is_honest disk.old)) result self.new
             (D.history disk.new (D.attached disk.new)) }
         ensures cause { result ≡ Err UpsertFault.Disk → Rose (D.faults disk.old) (D.faults disk.new) }
@@ -115,7 +103,7 @@ impl Documents {
         ensures some { result ≡ true → 0 < number }
         ensures held { result ≡ true → map.contains_key (contents_in self.now).documents number ≡ true }
     {
-        number > 0 && self.store.text_of(number).is_some()
+        number > 0 && self.store.head_of(number).is_some()
     }
 
     /// The number of the policy now, which a part gave.

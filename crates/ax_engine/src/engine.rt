@@ -8,12 +8,14 @@ ghost use Rattle.ax_tree.specs.Document.{document_id};
 ghost use Rattle.ax_lines.specs.Asked.{IsAsked, IsStorable};
 ghost use Rattle.ax_lines.specs.declared.line.Line.TheVariants as line;
 ghost use Rattle.ax_machine.specs.Needs.{most_steps_of};
+ghost use Rattle.ax_pages.specs.Contents.{Contents};
+ghost use Rattle.ax_pages.specs.HasContents.{HasContents};
+ghost use Rattle.ax_engine.specs.Damage.{Meets};
 ghost use Rattle.ax_engine.specs.Documents.{DocumentsHold, DocumentsWork};
-ghost use Rattle.ax_engine.specs.Engine.{Applies, Holds, Tells, Works, made_by};
+ghost use Rattle.ax_engine.specs.Engine.{Applies, FindsFull, Holds, Tells, Works};
 ghost use Rattle.ax_engine.specs.Opening.{RefusesBy};
-ghost use Rattle.ax_engine.specs.Replies.{IsReply};
+ghost use Rattle.ax_engine.specs.Replies.{IsOfReading, read_answer, upsert_answer};
 ghost use Rattle.ax_engine.specs.Stores.{IsStore, Shows};
-ghost use Rattle.ax_machine.specs.Run.{Outcome};
 
 use crate::documents::{Documents, UpsertFault};
 use crate::opening::open_documents;
@@ -22,7 +24,7 @@ use crate::reply::Reply;
 use ax_base::Steps;
 use ax_disk::Disk;
 use ax_lines::{Body, Line, Refusal};
-use ax_resident_store::StoreFault;
+use ax_store::{ReadAhead, StoreFault};
 use ax_tree::Tree;
 use std::alloc::Global;
 use std::sync::ledger::Ledger;
@@ -32,6 +34,13 @@ use std::sync::ledger::Ledger;
 pub enum Fault {
     /// A call on the disk failed, and its count of faults rose.
     Disk,
+    /// The text of a document is outside the format.
+    Damaged {
+        /// The list in which its part stands: 1 area A, 2 area B.
+        extent: u8,
+        /// The offset of the part in that list.
+        at: u64,
+    },
 }
 
 /// The documents of a container on a disk. After a fault it is to be opened again.
@@ -48,13 +57,16 @@ impl Engine {
     /// It begins with a sync, the barrier: until that succeeds a crash leaves what it might have left
     /// before, and from then on the documents that reads gave. The errors are those of the store:
     /// `Disk` only where a call on the disk failed, `Damaged` and `Newer` only where the store is
-    /// outside the format at that offset, or of that later version, and it is as it was; `Memory`.
+    /// outside the format at that offset, or of that later version, and it is as it was; `Memory`. Over
+    /// an honest disk only a store with contents is opened.
     pub fn open_engine<D: Disk>(alloc: Global, disk: &mut D) -> Result<Engine, StoreFault>
         ensures works { IfOk result (λ engine. Works (IsTrue (D.is_honest disk.old)) engine
             (D.history disk.new (D.attached disk.new))) }
         ensures unfaulted { IfOk result (λ engine. engine.fault ≡ None) }
         ensures holds { IsTrue (D.is_honest disk.old) → (before : Container)
             → IsStore before (D.history disk.old (D.attached disk.old)) → IfOk result (λ engine. Holds engine before) }
+        ensures opened { IsTrue (D.is_honest disk.old) → IfOk result (λ engine. (contents : Contents)
+            × HasContents contents (D.history disk.old (D.attached disk.old)).reads) }
         ensures any_moment { IsTrue (D.is_honest disk.old) → (before : Container)
             → IsStore before (D.history disk.old (D.attached disk.old))
             → SinceBarrier (D.history disk.old (D.attached disk.old)) (D.history disk.new (D.attached disk.new)) (Shows before) }
@@ -75,7 +87,11 @@ impl Engine {
     }
 
     /// Makes the step of a line, durable where the disk is honest, and answers with its reply; or is
-    /// refused for want of memory, with no change. After a fault every line is answered by it.
+    /// refused for want of memory, with no change. A creation where the container is full is refused as
+    /// full, and never for want of memory. After a fault every line is answered by it.
+    ///
+    /// `Disk` where a call on the disk failed. `Damaged` where the text of a document is none that a
+    /// document can have, over an honest disk with the place at which its part stands.
     pub fn apply<D: Disk, L: Ledger>(
         &mut self,
         disk: &mut D,
@@ -84,9 +100,13 @@ impl Engine {
     ) -> Result<Reply, Fault>
         requires asked { IsAsked line }
         requires works { Works (IsTrue (D.is_honest disk.old)) self.old (D.history disk.old (D.attached disk.old)) }
-        ensures applies { (before : Container) → Holds self.old before
+        ensures applies { IsTrue (D.is_honest disk.old) → (before : Container) → Holds self.old before
             → Applies (IsTrue (D.is_honest disk.old)) before line result self.new
             (D.history disk.old (D.attached disk.old)) (D.history disk.new (D.attached disk.new)) }
+        ensures full { (before : Container) → Holds self.old before → FindsFull before line
+            → result ≡ Ok (Reply.Refused Refusal.Full) }
+        ensures met { IsTrue (D.is_honest disk.old) → self.old.fault ≡ None
+            → IfErr result (λ fault. Meets fault (D.history disk.new (D.attached disk.new)).reads) }
         ensures works { Works (IsTrue (D.is_honest disk.old)) self.new (D.history disk.new (D.attached disk.new)) }
 
         // A fault that was answered is kept, and answered again, with no call on the disk.
@@ -132,9 +152,13 @@ fn answer<D: Disk, L: Ledger>(
 ) -> Result<Reply, Fault>
     requires asked { IsAsked line.now }
     requires works { DocumentsWork (IsTrue (D.is_honest disk.old)) documents.old (D.history disk.old (D.attached disk.old)) }
-    ensures tells { (before : Container) → DocumentsHold documents.old before
+    ensures tells { IsTrue (D.is_honest disk.old) → (before : Container) → DocumentsHold documents.old before
         → Tells (IsTrue (D.is_honest disk.old)) before line.now result documents.new
         (D.history disk.old (D.attached disk.old)) (D.history disk.new (D.attached disk.new)) }
+    ensures full { (before : Container) → DocumentsHold documents.old before → FindsFull before line.now
+        → result ≡ Ok (Reply.Refused Refusal.Full) }
+    ensures met { IsTrue (D.is_honest disk.old)
+        → IfErr result (λ fault. Meets fault (D.history disk.new (D.attached disk.new)).reads) }
     ensures works { OnOk result (DocumentsWork (IsTrue (D.is_honest disk.old)) documents.new
         (D.history disk.new (D.attached disk.new))) }
     ensures cause { result ≡ Err Fault.Disk → Rose (D.faults disk.old) (D.faults disk.new) }
@@ -147,7 +171,7 @@ fn answer<D: Disk, L: Ledger>(
 {
     match line {
         Line::Upsert(tree) => upsert(documents, disk, tree),
-        Line::Query(body) => Ok(query(documents, body, steps)),
+        Line::Query(body) => query(documents, disk, body, steps),
     }
 }
 
@@ -157,6 +181,9 @@ fn upsert<D: Disk>(documents: &mut Documents, disk: &mut D, tree: &Tree) -> Resu
     ensures tells { (before : Container) → DocumentsHold documents.old before
         → Tells (IsTrue (D.is_honest disk.old)) before (line.Upsert tree.now) result documents.new
         (D.history disk.old (D.attached disk.old)) (D.history disk.new (D.attached disk.new)) }
+    ensures full { (before : Container) → DocumentsHold documents.old before → FindsFull before (line.Upsert tree.now)
+        → result ≡ Ok (Reply.Refused Refusal.Full) }
+    ensures only { IfErr result (λ fault. fault ≡ Fault.Disk) }
     ensures works { OnOk result (DocumentsWork (IsTrue (D.is_honest disk.old)) documents.new
         (D.history disk.new (D.attached disk.new))) }
     ensures cause { result ≡ Err Fault.Disk → Rose (D.faults disk.old) (D.faults disk.new) }
@@ -164,7 +191,15 @@ fn upsert<D: Disk>(documents: &mut Documents, disk: &mut D, tree: &Tree) -> Resu
     ensures attached { D.attached disk.new ≡ D.attached disk.old }
     ensures honest { D.is_honest disk.new ≡ D.is_honest disk.old }
 {
-    match documents.upsert(disk, tree) {
+    let upserted = documents.upsert(disk, tree);
+    answer_of_upsert(upserted)
+}
+
+/// What an upsert came to, as the answer to its line.
+fn answer_of_upsert(upserted: Result<(), UpsertFault>) -> Result<Reply, Fault>
+    ensures { result ≡ upsert_answer upserted }
+{
+    match upserted {
         Ok(()) => Ok(Reply::Ok),
         Err(UpsertFault::Full) => Ok(Reply::Refused(Refusal::Full)),
         Err(UpsertFault::Memory) => Ok(Reply::Refused(Refusal::Memory)),
@@ -173,15 +208,51 @@ fn upsert<D: Disk>(documents: &mut Documents, disk: &mut D, tree: &Tree) -> Resu
 }
 
 /// The reply to a query, which changes nothing.
-fn query<L: Ledger>(documents: &Documents, body: &Body, steps: &mut Steps<L>) -> Reply
-    ensures answers { (container : Container) → DocumentsHold documents.now container
-        → (outcome : Outcome) × IsReply result (made_by container (line.Query body.now) outcome).1 }
-    ensures bound { (container : Container) → DocumentsHold documents.now container → steps.new ≤ steps.old
-        + most_steps_of container (Ok (line.Query body.now)) }
+fn query<D: Disk, L: Ledger>(
+    documents: &mut Documents,
+    disk: &mut D,
+    body: &Body,
+    steps: &mut Steps<L>,
+) -> Result<Reply, Fault>
+    requires works { DocumentsWork (IsTrue (D.is_honest disk.old)) documents.old (D.history disk.old (D.attached disk.old)) }
+    ensures tells { IsTrue (D.is_honest disk.old) → (before : Container) → DocumentsHold documents.old before
+        → Tells (IsTrue (D.is_honest disk.old)) before (line.Query body.now) result documents.new
+        (D.history disk.old (D.attached disk.old)) (D.history disk.new (D.attached disk.new)) }
+    ensures met { IsTrue (D.is_honest disk.old)
+        → IfErr result (λ fault. Meets fault (D.history disk.new (D.attached disk.new)).reads) }
+    ensures works { OnOk result (DocumentsWork (IsTrue (D.is_honest disk.old)) documents.new
+        (D.history disk.new (D.attached disk.new))) }
+    ensures cause { result ≡ Err Fault.Disk → Rose (D.faults disk.old) (D.faults disk.new) }
+    ensures never_falls { D.faults disk.old ≤ D.faults disk.new }
+    ensures attached { D.attached disk.new ≡ D.attached disk.old }
+    ensures honest { D.is_honest disk.new ≡ D.is_honest disk.old }
+    ensures bound { (before : Container) → DocumentsHold documents.old before
+        → steps.new ≤ steps.old + most_steps_of before (Ok (line.Query body.now)) }
     ensures steps { steps.old ≤ steps.new }
 {
-    match reply_to_query(documents.alloc, documents, body, steps) {
-        Ok(reply) => reply,
-        Err(_) => Reply::Refused(Refusal::Memory),
+    let alloc = documents.alloc;
+    let mut ahead = ReadAhead::new(alloc);
+    let read = reply_to_query(
+        alloc,
+        &mut documents.store,
+        disk,
+        &mut ahead,
+        body,
+        steps,
+    );
+    answer_of_read(read)
+}
+
+/// What reading answered, as the answer to a line.
+fn answer_of_read(read: Result<Reply, StoreFault>) -> Result<Reply, Fault>
+    requires { IfErr read IsOfReading }
+    ensures { result ≡ read_answer read }
+{
+    match read {
+        Ok(reply) => Ok(reply),
+        Err(StoreFault::Memory) => Ok(Reply::Refused(Refusal::Memory)),
+        Err(StoreFault::Disk) => Err(Fault::Disk),
+        Err(StoreFault::Damaged { extent, at }) => Err(Fault::Damaged { extent, at }),
+        Err(StoreFault::Newer { .. }) => unreachable!(),
     }
 }

@@ -6,8 +6,9 @@
 //! no more, until it is opened again.
 //!
 //! Stands on `ax_machine`, whose definitions say what a line's step is, on `ax_image`, which says what a
-//! disk image stands for, on `ax_resident_store` for the pages on a disk, and on `ax_parse` and `ax_answer_text`
-//! for queries.
+//! disk image stands for, on `ax_store` for the pages on a disk, and on `ax_parse` and `ax_answer_text`
+//! for queries. No text is kept in memory: a scan reads texts ahead, window by window. A text that is
+//! none of a document is answered as damage, with its place.
 #![tactic(auto)]
 
 mod batches;
@@ -15,6 +16,7 @@ mod documents;
 mod engine;
 mod opening;
 mod querying;
+mod reading;
 mod reply;
 mod rows;
 mod shown_documents;

@@ -1,33 +1,40 @@
 //! Opening a store, and finding under which number each id stands.
 
-ghost use Rattle.std.specs.Prelude.{◌≡◌, ◌≤◌, Err, IsTrue, IfOk, IfErr, IfSome, OnOk, Some, cond};
+ghost use Rattle.std.specs.Prelude.{◌≡◌, ◌⊎◌, ◌≤◌, ℕ, List, Err, IsTrue, IfOk, IfErr, IfSome, OnOk, Some, None, cond, drop, false, option_map};
+ghost use Rattle.std.specs.FinMap as map;
+ghost use Rattle.std.specs.Str.{bytes_eq};
 ghost use Rattle.ax_faults.specs.Faults.{Rose};
+ghost use Rattle.ax_cache.specs.Held.{held};
 ghost use Rattle.ax_disk.specs.model.Stays.{SinceBarrier};
 ghost use Rattle.ax_container.specs.Container.{Container};
+ghost use Rattle.ax_pages.specs.Contents.{Contents};
+ghost use Rattle.ax_pages.specs.HasContents.{HasContents};
 ghost use Rattle.ax_image.specs.StandsFor.{ContentsStandFor};
-ghost use Rattle.ax_resident_store.specs.Store.{store_contents};
-ghost use Rattle.std.specs.Prelude.{ℕ, List};
-ghost use Rattle.std.specs.Str.{bytes_eq};
+ghost use Rattle.ax_store.specs.Store.{Agrees, store_contents, store_failed};
 ghost use Rattle.ax_tree.specs.declared.tree.Tree.{Tree as TreeOf};
 ghost use Rattle.ax_tree.specs.CanonicalText.{canonical_text};
 ghost use Rattle.ax_tree.specs.Document.{document_id};
 ghost use Rattle.ax_ids.specs.Ids.{number_under};
 ghost use Rattle.ax_text.specs.Reading.{reading, Stands};
-ghost use Rattle.ax_engine.specs.Documents.{number_in};
-ghost use Rattle.ax_engine.specs.Documents.{DocumentsHold, DocumentsWork};
-ghost use Rattle.ax_engine.specs.Opening.{RefusesBy};
+ghost use Rattle.ax_engine.specs.Documents.{DocumentsHold, DocumentsWork, number_in};
+ghost use Rattle.ax_engine.specs.Opening.{Numbers, RefusesBy};
+ghost use Rattle.ax_engine.specs.Scans.{IsReady, Scans};
 ghost use Rattle.ax_engine.specs.Stores.{IsStore, Shows};
 
-use crate::documents::{Documents, next_text};
-use ax_cache::NoPages;
+use crate::documents::Documents;
+use crate::reading::{next_held, read_document};
+use ax_cache::LruPages;
 use ax_disk::Disk;
 use ax_ids::{Ids, Memory};
-use ax_resident_store::{Store, StoreFault};
 use ax_skim::find_id;
+use ax_store::{ReadAhead, Store, StoreFault};
 use ax_text::{TextFault, TreeReader};
 use ax_tree::id_of;
 use std::alloc::Global;
 use std::str;
+
+/// How many parts the cache of a store has room for.
+const CACHED_PARTS: u32 = 256;
 
 /// Opens the store attached. Each document's id is looked for in its text; a text that is no
 /// document's is under any id or none.
@@ -36,6 +43,8 @@ pub(crate) fn open_documents<D: Disk>(alloc: Global, disk: &mut D) -> Result<Doc
         (D.history disk.new (D.attached disk.new))) }
     ensures holds { IsTrue (D.is_honest disk.old) → (before : Container)
         → IsStore before (D.history disk.old (D.attached disk.old)) → IfOk result (λ documents. DocumentsHold documents before) }
+    ensures opened { IsTrue (D.is_honest disk.old) → IfOk result (λ documents. (contents : Contents)
+        × HasContents contents (D.history disk.old (D.attached disk.old)).reads) }
     ensures any_moment { IsTrue (D.is_honest disk.old) → (before : Container)
         → IsStore before (D.history disk.old (D.attached disk.old))
         → SinceBarrier (D.history disk.old (D.attached disk.old)) (D.history disk.new (D.attached disk.new)) (Shows before) }
@@ -46,33 +55,105 @@ pub(crate) fn open_documents<D: Disk>(alloc: Global, disk: &mut D) -> Result<Doc
     ensures attached { D.attached disk.new ≡ D.attached disk.old }
     ensures honest { D.is_honest disk.new ≡ D.is_honest disk.old }
 {
-    match Store::open_store(alloc, disk, NoPages) {
-        Ok(store) => number_all(alloc, store),
+    let Ok(cache) = LruPages::make(alloc, CACHED_PARTS) else {
+        return Err(StoreFault::Memory);
+    };
+    match Store::open_store(alloc, disk, cache) {
+        Ok(store) => number_all(alloc, disk, store),
         Err(fault) => Err(fault),
     }
 }
 
 /// Finds under which number each id of an open store stands.
-fn number_all(alloc: Global, store: Store<NoPages>) -> Result<Documents, StoreFault>
-    ensures store { IfOk result (λ documents. documents.store ≡ store) }
-    ensures numbers { (container : Container) → ContentsStandFor (store_contents store) container
-        → IfOk result (λ documents. (id : List ℕ) → number_under documents.numbers id ≡ number_in id container) }
-    ensures only { IfErr result (λ fault. fault ≡ StoreFault.Memory) }
+fn number_all<D: Disk>(
+    alloc: Global,
+    disk: &mut D,
+    store: Store<LruPages>,
+) -> Result<Documents, StoreFault>
+    requires works { store_failed store ≡ false }
+    requires agrees { IsTrue (D.is_honest disk.old) → Agrees held store (D.history disk.old (D.attached disk.old)) }
+    ensures numbers { Numbers (D.is_honest disk.old) result store
+        (D.history disk.old (D.attached disk.old)) (D.history disk.new (D.attached disk.new))
+        (D.faults disk.old) (D.faults disk.new) }
+    ensures attached { D.attached disk.new ≡ D.attached disk.old }
+    ensures honest { D.is_honest disk.new ≡ D.is_honest disk.old }
 {
+    let mut store = store;
     let mut numbers = Ids::new(alloc);
+    let mut ahead = ReadAhead::new(alloc);
+    match number_documents(alloc, &mut store, disk, &mut ahead, &mut numbers) {
+        Ok(()) => Ok(Documents {
+            store,
+            numbers,
+            alloc,
+        }),
+        Err(fault) => Err(fault),
+    }
+}
+
+/// Puts the number of each document of a store under its id.
+fn number_documents<D: Disk>(
+    alloc: Global,
+    store: &mut Store<LruPages>,
+    disk: &mut D,
+    ahead: &mut ReadAhead,
+    numbers: &mut Ids,
+) -> Result<(), StoreFault>
+    requires none { (id : List ℕ) → number_under numbers.old id ≡ None }
+    requires ready { IsReady (D.is_honest disk.old) store.old ahead.old (D.history disk.old (D.attached disk.old)) }
+    ensures numbers { IsTrue (D.is_honest disk.old) → (container : Container)
+        → ContentsStandFor (store_contents store.old) container
+        → OnOk result ((id : List ℕ) → number_under numbers.new id ≡ number_in id container) }
+    ensures scans { Scans (D.is_honest disk.old) result store.old store.new ahead.new
+        (D.history disk.old (D.attached disk.old)) (D.history disk.new (D.attached disk.new))
+        (D.faults disk.old) (D.faults disk.new) }
+    ensures only { IfErr result (λ fault. (fault ≡ StoreFault.Disk) ⊎ (fault ≡ StoreFault.Memory)) }
+    ensures attached { D.attached disk.new ≡ D.attached disk.old }
+    ensures honest { D.is_honest disk.new ≡ D.is_honest disk.old }
+{
     let mut reader = TreeReader::new(alloc);
     let mut number = 0;
-    'texts: while let Some((next, text)) = next_text(&store, number) {
+    'texts: while let Some(next) = next_held(store, number) {
         number = next;
-        let Ok(()) = put_id(alloc, &mut reader, &mut numbers, number, text) else {
-            return Err(StoreFault::Memory);
-        };
+        match number_document(alloc, store, disk, ahead, &mut reader, numbers, number) {
+            Ok(()) => {}
+            Err(fault) => return Err(fault),
+        }
     }
-    Ok(Documents {
-        store,
-        numbers,
-        alloc,
-    })
+    Ok(())
+}
+
+/// Puts the number of a document under its id.
+fn number_document<D: Disk>(
+    alloc: Global,
+    store: &mut Store<LruPages>,
+    disk: &mut D,
+    ahead: &mut ReadAhead,
+    reader: &mut TreeReader,
+    numbers: &mut Ids,
+    number: u32,
+) -> Result<(), StoreFault>
+    requires ready { IsReady (D.is_honest disk.old) store.old ahead.old (D.history disk.old (D.attached disk.old)) }
+    ensures put { IsTrue (D.is_honest disk.old) → (tree : TreeOf) → (id : List ℕ)
+        → option_map (λ payload. drop 1 payload) (map.get (store_contents store.old).documents number) ≡ Some (canonical_text tree)
+        → reading (canonical_text tree) ≡ Stands tree → document_id tree ≡ Some id
+        → OnOk result ((other : List ℕ) → number_under numbers.new other
+        ≡ cond (bytes_eq id other) (Some number) (number_under numbers.old other)) }
+    ensures scans { Scans (D.is_honest disk.old) result store.old store.new ahead.new
+        (D.history disk.old (D.attached disk.old)) (D.history disk.new (D.attached disk.new))
+        (D.faults disk.old) (D.faults disk.new) }
+    ensures only { IfErr result (λ fault. (fault ≡ StoreFault.Disk) ⊎ (fault ≡ StoreFault.Memory)) }
+    ensures attached { D.attached disk.new ≡ D.attached disk.old }
+    ensures honest { D.is_honest disk.new ≡ D.is_honest disk.old }
+{
+    match read_document(store, disk, ahead, number) {
+        Ok(_) => {}
+        Err(fault) => return Err(fault),
+    }
+    match put_id(alloc, reader, numbers, number, ahead.text()) {
+        Ok(()) => Ok(()),
+        Err(_) => Err(StoreFault::Memory),
+    }
 }
 
 /// Puts the number under the id of the document whose canonical text it is.

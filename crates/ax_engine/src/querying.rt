@@ -1,49 +1,71 @@
 //! The rows of a query over all documents of an open store, and the reply that has them.
 
-ghost use Rattle.std.specs.Prelude.{◌≡◌, ◌≤◌, ◌+◌, ℕ, List, [], ◌∷◌, ◌++◌, length, Some, IfOk, OnOk, true};
+ghost use Rattle.std.specs.Prelude.{◌≡◌, ◌≤◌, ◌+◌, ℕ, List, [], ◌∷◌, ◌++◌, length, Some, IsTrue, IfOk, OnOk, true, drop, option_map};
+ghost use Rattle.std.specs.FinMap as map;
 ghost use Rattle.ax_answer_text.specs.TextAnswers.{Answers};
 ghost use Rattle.ax_container.specs.Container.{Container};
+ghost use Rattle.ax_excerpt_text.specs.Left.{IsReadable};
 ghost use Rattle.ax_grammar.specs.Query.{query_in};
+ghost use Rattle.ax_image.specs.StandsFor.{ContentsStandFor};
 ghost use Rattle.ax_machine.specs.Needs.{query_need};
 ghost use Rattle.ax_machine.specs.Querying.{numbered, query_reply, rows_of, rows_or_refusal, rows_reply};
 ghost use Rattle.ax_mean.specs.declared.query.Query as queries;
 ghost use Rattle.ax_result.specs.Answers.{answer_of};
-ghost use Rattle.ax_engine.specs.Documents.{DocumentsHold};
+ghost use Rattle.ax_store.specs.Store.{store_contents};
+ghost use Rattle.ax_tree.specs.CanonicalText.{canonical_text};
+ghost use Rattle.ax_tree.specs.declared.tree.Tree.{Tree as TreeOf};
 ghost use Rattle.ax_engine.specs.Printing.{IsPrinted};
 ghost use Rattle.ax_engine.specs.Replies.{AreRows, IsReply};
+ghost use Rattle.ax_engine.specs.Scans.{IsReady, Scans};
 
-use crate::documents::{Documents, next_text};
+use crate::reading::{next_held, read_document, text_fault};
 use crate::reply::Reply;
 use crate::rows::{Rows, rows_shown};
 use crate::shown_documents::{document_rows, keys_of};
 use ax_answer_text::TextAnswer;
 use ax_base::Steps;
+use ax_cache::LruPages;
+use ax_disk::Disk;
 use ax_excerpt::{excerpt_for_keys, shows_document};
 use ax_lines::{Body, Refusal};
 use ax_machine::refusal_of;
 use ax_mean::{KeyedRow, Query};
 use ax_parse::{ParseFault, parse};
+use ax_store::{ReadAhead, Store, StoreFault};
 use ax_tree::Memory;
 use std::alloc::Global;
 use std::sync::ledger::Ledger;
+
 /// The reply to a query, which changes nothing: a refusal where the body's text is no
 /// query, or one that is refused; else the rows of its answer over all documents, and how many
 /// there are. Each document that is evaluated takes one step of work.
-pub(crate) fn reply_to_query<L: Ledger>(
+///
+/// `Disk` where a read failed; `Damaged` where the text of a document that was evaluated is outside the
+/// format, with the place of its part; `Memory`.
+pub(crate) fn reply_to_query<D: Disk, L: Ledger>(
     alloc: Global,
-    documents: &Documents,
+    store: &mut Store<LruPages>,
+    disk: &mut D,
+    ahead: &mut ReadAhead,
     body: &Body,
     steps: &mut Steps<L>,
-) -> Result<Reply, Memory>
-    ensures reply { (container : Container) → DocumentsHold documents.now container → IfOk result (λ reply. IsReply reply
-        (query_reply body.now container)) }
-    ensures bound { (container : Container) → DocumentsHold documents.now container → steps.new ≤ steps.old
-        + query_need (rows_or_refusal (query_in body.now.params body.now.text) container) container }
+) -> Result<Reply, StoreFault>
+    requires ready { IsReady (D.is_honest disk.old) store.old ahead.old (D.history disk.old (D.attached disk.old)) }
+    ensures reply { IsTrue (D.is_honest disk.old) → (container : Container) → ContentsStandFor (store_contents store.old) container
+        → IfOk result (λ reply. IsReply reply (query_reply body.now container)) }
+    ensures bound { (container : Container) → ContentsStandFor (store_contents store.old) container
+        → steps.new ≤ steps.old + query_need (rows_or_refusal (query_in body.now.params body.now.text) container) container }
     ensures never_falls { steps.old ≤ steps.new }
+    ensures scans { Scans (D.is_honest disk.old) result store.old store.new ahead.new
+        (D.history disk.old (D.attached disk.old)) (D.history disk.new (D.attached disk.new))
+        (D.faults disk.old) (D.faults disk.new) }
+    ensures attached { D.attached disk.new ≡ D.attached disk.old }
+    ensures honest { D.is_honest disk.new ≡ D.is_honest disk.old }
 {
-    match query_of(alloc, body)? {
-        Some(query) => reply_to_read(alloc, documents, query, steps),
-        None => Ok(Reply::Refused(Refusal::Query)),
+    match query_of(alloc, body) {
+        Ok(Some(query)) => reply_to_read(alloc, store, disk, ahead, query, steps),
+        Ok(None) => Ok(Reply::Refused(Refusal::Query)),
+        Err(_) => Err(StoreFault::Memory),
     }
 }
 
@@ -60,51 +82,73 @@ fn query_of(alloc: Global, body: &Body) -> Result<Option<Query>, Memory>
 }
 
 /// The reply to a query that was read.
-fn reply_to_read<L: Ledger>(
+fn reply_to_read<D: Disk, L: Ledger>(
     alloc: Global,
-    documents: &Documents,
+    store: &mut Store<LruPages>,
+    disk: &mut D,
+    ahead: &mut ReadAhead,
     query: Query,
     steps: &mut Steps<L>,
-) -> Result<Reply, Memory>
-    ensures reply { (container : Container) → DocumentsHold documents.now container → IfOk result (λ reply. IsReply reply
-        (rows_reply (rows_or_refusal (Some query) container))) }
-    ensures bound { (container : Container) → DocumentsHold documents.now container → steps.new ≤ steps.old
-        + query_need (rows_or_refusal (Some query) container) container }
+) -> Result<Reply, StoreFault>
+    requires ready { IsReady (D.is_honest disk.old) store.old ahead.old (D.history disk.old (D.attached disk.old)) }
+    ensures reply { IsTrue (D.is_honest disk.old) → (container : Container) → ContentsStandFor (store_contents store.old) container
+        → IfOk result (λ reply. IsReply reply (rows_reply (rows_or_refusal (Some query) container))) }
+    ensures bound { (container : Container) → ContentsStandFor (store_contents store.old) container
+        → steps.new ≤ steps.old + query_need (rows_or_refusal (Some query) container) container }
     ensures never_falls { steps.old ≤ steps.new }
+    ensures scans { Scans (D.is_honest disk.old) result store.old store.new ahead.new
+        (D.history disk.old (D.attached disk.old)) (D.history disk.new (D.attached disk.new))
+        (D.faults disk.old) (D.faults disk.new) }
+    ensures attached { D.attached disk.new ≡ D.attached disk.old }
+    ensures honest { D.is_honest disk.new ≡ D.is_honest disk.old }
 {
     if let Some(refusal) = refusal_of(&query) {
         drop(query);
         return Ok(Reply::Refused(refusal));
     }
-    match rows_of_query(alloc, documents, query, steps) {
+    match rows_of_query(alloc, store, disk, ahead, query, steps) {
         Ok(rows) => Ok(Reply::Rows(rows)),
-        Err(memory) => Err(memory),
+        Err(fault) => Err(fault),
     }
 }
 
 /// The rows of a query that is not refused.
-fn rows_of_query<L: Ledger>(
+fn rows_of_query<D: Disk, L: Ledger>(
     alloc: Global,
-    documents: &Documents,
+    store: &mut Store<LruPages>,
+    disk: &mut D,
+    ahead: &mut ReadAhead,
     query: Query,
     steps: &mut Steps<L>,
-) -> Result<Rows, Memory>
-    ensures rows { (container : Container) → DocumentsHold documents.now container → IfOk result (λ rows. AreRows rows
-        (rows_of query container)) }
-    ensures bound { (container : Container) → DocumentsHold documents.now container
-        → steps.new ≤ steps.old + length container.entries }
+) -> Result<Rows, StoreFault>
+    requires ready { IsReady (D.is_honest disk.old) store.old ahead.old (D.history disk.old (D.attached disk.old)) }
+    ensures rows { IsTrue (D.is_honest disk.old) → (container : Container) → ContentsStandFor (store_contents store.old) container
+        → IfOk result (λ rows. AreRows rows (rows_of query container)) }
+    ensures bound { (container : Container) → ContentsStandFor (store_contents store.old) container → steps.new ≤ steps.old + length container.entries }
     ensures never_falls { steps.old ≤ steps.new }
+    ensures scans { Scans (D.is_honest disk.old) result store.old store.new ahead.new
+        (D.history disk.old (D.attached disk.old)) (D.history disk.new (D.attached disk.new))
+        (D.faults disk.old) (D.faults disk.new) }
+    ensures attached { D.attached disk.new ≡ D.attached disk.old }
+    ensures honest { D.is_honest disk.new ≡ D.is_honest disk.old }
 {
     let Ok(is_printed) = prints_documents(alloc, &query) else {
         drop(query);
-        return Err(Memory);
+        return Err(StoreFault::Memory);
     };
     if is_printed {
-        return rows_of_documents(alloc, documents, query, steps);
+        return rows_of_documents(alloc, store, disk, ahead, query, steps);
     }
-    let rows = answer_rows(alloc, documents, &query, steps);
+    let rows = answer_rows(alloc, store, disk, ahead, &query, steps);
     drop(query);
-    rows_shown(alloc, rows?.as_slice())
+    let rows = match rows {
+        Ok(rows) => rows,
+        Err(fault) => return Err(fault),
+    };
+    match rows_shown(alloc, rows.as_slice()) {
+        Ok(rows) => Ok(rows),
+        Err(_) => Err(StoreFault::Memory),
+    }
 }
 
 /// Whether the rows are documents that are printed as they are stored: where the query looks at all of
@@ -127,75 +171,135 @@ fn prints_documents(alloc: Global, query: &Query) -> Result<bool, Memory>
 
 /// The same of a query whose rows are documents: these are printed as they are stored, and read only as
 /// far as the keys of the rows ask for.
-fn rows_of_documents<L: Ledger>(
+fn rows_of_documents<D: Disk, L: Ledger>(
     alloc: Global,
-    documents: &Documents,
+    store: &mut Store<LruPages>,
+    disk: &mut D,
+    ahead: &mut ReadAhead,
     query: Query,
     steps: &mut Steps<L>,
-) -> Result<Rows, Memory>
+) -> Result<Rows, StoreFault>
     requires printed { IsPrinted query }
-    ensures rows { (container : Container) → DocumentsHold documents.now container → IfOk result (λ rows. AreRows rows
-        (rows_of query container)) }
-    ensures bound { (container : Container) → DocumentsHold documents.now container
-        → steps.new ≤ steps.old + length container.entries }
+    requires ready { IsReady (D.is_honest disk.old) store.old ahead.old (D.history disk.old (D.attached disk.old)) }
+    ensures rows { IsTrue (D.is_honest disk.old) → (container : Container) → ContentsStandFor (store_contents store.old) container
+        → IfOk result (λ rows. AreRows rows (rows_of query container)) }
+    ensures bound { (container : Container) → ContentsStandFor (store_contents store.old) container → steps.new ≤ steps.old + length container.entries }
     ensures never_falls { steps.old ≤ steps.new }
+    ensures scans { Scans (D.is_honest disk.old) result store.old store.new ahead.new
+        (D.history disk.old (D.attached disk.old)) (D.history disk.new (D.attached disk.new))
+        (D.faults disk.old) (D.faults disk.new) }
+    ensures attached { D.attached disk.new ≡ D.attached disk.old }
+    ensures honest { D.is_honest disk.new ≡ D.is_honest disk.old }
 {
-    let keys = keys_of(alloc, query)?;
-    let rows = answer_rows(alloc, documents, &keys, steps);
+    let Ok(keys) = keys_of(alloc, query) else {
+        return Err(StoreFault::Memory);
+    };
+    let rows = answer_rows(alloc, store, disk, ahead, &keys, steps);
     drop(keys);
-    document_rows(alloc, documents, rows?.as_slice())
+    match rows {
+        Ok(rows) => document_rows(alloc, store, disk, ahead, rows.as_slice()),
+        Err(fault) => Err(fault),
+    }
 }
 
 /// The rows of the answer over all documents.
-fn answer_rows<L: Ledger>(
+fn answer_rows<D: Disk, L: Ledger>(
     alloc: Global,
-    documents: &Documents,
+    store: &mut Store<LruPages>,
+    disk: &mut D,
+    ahead: &mut ReadAhead,
     query: &Query,
     steps: &mut Steps<L>,
-) -> Result<Vec<KeyedRow>, Memory>
-    ensures rows { (container : Container) → DocumentsHold documents.now container → IfOk result (λ rows. rows.items
-        ≡ answer_of query.now (numbered container)) }
-    ensures bound { (container : Container) → DocumentsHold documents.now container
-        → steps.new ≤ steps.old + length container.entries }
+) -> Result<Vec<KeyedRow>, StoreFault>
+    requires ready { IsReady (D.is_honest disk.old) store.old ahead.old (D.history disk.old (D.attached disk.old)) }
+    ensures rows { IsTrue (D.is_honest disk.old) → (container : Container) → ContentsStandFor (store_contents store.old) container
+        → IfOk result (λ rows. rows.items ≡ answer_of query.now (numbered container)) }
+    ensures bound { (container : Container) → ContentsStandFor (store_contents store.old) container → steps.new ≤ steps.old + length container.entries }
     ensures never_falls { steps.old ≤ steps.new }
+    ensures scans { Scans (D.is_honest disk.old) result store.old store.new ahead.new
+        (D.history disk.old (D.attached disk.old)) (D.history disk.new (D.attached disk.new))
+        (D.faults disk.old) (D.faults disk.new) }
+    ensures attached { D.attached disk.new ≡ D.attached disk.old }
+    ensures honest { D.is_honest disk.new ≡ D.is_honest disk.old }
 {
     let Ok(mut answer) = TextAnswer::begin(alloc, query) else {
-        return Err(Memory);
+        return Err(StoreFault::Memory);
     };
-    let Ok(()) = add_documents(alloc, documents, &mut answer, steps) else {
+    if let Err(fault) = add_documents(alloc, store, disk, ahead, &mut answer, steps) {
         drop(answer);
-        return Err(Memory);
-    };
-    let Ok(rows) = answer.finish(alloc) else {
-        return Err(Memory);
-    };
-    Ok(rows)
+        return Err(fault);
+    }
+    match answer.finish(alloc) {
+        Ok(rows) => Ok(rows),
+        Err(_) => Err(StoreFault::Memory),
+    }
 }
 
-/// Takes documents into the answer in the order of their numbers, all or as many as can change it. A
-/// text that is none of a document, which no container has, is answered as want of memory.
-fn add_documents<L: Ledger>(
+/// Takes documents into the answer in the order of their numbers, all or as many as can change it.
+fn add_documents<D: Disk, L: Ledger>(
     alloc: Global,
-    documents: &Documents,
+    store: &mut Store<LruPages>,
+    disk: &mut D,
+    ahead: &mut ReadAhead,
     answer: &mut TextAnswer<'_>,
     steps: &mut Steps<L>,
-) -> Result<(), Memory>
-    ensures added { (container : Container) → (query : queries.Query)
-        → DocumentsHold documents.now container → Answers answer.old query []
+) -> Result<(), StoreFault>
+    requires ready { IsReady (D.is_honest disk.old) store.old ahead.old (D.history disk.old (D.attached disk.old)) }
+    ensures added { IsTrue (D.is_honest disk.old) → (container : Container) → ContentsStandFor (store_contents store.old) container
+        → (query : queries.Query) → Answers answer.old query []
         → OnOk result (Answers answer.new query (numbered container)) }
-    ensures bound { (container : Container) → DocumentsHold documents.now container
-        → steps.new ≤ steps.old + length container.entries }
+    ensures bound { (container : Container) → ContentsStandFor (store_contents store.old) container → steps.new ≤ steps.old + length container.entries }
     ensures never_falls { steps.old ≤ steps.new }
+    ensures scans { Scans (D.is_honest disk.old) result store.old store.new ahead.new
+        (D.history disk.old (D.attached disk.old)) (D.history disk.new (D.attached disk.new))
+        (D.faults disk.old) (D.faults disk.new) }
+    ensures attached { D.attached disk.new ≡ D.attached disk.old }
+    ensures honest { D.is_honest disk.new ≡ D.is_honest disk.old }
 {
     let mut number = 0;
-    'texts: while let Some((next, text)) = next_text(&documents.store, number) {
+    'texts: while let Some(next) = next_held(store, number) {
         if answer.is_done() {
             return Ok(());
         }
         number = next;
-        let Ok(()) = answer.add(alloc, number, text, steps) else {
-            return Err(Memory);
-        };
+        match add_document(alloc, store, disk, ahead, number, answer, steps) {
+            Ok(()) => {}
+            Err(fault) => return Err(fault),
+        }
     }
     Ok(())
+}
+
+/// Takes a document that is held into the answer. A text that is none of a document is damage.
+fn add_document<D: Disk, L: Ledger>(
+    alloc: Global,
+    store: &mut Store<LruPages>,
+    disk: &mut D,
+    ahead: &mut ReadAhead,
+    number: u32,
+    answer: &mut TextAnswer<'_>,
+    steps: &mut Steps<L>,
+) -> Result<(), StoreFault>
+    requires held { IsTrue (map.contains_key (store_contents store.old).documents number) }
+    requires ready { IsReady (D.is_honest disk.old) store.old ahead.old (D.history disk.old (D.attached disk.old)) }
+    ensures added { IsTrue (D.is_honest disk.old) → (tree : TreeOf)
+        → option_map (λ payload. drop 1 payload) (map.get (store_contents store.old).documents number) ≡ Some (canonical_text tree)
+        → IsReadable tree → OnOk result ((query : queries.Query) → (entries : List (ℕ × TreeOf))
+        → Answers answer.old query entries → Answers answer.new query (entries ++ (number, tree) ∷ [])) }
+    ensures one { steps.new ≤ steps.old + 1 }
+    ensures never_falls { steps.old ≤ steps.new }
+    ensures scans { Scans (D.is_honest disk.old) result store.old store.new ahead.new
+        (D.history disk.old (D.attached disk.old)) (D.history disk.new (D.attached disk.new))
+        (D.faults disk.old) (D.faults disk.new) }
+    ensures attached { D.attached disk.new ≡ D.attached disk.old }
+    ensures honest { D.is_honest disk.new ≡ D.is_honest disk.old }
+{
+    match read_document(store, disk, ahead, number) {
+        Ok(_) => {}
+        Err(fault) => return Err(fault),
+    }
+    match answer.add(alloc, number, ahead.text(), steps) {
+        Ok(()) => Ok(()),
+        Err(fault) => Err(text_fault(store, number, fault)),
+    }
 }

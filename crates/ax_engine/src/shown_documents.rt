@@ -1,17 +1,24 @@
 //! Documents as the rows of a query: their texts are printed as they are stored.
 
-ghost use Rattle.std.specs.Prelude.{◌≡◌, ◌++◌, map, IfOk, OnOk};
+ghost use Rattle.std.specs.Prelude.{◌≡◌, ◌++◌, map, true, false, IsTrue, IfOk, OnOk};
 ghost use Rattle.ax_container.specs.Container.{Container};
 ghost use Rattle.ax_excerpt.specs.ShownDocuments.{tree_numbered, without_pick};
+ghost use Rattle.ax_image.specs.StandsFor.{ContentsStandFor};
 ghost use Rattle.ax_machine.specs.Querying.{numbered};
 ghost use Rattle.ax_machine.specs.ReplyTexts.{row_text};
-ghost use Rattle.ax_engine.specs.Documents.{DocumentsHold};
+ghost use Rattle.ax_store.specs.ReadAhead.{ahead_text};
+ghost use Rattle.ax_store.specs.Store.{store_contents};
 ghost use Rattle.ax_engine.specs.Replies.{AreRows, lines_of};
+ghost use Rattle.ax_engine.specs.Scans.{IsReady, Scans};
 ghost use Rattle.ax_tree.specs.CanonicalText.{canonical_text};
+ghost use Rattle.ax_tree.specs.declared.tree.Tree as trees;
 
-use crate::documents::Documents;
+use crate::reading::read_document;
 use crate::rows::Rows;
+use ax_cache::LruPages;
+use ax_disk::Disk;
 use ax_mean::{Expr, KeyedRow, Pick, Query, Shared, Tree, Value};
+use ax_store::{ReadAhead, Store, StoreFault};
 use ax_tree::Memory;
 use std::alloc::Global;
 
@@ -48,45 +55,92 @@ pub(crate) fn keys_of(alloc: Global, query: Query) -> Result<Query, Memory>
 
 /// The rows of a query whose rows are documents, from the keys of its rows: each has the text of its
 /// document.
-pub(crate) fn document_rows(
+pub(crate) fn document_rows<D: Disk>(
     alloc: Global,
-    documents: &Documents,
+    store: &mut Store<LruPages>,
+    disk: &mut D,
+    ahead: &mut ReadAhead,
     rows: &[KeyedRow],
-) -> Result<Rows, Memory>
-    ensures { (container : Container) → DocumentsHold documents.now container → IfOk result (λ made. AreRows made
-        (map (λ row. canonical_text (tree_numbered row.number (numbered container))) rows.now)) }
+) -> Result<Rows, StoreFault>
+    requires ready { IsReady (D.is_honest disk.old) store.old ahead.old (D.history disk.old (D.attached disk.old)) }
+    ensures rows { IsTrue (D.is_honest disk.old) → (container : Container) → ContentsStandFor (store_contents store.old) container
+        → IfOk result (λ made. AreRows made (map (λ row. canonical_text (tree_numbered row.number (numbered container))) rows.now)) }
+    ensures scans { Scans (D.is_honest disk.old) result store.old store.new ahead.new
+        (D.history disk.old (D.attached disk.old)) (D.history disk.new (D.attached disk.new))
+        (D.faults disk.old) (D.faults disk.new) }
+    ensures attached { D.attached disk.new ≡ D.attached disk.old }
+    ensures honest { D.is_honest disk.new ≡ D.is_honest disk.old }
 {
-    let lines = document_lines(alloc, documents, rows)?;
-    let count = rows.len();
-    Ok(Rows { lines, count })
+    match document_lines(alloc, store, disk, ahead, rows) {
+        Ok(lines) => {
+            let count = rows.len();
+            Ok(Rows { lines, count })
+        }
+        Err(fault) => Err(fault),
+    }
 }
 
 /// The lines of these rows.
-fn document_lines(
+fn document_lines<D: Disk>(
     alloc: Global,
-    documents: &Documents,
+    store: &mut Store<LruPages>,
+    disk: &mut D,
+    ahead: &mut ReadAhead,
     rows: &[KeyedRow],
-) -> Result<Vec<u8>, Memory>
-    ensures { (container : Container) → DocumentsHold documents.now container → IfOk result (λ lines. lines.items
-        ≡ lines_of (map (λ row. canonical_text (tree_numbered row.number (numbered container))) rows.now)) }
+) -> Result<Vec<u8>, StoreFault>
+    requires ready { IsReady (D.is_honest disk.old) store.old ahead.old (D.history disk.old (D.attached disk.old)) }
+    ensures lines { IsTrue (D.is_honest disk.old) → (container : Container) → ContentsStandFor (store_contents store.old) container
+        → IfOk result (λ lines. lines.items ≡ lines_of (map (λ row. canonical_text (tree_numbered row.number (numbered container))) rows.now)) }
+    ensures scans { Scans (D.is_honest disk.old) result store.old store.new ahead.new
+        (D.history disk.old (D.attached disk.old)) (D.history disk.new (D.attached disk.new))
+        (D.faults disk.old) (D.faults disk.new) }
+    ensures attached { D.attached disk.new ≡ D.attached disk.old }
+    ensures honest { D.is_honest disk.new ≡ D.is_honest disk.old }
 {
     let mut lines = Vec::new(alloc);
     for row in rows {
-        push_document(&mut lines, documents, row.number)?;
+        match push_document(store, disk, ahead, &mut lines, row.number) {
+            Ok(()) => {}
+            Err(fault) => return Err(fault),
+        }
     }
     Ok(lines)
 }
 
-/// The line of a document. A number under which none stands, which no row of an answer has, is
-/// answered as want of memory.
-fn push_document(lines: &mut Vec<u8>, documents: &Documents, number: u32) -> Result<(), Memory>
-    ensures { (container : Container) → DocumentsHold documents.now container → OnOk result (lines.new.items
+/// The line of a document. A number under which none stands, which no row of an answer has, shows null.
+fn push_document<D: Disk>(
+    store: &mut Store<LruPages>,
+    disk: &mut D,
+    ahead: &mut ReadAhead,
+    lines: &mut Vec<u8>,
+    number: u32,
+) -> Result<(), StoreFault>
+    requires ready { IsReady (D.is_honest disk.old) store.old ahead.old (D.history disk.old (D.attached disk.old)) }
+    ensures line { IsTrue (D.is_honest disk.old) → (container : Container) → ContentsStandFor (store_contents store.old) container
+        → OnOk result (lines.new.items
         ≡ lines.old.items ++ row_text (canonical_text (tree_numbered number (numbered container)))) }
+    ensures scans { Scans (D.is_honest disk.old) result store.old store.new ahead.new
+        (D.history disk.old (D.attached disk.old)) (D.history disk.new (D.attached disk.new))
+        (D.faults disk.old) (D.faults disk.new) }
+    ensures attached { D.attached disk.new ≡ D.attached disk.old }
+    ensures honest { D.is_honest disk.new ≡ D.is_honest disk.old }
 {
-    let Some(stored) = documents.store.text_of(number) else {
-        return Err(Memory);
+    let is_held = match read_document(store, disk, ahead, number) {
+        Ok(is_held) => is_held,
+        Err(fault) => return Err(fault),
     };
-    push_text(lines, stored)
+    match push_text(lines, text_or_null(ahead, is_held)) {
+        Ok(()) => Ok(()),
+        Err(_) => Err(StoreFault::Memory),
+    }
+}
+
+/// The text that was read, or that of null.
+fn text_or_null(ahead: &ReadAhead, is_held: bool) -> &[u8]
+    ensures held { is_held ≡ true → result.now ≡ ahead_text ahead.now }
+    ensures none { is_held ≡ false → result.now ≡ canonical_text trees.Null }
+{
+    if is_held { ahead.text() } else { b"null" }
 }
 
 /// The line of a row of that text.

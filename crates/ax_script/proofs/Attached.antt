@@ -1,33 +1,25 @@
 -- A store that is attached by its name, and then opened.
-use Rattle.std.proofs.Common.{◌≡◌, ◌⊎◌, inl, ℕ, List, sym, subst, ap, ◌∙◌, arith}
+use Rattle.std.proofs.Common.{◌≡◌, ◌⊎◌, ℕ, List, sym, subst, ap, ◌∙◌}
 use Rattle.ax_disk.specs.model.Image.{Image}
 use Rattle.ax_disk.specs.model.Pending.{Unsynced, MayLeave}
 use Rattle.ax_disk.specs.model.Moments.{History, Progresses}
 use Rattle.ax_disk.specs.model.Calls.{Idles}
 use Rattle.ax_disk.specs.model.Stays.{Rests, Stays, BarrierStage, SinceBarrier}
-use Rattle.ax_disk.specs.laws.MomentLaws.{progress_stays, progress_within, progress_join}
-use Rattle.ax_disk.specs.laws.CallLaws.{idles_leave}
+use Rattle.ax_disk.specs.laws.MomentLaws.{progress_stays, progress_join}
 use Rattle.ax_disk.specs.laws.StaysLaws.{idles_stay, stays_join}
+use Rattle.ax_pages.specs.Contents.{Contents}
+use Rattle.ax_pages.specs.HasContents.{HasContents}
 use Rattle.ax_pages.specs.Image.{IsNewer}
 use Rattle.ax_log.specs.Opening.{Keeps}
-use Rattle.ax_resident_store.specs.Store.{IsDamagedStore}
-use Rattle.ax_resident_store.specs.declared.fault.StoreFault.{StoreFault}
-use Rattle.ax_resident_store.specs.declared.fault.StoreFault.TheVariants as fault
+use Rattle.ax_store.specs.Store.{IsDamagedStore}
+use Rattle.ax_store.specs.declared.fault.StoreFault.{StoreFault}
+use Rattle.ax_store.specs.declared.fault.StoreFault.TheVariants as fault
 use Rattle.ax_container.specs.Container.{Container}
 use Rattle.ax_image.specs.StandsFor.{StandsFor}
 use Rattle.ax_engine.specs.Opening.{RefusesBy}
 use Rattle.ax_engine.specs.Stores.{IsStore, Shows}
 
 -- ---- a barrier, behind a call that changes nothing
-
--- the barrier is still to come
-pub idle_since : (old new : History) (P : Image → Type 0) → Idles old new → SinceBarrier old new P
-idle_since old new P idle = record {
-  stages = progress_within old new 0 0 0 1 (BarrierStage old.unsynced (λ _ image. P image))
-      (omega arith) (omega arith)
-      (progress_stays old new 0 (BarrierStage old.unsynced (λ _ image. P image)) idle.time);
-  rests = inl (record { each = λ image may. idles_leave old new idle image may });
-}
 
 pub since_idle : (old mid new : History) (P : Image → Type 0) → Idles old mid
     → SinceBarrier mid new P → SinceBarrier old new P
@@ -73,6 +65,11 @@ module _ (old mid new : List ℕ → History) (name there now : List ℕ) (is : 
     };
     reads = subst (λ (image : Image). StandsFor image before) (sym reads_are) store.reads;
   }
+
+  -- and so are its contents
+  pub contents_named : (contents : Contents) × HasContents contents (mid there).reads
+      → (contents : Contents) × HasContents contents (old name).reads
+  contents_named some = (some.0, subst (HasContents some.0) reads_are some.1)
 
   pub since_named : (before : Container) → SinceBarrier (mid there) (new now) (Shows before)
       → SinceBarrier (old name) (new name) (Shows before)

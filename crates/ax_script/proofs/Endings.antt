@@ -1,5 +1,5 @@
 -- How a run goes on from piece to piece, and how it ends.
-use Rattle.std.proofs.Common.{◌≡◌, ℕ, ◌+◌, ◌<◌, ◌≤◌, ◌⊎◌, ◌↔◌, List, [], ◌++◌, length, Option, inl}
+use Rattle.std.proofs.Common.{◌≡◌, ℕ, Bool, ◌+◌, ◌<◌, ◌≤◌, ◌⊎◌, ◌↔◌, List, [], ◌++◌, length, Option, inl}
 use Rattle.std.proofs.Common.{inr, refl, ap, subst, append-nil, length-append, arith}
 use Rattle.std.specs.Io.KnownBytes.{Consumes, Keeps, IsAtEnd}
 use Rattle.std.proofs.KnownBytes.{Consumes-nil, Consumes-trans, Consumes-kept, Appends-nil}
@@ -14,7 +14,7 @@ use Rattle.ax_disk.specs.model.Stays.{Rests}
 use Rattle.ax_machine.specs.Run.{text_of}
 use Rattle.ax_script.specs.Progress.{ServesLines, BeginsLines, ServesLast, BeginsLast, Progress}
 use Rattle.ax_engine.specs.Stores.{Shows}
-use Rattle.ax_script.specs.Progress.{BreaksOff, Ends, BreaksOffWith, EndsEarly, IsOfServing, outlets}
+use Rattle.ax_script.specs.Progress.{BreaksOff, Ends, BreaksOffWith, EndsEarly, EndsServing, IsOfServing, StopsBy, outlets}
 use Rattle.ax_script.specs.Script.{most_input, BeginsToAnswer, IsTextAt, Runs}
 use Rattle.ax_script.specs.Streams.{Streams}
 use Rattle.ax_script.proofs.Answering.{Answers-nil, Answers-append, BeginsToAnswer-append}
@@ -448,3 +448,40 @@ complete_of D R K (status.Damaged extent at) disk read write of no_disk no_read 
 complete_of D R K (status.Newer version) disk read write of no_disk no_read no_write = absurd of
 complete_of D R K status.Memory disk read write of no_disk no_read no_write = inr (inl refl)
 complete_of D R K status.Long disk read write of no_disk no_read no_write = inr (inr refl)
+
+-- ---- the statuses of serving
+
+pub last_serving : (ended : Status) → (ended ≡ status.Done) ⊎ BreaksOffWith ended → IsOfServing ended
+last_serving status.Done only = tt
+last_serving status.DiskFault only = tt
+last_serving status.WriteFault only = tt
+last_serving status.Memory only = tt
+last_serving status.ReadFault only = tt
+last_serving status.Long only = tt
+last_serving status.Words (inl is) = absurd cc
+last_serving status.Words (inr breaks) = breaks
+last_serving (status.Damaged extent at) (inl is) = absurd cc
+last_serving (status.Damaged extent at) (inr breaks) = breaks
+last_serving (status.Newer version) (inl is) = absurd cc
+last_serving (status.Newer version) (inr breaks) = breaks
+
+ends_of : (honest : Bool) (ended : Status) (history : History)
+    → (ended ≡ status.Done) ⊎ StopsBy honest ended history → EndsServing honest ended history
+ends_of honest status.Done history only = tt
+ends_of honest status.DiskFault history only = tt
+ends_of honest status.WriteFault history only = tt
+ends_of honest status.Memory history only = tt
+ends_of honest status.ReadFault history only = tt
+ends_of honest status.Long history only = tt
+ends_of honest status.Words history (inl is) = absurd cc
+ends_of honest status.Words history (inr stops) = stops
+ends_of honest (status.Damaged extent at) history (inl is) = absurd cc
+ends_of honest (status.Damaged extent at) history (inr stops) = stops
+ends_of honest (status.Newer version) history (inl is) = absurd cc
+ends_of honest (status.Newer version) history (inr stops) = stops
+
+-- told of the same honesty
+pub last_ends : (now then : Bool) (ended : Status) (history : History) → now ≡ then
+    → (ended ≡ status.Done) ⊎ StopsBy now ended history → EndsServing then ended history
+last_ends now then ended history same only =
+    subst (λ h. EndsServing h ended history) same (ends_of now ended history only)

@@ -1,5 +1,5 @@
 -- What a run left on its disk, by the way in which it ended.
-use Rattle.std.proofs.Common.{◌≡◌, ◌⊎◌, inl, inr, ⊎_elim, ℕ, ◌≤◌, List, [], ◌∷◌, length, refl, sym}
+use Rattle.std.proofs.Common.{◌≡◌, ◌⊎◌, inl, inr, ⊎_elim, ℕ, ◌≤◌, Bool, IsTrue, List, [], ◌∷◌, length, refl, sym}
 use Rattle.std.proofs.Common.{subst, ap, arith}
 use Rattle.ax_disk.specs.model.Image.{Image}
 use Rattle.ax_disk.specs.model.Pending.{MayLeave}
@@ -8,7 +8,7 @@ use Rattle.ax_disk.specs.model.Stays.{Rests, SinceBarrier}
 use Rattle.ax_disk.specs.laws.MomentLaws.{progress_within, elapses_start, progress_stays}
 use Rattle.ax_disk.specs.laws.StageLaws.{barrier_progress}
 use Rattle.ax_disk.specs.laws.StaysLaws.{idles_start, rests_weaken}
-use Rattle.ax_resident_store.proofs.StoreLemmas.{barrier_weaken}
+use Rattle.ax_store.proofs.StoreLemmas.{barrier_weaken}
 use Rattle.ax_faults.specs.Faults.{Rose}
 use Rattle.ax_container.specs.Container.{Container}
 use Rattle.ax_image.specs.StandsFor.{StandsFor}
@@ -17,13 +17,13 @@ use Rattle.ax_script.specs.declared.status.Status.{Status}
 use Rattle.ax_script.specs.declared.status.Status.TheVariants as status
 use Rattle.ax_engine.specs.Stores.{IsStore, Shows}
 use Rattle.ax_script.specs.DiskScript.{StandsAfter, KeepsAcknowledged, RunsOnDisk}
-use Rattle.ax_script.specs.Opening.{Refuses}
-use Rattle.ax_script.specs.Progress.{Reaches, EndsEarly, Ends, IsOfServing}
+use Rattle.ax_script.specs.Opening.{Refuses, RefusesOpening, TellsServed}
+use Rattle.ax_script.specs.Progress.{Reaches, EndsEarly, Ends, EndsServing}
 use Rattle.ax_script.specs.Streams.{Streams}
 use Rattle.ax_script.proofs.DiskMoments.{reaches_keeps}
 use Rattle.ax_script.proofs.Endings.{EarlyRun}
-use Rattle.ax_engine.proofs.Opened.{not_damaged, not_newer}
-use Rattle.ax_script.proofs.Attached.{of_name, idle_since}
+use Rattle.ax_engine.proofs.Opened.{idle_since, not_damaged, not_newer}
+use Rattle.ax_script.proofs.Attached.{of_name}
 
 -- ---- no line was served
 
@@ -114,28 +114,60 @@ on_disk_named honest before ended old new entry mid exit name there now is still
 pub rose_since : (first before now : ℕ) → first ≤ before → Rose before now → Rose first now
 rose_since first before now le rose = omega (arith, le, rose)
 
--- a status of serving gives no cause in the store
-pub serving_refuses : (ended : Status) (old new : History) → IsOfServing ended → Refuses ended old new
-serving_refuses status.Done old new is = tt
-serving_refuses status.Words old new is = absurd is
-serving_refuses status.DiskFault old new is = tt
-serving_refuses status.ReadFault old new is = tt
-serving_refuses status.WriteFault old new is = tt
-serving_refuses (status.Damaged extent at) old new is = absurd is
-serving_refuses (status.Newer version) old new is = absurd is
-serving_refuses status.Memory old new is = tt
-serving_refuses status.Long old new is = tt
+-- a status of serving gives no cause in the store but a document whose text is none
+pub serving_refuses : (honest : Bool) (ended : Status) (old new : History) → EndsServing honest ended new → IsTrue honest
+    → Refuses ended old new
+serving_refuses honest status.Done old new is h = tt
+serving_refuses honest status.Words old new is h = absurd is
+serving_refuses honest status.DiskFault old new is h = tt
+serving_refuses honest status.ReadFault old new is h = tt
+serving_refuses honest status.WriteFault old new is h = tt
+serving_refuses honest (status.Damaged extent at) old new is h = inr (is h)
+serving_refuses honest (status.Newer version) old new is h = absurd is
+serving_refuses honest status.Memory old new is h = tt
+serving_refuses honest status.Long old new is h = tt
 
-pub serving_not_words : (ended : Status) → IsOfServing ended → ended ≡ status.Words → ⊥
-serving_not_words status.Words is e = absurd is
-serving_not_words status.Done is e = cc
-serving_not_words status.DiskFault is e = cc
-serving_not_words status.ReadFault is e = cc
-serving_not_words status.WriteFault is e = cc
-serving_not_words (status.Damaged extent at) is e = cc
-serving_not_words (status.Newer version) is e = cc
-serving_not_words status.Memory is e = cc
-serving_not_words status.Long is e = cc
+-- the same of the store of a name, which is the one attached
+pub serving_named : (honest : Bool) (ended : Status) (old new : List ℕ → History) (name there now : List ℕ) → there ≡ name → now ≡ there
+    → EndsServing honest ended (new now) → IsTrue honest → Refuses ended (old name) (new name)
+serving_named honest ended old new name there now is still ends h =
+    serving_refuses honest ended (old name) (new name)
+    (of_name (λ x y. EndsServing honest ended y) new new name there now is still ends) h
+
+-- why opening refuses is why the run does
+pub opening_refuses : (ended : Status) (old new : History) → RefusesOpening ended old new → Refuses ended old new
+opening_refuses status.Done old new why = tt
+opening_refuses status.Words old new why = tt
+opening_refuses status.DiskFault old new why = tt
+opening_refuses status.ReadFault old new why = tt
+opening_refuses status.WriteFault old new why = tt
+opening_refuses (status.Damaged extent at) old new why = inl why
+opening_refuses (status.Newer version) old new why = why
+opening_refuses status.Memory old new why = tt
+opening_refuses status.Long old new why = tt
+
+-- a run that ended before it took a line does not tell that the store was served
+pub early_unserved : (ended : Status) → EndsEarly ended → TellsServed ended → ⊥
+early_unserved status.DiskFault early served = served
+early_unserved (status.Damaged extent at) early served = served
+early_unserved (status.Newer version) early served = served
+early_unserved status.Memory early served = served
+early_unserved status.Done early served = early
+early_unserved status.Words early served = early
+early_unserved status.ReadFault early served = early
+early_unserved status.WriteFault early served = early
+early_unserved status.Long early served = early
+
+pub serving_not_words : (honest : Bool) (ended : Status) (new : History) → EndsServing honest ended new → ended ≡ status.Words → ⊥
+serving_not_words honest status.Words new is e = absurd is
+serving_not_words honest status.Done new is e = cc
+serving_not_words honest status.DiskFault new is e = cc
+serving_not_words honest status.ReadFault new is e = cc
+serving_not_words honest status.WriteFault new is e = cc
+serving_not_words honest (status.Damaged extent at) new is e = cc
+serving_not_words honest (status.Newer version) new is e = cc
+serving_not_words honest status.Memory new is e = cc
+serving_not_words honest status.Long new is e = cc
 
 pub early_not_words : (ended : Status) → EndsEarly ended → ended ≡ status.Words → ⊥
 early_not_words status.Words is e = absurd is
@@ -150,7 +182,7 @@ early_not_words status.Long is e = cc
 
 -- over a store that stands for a container opening ends a run for a fault or for want of memory
 pub early_complete : (DiskRose : Type 0) (before : Container) (ended : Status) (old new : History)
-    → IsStore before old → Refuses ended old new → EndsEarly ended
+    → IsStore before old → RefusesOpening ended old new → EndsEarly ended
     → (ended ≡ status.DiskFault → DiskRose) → (DiskRose → ⊥)
     → (ended ≡ status.Done) ⊎ (ended ≡ status.Memory) ⊎ (ended ≡ status.Long)
 early_complete D before status.DiskFault old new store refuses early disk no_disk =

@@ -1,7 +1,7 @@
 -- What the answer to a line and the writing of its reply make together.
-use Rattle.std.proofs.Common.{◌≡◌, inl, inr, ℕ, ◌+◌, ◌≤◌, List, Option, Some, None, Result, Ok, Err, OnOk, OnErr}
+use Rattle.std.proofs.Common.{◌≡◌, inl, inr, ℕ, Bool, ◌+◌, ◌≤◌, List, Option, Some, None, Result, Ok, Err, OnOk, OnErr}
 use Rattle.std.proofs.Common.{refl, sym, ap, subst}
-use Rattle.std.specs.Prelude.{◌≢◌}
+use Rattle.std.specs.Prelude.{◌≢◌, IfErr, IsTrue}
 use Rattle.ax_disk.specs.model.Moments.{History}
 use Rattle.ax_disk.specs.model.Stays.{Turns}
 use Rattle.ax_container.specs.Container.{Container}
@@ -11,6 +11,7 @@ use Rattle.ax_lines.specs.declared.line.Line.{Line}
 use Rattle.ax_lines.specs.declared.line.Line.TheVariants as line
 use Rattle.ax_lines.specs.declared.refusal.Refusal.{Refusal}
 use Rattle.ax_lines.specs.Lines.{line_of}
+use Rattle.ax_engine.specs.Damage.{Meets}
 use Rattle.ax_engine.specs.Engine.{Applies, Holds, Works, made_by}
 use Rattle.ax_engine.specs.Replies.{IsReply}
 use Rattle.ax_engine.specs.Stores.{Shows}
@@ -25,7 +26,8 @@ use Rattle.ax_machine.specs.ReplyTexts.{reply_text}
 use Rattle.ax_machine.specs.Run.{Outcome, Served, OutOfMemory, after_line, reply_to}
 use Rattle.ax_machine.specs.Step.{served, step, upsert_by, written}
 use Rattle.ax_script.specs.declared.status.Status.{Status}
-use Rattle.ax_script.specs.Progress.{Serves, BeginsToServe, outlets}
+use Rattle.ax_script.specs.declared.status.Status.TheVariants as status
+use Rattle.ax_script.specs.Progress.{Serves, BeginsToServe, BreaksOffWith, IsLineFault, StopsBy, outlets}
 use Rattle.ax_script.specs.Replies.{IsTextOf, TellsLine, WritesPart, WritesWhole}
 use Rattle.ax_script.proofs.Outcomes.{OnOk-map, OnErr-map}
 use Rattle.ax_script.proofs.Written.{serves_by, begins_by, begins_without}
@@ -91,6 +93,7 @@ module _ (honest : Type 0) (before : Container) (line : List ℕ) (engine : Engi
             added.0 by.1 added.2 works by.2 by.3 bounded,
       ))) whole
   whole_of result (Err fault.Disk) told works bounded whole = OnOk-map result (λ none. absurd none) whole
+  whole_of result (Err (fault.Damaged extent at)) told works bounded whole = absurd told
 
   pub part_of : (result : Result (Unit {0}) Status) (answered : Result Reply Fault)
       → TellsLine honest before line answered engine old new
@@ -105,6 +108,7 @@ module _ (honest : Type 0) (before : Container) (line : List ℕ) (engine : Engi
       (λ same. subst (λ w. BeginsToServe honest before line (outlets written old steps)
       (outlets w new later)) same
       (begins_without honest before line Served written old new steps later told bounded)) part
+  part_of result (Err (fault.Damaged extent at)) told works bounded part = absurd told
 
 -- ---- the answer to a line
 
@@ -132,6 +136,7 @@ tells_applied honest before bytes asked engine old new (Ok made) read told =
 tells_applied honest before bytes asked engine old new (Err fault.Disk) read told =
     subst (λ (m : Container × reply.Reply). honest → Turns old new (Shows before) (Shows m.0))
     (sym (ap (served before) read)) told
+tells_applied honest before bytes asked engine old new (Err (fault.Damaged extent at)) read told = absurd told
 
 pub tells_refused : (honest : Type 0) (before : Container) (bytes : List ℕ) (why : Refusal)
     (engine : Engine) (old new : History) → line_of bytes ≡ Err why → Holds engine before
@@ -144,3 +149,41 @@ tells_refused honest before bytes why engine old new read holds turns =
       subst (λ (m : Container × reply.Reply). Holds engine m.0) (sym is) holds,
       subst (λ (m : Container × reply.Reply). honest → Turns old new (Shows before) (Shows m.0)) (sym is) turns,
     )
+
+-- ---- the status of a line that was not served
+
+-- over documents that are those of a container none is damaged
+pub sound_of : (honest : Type 0) (before : Container) (line : List ℕ) (engine : Engine) (old new : History)
+    (result : Result (Unit {0}) Status) (answered : Result Reply Fault)
+    → TellsLine honest before line answered engine old new → IfErr result IsLineFault
+    → ((extent at : ℕ) → result ≡ Err (status.Damaged extent at) → answered ≡ Err (fault.Damaged extent at))
+    → IfErr result BreaksOffWith
+sound_of honest before line engine old new (Ok done) answered told only damage = tt
+sound_of honest before line engine old new (Err status.WriteFault) answered told only damage = tt
+sound_of honest before line engine old new (Err status.DiskFault) answered told only damage = tt
+sound_of honest before line engine old new (Err (status.Damaged extent at)) answered told only damage =
+    subst (λ (a : Result Reply Fault). TellsLine honest before line a engine old new) (damage extent at refl) told
+sound_of honest before line engine old new (Err status.Done) answered told only damage = only
+sound_of honest before line engine old new (Err status.Words) answered told only damage = only
+sound_of honest before line engine old new (Err status.ReadFault) answered told only damage = only
+sound_of honest before line engine old new (Err (status.Newer version)) answered told only damage = only
+sound_of honest before line engine old new (Err status.Memory) answered told only damage = tt
+sound_of honest before line engine old new (Err status.Long) answered told only damage = only
+
+-- one that is damaged is so at its place
+pub stops_of : (honest : Bool) (new : History) (result : Result (Unit {0}) Status) (answered : Result Reply Fault)
+    → IfErr result IsLineFault
+    → ((extent at : ℕ) → result ≡ Err (status.Damaged extent at) → answered ≡ Err (fault.Damaged extent at))
+    → (IsTrue honest → IfErr answered (λ why. Meets why new.reads))
+    → IfErr result (λ why. StopsBy honest why new)
+stops_of honest new (Ok done) answered only damage met = tt
+stops_of honest new (Err status.WriteFault) answered only damage met = tt
+stops_of honest new (Err status.DiskFault) answered only damage met = tt
+stops_of honest new (Err (status.Damaged extent at)) answered only damage met = λ h.
+    subst (λ (a : Result Reply Fault). IfErr a (λ why. Meets why new.reads)) (damage extent at refl) (met h)
+stops_of honest new (Err status.Done) answered only damage met = only
+stops_of honest new (Err status.Words) answered only damage met = only
+stops_of honest new (Err status.ReadFault) answered only damage met = only
+stops_of honest new (Err (status.Newer version)) answered only damage met = only
+stops_of honest new (Err status.Memory) answered only damage met = tt
+stops_of honest new (Err status.Long) answered only damage met = only

@@ -1,14 +1,32 @@
--- What opening a store answers, by what reads of it gave.
+-- What a status tells of the store: why it was refused, or that it had contents when it was opened.
+use Rattle.std.specs.Prelude.{◌⊎◌}
 use Rattle.ax_disk.specs.model.Moments.{History}
+use Rattle.ax_engine.specs.Damage.{IsMetOutside}
 use Rattle.ax_log.specs.Opening.{Keeps}
 use Rattle.ax_pages.specs.Image.{IsNewer}
-use Rattle.ax_resident_store.specs.Store.{IsDamagedStore}
+use Rattle.ax_store.specs.Store.{IsDamagedStore}
 use Rattle.ax_script.specs.declared.status.Status.{Status}
 use Rattle.ax_script.specs.declared.status.Status.TheVariants as status
 
--- why a status refuses a store: its bytes are outside the format at that offset, or it is of that
--- later version; its lists are then as they were
+-- why a status refuses to open a store: its bytes are outside the format at that offset, or it is of
+-- that later version; its lists are then as they were
+abbrev pub RefusesOpening : Status → History → History → Type 0
+RefusesOpening (status.Damaged extent at) old new = IsDamagedStore old.reads extent at × Keeps old new
+RefusesOpening (status.Newer version) old new = IsNewer old.reads version × Keeps old new
+RefusesOpening other old new = Unit {0}
+
+-- The same of a run. Where the store was opened it is damaged at the part of a document whose text is
+-- none of a document, in the store that the run has left.
 abbrev pub Refuses : Status → History → History → Type 0
-Refuses (status.Damaged extent at) old new = IsDamagedStore old.reads extent at × Keeps old new
+Refuses (status.Damaged extent at) old new =
+    (IsDamagedStore old.reads extent at × Keeps old new) ⊎ IsMetOutside new.reads extent at
 Refuses (status.Newer version) old new = IsNewer old.reads version × Keeps old new
 Refuses other old new = Unit {0}
+
+-- the status tells that the store was opened and served
+abbrev pub TellsServed : Status → Type 0
+TellsServed status.Done = Unit {0}
+TellsServed status.ReadFault = Unit {0}
+TellsServed status.WriteFault = Unit {0}
+TellsServed status.Long = Unit {0}
+TellsServed other = ⊥

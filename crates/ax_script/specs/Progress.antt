@@ -1,6 +1,6 @@
 -- How far a run has come, for `serve_line` and the private parts of the top call: in the streams,
 -- and on the disk where that is honest.
-use Rattle.std.specs.Prelude.{◌≡◌, ℕ, ◌+◌, ◌≤◌, List, [], ◌∷◌, length, take, Option}
+use Rattle.std.specs.Prelude.{◌≡◌, ℕ, ◌+◌, ◌≤◌, Bool, List, [], ◌∷◌, length, take, Option, IsTrue}
 use Rattle.std.specs.List.{concat}
 use Rattle.std.specs.Io.KnownBytes.{Appends}
 use Rattle.ax_base.specs.Appends.{AppendsPrefix}
@@ -9,6 +9,7 @@ use Rattle.ax_disk.specs.model.Moments.{History, Progresses}
 use Rattle.ax_disk.specs.model.Stays.{Rests, Turns}
 use Rattle.ax_container.specs.Container.{Container}
 use Rattle.ax_image.specs.StandsFor.{StandsFor}
+use Rattle.ax_engine.specs.Damage.{IsMetOutside}
 use Rattle.ax_engine.specs.Stores.{Shows}
 use Rattle.ax_lines.specs.ScriptLines.{AreLines, last_line}
 use Rattle.ax_machine.specs.Needs.{most_steps, most_steps_in}
@@ -20,7 +21,8 @@ use Rattle.ax_script.specs.DiskScript.{StandsAfter}
 use Rattle.ax_script.specs.declared.status.Status.{Status}
 use Rattle.ax_script.specs.declared.status.Status.TheVariants as status
 
--- the status of a run that broke off while a line was served
+-- the status of a run that broke off while a line was served, over documents that are those of a
+-- container
 abbrev pub BreaksOffWith : Status → Type 0
 BreaksOffWith status.WriteFault = Unit {0}
 BreaksOffWith status.DiskFault = Unit {0}
@@ -35,12 +37,35 @@ EndsEarly (status.Newer version) = Unit {0}
 EndsEarly status.Memory = Unit {0}
 EndsEarly other = ⊥
 
--- the status of a run over a store that was opened
+-- the status of a run over a store that was opened and stands for a container
 abbrev pub IsOfServing : Status → Type 0
 IsOfServing status.Words = ⊥
 IsOfServing (status.Damaged extent at) = ⊥
 IsOfServing (status.Newer version) = ⊥
 IsOfServing other = Unit {0}
+
+-- the status of a line that was not served
+abbrev pub IsLineFault : Status → Type 0
+IsLineFault status.WriteFault = Unit {0}
+IsLineFault status.DiskFault = Unit {0}
+IsLineFault (status.Damaged extent at) = Unit {0}
+IsLineFault other = ⊥
+
+-- the status of a run that broke off while a line was served, over any documents; where one of these is
+-- damaged, with its place
+abbrev pub StopsBy : Bool → Status → History → Type 0
+StopsBy honest status.WriteFault history = Unit {0}
+StopsBy honest status.DiskFault history = Unit {0}
+StopsBy honest status.Memory history = Unit {0}
+StopsBy honest (status.Damaged extent at) history = IsTrue honest → IsMetOutside history.reads extent at
+StopsBy honest other history = ⊥
+
+-- the status of a run over a store that was opened, with any documents
+abbrev pub EndsServing : Bool → Status → History → Type 0
+EndsServing honest status.Words history = ⊥
+EndsServing honest (status.Damaged extent at) history = IsTrue honest → IsMetOutside history.reads extent at
+EndsServing honest (status.Newer version) history = ⊥
+EndsServing honest other history = Unit {0}
 
 abbrev pub outlets : Option (List ℕ) → History → ℕ → Outlets
 outlets written history steps = record { written = written; history = history; steps = steps }

@@ -27,15 +27,15 @@ IsTextOf made text =
     ((meant : reply.Reply) → IsReply made meant → text ≡ reply_text meant)
     ⊎ ((made ≢ given.Ok) × (text ≡ reply_text reply.out_of_memory))
 
--- such a text was written whole; none is where the disk failed
+-- such a text was written whole; none is where the engine answers a fault
 abbrev pub WritesWhole : Result Reply Fault → Option (List ℕ) → Option (List ℕ) → Type 0
 WritesWhole (Ok made) old new = (text : List ℕ) × IsTextOf made text × Appends old new text
-WritesWhole (Err fault.Disk) old new = ⊥
+WritesWhole (Err why) old new = ⊥
 
 -- a prefix of it was written
 abbrev pub WritesPart : Result Reply Fault → Option (List ℕ) → Option (List ℕ) → Type 0
 WritesPart (Ok made) old new = (text : List ℕ) × IsTextOf made text × AppendsPrefix old new text
-WritesPart (Err fault.Disk) old new = old ≡ new
+WritesPart (Err why) old new = old ≡ new
 
 -- what the answer to a line's bytes is
 abbrev pub TellsLine : Type 0 → Container → List ℕ → Result Reply Fault → Engine → History → History → Type 0
@@ -45,6 +45,7 @@ TellsLine honest before line (Ok made) engine old new =
     × (honest → Turns old new (Shows before) (Shows (after_line before line outcome)))
 TellsLine honest before line (Err fault.Disk) engine old new =
     honest → Turns old new (Shows before) (Shows (step before line).0)
+TellsLine honest before line (Err (fault.Damaged extent at)) engine old new = ⊥
 
 -- a text that was made, or that of out of memory
 abbrev pub text_or_memory : Result (Vec ℕ) Memory → List ℕ

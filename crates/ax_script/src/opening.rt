@@ -6,13 +6,15 @@ ghost use Rattle.ax_disk.specs.model.Stays.{SinceBarrier};
 ghost use Rattle.ax_container.specs.Container.{Container};
 ghost use Rattle.ax_engine.specs.Engine.{Holds, Works};
 ghost use Rattle.ax_engine.specs.Stores.{IsStore, Shows};
-ghost use Rattle.ax_script.specs.Opening.{Refuses};
+ghost use Rattle.ax_pages.specs.Contents.{Contents};
+ghost use Rattle.ax_pages.specs.HasContents.{HasContents};
+ghost use Rattle.ax_script.specs.Opening.{RefusesOpening};
 ghost use Rattle.ax_script.specs.Progress.{EndsEarly};
 
 use crate::status::Status;
 use ax_disk::Disk;
 use ax_engine::Engine;
-use ax_resident_store::StoreFault;
+use ax_store::StoreFault;
 use std::alloc::Global;
 
 /// Attaches the store of a name, and opens it.
@@ -23,10 +25,12 @@ pub(crate) fn open_named<D: Disk>(alloc: Global, disk: &mut D, name: &str) -> Re
     ensures attached { OnOk result (D.attached disk.new ≡ D.store_named name.now) }
     ensures holds { IsTrue (D.is_honest disk.old) → (before : Container)
         → IsStore before (D.history disk.old (D.store_named name.now)) → IfOk result (λ engine. Holds engine before) }
+    ensures opened { IsTrue (D.is_honest disk.old) → IfOk result (λ engine. (contents : Contents)
+        × HasContents contents (D.history disk.old (D.store_named name.now)).reads) }
     ensures any_moment { IsTrue (D.is_honest disk.old) → (before : Container)
         → IsStore before (D.history disk.old (D.store_named name.now))
         → SinceBarrier (D.history disk.old (D.store_named name.now)) (D.history disk.new (D.store_named name.now)) (Shows before) }
-    ensures tells { IsTrue (D.is_honest disk.old) → IfErr result (λ status. Refuses status
+    ensures tells { IsTrue (D.is_honest disk.old) → IfErr result (λ status. RefusesOpening status
         (D.history disk.old (D.store_named name.now)) (D.history disk.new (D.store_named name.now))) }
     ensures only { IfErr result EndsEarly }
     ensures cause { result ≡ Err Status.DiskFault → Rose (D.faults disk.old) (D.faults disk.new) }

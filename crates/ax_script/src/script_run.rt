@@ -4,7 +4,9 @@ ghost use Rattle.ax_container.specs.Container.{Container};
 ghost use Rattle.ax_script.specs.CommandLine.{is_run as is_run_lem, store_word};
 ghost use Rattle.ax_engine.specs.Stores.{IsStore};
 ghost use Rattle.ax_script.specs.DiskScript.{RunsOnDisk};
-ghost use Rattle.ax_script.specs.Opening.{Refuses};
+ghost use Rattle.ax_pages.specs.Contents.{Contents};
+ghost use Rattle.ax_pages.specs.HasContents.{HasContents};
+ghost use Rattle.ax_script.specs.Opening.{Refuses, TellsServed};
 
 use crate::command_line::{is_run, store_name};
 use crate::opening::open_named;
@@ -25,7 +27,9 @@ const PIECE: usize = 65_536;
 /// The statuses and their causes: `Words` exactly where the words are not `run STORE`, and then
 /// nothing is touched; `DiskFault`, `ReadFault` and `WriteFault` only where a call on the disk, the
 /// source or the sink failed in this run; over an honest disk `Damaged` and `Newer` only where the
-/// store is outside the format at that offset, or of that later version, and it is as it was; where
+/// store is outside the format at that offset, or of that later version, and it is as it was, or where
+/// a query met a document whose text is none, with the place of its part; `Done`, `ReadFault`,
+/// `WriteFault` and `Long` only where the store had contents; where
 /// it also stands for a container, `Long` exactly where more than 2^40 bytes were taken, and
 /// without a failed call only `Done`, `Memory` or `Long`. `Memory` comes where memory ran out
 /// outside the serving of a line; at `Done` all input was read and served.
@@ -61,6 +65,11 @@ pub fn run<D: Disk, S: Source, K: Sink, L: Ledger>(
     ensures refused { IsTrue (D.is_honest disk.old) → Refuses result
         (D.history disk.old (D.store_named (store_word words.now)))
         (D.history disk.new (D.store_named (store_word words.now))) }
+
+    // And a store that has no contents, since it is damaged or of a later version, is not served.
+    ensures within { IsTrue (D.is_honest disk.old) → TellsServed result → (contents : Contents)
+        × HasContents contents (D.history disk.old (D.store_named (store_word words.now))).reads }
+
     ensures complete { is_run_lem words.now ≡ true → IsTrue (D.is_honest disk.old) → (before : Container)
         → IsStore before (D.history disk.old (D.store_named (store_word words.now)))
         → ¬ Rose (D.faults disk.old) (D.faults disk.new)
@@ -103,6 +112,8 @@ fn serve<D: Disk, S: Source, K: Sink, L: Ledger>(
         → Rose (K.faults sink.old) (K.faults sink.new) }
     ensures refused { IsTrue (D.is_honest disk.old) → Refuses result
         (D.history disk.old (D.store_named (store_word words.now))) (D.history disk.new (D.store_named (store_word words.now))) }
+    ensures within { IsTrue (D.is_honest disk.old) → TellsServed result → (contents : Contents)
+        × HasContents contents (D.history disk.old (D.store_named (store_word words.now))).reads }
     ensures disk_faults { D.faults disk.old ≤ D.faults disk.new }
     ensures source_faults { S.faults source.old ≤ S.faults source.new }
     ensures sink_faults { K.faults sink.old ≤ K.faults sink.new }

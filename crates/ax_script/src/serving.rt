@@ -1,11 +1,12 @@
-ghost use Rattle.std.specs.Prelude.{◌≡◌, ◌≤◌, ◌⊎◌, ◌+◌, ℕ, List, None, Err, IsTrue, IfErr, OnOk, OnErr};
+ghost use Rattle.std.specs.Prelude.{◌≡◌, ◌≤◌, ◌+◌, ℕ, List, None, Err, IsTrue, IfErr, OnOk, OnErr};
 ghost use Rattle.std.specs.Io.KnownBytes.{Appends};
 ghost use Rattle.ax_base.specs.Appends.{AppendsPrefix};
 ghost use Rattle.ax_faults.specs.Faults.{Rose};
 ghost use Rattle.ax_container.specs.Container.{Container};
 ghost use Rattle.ax_engine.specs.Engine.{Holds, Works};
 ghost use Rattle.ax_machine.specs.Needs.{most_steps};
-ghost use Rattle.ax_script.specs.Progress.{outlets, Serves, BeginsToServe};
+ghost use Rattle.ax_engine.specs.Damage.{Meets};
+ghost use Rattle.ax_script.specs.Progress.{outlets, Serves, BeginsToServe, BreaksOffWith, IsLineFault, StopsBy};
 ghost use Rattle.ax_script.specs.Replies.{IsTextOf, TellsLine, WritesPart, WritesWhole, text_or_memory};
 
 use crate::reply_lines::{ok_line, out_of_memory_line, refusal_line, rows_text};
@@ -20,9 +21,11 @@ use std::sync::ledger::Ledger;
 
 /// Serves one line, which comes without its newline: makes its change, durable where the disk is
 /// honest, and then writes its reply. Out of memory is a reply of its own, which needs none. The
-/// errors are `DiskFault` and `WriteFault`: the sink was given some prefix of the reply. A disk fault comes
-/// only where a call on the disk failed in this call, or in an earlier one of this engine, and a write
-/// fault only where one on the sink failed in this call.
+/// errors are `DiskFault`, `WriteFault` and `Damaged`: the sink was given some prefix of the reply. A disk
+/// fault comes only where a call on the disk failed in this call, or in an earlier one of this engine, and
+/// a write fault only where one on the sink failed in this call. Over an honest disk damage comes only
+/// where the text of a document is none that a document can have, with the place of its part, and so
+/// never over documents that are those of a container.
 pub fn serve_line<D: Disk, K: Sink, L: Ledger>(
     alloc: Global,
     engine: &mut Engine,
@@ -32,16 +35,19 @@ pub fn serve_line<D: Disk, K: Sink, L: Ledger>(
     steps: &mut Steps<L>,
 ) -> Result<(), Status>
     requires works { Works (IsTrue (D.is_honest disk.old)) engine.old (D.history disk.old (D.attached disk.old)) }
-    ensures whole { (before : Container) → Holds engine.old before → OnOk result ((now : Container) × Holds engine.new now
+    ensures whole { IsTrue (D.is_honest disk.old) → (before : Container) → Holds engine.old before → OnOk result ((now : Container) × Holds engine.new now
         × Serves (IsTrue (D.is_honest disk.old)) before line.now now
         (outlets (K.written sink.old) (D.history disk.old (D.attached disk.old)) steps.old)
         (outlets (K.written sink.new) (D.history disk.new (D.attached disk.new)) steps.new)) }
-    ensures prefix { (before : Container) → Holds engine.old before → OnErr result
+    ensures prefix { IsTrue (D.is_honest disk.old) → (before : Container) → Holds engine.old before → OnErr result
         (BeginsToServe (IsTrue (D.is_honest disk.old)) before line.now
         (outlets (K.written sink.old) (D.history disk.old (D.attached disk.old)) steps.old)
         (outlets (K.written sink.new) (D.history disk.new (D.attached disk.new)) steps.new)) }
     ensures works { Works (IsTrue (D.is_honest disk.old)) engine.new (D.history disk.new (D.attached disk.new)) }
-    ensures only { IfErr result (λ status. (status ≡ Status.WriteFault) ⊎ (status ≡ Status.DiskFault)) }
+    ensures sound { IsTrue (D.is_honest disk.old) → (before : Container) → Holds engine.old before → IfErr result BreaksOffWith }
+    ensures only { IfErr result IsLineFault }
+    ensures stops { engine.old.fault ≡ None → IfErr result (λ status. StopsBy (D.is_honest disk.old) status
+        (D.history disk.new (D.attached disk.new))) }
     ensures disk_cause { engine.old.fault ≡ None → result ≡ Err Status.DiskFault → Rose (D.faults disk.old) (D.faults disk.new) }
     ensures sink_cause { result ≡ Err Status.WriteFault → Rose (K.faults sink.old) (K.faults sink.new) }
     ensures unfaulted { OnOk result (engine.new.fault ≡ engine.old.fault) }
@@ -64,10 +70,12 @@ fn answer<D: Disk, L: Ledger>(
     steps: &mut Steps<L>,
 ) -> Result<Reply, Fault>
     requires works { Works (IsTrue (D.is_honest disk.old)) engine.old (D.history disk.old (D.attached disk.old)) }
-    ensures tells { (before : Container) → Holds engine.old before
+    ensures tells { IsTrue (D.is_honest disk.old) → (before : Container) → Holds engine.old before
         → TellsLine (IsTrue (D.is_honest disk.old)) before line.now result engine.new
         (D.history disk.old (D.attached disk.old)) (D.history disk.new (D.attached disk.new)) }
     ensures works { Works (IsTrue (D.is_honest disk.old)) engine.new (D.history disk.new (D.attached disk.new)) }
+    ensures met { IsTrue (D.is_honest disk.old) → engine.old.fault ≡ None
+        → IfErr result (λ fault. Meets fault (D.history disk.new (D.attached disk.new)).reads) }
     ensures cause { engine.old.fault ≡ None → result ≡ Err Fault.Disk → Rose (D.faults disk.old) (D.faults disk.new) }
     ensures unfaulted { OnOk result (engine.new.fault ≡ engine.old.fault) }
     ensures never_falls { D.faults disk.old ≤ D.faults disk.new }
@@ -84,7 +92,7 @@ fn answer<D: Disk, L: Ledger>(
     }
 }
 
-/// Writes what a line was answered, and nothing where the disk failed.
+/// Writes what a line was answered, and nothing where that is a fault.
 fn write_answer<K: Sink>(
     alloc: Global,
     sink: &mut K,
@@ -92,14 +100,16 @@ fn write_answer<K: Sink>(
 ) -> Result<(), Status>
     ensures whole { OnOk result (WritesWhole answered (K.written sink.old) (K.written sink.new)) }
     ensures prefix { OnErr result (WritesPart answered (K.written sink.old) (K.written sink.new)) }
-    ensures only { IfErr result (λ status. (status ≡ Status.WriteFault) ⊎ (status ≡ Status.DiskFault)) }
+    ensures only { IfErr result IsLineFault }
     ensures disk_cause { result ≡ Err Status.DiskFault → answered ≡ Err Fault.Disk }
+    ensures damage { (extent at : ℕ) → result ≡ Err (Status.Damaged extent at) → answered ≡ Err (Fault.Damaged extent at) }
     ensures sink_cause { result ≡ Err Status.WriteFault → Rose (K.faults sink.old) (K.faults sink.new) }
     ensures sink_faults { K.faults sink.old ≤ K.faults sink.new }
 {
     match answered {
         Ok(reply) => write_reply(alloc, sink, reply),
         Err(Fault::Disk) => Err(Status::DiskFault),
+        Err(Fault::Damaged { extent, at }) => Err(Status::Damaged { extent, at }),
     }
 }
 

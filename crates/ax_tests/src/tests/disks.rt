@@ -82,3 +82,29 @@ fn images_are_judged(rt: HostRuntime) -> Result<(), Fail> {
     assert!(rt; output.is_empty());
     Ok(())
 }
+
+/// A document whose text is none, at 9, and a meta part.
+const SPOILED: &[u8] =
+    b"\x01\x24\x00\x00\x00\x00\x00\x00\x00\x03\x01\x00\x00\x00\x0A\x00\x00\x00\x00{\"id\":\"a\"\x01\x00\x00\x00\x00\x08\x00\x00\x00\x02\x00\x00\x00\x00\x00\x00\x00\x00";
+
+// The store is opened, and what needs no look at the text is served; a query that reads it ends the
+// run, with the place of the document's part.
+#[test]
+fn a_text_that_is_none_is_damage(rt: HostRuntime) -> Result<(), Fail> {
+    let alloc = rt.alloc();
+    let damaged = Status::Damaged { extent: 1, at: 9 };
+    for (script, expected, output) in [
+        (
+            b"UPSERT {\"id\":\"b\"}\nQUERY {\"query\":\"SELECT VALUE c.x FROM c\"}\nFOO".as_slice(),
+            damaged,
+            b"ok\n".as_slice(),
+        ),
+        (b"UPSERT {\"id\":\"b\"}\nFOO", Status::Done, b"ok\nerr 2 command\n"),
+    ] {
+        let mut disk = disk_of(alloc, ROOT, SPOILED)?;
+        let (status, written) = output_over(alloc, &mut disk, script)?;
+        assert_eq!(rt; status, expected);
+        assert_eq!(rt; written.as_slice(), output);
+    }
+    Ok(())
+}

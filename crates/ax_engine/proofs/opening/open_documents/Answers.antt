@@ -1,16 +1,46 @@
--- The store is opened as it stands.
-use Rattle.ax_engine.proofs.Opened.{holds_opened, since_opening}
+-- The store is opened as it stands, and then its texts are read.
+use Rattle.std.proofs.Common.{IsTrue, sym, subst, ◌∙◌, Bool, Err}
+use Rattle.std.specs.Prelude.{IfOk}
+use Rattle.ax_disk.specs.laws.StaysLaws.{idles_start}
+use Rattle.ax_engine.specs.Documents.{DocumentsWork}
+use Rattle.ax_store.specs.Store.{store_contents}
+use Rattle.ax_engine.specs.Stores.{Shows}
+use Rattle.ax_engine.proofs.Opened.{holds_opened, idle_since, in_any, refuses_none, rose_numbered, since_opening, since_reading, works_numbered}
 use Rattle.ax_engine.proofs.opening.open_documents.Goals as goal
 
-pub returns-in-Ok-clause-holds : goal.returns-in-Ok-clause-holds
-returns-in-Ok-clause-holds g c = λ honest before store.
-    holds_opened _ _ c.number_all.result c.in-Ok.store before store (c.in-Ok.ensures.tells honest)
-    c.number_all.ensures.store c.number_all.ensures.numbers
+pub returns-in_default-clause-any_moment : goal.returns-in_default-clause-any_moment
+returns-in_default-clause-any_moment g c = λ honest before store. idle_since _ _ (Shows before) (idles_start _)
 
-pub returns-in-Ok-clause-any_moment : goal.returns-in-Ok-clause-any_moment
-returns-in-Ok-clause-any_moment g c = λ honest before store.
-    since_opening _ _ before store (c.open_store.ensures.any_moment honest)
+pub returns-in-Ok-open_store-clause-works : goal.returns-in-Ok-open_store-clause-works
+returns-in-Ok-open_store-clause-works g c =
+    subst (λ h. IfOk c.number_all.result (λ documents. DocumentsWork (IsTrue h) documents
+    (g.D.Disk.history c.number_all.new.disk (g.D.Disk.attached c.number_all.new.disk)))) c.open_store.ensures.honest
+    (works_numbered _ c.number_all.result c.in-Ok-open_store.store _ _ _ c.number_all.ensures.numbers.tells)
+
+pub returns-in-Ok-open_store-clause-holds : goal.returns-in-Ok-open_store-clause-holds
+returns-in-Ok-open_store-clause-holds g c = λ honest before store.
+    holds_opened _ _ c.in-Ok-open_store.store before store (c.in-Ok-open_store.ensures.tells honest) _ c.number_all.result _ _ _
+    c.number_all.ensures.numbers.tells (subst IsTrue (sym c.open_store.ensures.honest) honest)
+
+pub returns-in-Ok-open_store-clause-any_moment : goal.returns-in-Ok-open_store-clause-any_moment
+returns-in-Ok-open_store-clause-any_moment g c = λ honest before store.
+    since_reading _ _ c.in-Ok-open_store.store before store (c.in-Ok-open_store.ensures.tells honest) _
+    (since_opening _ _ before store (c.open_store.ensures.any_moment honest))
+    (c.number_all.ensures.numbers.lists (subst IsTrue (sym c.open_store.ensures.honest) honest))
+
+pub returns-in-Ok-open_store-clause-refused : goal.returns-in-Ok-open_store-clause-refused
+returns-in-Ok-open_store-clause-refused g c = λ honest.
+    refuses_none _ c.number_all.result c.in-Ok-open_store.store _ _ _ _ c.number_all.ensures.numbers.tells
+
+pub returns-in-Ok-open_store-clause-cause : goal.returns-in-Ok-open_store-clause-cause
+returns-in-Ok-open_store-clause-cause g c =
+    rose_numbered _ c.number_all.result c.in-Ok-open_store.store _ _ _ _ c.number_all.ensures.numbers.tells
+    c.open_store.ensures.cause.never_falls
 
 pub returns-in-Err-clause-any_moment : goal.returns-in-Err-clause-any_moment
 returns-in-Err-clause-any_moment g c = λ honest before store.
     since_opening _ _ before store (c.open_store.ensures.any_moment honest)
+
+pub returns-in-Ok-open_store-clause-opened : goal.returns-in-Ok-open_store-clause-opened
+returns-in-Ok-open_store-clause-opened g c = λ honest.
+    in_any c.number_all.result (store_contents c.in-Ok-open_store.store, (c.in-Ok-open_store.ensures.tells honest).has)

@@ -1,77 +1,90 @@
 -- Each turn takes in the next document, for one step at most.
-use Rattle.std.proofs.Common.{◌++◌, ◌∙◌, [], ap, sym, subst, arith, length}
+use Rattle.std.proofs.Common.{◌++◌, ◌∙◌, [], ap, sym, subst, arith, length, refl}
 use Rattle.std.proofs.lemmas.List.{append-nil}
+use Rattle.std.specs.Prelude.{IsTrue}
 use Rattle.ax_answer_text.specs.TextAnswers.{Answers}
-use Rattle.ax_engine.specs.Documents.{contents_in}
-use Rattle.ax_engine.proofs.InOrder.{above, pairs, next_entry, stored_here, canonical_here, taken_on}
-use Rattle.ax_engine.proofs.InOrder.{one_less, at_the_end, at_the_start}
+use Rattle.ax_store.specs.Store.{store_contents}
+use Rattle.ax_engine.proofs.InOrder.{above, pairs, next_entry, next_same, stored_here, text_here, taken_on}
+use Rattle.ax_engine.proofs.InOrder.{one_less, at_the_end, at_the_start, none_same, text_same}
+use Rattle.ax_engine.proofs.Scanning.{fails_on, nothing_scanned, ready_now, scanned_on}
 use Rattle.ax_engine.proofs.querying.add_documents.Goals as goal
 
 pub texts-init : goal.texts-init
 texts-init g c = record {
-  added = λ container query holds answers.
-      ([], ap pairs (at_the_start (contents_in c.args.documents.now) container holds.stand), answers);
-  bound = λ container holds.
-      omega (
-        arith,
-        ap length (at_the_start
-            (contents_in c.args.documents.now) container holds.stand),
-      );
+  added = λ honest container stand query answers.
+      ([], ap pairs (at_the_start (store_contents c.args.store.now) container stand), answers);
+  bound = λ container stand.
+      omega (arith, ap length (at_the_start (store_contents c.args.store.now) container stand));
   never_falls = omega arith;
+  scans = nothing_scanned _ c.args.store.now _ _ _ c.requires.ready;
+  attached = refl;
+  honest = refl;
 }
 
 pub texts-preserved : goal.texts-preserved
-texts-preserved g c = record {
-  added = λ container query holds answers.
-      let contents = contents_in c.args.documents.now in
-      let next = next_entry contents container holds.stand c.texts.number c.in-Some.next
-      c.in-Some.ensures.found in
-      let text = canonical_here contents container holds.stand c.texts.number c.in-Some.next
-      c.in-Some.text.now next c.in-Some.ensures.text in
-      let stored = stored_here contents container holds.stand c.texts.number c.in-Some.next next in
-      let before = c.texts.invariant.added container query holds answers in (
-        _,
-        taken_on contents container holds.stand c.texts.number c.in-Some.next before.0 next before.1,
-        c.in-Ok.ensures.added next.entry.tree text (stored.well_formed, stored.shallow)
-            query before.0 before.2,
-      );
-  bound = λ container holds.
-      let contents = contents_in c.args.documents.now in
-      let next = next_entry contents container holds.stand c.texts.number c.in-Some.next
-      c.in-Some.ensures.found in
-      omega (
-        arith,
-        c.texts.invariant.bound container holds,
-        c.add.ensures.one,
-        one_less contents container holds.stand c.texts.number c.in-Some.next next,
-      );
-  never_falls =
-      omega (arith, c.texts.invariant.never_falls, c.add.ensures.never_falls);
-}
+texts-preserved g c =
+    let inv = c.texts.invariant in
+    let contents = store_contents c.args.store.now in
+    let found = next_same c.args.store.now c.texts.store c.texts.number c.in-Some.next inv.scans.same c.in-Some.ensures.found in
+    record {
+      added = λ honest container stand query answers.
+          let next = next_entry contents container stand c.texts.number c.in-Some.next found in
+          let stored = stored_here contents container stand c.texts.number c.in-Some.next next in
+          let before = inv.added honest container stand query answers in (
+            _,
+            taken_on contents container stand c.texts.number c.in-Some.next before.0 next before.1,
+            c.in-Ok.ensures.added (subst IsTrue (sym inv.honest) honest) next.entry.tree
+                (text_same c.args.store.now c.texts.store c.in-Some.next _ inv.scans.same
+                (text_here contents container stand c.texts.number c.in-Some.next next))
+                (stored.well_formed, stored.shallow) query before.0 before.2,
+          );
+      bound = λ container stand.
+          let next = next_entry contents container stand c.texts.number c.in-Some.next found in
+          omega (
+            arith,
+            inv.bound container stand,
+            c.in-Ok.ensures.one,
+            one_less contents container stand c.texts.number c.in-Some.next next,
+          );
+      never_falls = omega (arith, inv.never_falls, c.in-Ok.ensures.never_falls);
+      scans = scanned_on _ _ _ _ _ _ _ _ _ _ _ _ _ inv.honest inv.scans c.in-Ok.ensures.scans;
+      attached = c.in-Ok.ensures.attached ∙ inv.attached;
+      honest = c.in-Ok.ensures.honest ∙ inv.honest;
+    }
+
+pub add_document-requires-clause-ready : goal.add_document-requires-clause-ready
+add_document-requires-clause-ready g c =
+    ready_now _ _ c.texts.store _ _ c.texts.invariant.honest c.texts.invariant.scans.ready
 
 pub returns-then-is_done-clause-added : goal.returns-then-is_done-clause-added
-returns-then-is_done-clause-added g c = λ container query holds answers.
-    let all = c.texts.invariant.added container query holds answers in
+returns-then-is_done-clause-added g c = λ honest container stand query answers.
+    let all = c.texts.invariant.added honest container stand query answers in
     subst (Answers c.texts.answer query) all.1
     (c.is_done.ensures.sound c.if-is_done.true query all.0
     (pairs (above c.texts.number container.entries)) all.2)
 
-pub returns-in_default-add-clause-bound : goal.returns-in_default-add-clause-bound
-returns-in_default-add-clause-bound g c = λ container holds.
-    let contents = contents_in c.args.documents.now in
-    let next = next_entry contents container holds.stand c.texts.number c.in-Some.next
-    c.in-Some.ensures.found in
+pub returns-in-Err-clause-bound : goal.returns-in-Err-clause-bound
+returns-in-Err-clause-bound g c = λ container stand.
+    let inv = c.texts.invariant in
+    let found = next_same c.args.store.now c.texts.store c.texts.number c.in-Some.next inv.scans.same c.in-Some.ensures.found in
+    let contents = store_contents c.args.store.now in
+    let next = next_entry contents container stand c.texts.number c.in-Some.next found in
     omega (
       arith,
-      c.texts.invariant.bound container holds,
-      c.add.ensures.one,
-      one_less contents container holds.stand c.texts.number c.in-Some.next next,
+      inv.bound container stand,
+      c.in-Err.ensures.one,
+      one_less contents container stand c.texts.number c.in-Some.next next,
     )
 
+pub returns-in-Err-clause-scans : goal.returns-in-Err-clause-scans
+returns-in-Err-clause-scans g c =
+    fails_on _ _ _ _ _ _ _ _ _ _ _ _ _ c.texts.invariant.honest c.texts.invariant.scans c.in-Err.fault c.in-Err.ensures.scans
+
 pub returns-clause-added : goal.returns-clause-added
-returns-clause-added g c = λ container query holds answers.
-    let end = at_the_end (contents_in c.args.documents.now) container holds.stand
-    c.texts.number c.in_default.ensures.none in
-    let all = c.texts.invariant.added container query holds answers in
+returns-clause-added g c = λ honest container stand query answers.
+    let inv = c.texts.invariant in
+    let end = at_the_end (store_contents c.args.store.now) container stand c.texts.number
+    (none_same c.args.store.now c.texts.store c.texts.number inv.scans.same c.in_default.ensures.none) in
+    let all = inv.added honest container stand query answers in
     subst (λ entries. Answers c.texts.answer query entries)
     (sym (append-nil all.0) ∙ ap (λ es. all.0 ++ pairs es) (sym end) ∙ all.1) all.2

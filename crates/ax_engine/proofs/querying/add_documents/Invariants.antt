@@ -1,10 +1,13 @@
 -- The documents up to the number were taken in, each for one step.
 use Rattle.std.proofs.Common.{◌≡◌, ◌-◌, ◌^◌, ◌+◌, ◌++◌, ◌≤◌, ℕ, List, [], length}
+use Rattle.std.specs.Prelude.{IsTrue}
 use Rattle.ax_tree.specs.declared.tree.Tree.{Tree}
 use Rattle.ax_mean.specs.declared.query.Query.{Query}
 use Rattle.ax_container.specs.Container.{Container}
+use Rattle.ax_image.specs.StandsFor.{ContentsStandFor}
 use Rattle.ax_answer_text.specs.TextAnswers.{Answers}
-use Rattle.ax_engine.specs.Documents.{DocumentsHold}
+use Rattle.ax_store.specs.Store.{store_contents}
+use Rattle.ax_engine.specs.Scans.{Scanned}
 use Rattle.ax_engine.proofs.InOrder.{above, pairs}
 use Rattle.ax_engine.proofs.querying.add_documents.Given as goal
 
@@ -13,12 +16,18 @@ decreases-texts g l = 2 ^ 32 - l.number
 
 abbrev pub invariant-texts : goal.invariant-texts
 invariant-texts g l = record {
-  added : (container : Container) → (query : Query) → DocumentsHold l.documents container
+  added : IsTrue (g.D.Disk.is_honest l.fn.disk) → (container : Container)
+      → ContentsStandFor (store_contents l.fn.store) container → (query : Query)
       → Answers l.fn.answer query [] → (done : List (ℕ × Tree))
       × (done ++ pairs (above l.number container.entries) ≡ pairs container.entries)
       × Answers l.answer query done;
-  bound : (container : Container) → DocumentsHold l.documents container
+  bound : (container : Container) → ContentsStandFor (store_contents l.fn.store) container
       → l.steps + length (above l.number container.entries)
       ≤ l.fn.steps + length container.entries;
   never_falls : l.fn.steps ≤ l.steps;
+  scans : Scanned (g.D.Disk.is_honest l.fn.disk) l.fn.store l.store l.ahead
+      (g.D.Disk.history l.fn.disk (g.D.Disk.attached l.fn.disk)) (g.D.Disk.history l.disk (g.D.Disk.attached l.disk))
+      (g.D.Disk.faults l.fn.disk) (g.D.Disk.faults l.disk);
+  attached : g.D.Disk.attached l.disk ≡ g.D.Disk.attached l.fn.disk;
+  honest : g.D.Disk.is_honest l.disk ≡ g.D.Disk.is_honest l.fn.disk;
 }

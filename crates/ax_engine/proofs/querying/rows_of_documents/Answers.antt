@@ -1,16 +1,25 @@
 -- The rows of the keys, each with the text of its document, are the rows of the query.
-use Rattle.std.proofs.Common.{◌∙◌, ap, subst}
-use Rattle.std.specs.Prelude.{IfOk}
+use Rattle.std.proofs.Common.{◌∙◌, ap, sym, subst}
+use Rattle.std.specs.Prelude.{IfOk, IsTrue}
+use Rattle.ax_image.specs.StandsFor.{ContentsStandFor}
 use Rattle.ax_machine.specs.Querying.{numbered}
 use Rattle.ax_result.specs.Answers.{answer_of}
+use Rattle.ax_store.specs.Kept.{Kept}
 use Rattle.ax_engine.specs.Replies.{AreRows}
 use Rattle.ax_engine.proofs.Numbers.{shown_rows}
+use Rattle.ax_engine.proofs.Scanning.{scans_on}
 use Rattle.ax_engine.proofs.querying.rows_of_documents.Goals as goal
 
-pub returns-clause-rows : goal.returns-clause-rows
-returns-clause-rows g c = λ container holds.
+pub returns-in-Ok-rows-clause-rows : goal.returns-in-Ok-rows-clause-rows
+returns-in-Ok-rows-clause-rows g c = λ honest container stand.
     subst (λ texts. IfOk c.document_rows.result (λ rows. AreRows rows texts))
-    (shown_rows c.args.query container c.requires.printed holds.stand.sound c.as_slice.result.now
-    (c.as_slice.ensures.value ∙ c.in_ok-rows.ensures.rows container holds
-    ∙ ap (λ query. answer_of query (numbered container)) c.in_ok-keys.ensures))
-    (c.document_rows.ensures container holds)
+    (shown_rows c.args.query container c.requires.printed stand.sound c.as_slice.result.now
+    (c.as_slice.ensures.value ∙ c.in-Ok-rows.ensures.rows honest container stand
+    ∙ ap (λ query. answer_of query (numbered container)) c.in-Ok.ensures))
+    (c.document_rows.ensures.rows (subst IsTrue (sym c.in-Ok-rows.ensures.honest) honest) container
+    (subst (λ (kept : Kept). ContentsStandFor kept.contents container) (sym c.in-Ok-rows.ensures.scans.same.pages) stand))
+
+pub returns-in-Ok-rows-clause-scans : goal.returns-in-Ok-rows-clause-scans
+returns-in-Ok-rows-clause-scans g c =
+    scans_on _ _ _ _ _ _ _ _ _ _ _ _ _ c.in-Ok-rows.ensures.honest c.in-Ok-rows.ensures.scans c.document_rows.result
+    c.document_rows.ensures.scans

@@ -1,14 +1,13 @@
--- The text that is stored is that of the document.
-use Rattle.std.proofs.Common.{◌≡◌, ◌++◌, subst}
-use Rattle.std.specs.Prelude.{OnOk}
+-- The text that was read is that of the document, or none is held.
+use Rattle.std.proofs.Common.{List, ℕ, ◌++◌, ap, ◌∙◌}
 use Rattle.ax_machine.specs.ReplyTexts.{row_text}
-use Rattle.ax_engine.specs.Documents.{contents_in}
-use Rattle.ax_engine.proofs.ShownTexts.{stored_text}
+use Rattle.ax_store.specs.Store.{store_contents}
+use Rattle.ax_engine.proofs.ShownTexts.{row_text_is}
 use Rattle.ax_engine.proofs.shown_documents.push_document.Goals as goal
 
-pub returns : goal.returns
-returns c = λ container holds.
-    subst (λ row. OnOk c.push_text.result
-    (c.push_text.new.lines.items ≡ c.args.lines.now.items ++ row_text row))
-    (stored_text (contents_in c.args.documents.now) container holds.stand c.args.number
-    c.in-Some.stored.now c.in-Some.ensures) c.push_text.ensures
+pub returns-in-Ok-push_text-clause-line : goal.returns-in-Ok-push_text-clause-line
+returns-in-Ok-push_text-clause-line g c = λ honest container stand.
+    c.in-Ok-push_text.ensures
+    ∙ ap (λ (row : List ℕ). c.args.lines.now.items ++ row_text row)
+    (row_text_is (store_contents c.args.store.now) container stand c.args.number c.in-Ok.is_held _ c.text_or_null.result.now
+    (c.in-Ok.ensures.text honest) c.text_or_null.ensures.held c.text_or_null.ensures.none)

@@ -1,7 +1,8 @@
 -- The store of the name is attached, and then opened.
 use Rattle.std.proofs.Common.{IsTrue, sym, subst}
 use Rattle.ax_engine.specs.Stores.{Shows}
-use Rattle.ax_script.proofs.Attached.{idle_since, since_named, store_there}
+use Rattle.ax_engine.proofs.Opened.{idle_since}
+use Rattle.ax_script.proofs.Attached.{contents_named, since_named, store_there}
 use Rattle.ax_script.proofs.opening.open_named.Goals as goal
 
 pub returns-in_default-clause-any_moment : goal.returns-in_default-clause-any_moment
@@ -58,3 +59,10 @@ returns-in-Err-Memory-clause-any_moment g c = λ honest before store.
     (store_there (g.D.Disk.history c.args.disk.now) (g.D.Disk.history c.attach.new.self)
     (g.D.Disk.history c.open_engine.new.disk) (g.D.Disk.store_named c.args.name.now) _ _ c.in-Ok.ensures.attached
     c.open_engine.ensures.attached idle before store))
+
+pub returns-in-Ok-open_engine-clause-opened : goal.returns-in-Ok-open_engine-clause-opened
+returns-in-Ok-open_engine-clause-opened g c = λ honest.
+    contents_named (g.D.Disk.history c.args.disk.now) (g.D.Disk.history c.attach.new.self)
+    (g.D.Disk.history c.open_engine.new.disk) (g.D.Disk.store_named c.args.name.now) _ _ c.in-Ok.ensures.attached
+    c.open_engine.ensures.attached (c.in-Ok.ensures.lists honest (g.D.Disk.store_named c.args.name.now))
+    (c.in-Ok-open_engine.ensures.opened (subst IsTrue (sym c.in-Ok.ensures.honest) honest))

@@ -9,7 +9,7 @@ use Rattle.ax_script.proofs.Written.{begins_without, empty_list}
 use Rattle.ax_script.proofs.script_lines.serve_head.Goals as goal
 
 pub returns-then-is_empty-clause-ok : goal.returns-then-is_empty-clause-ok
-returns-then-is_empty-clause-ok g c = λ before holds.
+returns-then-is_empty-clause-ok g c = λ honest before holds.
     let P : List ℕ → Type 0 = λ pending. OnOk c.serve_line.result ((now : Container)
     × Holds c.serve_line.new.engine now × Serves (IsTrue (g.D.Disk.is_honest c.args.disk.now)) before
     (pending ++ c.args.head.now) now
@@ -20,15 +20,15 @@ returns-then-is_empty-clause-ok g c = λ before holds.
     (g.D.Disk.attached c.serve_line.new.disk)) c.serve_line.new.steps)) in
     let none : c.args.pending.now.items ≡ [] =
     empty_list c.args.pending.now.items c.args.pending.now.len (omega (arith, c.args.pending.now.ok)) (sym c.if-is_empty.true ∙ c.is_empty.ensures) in
-    subst P (sym none) (c.serve_line.ensures.whole before holds)
+    subst P (sym none) (c.serve_line.ensures.whole honest before holds)
 
 pub returns-in_default-clause-err : goal.returns-in_default-clause-err
-returns-in_default-clause-err g c = λ before holds.
+returns-in_default-clause-err g c = λ honest before holds.
     begins_without _ before _ Served _ _ _ _ _
     (still_over _ c.args.engine.now _ before _ c.requires.works holds) (omega arith)
 
 pub returns-clause-ok : goal.returns-clause-ok
-returns-clause-ok g c = λ before holds.
+returns-clause-ok g c = λ honest before holds.
     let P : List ℕ → Type 0 = λ line. (now : Container)
     × Holds c.serve_line-served.new.engine now × Serves (IsTrue (g.D.Disk.is_honest c.args.disk.now)) before
     line now
@@ -37,4 +37,4 @@ returns-clause-ok g c = λ before holds.
     (outlets (g.K.Sink.written c.serve_line-served.new.sink)
     (g.D.Disk.history c.serve_line-served.new.disk
     (g.D.Disk.attached c.serve_line-served.new.disk)) c.serve_line-served.new.steps) in
-    subst P (c.as_slice.ensures.value ∙ c.in-Ok.ensures.items) (c.in_default-served.ensures.whole before holds)
+    subst P (c.as_slice.ensures.value ∙ c.in-Ok.ensures.items) (c.in_default-served.ensures.whole honest before holds)

@@ -7,16 +7,16 @@ use Rattle.ax_script.proofs.Written.{empty_list}
 use Rattle.ax_script.proofs.script_lines.serve_last.Goals as goal
 
 pub returns-in-Ok-clause-done : goal.returns-in-Ok-clause-done
-returns-in-Ok-clause-done g c = λ before holds _.
-    let served = c.in-Ok.ensures.whole before holds in
+returns-in-Ok-clause-done g c = λ honest before holds _.
+    let served = c.in-Ok.ensures.whole honest before holds in
     serves_last _ before served.0 c.args.pending.now _ _ (c.if-is_empty.ensures) served.2
 
 pub returns-in-Err-clause-prefix : goal.returns-in-Err-clause-prefix
-returns-in-Err-clause-prefix g c = λ before holds _.
-    begins_last _ before c.args.pending.now _ _ (c.if-is_empty.ensures) (c.in-Err.ensures.prefix before holds)
+returns-in-Err-clause-prefix g c = λ honest before holds _.
+    begins_last _ before c.args.pending.now _ _ (c.if-is_empty.ensures) (c.in-Err.ensures.prefix honest before holds)
 
 pub returns-then-is_empty-clause-done : goal.returns-then-is_empty-clause-done
-returns-then-is_empty-clause-done g c = λ before holds _.
+returns-then-is_empty-clause-done g c = λ honest before holds _.
     let none : c.args.pending.now ≡ [] =
     empty_list c.args.pending.now (length c.args.pending.now) refl (sym c.if-is_empty.true ∙ c.is_empty.ensures) in
     let here = outlets (g.K.Sink.written c.args.sink.now)

@@ -4,7 +4,7 @@ use Rattle.ax_container.specs.Container.{Container}
 use Rattle.ax_lines.specs.ScriptLines.{IsOneLine}
 use Rattle.ax_lines.proofs.Splits.{IsOneLine-append}
 use Rattle.ax_engine.specs.Engine.{Holds, Works}
-use Rattle.ax_script.specs.Progress.{outlets, Serves, BeginsToServe, ServesLines}
+use Rattle.ax_script.specs.Progress.{outlets, Serves, BeginsToServe, ServesLines, StopsBy}
 use Rattle.ax_script.proofs.ServedLines.{InPiece, piece_begins, piece_goes_on, piece_fails}
 use Rattle.ax_script.proofs.ServedLines.{piece_ends, piece_breaks_off}
 use Rattle.ax_engine.proofs.Applying.{rests_over}
@@ -12,7 +12,7 @@ use Rattle.ax_script.proofs.script_lines.serve_piece.Goals as goal
 
 pub lines-init : goal.lines-init
 lines-init g c = record {
-  part = λ before holds. (
+  part = λ honest before holds. (
     before,
     holds,
     piece_begins _ before _ c.args.piece.now _ c.requires.line
@@ -30,16 +30,16 @@ lines-init g c = record {
 
 pub lines-preserved : goal.lines-preserved
 lines-preserved g c = record {
-  part = λ before holds.
-      let p = c.lines.invariant.part before holds in
-      let S : Bool → Type 0 = λ honest. (now : Container) × Holds c.serve_head.new.engine now
-      × Serves (IsTrue honest) p.0 (c.lines.pending.items ++ c.in-Some.head.now) now
+  part = λ honest before holds.
+      let p = c.lines.invariant.part honest before holds in
+      let S : Bool → Type 0 = λ h. (now : Container) × Holds c.serve_head.new.engine now
+      × Serves (IsTrue h) p.0 (c.lines.pending.items ++ c.in-Some.head.now) now
       (outlets (g.K.Sink.written c.lines.sink) (g.D.Disk.history c.lines.disk
       (g.D.Disk.attached c.lines.disk)) c.lines.steps)
       (outlets (g.K.Sink.written c.serve_head.new.sink)
       (g.D.Disk.history c.serve_head.new.disk
       (g.D.Disk.attached c.serve_head.new.disk)) c.serve_head.new.steps) in
-      let served = subst S c.lines.invariant.honest (c.in_default-serve_head.ensures.ok p.0 p.1) in
+      let served = subst S c.lines.invariant.honest (c.in_default-serve_head.ensures.ok (subst IsTrue (sym c.lines.invariant.honest) honest) p.0 p.1) in
       let P : List ℕ → Type 0 = λ pending. InPiece (IsTrue (g.D.Disk.is_honest c.args.disk.now)) before served.0
       c.args.pending.now.items pending c.args.piece.now c.in-Some.tail.now
       (outlets (g.K.Sink.written c.args.sink.now)
@@ -66,22 +66,22 @@ lines-preserved g c = record {
 }
 
 pub returns-in-Err-clause-err : goal.returns-in-Err-clause-err
-returns-in-Err-clause-err g c = λ before holds.
-    let p = c.lines.invariant.part before holds in
-    let S : Bool → Type 0 = λ honest.
-    BeginsToServe (IsTrue honest) p.0 (c.lines.pending.items ++ c.in-Some.head.now)
+returns-in-Err-clause-err g c = λ honest before holds.
+    let p = c.lines.invariant.part honest before holds in
+    let S : Bool → Type 0 = λ h.
+    BeginsToServe (IsTrue h) p.0 (c.lines.pending.items ++ c.in-Some.head.now)
     (outlets (g.K.Sink.written c.lines.sink) (g.D.Disk.history c.lines.disk
     (g.D.Disk.attached c.lines.disk)) c.lines.steps)
     (outlets (g.K.Sink.written c.serve_head.new.sink)
     (g.D.Disk.history c.serve_head.new.disk
     (g.D.Disk.attached c.serve_head.new.disk)) c.serve_head.new.steps) in
-    let begun = subst S c.lines.invariant.honest (c.in-Err.ensures.err p.0 p.1) in
+    let begun = subst S c.lines.invariant.honest (c.in-Err.ensures.err (subst IsTrue (sym c.lines.invariant.honest) honest) p.0 p.1) in
     piece_fails _ before p.0 _ _ _ _ _ _ p.2 c.in-Some.head.now c.in-Some.tail.now _
     c.in-Some.ensures.split c.in-Some.ensures.line begun
 
 pub returns-in-Ok-clause-ok : goal.returns-in-Ok-clause-ok
-returns-in-Ok-clause-ok g c = λ before holds.
-    let p = c.lines.invariant.part before holds in
+returns-in-Ok-clause-ok g c = λ honest before holds.
+    let p = c.lines.invariant.part honest before holds in
     let P : List ℕ → Type 0 = λ pending. ServesLines (IsTrue (g.D.Disk.is_honest c.args.disk.now)) before
     (c.args.pending.now.items ++ c.args.piece.now) p.0 pending
     (outlets (g.K.Sink.written c.args.sink.now)
@@ -100,6 +100,16 @@ returns-in-Ok-clause-line g c =
     (IsOneLine-append c.lines.pending.items c.lines.rest.now c.lines.invariant.line c.in_default.ensures.none)
 
 pub returns-in-Err-put_behind-clause-err : goal.returns-in-Err-put_behind-clause-err
-returns-in-Err-put_behind-clause-err g c = λ before holds.
-    let p = c.lines.invariant.part before holds in
+returns-in-Err-put_behind-clause-err g c = λ honest before holds.
+    let p = c.lines.invariant.part honest before holds in
     piece_breaks_off _ before p.0 _ _ _ _ _ _ p.2
+
+pub returns-in-Err-clause-sound : goal.returns-in-Err-clause-sound
+returns-in-Err-clause-sound g c = λ honest before holds.
+    let p = c.lines.invariant.part honest before holds in
+    c.in-Err.ensures.sound (subst IsTrue (sym c.lines.invariant.honest) honest) p.0 p.1
+
+pub returns-in-Err-clause-only : goal.returns-in-Err-clause-only
+returns-in-Err-clause-only g c =
+    subst (λ h. StopsBy h c.in-Err.status (g.D.Disk.history c.serve_head.new.disk (g.D.Disk.attached c.serve_head.new.disk)))
+    c.lines.invariant.honest c.in-Err.ensures.only

@@ -9,7 +9,7 @@ use Rattle.ax_script.proofs.script_lines.serve_piece.Given as goal
 
 abbrev pub invariant-lines : goal.invariant-lines
 invariant-lines g l = record {
-  part : (before : Container) → Holds l.fn.engine before
+  part : IsTrue (g.D.Disk.is_honest l.fn.disk) → (before : Container) → Holds l.fn.engine before
       → (now : Container) × Holds l.engine now
       × InPiece (IsTrue (g.D.Disk.is_honest l.fn.disk)) before now l.fn.pending.items l.pending.items
       l.piece l.rest

@@ -1,12 +1,12 @@
 -- Each way to end, from how far the run has come.
-use Rattle.std.proofs.Common.{ℕ, List, [], Bool, ◌++◌, ◌∙◌, IsTrue, take, refl, sym, subst, arith}
+use Rattle.std.proofs.Common.{ℕ, List, [], Bool, ◌++◌, ◌∙◌, IsTrue, take, inr, refl, sym, subst, arith}
 use Rattle.std.specs.Io.KnownBytes.{Consumes}
 use Rattle.ax_container.specs.Container.{Container}
 use Rattle.ax_lines.specs.ScriptLines.{IsOneLine}
 use Rattle.ax_engine.specs.Engine.{Holds, Works}
 use Rattle.ax_script.specs.Progress.{outlets, ServesLines, BeginsLines, ServesLast, BeginsLast, Progress}
 use Rattle.ax_script.proofs.Endings.{streams, progress_begins, progress_goes_on, ends_by_read_fault}
-use Rattle.ax_script.proofs.Endings.{ends_long, ends_in_piece, ends_at_end}
+use Rattle.ax_script.proofs.Endings.{ends_long, ends_in_piece, ends_at_end, last_ends, last_serving}
 use Rattle.ax_engine.proofs.Applying.{rests_over}
 use Rattle.ax_script.proofs.script_lines.serve_source.Goals as goal
 
@@ -15,7 +15,7 @@ pieces-init g c =
     let here = streams (g.S.Source.rest c.args.source.now)
     (g.K.Sink.written c.args.sink.now) c.args.steps.now in
     record {
-      progress = λ before holds.
+      progress = λ honest before holds.
           let P : List ℕ → Type 0 = λ pending. Progress (IsTrue (g.D.Disk.is_honest c.args.disk.now)) before here here
           (g.D.Disk.history c.args.disk.now (g.D.Disk.attached c.args.disk.now))
           (g.D.Disk.history c.args.disk.now (g.D.Disk.attached c.args.disk.now)) before pending 0 in (
@@ -37,26 +37,26 @@ pieces-init g c =
     }
 
 pub returns-in_default-clause-script : goal.returns-in_default-clause-script
-returns-in_default-clause-script g c = λ before holds.
-    let p = c.pieces.invariant.progress before holds in
+returns-in_default-clause-script g c = λ honest before holds.
+    let p = c.pieces.invariant.progress honest before holds in
     ends_by_read_fault _ before _ _ _ _ p.0 _ _ p.2
     (g.S.Source.rest c.read_some.new.self) c.in_default.ensures.failed c.pieces.invariant.within
 
 pub returns-then-count-eq0-clause-script : goal.returns-then-count-eq0-clause-script
-returns-then-count-eq0-clause-script g c = λ before holds.
-    let p = c.pieces.invariant.progress before holds in
+returns-then-count-eq0-clause-script g c = λ honest before holds.
+    let p = c.pieces.invariant.progress honest before holds in
     let nothing : Consumes (g.S.Source.rest c.pieces.source)
     (g.S.Source.rest c.read_some.new.self) []
     = let P : ℕ → Type 0 = λ n. Consumes (g.S.Source.rest c.pieces.source)
     (g.S.Source.rest c.read_some.new.self) (take n c.read_some.new.buf) in
     subst P c.if-count-eq0.true c.in-Ok.ensures.taken in
-    let Whole : Bool → List ℕ → Type 0 = λ honest last. ServesLast (IsTrue honest) p.0 last
+    let Whole : Bool → List ℕ → Type 0 = λ h last. ServesLast (IsTrue h) p.0 last
     (outlets (g.K.Sink.written c.pieces.sink)
     (g.D.Disk.history c.pieces.disk (g.D.Disk.attached c.pieces.disk)) c.pieces.steps)
     (outlets (g.K.Sink.written c.serve_last.new.sink)
     (g.D.Disk.history c.serve_last.new.disk
     (g.D.Disk.attached c.serve_last.new.disk)) c.serve_last.new.steps) in
-    let Prefix : Bool → List ℕ → Type 0 = λ honest last. BeginsLast (IsTrue honest) p.0 last
+    let Prefix : Bool → List ℕ → Type 0 = λ h last. BeginsLast (IsTrue h) p.0 last
     (outlets (g.K.Sink.written c.pieces.sink)
     (g.D.Disk.history c.pieces.disk (g.D.Disk.attached c.pieces.disk)) c.pieces.steps)
     (outlets (g.K.Sink.written c.serve_last.new.sink)
@@ -67,25 +67,25 @@ returns-then-count-eq0-clause-script g c = λ before holds.
     (omega (arith, c.requires.some, c.pieces.auto.buffer, c.read_some.auto.buf)))
     c.pieces.invariant.within
     (λ is. subst (Whole (g.D.Disk.is_honest c.args.disk.now)) c.as_slice.ensures.value
-    (subst (λ b. Whole b c.as_slice.result.now) c.pieces.invariant.honest (c.serve_last.ensures.done p.0 p.1 is)))
+    (subst (λ b. Whole b c.as_slice.result.now) c.pieces.invariant.honest (c.serve_last.ensures.done (subst IsTrue (sym c.pieces.invariant.honest) honest) p.0 p.1 is)))
     (λ is. subst (Prefix (g.D.Disk.is_honest c.args.disk.now)) c.as_slice.ensures.value
-    (subst (λ b. Prefix b c.as_slice.result.now) c.pieces.invariant.honest (c.serve_last.ensures.prefix p.0 p.1 is)))
-    c.serve_last.ensures.only
+    (subst (λ b. Prefix b c.as_slice.result.now) c.pieces.invariant.honest (c.serve_last.ensures.prefix (subst IsTrue (sym c.pieces.invariant.honest) honest) p.0 p.1 is)))
+    (c.serve_last.ensures.sound (subst IsTrue (sym c.pieces.invariant.honest) honest) p.0 p.1)
 
 pub
     returns-then-taken-gt-MOST_INPUT-clause-script
     : goal.returns-then-taken-gt-MOST_INPUT-clause-script
-returns-then-taken-gt-MOST_INPUT-clause-script g c = λ before holds.
-    let p = c.pieces.invariant.progress before holds in
+returns-then-taken-gt-MOST_INPUT-clause-script g c = λ honest before holds.
+    let p = c.pieces.invariant.progress honest before holds in
     ends_long _ before _ _ _ _ p.0 _ _ p.2 _
     (take c.in-Ok.count c.read_some.new.buf) c.in-Ok.count c.in-Ok.ensures.taken
     (sym c.in-Ok.ensures.bound.1)
     c.if-taken-gt-MOST_INPUT.true
 
 pub returns-in-Err-clause-script : goal.returns-in-Err-clause-script
-returns-in-Err-clause-script g c = λ before holds.
-    let p = c.pieces.invariant.progress before holds in
-    let S : Bool → Type 0 = λ honest. BeginsLines (IsTrue honest) p.0
+returns-in-Err-clause-script g c = λ honest before holds.
+    let p = c.pieces.invariant.progress honest before holds in
+    let S : Bool → Type 0 = λ h. BeginsLines (IsTrue h) p.0
     (c.pieces.pending.items ++ take c.in-Ok.count c.read_some.new.buf)
     (outlets (g.K.Sink.written c.pieces.sink)
     (g.D.Disk.history c.pieces.disk (g.D.Disk.attached c.pieces.disk)) c.pieces.steps)
@@ -96,22 +96,22 @@ returns-in-Err-clause-script g c = λ before holds.
     (take c.in-Ok.count c.read_some.new.buf) c.in-Ok.count c.in-Err.status c.in-Ok.ensures.taken
     (sym c.in-Ok.ensures.bound.1)
     c.if-taken-gt-MOST_INPUT.false
-    (subst S c.pieces.invariant.honest (c.in-Err.ensures.err p.0 p.1))
-    c.in-Err.ensures.only
+    (subst S c.pieces.invariant.honest (c.in-Err.ensures.err (subst IsTrue (sym c.pieces.invariant.honest) honest) p.0 p.1))
+    (c.in-Err.ensures.sound (subst IsTrue (sym c.pieces.invariant.honest) honest) p.0 p.1)
 
 pub pieces-preserved : goal.pieces-preserved
 pieces-preserved g c = record {
-  progress = λ before holds.
-      let p = c.pieces.invariant.progress before holds in
-      let S : Bool → Type 0 = λ honest. (now : Container) × Holds c.serve_piece-served.new.engine now
-      × ServesLines (IsTrue honest) p.0
+  progress = λ honest before holds.
+      let p = c.pieces.invariant.progress honest before holds in
+      let S : Bool → Type 0 = λ h. (now : Container) × Holds c.serve_piece-served.new.engine now
+      × ServesLines (IsTrue h) p.0
       (c.pieces.pending.items ++ take c.in-Ok.count c.read_some.new.buf) now c.serve_piece-served.new.pending.items
       (outlets (g.K.Sink.written c.pieces.sink)
       (g.D.Disk.history c.pieces.disk (g.D.Disk.attached c.pieces.disk)) c.pieces.steps)
       (outlets (g.K.Sink.written c.serve_piece-served.new.sink)
       (g.D.Disk.history c.serve_piece-served.new.disk
       (g.D.Disk.attached c.serve_piece-served.new.disk)) c.serve_piece-served.new.steps) in
-      let more = subst S c.pieces.invariant.honest (c.in_default-served.ensures.ok p.0 p.1) in (
+      let more = subst S c.pieces.invariant.honest (c.in_default-served.ensures.ok (subst IsTrue (sym c.pieces.invariant.honest) honest) p.0 p.1) in (
         more.0,
         more.1,
         progress_goes_on _ before _ _ _ _ p.0 _ _ p.2 _ _ _ _ more.0
@@ -134,3 +134,23 @@ pieces-preserved g c = record {
   attached = c.in_default-served.ensures.attached ∙ c.pieces.invariant.attached;
   honest = c.in_default-served.ensures.honest ∙ c.pieces.invariant.honest;
 }
+
+-- ---- the statuses
+
+pub returns-then-count-eq0-clause-sound : goal.returns-then-count-eq0-clause-sound
+returns-then-count-eq0-clause-sound g c = λ honest before holds.
+    let p = c.pieces.invariant.progress honest before holds in
+    last_serving c.serve_last.result (c.serve_last.ensures.sound (subst IsTrue (sym c.pieces.invariant.honest) honest) p.0 p.1)
+
+pub returns-then-count-eq0-clause-of_serving : goal.returns-then-count-eq0-clause-of_serving
+returns-then-count-eq0-clause-of_serving g c =
+    last_ends _ _ c.serve_last.result _ c.pieces.invariant.honest c.serve_last.ensures.only
+
+pub returns-in-Err-clause-sound : goal.returns-in-Err-clause-sound
+returns-in-Err-clause-sound g c = λ honest before holds.
+    let p = c.pieces.invariant.progress honest before holds in
+    last_serving c.in-Err.status (inr (c.in-Err.ensures.sound (subst IsTrue (sym c.pieces.invariant.honest) honest) p.0 p.1))
+
+pub returns-in-Err-clause-of_serving : goal.returns-in-Err-clause-of_serving
+returns-in-Err-clause-of_serving g c =
+    last_ends _ _ c.in-Err.status _ c.pieces.invariant.honest (inr c.in-Err.ensures.only)

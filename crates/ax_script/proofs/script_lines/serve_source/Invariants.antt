@@ -10,7 +10,7 @@ use Rattle.ax_script.proofs.script_lines.serve_source.Given as goal
 
 abbrev pub invariant-pieces : goal.invariant-pieces
 invariant-pieces g l = record {
-  progress : (before : Container) → Holds l.fn.engine before
+  progress : IsTrue (g.D.Disk.is_honest l.fn.disk) → (before : Container) → Holds l.fn.engine before
       → (now : Container) × Holds l.engine now
       × Progress (IsTrue (g.D.Disk.is_honest l.fn.disk)) before
       (streams (g.S.Source.rest l.fn.source) (g.K.Sink.written l.fn.sink) l.fn.steps)

@@ -5,16 +5,21 @@ use Rattle.ax_lines.specs.Lines.{line_of}
 use Rattle.ax_lines.specs.Answers.{IsRefusedBy}
 use Rattle.ax_machine.specs.Run.{OutOfMemory}
 use Rattle.ax_engine.proofs.Applying.{still_over}
-use Rattle.ax_script.proofs.Replying.{tells_refused}
+use Rattle.ax_script.proofs.Replying.{tells_applied, tells_refused}
 use Rattle.ax_script.proofs.serving.answer.Goals as goal
 
 pub returns-in-Err-Refused-clause-tells : goal.returns-in-Err-Refused-clause-tells
-returns-in-Err-Refused-clause-tells g c = λ before holds.
+returns-in-Err-Refused-clause-tells g c = λ honest before holds.
     let P : LineFault → Type 0 = λ fault. IsRefusedBy fault (line_of c.args.line.now) in
     tells_refused _ before c.args.line.now c.in-Err-Refused.refusal c.args.engine.now _ _
     (subst P c.in-Err-Refused.field-0-is c.in-Err-Refused.ensures.answers) holds
     (still_over _ c.args.engine.now _ before before c.requires.works holds)
 
 pub returns-in-Err-Memory-clause-tells : goal.returns-in-Err-Memory-clause-tells
-returns-in-Err-Memory-clause-tells g c = λ before holds.
+returns-in-Err-Memory-clause-tells g c = λ honest before holds.
     (OutOfMemory, refl, holds, still_over _ c.args.engine.now _ before before c.requires.works holds)
+
+pub returns-in-Ok-clause-tells : goal.returns-in-Ok-clause-tells
+returns-in-Ok-clause-tells g c = λ honest before holds.
+    tells_applied _ before c.args.line.now c.in-Ok.asked c.apply.new.self _ _ c.apply.result c.in-Ok.ensures.answers
+    (c.apply.ensures.applies honest before holds)

@@ -1,15 +1,25 @@
 -- The line was answered, and its reply was written, or a prefix of it.
-use Rattle.ax_script.proofs.Replying.{whole_of, part_of}
+use Rattle.ax_script.proofs.Replying.{whole_of, part_of, sound_of, stops_of}
 use Rattle.ax_script.proofs.serving.serve_line.Goals as goal
 
 pub returns-clause-whole : goal.returns-clause-whole
-returns-clause-whole g c = λ before holds.
+returns-clause-whole g c = λ honest before holds.
     whole_of _ before c.args.line.now c.answer-answered.new.engine _ _ _ _ _ _ c.write_answer.result
-    c.answer-answered.result (c.answer-answered.ensures.tells before holds) c.answer-answered.ensures.works
+    c.answer-answered.result (c.answer-answered.ensures.tells honest before holds) c.answer-answered.ensures.works
     (c.answer-answered.ensures.bound before holds) c.write_answer.ensures.whole
 
 pub returns-clause-prefix : goal.returns-clause-prefix
-returns-clause-prefix g c = λ before holds.
+returns-clause-prefix g c = λ honest before holds.
     part_of _ before c.args.line.now c.answer-answered.new.engine _ _ _ _ _ _ c.write_answer.result
-    c.answer-answered.result (c.answer-answered.ensures.tells before holds) c.answer-answered.ensures.works
+    c.answer-answered.result (c.answer-answered.ensures.tells honest before holds) c.answer-answered.ensures.works
     (c.answer-answered.ensures.bound before holds) c.write_answer.ensures.prefix
+
+pub returns-clause-sound : goal.returns-clause-sound
+returns-clause-sound g c = λ honest before holds.
+    sound_of _ before c.args.line.now c.answer-answered.new.engine _ _ c.write_answer.result c.answer-answered.result
+    (c.answer-answered.ensures.tells honest before holds) c.write_answer.ensures.only c.write_answer.ensures.damage
+
+pub returns-clause-stops : goal.returns-clause-stops
+returns-clause-stops g c = λ unfaulted.
+    stops_of _ _ c.write_answer.result c.answer-answered.result c.write_answer.ensures.only c.write_answer.ensures.damage
+    (λ honest. c.answer-answered.ensures.met honest unfaulted)

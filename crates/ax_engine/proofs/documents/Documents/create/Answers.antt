@@ -1,14 +1,15 @@
 -- The parts lead from the container to the one in which the document is created.
 use Rattle.std.proofs.Common.{◌≡◌, ◌<◌, List, ℕ, Some, cond, sym, subst, ◌∙◌, arith}
 use Rattle.std.specs.Str.{bytes_eq}
+use Rattle.ax_cache.specs.Held.{held}
 use Rattle.ax_container.specs.Upsert.{created}
 use Rattle.ax_frame.specs.Part.{PartValue}
 use Rattle.ax_image.specs.UpsertParts.{creating_parts}
 use Rattle.ax_pages.specs.Contents.{Contents}
-use Rattle.ax_resident_store.specs.Store.{store_contents}
-use Rattle.ax_resident_store.specs.Batch.{batch_parts}
-use Rattle.ax_resident_store.specs.Putting.{AreWithin}
-use Rattle.ax_resident_store.proofs.StoreLemmas.{agrees_same}
+use Rattle.ax_store.specs.Store.{store_contents}
+use Rattle.ax_store.specs.Batch.{batch_parts}
+use Rattle.ax_store.specs.Putting.{AreWithin}
+use Rattle.ax_store.proofs.StoreLemmas.{agrees_same}
 use Rattle.ax_engine.specs.Documents.{contents_in}
 use Rattle.ax_engine.proofs.Holding.{still, holds_room, holds_same, works_room, made_by, turned_by}
 use Rattle.ax_engine.proofs.Writing.{within_text, within_next, is_refused, creates, created_leads, numbers_created}
@@ -59,7 +60,7 @@ returns-in_default-insert-clause-works g c =
 
 pub commit-requires-clause-agrees : goal.commit-requires-clause-agrees
 commit-requires-clause-agrees g c = λ honest _.
-    agrees_same c.args.self.now.store c.reserve.new.self _ c.reserve.ensures.same
+    agrees_same held c.args.self.now.store c.reserve.new.self _ c.reserve.ensures.same
     (c.requires.works.agrees honest)
 
 pub commit-requires-clause-within : goal.commit-requires-clause-within

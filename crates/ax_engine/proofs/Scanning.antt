@@ -1,0 +1,102 @@
+-- Calls that read texts of documents, one after another.
+use Rattle.std.proofs.Common.{◌≡◌, ◌⊎◌, inl, inr, ℕ, ◌≤◌, Bool, false, Result, Ok, Err, OnOk, refl, sym, subst, ◌∙◌, arith}
+use Rattle.std.specs.Prelude.{IsTrue, IfErr}
+use Rattle.ax_cache.specs.Held.{held}
+use Rattle.ax_cache.specs.declared.lru_pages.LruPages.{LruPages}
+use Rattle.ax_disk.specs.laws.StaysLaws.{idles_start, idles_join}
+use Rattle.ax_disk.specs.model.Calls.{Idles}
+use Rattle.ax_disk.specs.model.Moments.{History}
+use Rattle.ax_faults.specs.FaultLaws.{rose_since}
+use Rattle.ax_store.specs.Faults.{HasDiskCause}
+use Rattle.ax_store.specs.ReadAhead.{AgreesAheadUnlessFailed}
+use Rattle.ax_store.specs.Store.{SameButReads, store_failed}
+use Rattle.ax_store.specs.declared.fault.StoreFault.{StoreFault}
+use Rattle.ax_store.specs.declared.fault.StoreFault.TheVariants as fault
+use Rattle.ax_store.specs.declared.read_ahead.ReadAhead.{ReadAhead}
+use Rattle.ax_store.specs.declared.store.Store.{Store}
+use Rattle.ax_engine.specs.Scans.{IsReady, ScanFails, Scanned, Scans}
+
+unread : (store : Store LruPages) → SameButReads store store
+unread store = record { logged = refl; pages = refl }
+
+reads_on : (a b c : Store LruPages) → SameButReads a b → SameButReads b c → SameButReads a c
+reads_on a b c first second = record { logged = second.logged ∙ first.logged; pages = second.pages ∙ first.pages }
+
+pub nothing_scanned : (honest : Bool) (store : Store LruPages) (ahead : ReadAhead) (history : History) (faults : ℕ)
+    → IsReady honest store ahead history → Scanned honest store store ahead history history faults faults
+nothing_scanned honest store ahead history faults ready = record {
+  same = unread store;
+  ready = ready;
+  lists = λ _. idles_start history;
+  never_falls = omega arith;
+}
+
+-- told of the same honesty
+pub ready_now : (now then : Bool) (store : Store LruPages) (ahead : ReadAhead) (history : History) → now ≡ then
+    → IsReady then store ahead history → IsReady now store ahead history
+ready_now now then store ahead history same ready =
+    subst (λ h. IsReady h store ahead history) (sym same) ready
+
+module _ (now then : Bool) (a b c : Store LruPages) (ahead later : ReadAhead) (x y z : History) (l m n : ℕ)
+    (same : now ≡ then) (first : Scanned then a b ahead x y l m) where
+  on : Scanned then b c later y z m n → Scanned then a c later x z l n
+  on second = record {
+    same = reads_on a b c first.same second.same;
+    ready = second.ready;
+    lists = λ h. idles_join x y z (first.lists h) (second.lists h);
+    never_falls = omega (arith, first.never_falls, second.never_falls);
+  }
+
+  fails : (why : StoreFault) → ScanFails then why b c later y z m n → ScanFails then why a c later x z l n
+  fails fault.Disk failed = record {
+    same = reads_on a b c first.same failed.same;
+    lists = λ h. idles_join x y z (first.lists h) (failed.lists h);
+    never_falls = omega (arith, first.never_falls, failed.never_falls);
+    rose = rose_since l m n n first.never_falls (omega arith) failed.rose;
+  }
+  fails (fault.Damaged extent at) failed = (on failed.0, failed.1)
+  fails (fault.Newer version) failed = absurd failed
+  fails fault.Memory failed = on failed
+
+  pub scanned_on : Scanned now b c later y z m n → Scanned then a c later x z l n
+  scanned_on second = on (subst (λ h. Scanned h b c later y z m n) same second)
+
+  pub fails_on : (why : StoreFault) → ScanFails now why b c later y z m n → ScanFails then why a c later x z l n
+  fails_on why failed = fails why (subst (λ h. ScanFails h why b c later y z m n) same failed)
+
+  pub scans_on : {T : Type 0} → (result : Result T StoreFault) → Scans now result b c later y z m n
+      → Scans then result a c later x z l n
+  scans_on (Ok value) second = scanned_on second
+  scans_on (Err why) second = fails_on why second
+
+-- what the store's call answers
+pub scans_of : {T : Type 0} → (honest : Bool) (result : Result T StoreFault) (old new : Store LruPages) (ahead : ReadAhead)
+    (before after : History) (earlier later : ℕ) → store_failed old ≡ false → SameButReads old new
+    → AgreesAheadUnlessFailed held honest new ahead after → OnOk result (store_failed new ≡ false)
+    → (result ≡ Err fault.Memory → store_failed new ≡ store_failed old)
+    → IfErr result (λ why. (why ≡ fault.Disk) ⊎ (why ≡ fault.Memory)) → (IsTrue honest → Idles before after)
+    → (store_failed old ≡ false → HasDiskCause result earlier later) → Scans honest result old new ahead before after earlier later
+scans_of honest (Ok value) old new ahead before after earlier later works same agrees ok memory only lists cause = record {
+  same = same;
+  ready = record { works = ok; agrees = λ h. agrees h ok };
+  lists = lists;
+  never_falls = (cause works).never_falls;
+}
+scans_of honest (Err fault.Disk) old new ahead before after earlier later works same agrees ok memory only lists cause = record {
+  same = same;
+  lists = lists;
+  never_falls = (cause works).never_falls;
+  rose = (cause works).failed tt;
+}
+scans_of honest (Err (fault.Damaged extent at)) old new ahead before after earlier later works same agrees ok memory (inl is) lists cause = absurd cc
+scans_of honest (Err (fault.Damaged extent at)) old new ahead before after earlier later works same agrees ok memory (inr is) lists cause = absurd cc
+scans_of honest (Err (fault.Newer version)) old new ahead before after earlier later works same agrees ok memory (inl is) lists cause = absurd cc
+scans_of honest (Err (fault.Newer version)) old new ahead before after earlier later works same agrees ok memory (inr is) lists cause = absurd cc
+scans_of honest (Err fault.Memory) old new ahead before after earlier later works same agrees ok memory only lists cause =
+    let still : store_failed new ≡ false = memory refl ∙ works in
+    record {
+      same = same;
+      ready = record { works = still; agrees = λ h. agrees h still };
+      lists = lists;
+      never_falls = (cause works).never_falls;
+    }

@@ -1,0 +1,8 @@
+-- The answer of the documents is that of the engine, which keeps a fault.
+use Rattle.ax_engine.proofs.Applying.{applies_told}
+use Rattle.ax_engine.proofs.engine.Engine.apply.Goals as goal
+
+pub returns-clause-applies : goal.returns-clause-applies
+returns-clause-applies g c = λ honest before holds.
+    applies_told _ before _ c.answer-answered.result _ _ _ c.fault_of-self.ensures.none
+    (c.answer-answered.ensures.tells honest before holds.documents)

@@ -1,0 +1,63 @@
+-- What reading answered, as the answer to the line.
+use Rattle.std.proofs.Common.{subst, sym, ◌∙◌}
+use Rattle.std.specs.Prelude.{IfErr, IsTrue, OnOk, Result}
+use Rattle.ax_cache.specs.Held.{held}
+use Rattle.ax_lines.specs.declared.line.Line.TheVariants as line
+use Rattle.ax_store.proofs.AheadLemmas.{ahead_of_nothing}
+use Rattle.ax_engine.specs.Damage.{Meets}
+use Rattle.ax_engine.specs.Documents.{DocumentsWork}
+use Rattle.ax_engine.specs.Engine.{Tells}
+use Rattle.ax_engine.specs.declared.engine.Fault.{Fault}
+use Rattle.ax_engine.specs.declared.reply.Reply.{Reply}
+use Rattle.ax_engine.proofs.Applying.{met_read, never_falls_read, of_reading, rose_read, tells_read, works_read}
+use Rattle.ax_engine.proofs.engine.query.Goals as goal
+
+pub reply_to_query-read-requires : goal.reply_to_query-read-requires
+reply_to_query-read-requires g c = record {
+  ready = record {
+    works = c.requires.works.unfailed;
+    agrees = λ honest. ahead_of_nothing held c.args.documents.now.store _ (c.requires.works.agrees honest) _ c.new-ahead.ensures;
+  };
+}
+
+pub answer_of_read-requires : goal.answer_of_read-requires
+answer_of_read-requires g c =
+    of_reading _ c.reply_to_query-read.result _ _ _ _ _ _ _ c.reply_to_query-read.ensures.scans
+
+pub returns-clause-tells : goal.returns-clause-tells
+returns-clause-tells g c = λ honest before holds.
+    let P : Result Reply Fault → Type 0 = λ answer. Tells (IsTrue (g.D.Disk.is_honest c.args.disk.now)) before
+    (line.Query c.args.body.now) answer (record c.args.documents.now { store = c.reply_to_query-read.new.store })
+    (g.D.Disk.history c.args.disk.now (g.D.Disk.attached c.args.disk.now))
+    (g.D.Disk.history c.reply_to_query-read.new.disk (g.D.Disk.attached c.reply_to_query-read.new.disk)) in
+    subst P (sym c.answer_of_read.ensures)
+    (tells_read _ c.args.documents.now _ _ _ _ _ _ before c.args.body.now c.requires.works holds
+    c.reply_to_query-read.result c.reply_to_query-read.ensures.scans
+    (c.reply_to_query-read.ensures.reply honest before holds.stand) honest)
+
+pub returns-clause-met : goal.returns-clause-met
+returns-clause-met g c = λ honest.
+    let P : Result Reply Fault → Type 0 = λ answer. IfErr answer (λ why. Meets why
+    (g.D.Disk.history c.reply_to_query-read.new.disk (g.D.Disk.attached c.reply_to_query-read.new.disk)).reads) in
+    subst P (sym c.answer_of_read.ensures)
+    (met_read _ c.args.documents.now _ _ _ _ _ _ c.reply_to_query-read.result c.reply_to_query-read.ensures.scans
+    (g.met.D.Disk.reads_may_stay c.reply_to_query-read.new.disk (g.D.Disk.attached c.reply_to_query-read.new.disk)
+    (subst IsTrue (sym c.reply_to_query-read.ensures.honest) honest)) honest)
+
+pub returns-clause-works : goal.returns-clause-works
+returns-clause-works g c =
+    let W = DocumentsWork (IsTrue (g.D.Disk.is_honest c.args.disk.now))
+    (record c.args.documents.now { store = c.reply_to_query-read.new.store })
+    (g.D.Disk.history c.reply_to_query-read.new.disk (g.D.Disk.attached c.reply_to_query-read.new.disk)) in
+    let P : Result Reply Fault → Type 0 = λ answer. OnOk answer W in
+    subst P (sym c.answer_of_read.ensures)
+    (works_read _ c.args.documents.now _ _ _ _ _ _ c.reply_to_query-read.result c.reply_to_query-read.ensures.scans)
+
+pub returns-clause-cause : goal.returns-clause-cause
+returns-clause-cause g c = λ is.
+    rose_read _ c.args.documents.now _ _ _ _ _ _ c.reply_to_query-read.result c.reply_to_query-read.ensures.scans
+    (sym c.answer_of_read.ensures ∙ is)
+
+pub returns-clause-never_falls : goal.returns-clause-never_falls
+returns-clause-never_falls g c =
+    never_falls_read _ c.args.documents.now _ _ _ _ _ _ c.reply_to_query-read.result c.reply_to_query-read.ensures.scans

@@ -1,0 +1,20 @@
+-- A text that is none of a document is damage.
+use Rattle.std.proofs.Common.{Err, sym, ap, subst, ◌∙◌}
+use Rattle.std.specs.Prelude.{IsTrue}
+use Rattle.std.specs.FinMap as map
+use Rattle.ax_store.specs.Kept.{Kept}
+use Rattle.ax_store.specs.ReadAhead.{IsAhead, ahead_text}
+use Rattle.ax_engine.proofs.Damaging.{text_fails}
+use Rattle.ax_engine.proofs.querying.add_document.Goals as goal
+
+pub returns-in-Err-add-clause-scans : goal.returns-in-Err-add-clause-scans
+returns-in-Err-add-clause-scans g c =
+    let same = c.in-Ok.ensures.scans.same.pages in
+    text_fails _ c.in-Err-add.fault c.text_fault.result _ c.read_document.new.store c.read_document.new.ahead _ _ _ _
+    c.args.number (ahead_text c.read_document.new.ahead) c.in-Ok.field-0 c.in-Ok.ensures.scans
+    (subst (λ (kept : Kept). IsTrue (map.contains_key kept.contents.documents c.args.number)) (sym same) c.requires.held)
+    (λ honest. subst (λ (kept : Kept). IsAhead (map.get kept.contents.documents c.args.number) c.in-Ok.field-0
+    (ahead_text c.read_document.new.ahead)) (sym same) (c.in-Ok.ensures.text honest))
+    (λ tree is readable outside. c.add.ensures.inside tree (c.text.ensures ∙ is) readable
+    (c.in-Err-add.is ∙ ap (λ why. Err why) outside))
+    c.text_fault.ensures.memory c.text_fault.ensures.outside

@@ -1,0 +1,9 @@
+-- A document that is held has one part.
+use Rattle.ax_engine.proofs.Damaging.{one_part, only_place}
+use Rattle.ax_engine.proofs.reading.place_of.Goals as goal
+
+pub place-requires : goal.place-requires
+place-requires c = one_part _ c.requires
+
+pub returns-clause-offset : goal.returns-clause-offset
+returns-clause-offset c = only_place _ _ c.place.ensures.offset

@@ -1,0 +1,55 @@
+-- What calls leave that read texts of documents: the pages as they were, the agreement with the disk
+-- until a read has failed, and the disk's lists.
+-- It is this project's own; it comes from no public document.
+use Rattle.std.specs.Prelude.{◌≡◌, ℕ, ◌≤◌, Bool, false, IsTrue, Result, Ok, Err}
+use Rattle.ax_cache.specs.Held.{held}
+use Rattle.ax_cache.specs.declared.lru_pages.LruPages.{LruPages}
+use Rattle.ax_disk.specs.model.Calls.{Idles}
+use Rattle.ax_disk.specs.model.Moments.{History}
+use Rattle.ax_faults.specs.Faults.{Rose}
+use Rattle.ax_store.specs.ReadAhead.{AgreesAhead}
+use Rattle.ax_store.specs.Store.{SameButReads, store_failed}
+use Rattle.ax_store.specs.declared.fault.StoreFault.{StoreFault}
+use Rattle.ax_store.specs.declared.fault.StoreFault.TheVariants as fault
+use Rattle.ax_store.specs.declared.read_ahead.ReadAhead.{ReadAhead}
+use Rattle.ax_store.specs.declared.store.Store.{Store}
+use Rattle.ax_engine.specs.Damage.{IsOutsideAt}
+
+-- the store has not failed, and agrees with a disk that is honest, as does what was read ahead
+pub record IsReady (honest : Bool) (store : Store LruPages) (ahead : ReadAhead) (history : History) : Type 0 where
+  pub works : store_failed store ≡ false
+  pub agrees : IsTrue honest → AgreesAhead held store ahead history
+
+-- no read failed
+pub record Scanned (honest : Bool) (old new : Store LruPages) (ahead : ReadAhead) (before after : History)
+    (earlier later : ℕ) : Type 0 where
+  pub same : SameButReads old new
+  pub ready : IsReady honest new ahead after
+  pub lists : IsTrue honest → Idles before after
+  pub never_falls : earlier ≤ later
+
+-- a read failed, and the disk's count of faults rose
+pub record ReadFailed (honest : Bool) (old new : Store LruPages) (before after : History)
+    (earlier later : ℕ) : Type 0 where
+  pub same : SameButReads old new
+  pub lists : IsTrue honest → Idles before after
+  pub never_falls : earlier ≤ later
+  pub rose : Rose earlier later
+
+-- what a fault leaves, and where it is that of a text
+abbrev pub ScanFails : Bool → StoreFault → Store LruPages → Store LruPages → ReadAhead → History → History
+    → ℕ → ℕ → Type 0
+ScanFails honest fault.Disk old new ahead before after earlier later =
+    ReadFailed honest old new before after earlier later
+ScanFails honest (fault.Damaged extent at) old new ahead before after earlier later =
+    Scanned honest old new ahead before after earlier later × (IsTrue honest → IsOutsideAt new extent at)
+ScanFails honest (fault.Newer version) old new ahead before after earlier later = ⊥
+ScanFails honest fault.Memory old new ahead before after earlier later =
+    Scanned honest old new ahead before after earlier later
+
+abbrev pub Scans : {T : Type 0} → Bool → Result T StoreFault → Store LruPages → Store LruPages → ReadAhead
+    → History → History → ℕ → ℕ → Type 0
+Scans honest (Ok value) old new ahead before after earlier later =
+    Scanned honest old new ahead before after earlier later
+Scans honest (Err fault) old new ahead before after earlier later =
+    ScanFails honest fault old new ahead before after earlier later
