@@ -20,7 +20,7 @@ use Rattle.ax_lines.specs.declared.line.Line.TheVariants as line
 use Rattle.ax_lines.specs.declared.refusal.Refusal.TheVariants as refusal
 use Rattle.ax_machine.specs.Querying.{query_reply}
 use Rattle.ax_machine.specs.Reply as reply
-use Rattle.ax_machine.specs.Run.{Outcome, Served, OutOfMemory}
+use Rattle.ax_machine.specs.Run.{Served, OutOfMemory}
 use Rattle.ax_machine.specs.Step.{served, upsert_by, written}
 use Rattle.ax_engine.specs.Damage.{Meets}
 use Rattle.ax_engine.specs.Documents.{DocumentsHold, DocumentsWork, TellsUpsert, WorksAfterUpsert}

@@ -1,5 +1,5 @@
 -- What a store that was opened stands for; and what is opened is neither damaged nor of a later version.
-use Rattle.std.proofs.Common.{◌≡◌, ◌⊎◌, inl, inr, ℕ, ◌≤◌, Bool, List, Result, Ok, Err, refl, sym, subst, ◌∙◌, arith}
+use Rattle.std.proofs.Common.{◌≡◌, ◌⊎◌, inl, inr, ℕ, ◌≤◌, Bool, List, Result, Ok, Err, sym, subst, arith}
 use Rattle.std.specs.Prelude.{IfOk, IfErr, IsTrue}
 use Rattle.ax_cache.specs.Held.{held}
 use Rattle.ax_cache.specs.declared.lru_pages.LruPages.{LruPages}

@@ -9,7 +9,6 @@ ghost use Rattle.ax_lines.specs.Asked.{IsStorable};
 ghost use Rattle.ax_container.specs.Container.{Container};
 ghost use Rattle.ax_container.specs.Upsert.{Full, upserted};
 ghost use Rattle.ax_pages.specs.Contents.{next_number as next_number_of, policy_now, is_given};
-ghost use Rattle.ax_store.specs.Store.{store_contents};
 ghost use Rattle.ax_engine.specs.Documents.{contents_in, DocumentsHold, DocumentsWork, is_full_of, TellsUpsert, WorksAfterUpsert};
 
 use crate::batches::{creating, replacing};

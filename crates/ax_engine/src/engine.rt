@@ -1,10 +1,9 @@
 //! An engine over an open store.
 
-ghost use Rattle.std.specs.Prelude.{◌≡◌, ◌≤◌, ◌+◌, ℕ, List, Ok, Err, Some, None, IsTrue, IfOk, IfErr, OnOk};
+ghost use Rattle.std.specs.Prelude.{◌≡◌, ◌≤◌, ◌+◌, Ok, Err, Some, None, IsTrue, IfOk, IfErr, OnOk};
 ghost use Rattle.ax_faults.specs.Faults.{Rose};
 ghost use Rattle.ax_disk.specs.model.Stays.{SinceBarrier};
 ghost use Rattle.ax_container.specs.Container.{Container};
-ghost use Rattle.ax_tree.specs.Document.{document_id};
 ghost use Rattle.ax_lines.specs.Asked.{IsAsked, IsStorable};
 ghost use Rattle.ax_lines.specs.declared.line.Line.TheVariants as line;
 ghost use Rattle.ax_machine.specs.Needs.{most_steps_of};
@@ -232,14 +231,7 @@ fn query<D: Disk, L: Ledger>(
 {
     let alloc = documents.alloc;
     let mut ahead = ReadAhead::new(alloc);
-    let read = reply_to_query(
-        alloc,
-        &mut documents.store,
-        disk,
-        &mut ahead,
-        body,
-        steps,
-    );
+    let read = reply_to_query(alloc, &mut documents.store, disk, &mut ahead, body, steps);
     answer_of_read(read)
 }
 

@@ -32,7 +32,8 @@ pub fn serve_source<D: Disk, S: Source, K: Sink, L: Ledger>(
     requires few { length buffer.old ≤ 2 ^ 20 }
     requires works { Works (IsTrue (D.is_honest disk.old)) engine.old (D.history disk.old (D.attached disk.old)) }
     requires unfaulted { engine.old.fault ≡ None }
-    ensures script { IsTrue (D.is_honest disk.old) → (before : Container) → Holds engine.old before → Ends (IsTrue (D.is_honest disk.old)) before result
+    ensures script { IsTrue (D.is_honest disk.old) → (before : Container) → Holds engine.old before
+        → Ends (IsTrue (D.is_honest disk.old)) before result
         (record { remaining = S.rest source.old; written = K.written sink.old; steps = steps.old })
         (record { remaining = S.rest source.new; written = K.written sink.new; steps = steps.new })
         (D.history disk.old (D.attached disk.old)) (D.history disk.new (D.attached disk.new)) }
@@ -92,11 +93,13 @@ fn serve_piece<D: Disk, K: Sink, L: Ledger>(
     requires line { IsOneLine pending.old.items }
     requires works { Works (IsTrue (D.is_honest disk.old)) engine.old (D.history disk.old (D.attached disk.old)) }
     requires unfaulted { engine.old.fault ≡ None }
-    ensures ok { IsTrue (D.is_honest disk.old) → (before : Container) → Holds engine.old before → OnOk result ((now : Container) × Holds engine.new now
+    ensures ok { IsTrue (D.is_honest disk.old) → (before : Container) → Holds engine.old before
+        → OnOk result ((now : Container) × Holds engine.new now
         × ServesLines (IsTrue (D.is_honest disk.old)) before (pending.old.items ++ piece.now) now pending.new.items
         (outlets (K.written sink.old) (D.history disk.old (D.attached disk.old)) steps.old)
         (outlets (K.written sink.new) (D.history disk.new (D.attached disk.new)) steps.new)) }
-    ensures err { IsTrue (D.is_honest disk.old) → (before : Container) → Holds engine.old before → OnErr result (BeginsLines (IsTrue (D.is_honest disk.old)) before (pending.old.items ++ piece.now)
+    ensures err { IsTrue (D.is_honest disk.old) → (before : Container) → Holds engine.old before
+        → OnErr result (BeginsLines (IsTrue (D.is_honest disk.old)) before (pending.old.items ++ piece.now)
         (outlets (K.written sink.old) (D.history disk.old (D.attached disk.old)) steps.old)
         (outlets (K.written sink.new) (D.history disk.new (D.attached disk.new)) steps.new)) }
     ensures works { OnOk result (Works (IsTrue (D.is_honest disk.old)) engine.new (D.history disk.new (D.attached disk.new))) }
@@ -146,12 +149,14 @@ fn serve_head<D: Disk, K: Sink, L: Ledger>(
 ) -> Result<(), Status>
     requires works { Works (IsTrue (D.is_honest disk.old)) engine.old (D.history disk.old (D.attached disk.old)) }
     requires unfaulted { engine.old.fault ≡ None }
-    ensures ok { IsTrue (D.is_honest disk.old) → (before : Container) → Holds engine.old before → OnOk result ((now : Container) × Holds engine.new now
+    ensures ok { IsTrue (D.is_honest disk.old) → (before : Container) → Holds engine.old before
+        → OnOk result ((now : Container) × Holds engine.new now
         × Serves (IsTrue (D.is_honest disk.old)) before (pending.old.items ++ head.now) now
         (outlets (K.written sink.old) (D.history disk.old (D.attached disk.old)) steps.old)
         (outlets (K.written sink.new) (D.history disk.new (D.attached disk.new)) steps.new)) }
     ensures empty { OnOk result (pending.new.items ≡ []) }
-    ensures err { IsTrue (D.is_honest disk.old) → (before : Container) → Holds engine.old before → OnErr result (BeginsToServe (IsTrue (D.is_honest disk.old)) before (pending.old.items ++ head.now)
+    ensures err { IsTrue (D.is_honest disk.old) → (before : Container) → Holds engine.old before
+        → OnErr result (BeginsToServe (IsTrue (D.is_honest disk.old)) before (pending.old.items ++ head.now)
         (outlets (K.written sink.old) (D.history disk.old (D.attached disk.old)) steps.old)
         (outlets (K.written sink.new) (D.history disk.new (D.attached disk.new)) steps.new)) }
     ensures works { OnOk result (Works (IsTrue (D.is_honest disk.old)) engine.new (D.history disk.new (D.attached disk.new))) }
@@ -192,10 +197,12 @@ fn serve_last<D: Disk, K: Sink, L: Ledger>(
 ) -> Status
     requires works { Works (IsTrue (D.is_honest disk.old)) engine.old (D.history disk.old (D.attached disk.old)) }
     requires unfaulted { engine.old.fault ≡ None }
-    ensures done { IsTrue (D.is_honest disk.old) → (before : Container) → Holds engine.old before → result ≡ Status.Done → ServesLast (IsTrue (D.is_honest disk.old)) before pending.now
+    ensures done { IsTrue (D.is_honest disk.old) → (before : Container) → Holds engine.old before
+        → result ≡ Status.Done → ServesLast (IsTrue (D.is_honest disk.old)) before pending.now
         (outlets (K.written sink.old) (D.history disk.old (D.attached disk.old)) steps.old)
         (outlets (K.written sink.new) (D.history disk.new (D.attached disk.new)) steps.new) }
-    ensures prefix { IsTrue (D.is_honest disk.old) → (before : Container) → Holds engine.old before → BreaksOffWith result → BeginsLast (IsTrue (D.is_honest disk.old)) before pending.now
+    ensures prefix { IsTrue (D.is_honest disk.old) → (before : Container) → Holds engine.old before
+        → BreaksOffWith result → BeginsLast (IsTrue (D.is_honest disk.old)) before pending.now
         (outlets (K.written sink.old) (D.history disk.old (D.attached disk.old)) steps.old)
         (outlets (K.written sink.new) (D.history disk.new (D.attached disk.new)) steps.new) }
     ensures sound { IsTrue (D.is_honest disk.old) → (before : Container) → Holds engine.old before

@@ -35,7 +35,8 @@ pub fn serve_line<D: Disk, K: Sink, L: Ledger>(
     steps: &mut Steps<L>,
 ) -> Result<(), Status>
     requires works { Works (IsTrue (D.is_honest disk.old)) engine.old (D.history disk.old (D.attached disk.old)) }
-    ensures whole { IsTrue (D.is_honest disk.old) → (before : Container) → Holds engine.old before → OnOk result ((now : Container) × Holds engine.new now
+    ensures whole { IsTrue (D.is_honest disk.old) → (before : Container) → Holds engine.old before
+        → OnOk result ((now : Container) × Holds engine.new now
         × Serves (IsTrue (D.is_honest disk.old)) before line.now now
         (outlets (K.written sink.old) (D.history disk.old (D.attached disk.old)) steps.old)
         (outlets (K.written sink.new) (D.history disk.new (D.attached disk.new)) steps.new)) }

@@ -85,7 +85,7 @@ fn images_are_judged(rt: HostRuntime) -> Result<(), Fail> {
 
 /// A document whose text is none, at 9, and a meta part.
 const SPOILED: &[u8] =
-    b"\x01\x24\x00\x00\x00\x00\x00\x00\x00\x03\x01\x00\x00\x00\x0A\x00\x00\x00\x00{\"id\":\"a\"\x01\x00\x00\x00\x00\x08\x00\x00\x00\x02\x00\x00\x00\x00\x00\x00\x00\x00";
+    b"\x01\x25\x00\x00\x00\x00\x00\x00\x00\x03\x01\x00\x00\x00\x0B\x00\x00\x00\x00{\"id\":tru}\x01\x00\x00\x00\x00\x08\x00\x00\x00\x02\x00\x00\x00\x00\x00\x00\x00\x00";
 
 // The store is opened, and what needs no look at the text is served; a query that reads it ends the
 // run, with the place of the document's part.
@@ -95,11 +95,15 @@ fn a_text_that_is_none_is_damage(rt: HostRuntime) -> Result<(), Fail> {
     let damaged = Status::Damaged { extent: 1, at: 9 };
     for (script, expected, output) in [
         (
-            b"UPSERT {\"id\":\"b\"}\nQUERY {\"query\":\"SELECT VALUE c.x FROM c\"}\nFOO".as_slice(),
+            b"UPSERT {\"id\":\"b\"}\nQUERY {\"query\":\"SELECT VALUE c.id FROM c\"}\nFOO".as_slice(),
             damaged,
             b"ok\n".as_slice(),
         ),
-        (b"UPSERT {\"id\":\"b\"}\nFOO", Status::Done, b"ok\nerr 2 command\n"),
+        (
+            b"UPSERT {\"id\":\"b\"}\nFOO",
+            Status::Done,
+            b"ok\nerr 2 command\n",
+        ),
     ] {
         let mut disk = disk_of(alloc, ROOT, SPOILED)?;
         let (status, written) = output_over(alloc, &mut disk, script)?;

@@ -1,5 +1,5 @@
 -- The ids of the documents up to each number, and at the end of all.
-use Rattle.std.proofs.Common.{◌≡◌, None, find, refl, sym, ap, subst, ◌∙◌}
+use Rattle.std.proofs.Common.{None, find, refl, sym, ap, subst, ◌∙◌}
 use Rattle.std.specs.Prelude.{IsTrue}
 use Rattle.ax_ids.specs.Ids.{number_under}
 use Rattle.ax_container.specs.Container.{has_id, entry_of}

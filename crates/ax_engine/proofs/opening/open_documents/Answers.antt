@@ -1,5 +1,5 @@
 -- The store is opened as it stands, and then its texts are read.
-use Rattle.std.proofs.Common.{IsTrue, sym, subst, ◌∙◌, Bool, Err}
+use Rattle.std.proofs.Common.{IsTrue, sym, subst}
 use Rattle.std.specs.Prelude.{IfOk}
 use Rattle.ax_disk.specs.laws.StaysLaws.{idles_start}
 use Rattle.ax_engine.specs.Documents.{DocumentsWork}

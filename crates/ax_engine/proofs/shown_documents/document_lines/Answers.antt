@@ -1,11 +1,11 @@
 -- A row more.
-use Rattle.std.proofs.Common.{refl, sym, subst, ◌∙◌}
+use Rattle.std.proofs.Common.{sym, subst, ◌∙◌}
 use Rattle.std.specs.Prelude.{IsTrue}
 use Rattle.ax_image.specs.StandsFor.{ContentsStandFor}
 use Rattle.ax_store.specs.Kept.{Kept}
 use Rattle.ax_engine.proofs.InOrder.{pairs}
 use Rattle.ax_engine.proofs.RowLines.{line_added}
-use Rattle.ax_engine.proofs.Scanning.{fails_on, nothing_scanned, ready_now, scanned_on}
+use Rattle.ax_engine.proofs.Scanning.{fails_on, ready_now, scanned_on}
 use Rattle.ax_engine.proofs.shown_documents.document_lines.Goals as goal
 
 pub push_document-requires : goal.push_document-requires
