@@ -10,11 +10,11 @@ use std::test::Fail;
 /// Names of an excerpt, by twos, the lower one first.
 const PAIRS: [(&str, &str); 8] = [
     ("", "a"),
+    ("A", "b"),
     ("a", "aa"),
     ("a", "b"),
     ("a", "é"),
     ("aa", "😀"),
-    ("b", "c"),
     ("b", "é"),
     ("é", "😀"),
 ];
@@ -23,13 +23,13 @@ const PAIRS: [(&str, &str); 8] = [
 const NAMES: [&str; 11] = [
     r#""""#,
     r#""\n""#,
+    r#""A""#,
     r#""a""#,
     r#""a\n""#,
     r#""a\"""#,
     r#""aa""#,
     r#""b""#,
     r#""b\\""#,
-    r#""ba""#,
     r#""é""#,
     r#""😀""#,
 ];
