@@ -2,6 +2,7 @@
 use Rattle.std.proofs.Common.{◌≡◌, ℕ, ◌≤◌, Bool, List, Some, None, Result, Ok, Err, OnOk, refl, sym, ap, subst, ◌∙◌}
 use Rattle.std.specs.Prelude.{IfOk, IfErr, IsTrue}
 use Rattle.ax_cache.specs.declared.lru_pages.LruPages.{LruPages}
+use Rattle.ax_disk.specs.model.Calls.{Idles}
 use Rattle.ax_disk.specs.model.Moments.{History}
 use Rattle.ax_disk.specs.model.Pending.{MayLeave}
 use Rattle.ax_disk.specs.model.Stays.{Rests, Turns}
@@ -140,6 +141,14 @@ module _ (honest : Bool) (documents : Documents) (store : Store LruPages)
   works_read (Err (store_fault.Damaged extent at)) scans = tt
   works_read (Err (store_fault.Newer version)) scans = absurd scans
   works_read (Err store_fault.Memory) scans = works_scanned scans
+
+  pub lists_read : (read : Result Reply StoreFault) → Scans honest read documents.store store ahead old new l m
+      → IsTrue honest → Idles old new
+  lists_read (Ok reply) scans h = scans.lists h
+  lists_read (Err store_fault.Disk) scans h = scans.lists h
+  lists_read (Err (store_fault.Damaged extent at)) scans h = scans.0.lists h
+  lists_read (Err (store_fault.Newer version)) scans h = absurd scans
+  lists_read (Err store_fault.Memory) scans h = scans.lists h
 
   pub never_falls_read : (read : Result Reply StoreFault) → Scans honest read documents.store store ahead old new l m → l ≤ m
   never_falls_read (Ok reply) scans = scans.never_falls

@@ -1,5 +1,6 @@
 -- An engine at work: which container it has, and what it answers to a line.
 use Rattle.std.specs.Prelude.{◌≡◌, ℕ, List, None, Some, Result, Ok, Err}
+use Rattle.ax_disk.specs.model.Calls.{Idles}
 use Rattle.ax_disk.specs.model.Moments.{History}
 use Rattle.ax_disk.specs.model.Stays.{Turns}
 use Rattle.ax_container.specs.Container.{Container}
@@ -60,3 +61,13 @@ abbrev pub FindsFull : Container → Line → Type 0
 FindsFull before (line.Upsert tree) =
     (id : List ℕ) × (document_id tree ≡ Some id) × (upserted id tree before ≡ Err Full)
 FindsFull before (line.Query body) = ⊥
+
+-- a query leaves the disk's lists as they are
+abbrev pub LeavesLists : Line → History → History → Type 0
+LeavesLists (line.Upsert tree) old new = Unit {0}
+LeavesLists (line.Query body) old new = Idles old new
+
+-- only a query meets a text that is none of a document
+abbrev pub IsOfLine : Line → Fault → Type 0
+IsOfLine (line.Upsert tree) why = why ≡ fault.Disk
+IsOfLine (line.Query body) why = Unit {0}

@@ -2,6 +2,7 @@
 
 ghost use Rattle.std.specs.Prelude.{◌≡◌, ◌≤◌, ◌+◌, Ok, Err, Some, None, IsTrue, IfOk, IfErr, OnOk};
 ghost use Rattle.ax_faults.specs.Faults.{Rose};
+ghost use Rattle.ax_disk.specs.model.Calls.{Idles};
 ghost use Rattle.ax_disk.specs.model.Stays.{SinceBarrier};
 ghost use Rattle.ax_container.specs.Container.{Container};
 ghost use Rattle.ax_lines.specs.Asked.{IsAsked, IsStorable};
@@ -11,7 +12,7 @@ ghost use Rattle.ax_pages.specs.Contents.{Contents};
 ghost use Rattle.ax_pages.specs.HasContents.{HasContents};
 ghost use Rattle.ax_engine.specs.Damage.{Meets};
 ghost use Rattle.ax_engine.specs.Documents.{DocumentsHold, DocumentsWork};
-ghost use Rattle.ax_engine.specs.Engine.{Applies, FindsFull, Holds, Tells, Works};
+ghost use Rattle.ax_engine.specs.Engine.{Applies, FindsFull, Holds, IsOfLine, LeavesLists, Tells, Works};
 ghost use Rattle.ax_engine.specs.Opening.{RefusesBy};
 ghost use Rattle.ax_engine.specs.Replies.{IsOfReading, read_answer, upsert_answer};
 ghost use Rattle.ax_engine.specs.Stores.{IsStore, Shows};
@@ -85,12 +86,20 @@ impl Engine {
         }
     }
 
+    /// The fault that was answered first, and is answered again to every line.
+    pub fn fault(&self) -> Option<Fault>
+        ensures { result ≡ self.now.fault }
+    {
+        self.fault
+    }
+
     /// Makes the step of a line, durable where the disk is honest, and answers with its reply; or is
     /// refused for want of memory, with no change. A creation where the container is full is refused as
     /// full, and never for want of memory. After a fault every line is answered by it.
     ///
     /// `Disk` where a call on the disk failed. `Damaged` where the text of a document is none that a
-    /// document can have, over an honest disk with the place at which its part stands.
+    /// document can have, over an honest disk with the place at which its part stands; only a query
+    /// answers it, and it leaves the disk's lists as they were.
     pub fn apply<D: Disk, L: Ledger>(
         &mut self,
         disk: &mut D,
@@ -106,6 +115,9 @@ impl Engine {
             → result ≡ Ok (Reply.Refused Refusal.Full) }
         ensures met { IsTrue (D.is_honest disk.old) → self.old.fault ≡ None
             → IfErr result (λ fault. Meets fault (D.history disk.new (D.attached disk.new)).reads) }
+        ensures lists { IsTrue (D.is_honest disk.old) → self.old.fault ≡ None
+            → LeavesLists line (D.history disk.old (D.attached disk.old)) (D.history disk.new (D.attached disk.new)) }
+        ensures of_line { self.old.fault ≡ None → IfErr result (λ fault. IsOfLine line fault) }
         ensures works { Works (IsTrue (D.is_honest disk.old)) self.new (D.history disk.new (D.attached disk.new)) }
 
         // A fault that was answered is kept, and answered again, with no call on the disk.
@@ -156,6 +168,9 @@ fn answer<D: Disk, L: Ledger>(
         (D.history disk.old (D.attached disk.old)) (D.history disk.new (D.attached disk.new)) }
     ensures full { (before : Container) → DocumentsHold documents.old before → FindsFull before line.now
         → result ≡ Ok (Reply.Refused Refusal.Full) }
+    ensures lists { IsTrue (D.is_honest disk.old)
+        → LeavesLists line.now (D.history disk.old (D.attached disk.old)) (D.history disk.new (D.attached disk.new)) }
+    ensures of_line { IfErr result (λ fault. IsOfLine line.now fault) }
     ensures met { IsTrue (D.is_honest disk.old)
         → IfErr result (λ fault. Meets fault (D.history disk.new (D.attached disk.new)).reads) }
     ensures works { OnOk result (DocumentsWork (IsTrue (D.is_honest disk.old)) documents.new
@@ -217,6 +232,8 @@ fn query<D: Disk, L: Ledger>(
     ensures tells { IsTrue (D.is_honest disk.old) → (before : Container) → DocumentsHold documents.old before
         → Tells (IsTrue (D.is_honest disk.old)) before (line.Query body.now) result documents.new
         (D.history disk.old (D.attached disk.old)) (D.history disk.new (D.attached disk.new)) }
+    ensures lists { IsTrue (D.is_honest disk.old)
+        → Idles (D.history disk.old (D.attached disk.old)) (D.history disk.new (D.attached disk.new)) }
     ensures met { IsTrue (D.is_honest disk.old)
         → IfErr result (λ fault. Meets fault (D.history disk.new (D.attached disk.new)).reads) }
     ensures works { OnOk result (DocumentsWork (IsTrue (D.is_honest disk.old)) documents.new

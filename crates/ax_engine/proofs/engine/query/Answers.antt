@@ -9,7 +9,7 @@ use Rattle.ax_engine.specs.Documents.{DocumentsWork}
 use Rattle.ax_engine.specs.Engine.{Tells}
 use Rattle.ax_engine.specs.declared.engine.Fault.{Fault}
 use Rattle.ax_engine.specs.declared.reply.Reply.{Reply}
-use Rattle.ax_engine.proofs.Applying.{met_read, never_falls_read, of_reading, rose_read, tells_read, works_read}
+use Rattle.ax_engine.proofs.Applying.{lists_read, met_read, never_falls_read, of_reading, rose_read, tells_read, works_read}
 use Rattle.ax_engine.proofs.engine.query.Goals as goal
 
 pub reply_to_query-read-requires : goal.reply_to_query-read-requires
@@ -61,3 +61,7 @@ returns-clause-cause g c = λ is.
 pub returns-clause-never_falls : goal.returns-clause-never_falls
 returns-clause-never_falls g c =
     never_falls_read _ c.args.documents.now _ _ _ _ _ _ c.reply_to_query-read.result c.reply_to_query-read.ensures.scans
+
+pub returns-clause-lists : goal.returns-clause-lists
+returns-clause-lists g c = λ honest.
+    lists_read _ c.args.documents.now _ _ _ _ _ _ c.reply_to_query-read.result c.reply_to_query-read.ensures.scans honest
