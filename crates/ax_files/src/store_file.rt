@@ -56,6 +56,7 @@ impl<F: SystemFile> StoreFile<F> {
         ensures written { IsTrue (F.is_honest self.old.file) → at ≤ length (F.content self.old.file)
             → OnOk result (F.content self.new.file ≡ overwritten (F.content self.old.file) at bytes.now) }
         ensures works { IsTrue (F.is_working self.old.file) → IsOk result }
+        ensures working { F.is_working self.new.file ≡ F.is_working self.old.file }
         ensures honest { F.is_honest self.new.file ≡ F.is_honest self.old.file }
     {
         self.is_unsynced = true;
@@ -69,6 +70,7 @@ impl<F: SystemFile> StoreFile<F> {
         ensures shortened { IsTrue (F.is_honest self.old.file)
             → OnOk result (F.content self.new.file ≡ take len (F.content self.old.file)) }
         ensures works { IsTrue (F.is_working self.old.file) → IsOk result }
+        ensures working { F.is_working self.new.file ≡ F.is_working self.old.file }
         ensures honest { F.is_honest self.new.file ≡ F.is_honest self.old.file }
     {
         self.is_unsynced = true;
@@ -86,6 +88,7 @@ impl<F: SystemFile> StoreFile<F> {
         ensures content { IsTrue (F.is_honest self.old.file)
             → F.content self.new.file ≡ F.content self.old.file }
         ensures works { IsTrue (F.is_working self.old.file) → IsOk result }
+        ensures working { F.is_working self.new.file ≡ F.is_working self.old.file }
         ensures honest { F.is_honest self.new.file ≡ F.is_honest self.old.file }
     {
         if !self.is_unsynced {

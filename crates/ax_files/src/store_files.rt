@@ -69,10 +69,11 @@ impl<F: SystemFile> StoreFiles<F> {
         named(extent, FileCall::Read, self.file(extent).read(at, buf))
     }
 
-    /// Writes all the bytes at `at`. An end above 2^62 is refused. Else the file counts as unsynced
-    /// from here on, whatever comes of it.
+    /// Writes all the bytes at `at`. An end above 2^62 is refused, with all as it was. Else the file
+    /// counts as unsynced from here on, whatever comes of it.
     pub fn write(&mut self, extent: Extent, at: u64, bytes: &[u8]) -> Result<(), FileFault>
         ensures limit { (result ≡ Err (FileFault.Bound extent)) ↔ (2 ^ 62 < at + length bytes.now) }
+        ensures refused { 2 ^ 62 < at + length bytes.now → self.new ≡ self.old }
         ensures works { IsTrue (F.is_working (at_extent extent self.old.root.file self.old.a.file self.old.b.file))
             → IfErr result (λ fault. fault ≡ FileFault.Bound extent) }
         ensures unsynced { at + length bytes.now ≤ 2 ^ 62

@@ -42,6 +42,7 @@ pub(crate) trait SystemFile: Drop {
         ensures written { IsTrue (is_honest self.old) → at ≤ length (content self.old)
             → OnOk result (content self.new ≡ overwritten (content self.old) at bytes.now) }
         ensures works { IsTrue (is_working self.old) → IsOk result }
+        ensures working { is_working self.new ≡ is_working self.old }
         ensures honest { is_honest self.new ≡ is_honest self.old };
 
     /// Makes the file, which is longer, `len` bytes long.
@@ -49,6 +50,7 @@ pub(crate) trait SystemFile: Drop {
         ensures shortened { IsTrue (is_honest self.old) → len ≤ length (content self.old)
             → OnOk result (content self.new ≡ take len (content self.old)) }
         ensures works { IsTrue (is_working self.old) → IsOk result }
+        ensures working { is_working self.new ≡ is_working self.old }
         ensures honest { is_honest self.new ≡ is_honest self.old };
 
     /// Makes a crash leave what reads give.
@@ -57,6 +59,7 @@ pub(crate) trait SystemFile: Drop {
             → OnOk result (IsTrue (is_settled self.new)) }
         ensures content { IsTrue (is_honest self.old) → content self.new ≡ content self.old }
         ensures works { IsTrue (is_working self.old) → IsOk result }
+        ensures working { is_working self.new ≡ is_working self.old }
         ensures honest { is_honest self.new ≡ is_honest self.old };
 }
 

@@ -116,6 +116,40 @@ impl SystemFile for PlainFile {
     }
 }
 
+/// A file that holds nothing and keeps nothing, and on which no call fails.
+#[derive(Drop)]
+struct SteadyFile {}
+
+impl SystemFile for SteadyFile {
+    ghost is_honest = { λ _. false };
+
+    ghost is_settled = { λ _. false };
+
+    ghost content = { λ _. [] };
+
+    ghost is_working = { λ _. true };
+
+    fn size(&self) -> io::Result<u64> {
+        Ok(0)
+    }
+
+    fn read_piece(&self, _buf: &mut [u8], _at: u64) -> io::Result<usize> {
+        Ok(0)
+    }
+
+    fn write_whole(&mut self, _bytes: &[u8], _at: u64) -> io::Result<()> {
+        Ok(())
+    }
+
+    fn shorten(&mut self, _len: u64) -> io::Result<()> {
+        Ok(())
+    }
+
+    fn sync(&mut self) -> io::Result<()> {
+        Ok(())
+    }
+}
+
 fn fake(rt: &impl AllocGlobal, len: usize, failing_syncs: u32) -> Result<FakeFile, Fail> {
     Ok(FakeFile {
         bytes: vec![in rt.alloc(); 7; len]?,
@@ -226,5 +260,16 @@ fn lost_files_are_refused(rt: HostRuntime) -> Result<(), Fail> {
             })
         )
     );
+    Ok(())
+}
+
+#[test]
+fn nothing_fails_over_files_that_work(rt: HostRuntime) -> Result<(), Fail> {
+    let mut files = StoreFiles::new(SteadyFile {}, SteadyFile {}, SteadyFile {});
+    assert!(rt; files.write(Extent::Root, 1 << 61, b"x").is_ok());
+    assert!(rt; files.write(Extent::A, 1 << 62, b"x").is_err());
+    assert!(rt; files.cut(Extent::B, 0).is_ok() && files.sync().is_ok());
+    let mut buf = [1; 3];
+    assert!(rt; files.read(Extent::A, 5, &mut buf).is_ok() && buf == [0, 0, 0]);
     Ok(())
 }
