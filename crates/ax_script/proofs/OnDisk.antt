@@ -17,7 +17,7 @@ use Rattle.ax_script.specs.declared.status.Status.{Status}
 use Rattle.ax_script.specs.declared.status.Status.TheVariants as status
 use Rattle.ax_engine.specs.Stores.{IsStore, Shows}
 use Rattle.ax_script.specs.DiskScript.{StandsAfter, KeepsAcknowledged, RunsOnDisk}
-use Rattle.ax_script.specs.Opening.{Refuses, RefusesOpening, TellsServed}
+use Rattle.ax_script.specs.Opening.{IsWithin, Refuses, RefusesOpening, TellsServed}
 use Rattle.ax_script.specs.Progress.{Reaches, EndsEarly, Ends, EndsServing}
 use Rattle.ax_script.specs.Streams.{Streams}
 use Rattle.ax_script.proofs.DiskMoments.{reaches_keeps}
@@ -115,23 +115,24 @@ pub rose_since : (first before now : ℕ) → first ≤ before → Rose before n
 rose_since first before now le rose = omega (arith, le, rose)
 
 -- a status of serving gives no cause in the store but a document whose text is none
-pub serving_refuses : (honest : Bool) (ended : Status) (old new : History) → EndsServing honest ended new → IsTrue honest
+pub serving_refuses : (honest : Bool) (ended : Status) (old new : History) → IsWithin old.reads → EndsServing honest ended new → IsTrue honest
     → Refuses ended old new
-serving_refuses honest status.Done old new is h = tt
-serving_refuses honest status.Words old new is h = absurd is
-serving_refuses honest status.DiskFault old new is h = tt
-serving_refuses honest status.ReadFault old new is h = tt
-serving_refuses honest status.WriteFault old new is h = tt
-serving_refuses honest (status.Damaged extent at) old new is h = inr (is h)
-serving_refuses honest (status.Newer version) old new is h = absurd is
-serving_refuses honest status.Memory old new is h = tt
-serving_refuses honest status.Long old new is h = tt
+serving_refuses honest status.Done old new within is h = tt
+serving_refuses honest status.Words old new within is h = absurd is
+serving_refuses honest status.DiskFault old new within is h = tt
+serving_refuses honest status.ReadFault old new within is h = tt
+serving_refuses honest status.WriteFault old new within is h = tt
+serving_refuses honest (status.Damaged extent at) old new within is h = inr (within, is h)
+serving_refuses honest (status.Newer version) old new within is h = absurd is
+serving_refuses honest status.Memory old new within is h = tt
+serving_refuses honest status.Long old new within is h = tt
 
 -- the same of the store of a name, which is the one attached
 pub serving_named : (honest : Bool) (ended : Status) (old new : List ℕ → History) (name there now : List ℕ) → there ≡ name → now ≡ there
-    → EndsServing honest ended (new now) → IsTrue honest → Refuses ended (old name) (new name)
-serving_named honest ended old new name there now is still ends h =
-    serving_refuses honest ended (old name) (new name)
+    → IsWithin (old name).reads → EndsServing honest ended (new now) → IsTrue honest
+    → Refuses ended (old name) (new name)
+serving_named honest ended old new name there now is still within ends h =
+    serving_refuses honest ended (old name) (new name) within
     (of_name (λ x y. EndsServing honest ended y) new new name there now is still ends) h
 
 -- why opening refuses is why the run does

@@ -19,6 +19,8 @@ use Rattle.ax_machine.specs.Reply as reply
 use Rattle.ax_machine.specs.ReplyTexts.{reply_text}
 use Rattle.ax_machine.specs.Run.{Outcome, after_line, reply_to}
 use Rattle.ax_machine.specs.Step.{step}
+use Rattle.ax_script.specs.declared.status.Status.{Status}
+use Rattle.ax_script.specs.declared.status.Status.TheVariants as status
 
 -- The text of the reply; of one by which nothing has changed also that of out of memory, where no
 -- memory is left to write it.
@@ -51,3 +53,8 @@ TellsLine honest before line (Err (fault.Damaged extent at)) engine old new = �
 abbrev pub text_or_memory : Result (Vec ℕ) Memory → List ℕ
 text_or_memory (Ok text) = text.items
 text_or_memory (Err memory) = reply_text reply.out_of_memory
+
+-- the status of an engine's fault
+abbrev pub fault_status : Fault → Status
+fault_status fault.Disk = status.DiskFault
+fault_status (fault.Damaged extent at) = status.Damaged extent at

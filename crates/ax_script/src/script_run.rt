@@ -28,8 +28,8 @@ const PIECE: usize = 65_536;
 /// nothing is touched; `DiskFault`, `ReadFault` and `WriteFault` only where a call on the disk, the
 /// source or the sink failed in this run; over an honest disk `Damaged` and `Newer` only where the
 /// store is outside the format at that offset, or of that later version, and it is as it was, or where
-/// a query met a document whose text is none, with the place of its part; `Done`, `ReadFault`,
-/// `WriteFault` and `Long` only where the store had contents; where
+/// a store that was opened has at that place, as the run has left it, the part of a document whose text
+/// is none; `Done`, `ReadFault`, `WriteFault` and `Long` only where the store had contents; where
 /// it also stands for a container, `Long` exactly where more than 2^40 bytes were taken, and
 /// without a failed call only `Done`, `Memory` or `Long`. `Memory` comes where memory ran out
 /// outside the serving of a line; at `Done` all input was read and served.

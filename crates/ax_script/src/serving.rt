@@ -1,4 +1,4 @@
-ghost use Rattle.std.specs.Prelude.{◌≡◌, ◌≤◌, ◌+◌, ℕ, List, None, Err, IsTrue, IfErr, OnOk, OnErr};
+ghost use Rattle.std.specs.Prelude.{◌≡◌, ◌≤◌, ◌+◌, ℕ, List, None, Some, Err, IsTrue, IfErr, OnOk, OnErr};
 ghost use Rattle.std.specs.Io.KnownBytes.{Appends};
 ghost use Rattle.ax_base.specs.Appends.{AppendsPrefix};
 ghost use Rattle.ax_faults.specs.Faults.{Rose};
@@ -7,7 +7,7 @@ ghost use Rattle.ax_engine.specs.Engine.{Holds, Works};
 ghost use Rattle.ax_machine.specs.Needs.{most_steps};
 ghost use Rattle.ax_engine.specs.Damage.{Meets};
 ghost use Rattle.ax_script.specs.Progress.{outlets, Serves, BeginsToServe, BreaksOffWith, IsLineFault, StopsBy};
-ghost use Rattle.ax_script.specs.Replies.{IsTextOf, TellsLine, WritesPart, WritesWhole, text_or_memory};
+ghost use Rattle.ax_script.specs.Replies.{IsTextOf, TellsLine, WritesPart, WritesWhole, fault_status, text_or_memory};
 
 use crate::reply_lines::{ok_line, out_of_memory_line, refusal_line, rows_text};
 use crate::status::Status;
@@ -57,13 +57,49 @@ pub fn serve_line<D: Disk, K: Sink, L: Ledger>(
     ensures attached { D.attached disk.new ≡ D.attached disk.old }
     ensures honest { D.is_honest disk.new ≡ D.is_honest disk.old }
     ensures steps { steps.old ≤ steps.new }
+
+    // A fault that the engine has answered is answered again, and then nothing is touched.
+    ensures again { (fault : Fault) → engine.old.fault ≡ Some fault → (result ≡ Err (fault_status fault))
+        × (engine.new ≡ engine.old) × (disk.new ≡ disk.old) × (sink.new ≡ sink.old) × (steps.new ≡ steps.old) }
 {
     let answered = answer(alloc, engine, disk, line, steps);
     write_answer(alloc, sink, answered)
 }
 
-/// What the engine answers to a line, or its refusal.
+/// What the engine answers to a line, or its refusal; once it has answered a fault, that one to every line.
 fn answer<D: Disk, L: Ledger>(
+    alloc: Global,
+    engine: &mut Engine,
+    disk: &mut D,
+    line: &[u8],
+    steps: &mut Steps<L>,
+) -> Result<Reply, Fault>
+    requires works { Works (IsTrue (D.is_honest disk.old)) engine.old (D.history disk.old (D.attached disk.old)) }
+    ensures tells { IsTrue (D.is_honest disk.old) → (before : Container) → Holds engine.old before
+        → TellsLine (IsTrue (D.is_honest disk.old)) before line.now result engine.new
+        (D.history disk.old (D.attached disk.old)) (D.history disk.new (D.attached disk.new)) }
+    ensures works { Works (IsTrue (D.is_honest disk.old)) engine.new (D.history disk.new (D.attached disk.new)) }
+    ensures met { IsTrue (D.is_honest disk.old) → engine.old.fault ≡ None
+        → IfErr result (λ fault. Meets fault (D.history disk.new (D.attached disk.new)).reads) }
+    ensures cause { engine.old.fault ≡ None → result ≡ Err Fault.Disk → Rose (D.faults disk.old) (D.faults disk.new) }
+    ensures unfaulted { OnOk result (engine.new.fault ≡ engine.old.fault) }
+    ensures never_falls { D.faults disk.old ≤ D.faults disk.new }
+    ensures attached { D.attached disk.new ≡ D.attached disk.old }
+    ensures honest { D.is_honest disk.new ≡ D.is_honest disk.old }
+    ensures bound { (before : Container) → Holds engine.old before
+        → steps.new ≤ steps.old + most_steps before line.now }
+    ensures steps { steps.old ≤ steps.new }
+    ensures again { (fault : Fault) → engine.old.fault ≡ Some fault → (result ≡ Err fault)
+        × (engine.new ≡ engine.old) × (disk.new ≡ disk.old) × (steps.new ≡ steps.old) }
+{
+    if let Some(fault) = engine.fault() {
+        return Err(fault);
+    }
+    answer_line(alloc, engine, disk, line, steps)
+}
+
+/// What the engine answers to a line, or its refusal.
+fn answer_line<D: Disk, L: Ledger>(
     alloc: Global,
     engine: &mut Engine,
     disk: &mut D,
@@ -104,6 +140,7 @@ fn write_answer<K: Sink>(
     ensures only { IfErr result IsLineFault }
     ensures disk_cause { result ≡ Err Status.DiskFault → answered ≡ Err Fault.Disk }
     ensures damage { (extent at : ℕ) → result ≡ Err (Status.Damaged extent at) → answered ≡ Err (Fault.Damaged extent at) }
+    ensures fault { (fault : Fault) → answered ≡ Err fault → (result ≡ Err (fault_status fault)) × (sink.new ≡ sink.old) }
     ensures sink_cause { result ≡ Err Status.WriteFault → Rose (K.faults sink.old) (K.faults sink.new) }
     ensures sink_faults { K.faults sink.old ≤ K.faults sink.new }
 {

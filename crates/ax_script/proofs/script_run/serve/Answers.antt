@@ -60,7 +60,7 @@ returns-in-Ok-open_named-clause-refused g c = λ honest.
     (g.D.Disk.store_named c.store_name.result.now)
     (g.D.Disk.attached c.open_named.new.disk) (g.D.Disk.attached c.serve_source.new.disk)
     c.in-Ok-open_named.ensures.attached c.serve_source.ensures.attached
-    c.serve_source.ensures.of_serving (subst IsTrue (sym c.open_named.ensures.honest) honest))
+    (c.in-Ok-open_named.ensures.opened honest) c.serve_source.ensures.of_serving (subst IsTrue (sym c.open_named.ensures.honest) honest))
 
 pub returns-in-Ok-open_named-clause-within : goal.returns-in-Ok-open_named-clause-within
 returns-in-Ok-open_named-clause-within g c = λ honest served.

@@ -23,3 +23,9 @@ pub returns-clause-stops : goal.returns-clause-stops
 returns-clause-stops g c = λ unfaulted.
     stops_of _ _ c.write_answer.result c.answer-answered.result c.write_answer.ensures.only c.write_answer.ensures.damage
     (λ honest. c.answer-answered.ensures.met honest unfaulted)
+
+pub returns-clause-again : goal.returns-clause-again
+returns-clause-again g c = λ fault kept.
+    let before = c.answer-answered.ensures.again fault kept in
+    let told = c.write_answer.ensures.fault fault before.0 in
+    (told.0, before.1, before.2, told.1, before.3)

@@ -6,7 +6,7 @@ use Rattle.ax_lines.specs.Answers.{IsRefusedBy}
 use Rattle.ax_machine.specs.Run.{OutOfMemory}
 use Rattle.ax_engine.proofs.Applying.{still_over}
 use Rattle.ax_script.proofs.Replying.{tells_applied, tells_refused}
-use Rattle.ax_script.proofs.serving.answer.Goals as goal
+use Rattle.ax_script.proofs.serving.answer_line.Goals as goal
 
 pub returns-in-Err-Refused-clause-tells : goal.returns-in-Err-Refused-clause-tells
 returns-in-Err-Refused-clause-tells g c = λ honest before holds.
