@@ -5,7 +5,8 @@ use Rattle.ax_cache.specs.declared.lru_pages.LruPages.{LruPages}
 use Rattle.ax_disk.specs.model.Calls.{Idles}
 use Rattle.ax_disk.specs.model.Moments.{History}
 use Rattle.ax_disk.specs.model.Pending.{MayLeave}
-use Rattle.ax_disk.specs.model.Stays.{Rests, Turns}
+use Rattle.ax_disk.specs.model.Stays.{Rests, Stays, Turns}
+use Rattle.ax_disk.specs.laws.StaysLaws.{stays_start, stays_turn}
 use Rattle.ax_faults.specs.Faults.{Rose}
 use Rattle.ax_store.specs.declared.fault.StoreFault.{StoreFault}
 use Rattle.ax_store.specs.declared.fault.StoreFault.TheVariants as store_fault
@@ -25,10 +26,11 @@ use Rattle.ax_machine.specs.Run.{Served, OutOfMemory}
 use Rattle.ax_machine.specs.Step.{served, upsert_by, written}
 use Rattle.ax_engine.specs.Damage.{Meets}
 use Rattle.ax_engine.specs.Documents.{DocumentsHold, DocumentsWork, TellsUpsert, WorksAfterUpsert}
-use Rattle.ax_engine.specs.Engine.{Applies, Holds, Tells, Works}
+use Rattle.ax_engine.specs.Engine.{Applies, HoldsOver, Tells, Works, made_by}
+use Rattle.ax_image.specs.Readable.{TellsReadable}
 use Rattle.ax_engine.specs.Replies.{IsOfReading, IsReply, read_answer, upsert_answer}
 use Rattle.ax_engine.specs.Scans.{Scanned, Scans}
-use Rattle.ax_engine.specs.Stores.{Shows}
+use Rattle.ax_engine.specs.Stores.{IsImageOf, Shows}
 use Rattle.ax_engine.specs.declared.documents.Documents.{Documents}
 use Rattle.ax_engine.specs.declared.documents.UpsertFault.{UpsertFault}
 use Rattle.ax_engine.specs.declared.documents.UpsertFault.TheVariants as upsert
@@ -38,7 +40,7 @@ use Rattle.ax_engine.specs.declared.engine.Fault.TheVariants as fault
 use Rattle.ax_engine.specs.declared.reply.Reply.{Reply}
 use Rattle.ax_engine.specs.declared.reply.Reply.TheVariants as given
 use Rattle.ax_engine.proofs.Damaging.{met_outside, none_outside}
-use Rattle.ax_engine.proofs.Holding.{holds_read, idled, rests_of, still}
+use Rattle.ax_engine.proofs.Holding.{holds_read, idled, images_rest, images_turn, rests_of, still}
 
 -- ---- an upsert
 
@@ -205,22 +207,30 @@ of_reading honest (Err store_fault.Memory) old new ahead entry exit l m scans = 
 -- ---- an engine
 
 pub rests_over : (honest : Type 0) (engine : Engine) (history : History) (before : Container)
-    → Works honest engine history → Holds engine before → honest → Rests history (Shows before)
-rests_over honest engine history before works holds =
-    rests_of honest engine.documents history before (works.documents holds.unfaulted) holds.documents
+    → Works honest engine history → HoldsOver engine history before → honest → Rests history (IsImageOf before)
+rests_over honest engine history before works over h =
+    images_rest history before
+    (rests_of honest engine.documents history before (works.documents over.holds.unfaulted) over.holds.documents h)
+    over.readable
 
 -- nothing has happened
 pub still_over : (honest : Type 0) (engine : Engine) (history : History) (before other : Container)
-    → Works honest engine history → Holds engine before
-    → honest → Turns history history (Shows before) (Shows other)
-still_over honest engine history before other works holds =
-    still honest engine.documents history before other (works.documents holds.unfaulted) holds.documents
+    → Works honest engine history → HoldsOver engine history before
+    → honest → Turns history history (IsImageOf before) (IsImageOf other)
+still_over honest engine history before other works over h =
+    stays_turn history history (IsImageOf before) (IsImageOf other)
+    (stays_start history (IsImageOf before) (rests_over honest engine history before works over h))
 
 -- the documents' answer as the engine's
 pub applies_told : (honest : Type 0) (before : Container) (asked : Line) (result : Result Reply Fault) (engine : Engine)
     (old new : History) → OnOk result (engine.fault ≡ None) → Tells honest before asked result engine.documents old new
-    → Applies honest before asked result engine old new
-applies_told honest before asked (Ok reply) engine old new none told =
-    (told.0, told.1, record { unfaulted = none; documents = told.2 }, told.3)
-applies_told honest before asked (Err fault.Disk) engine old new none told = told
-applies_told honest before asked (Err (fault.Damaged extent at)) engine old new none told = told
+    → Stays old new TellsReadable → Applies honest before asked result engine old new
+applies_told honest before asked (Ok reply) engine old new none told stays = (
+  told.0,
+  told.1,
+  record { holds = record { unfaulted = none; documents = told.2 }; readable = stays.rests },
+  λ h. images_turn old new before (made_by before asked told.0).0 (told.3 h) stays,
+)
+applies_told honest before asked (Err fault.Disk) engine old new none told stays =
+    λ h. images_turn old new before (served before (Ok asked)).0 (told h) stays
+applies_told honest before asked (Err (fault.Damaged extent at)) engine old new none told stays = told

@@ -1,18 +1,22 @@
 -- What holds of open documents: what a crash leaves of them, and what changes them.
-use Rattle.std.proofs.Common.{◌≡◌, ℕ, List, Option, Some, None, refl, sym, subst, ◌∙◌}
+use Rattle.std.proofs.Common.{◌≡◌, ◌⊎◌, inl, inr, ⊎_elim, ℕ, List, [], ◌∷◌, ◌++◌, Option, Some, None, refl, sym, subst, ◌∙◌}
+use Rattle.std.specs.List.{AllByRecursion}
 use Rattle.std.specs.Prelude.{IsSome}
 use Rattle.std.proofs.lemmas.Bool.{false≢true}
 use Rattle.ax_ids.specs.Ids.{number_under}
 use Rattle.ax_disk.specs.model.Calls.{Idles}
 use Rattle.ax_disk.specs.model.Image.{Image}
 use Rattle.ax_disk.specs.model.Moments.{History}
-use Rattle.ax_disk.specs.model.Stays.{Rests, Turns}
-use Rattle.ax_disk.specs.laws.StaysLaws.{idles_stay, rests_weaken, stays_start, stays_turn, turns_weaken}
+use Rattle.ax_disk.specs.model.Pending.{MayLeave}
+use Rattle.ax_disk.specs.model.Stays.{Rests, Stays, Turns}
+use Rattle.ax_disk.specs.laws.StaysLaws.{idles_stay, rests_weaken, stays_start, stays_turn, stays_weaken, turns_weaken}
 use Rattle.ax_container.specs.Container.{Container}
-use Rattle.ax_frame.specs.Part.{PartValue}
+use Rattle.ax_frame.specs.Part.{PartValue, AllFit, parts_bytes}
+use Rattle.ax_pages.specs.Image.{HasFrames}
 use Rattle.ax_pages.specs.Contents.{Contents}
 use Rattle.ax_pages.specs.AfterPart.{after_parts}
 use Rattle.ax_pages.specs.HasContents.{HasContents}
+use Rattle.ax_image.specs.Readable.{AreReadableParts, IsReadablePart, TellsReadable}
 use Rattle.ax_image.specs.StandsFor.{ContentsStandFor}
 use Rattle.ax_cache.specs.Held.{held}
 use Rattle.ax_cache.specs.declared.lru_pages.LruPages.{LruPages}
@@ -22,7 +26,7 @@ use Rattle.ax_store.specs.Store.{SameButReads, SameButRoom}
 use Rattle.ax_store.proofs.StoreLemmas.{agrees_rests, agrees_same}
 use Rattle.ax_engine.specs.declared.documents.Documents.{Documents}
 use Rattle.ax_engine.specs.Documents.{contents_in, DocumentsHold, DocumentsWork}
-use Rattle.ax_engine.specs.Stores.{Shows}
+use Rattle.ax_engine.specs.Stores.{IsImageOf, Shows}
 
 shows_by : (contents : Contents) (container : Container) → ContentsStandFor contents container
     → (image : Image) → HasContents contents image → Shows container image
@@ -132,3 +136,62 @@ turned_by contents roomy parts meant before after old new stand leads are same t
 pub some_id : (o : Option (List ℕ)) → IsSome o → (id : List ℕ) × (o ≡ Some id)
 some_id (Some id) is = (id, refl)
 some_id None is = absurd (false≢true is)
+
+-- ---- what the images tell can be read
+
+all_more : {A : Type 0} (P : A → Type 0) (xs : List A) (x : A) → AllByRecursion P xs → P x
+    → AllByRecursion P (xs ++ x ∷ [])
+all_more P [] x all last = (last, tt)
+all_more P (y ∷ xs) x all last = (all.0, all_more P xs x all.1 last)
+
+-- before and after a commit of parts that can be read
+pub readable_by : (old new : History) (parts : List PartValue) → Rests old TellsReadable
+    → MayLeave old.unsynced old.reads → AllFit parts → AllByRecursion IsReadablePart parts
+    → ((frames : List (List ℕ)) → HasFrames frames old.reads
+    → Turns old new (HasFrames frames) (HasFrames (frames ++ parts_bytes parts ∷ [])))
+    → Stays old new TellsReadable
+readable_by old new parts rests may fit readable turns =
+    let told = rests.each old.reads may in
+    let more : List (List ℕ) = told.frames ++ parts_bytes parts ∷ [] in
+    let last : AreReadableParts (parts_bytes parts) =
+    record { parts = parts; fit = fit; spelled = refl; readable = readable } in
+    stays_weaken old new (λ image. HasFrames told.frames image ⊎ HasFrames more image) TellsReadable
+    (λ image frames. ⊎_elim
+    (λ (has : HasFrames told.frames image). record { frames = told.frames; has = has; each = told.each })
+    (λ (has : HasFrames more image). record {
+      frames = more;
+      has = has;
+      each = all_more AreReadableParts told.frames (parts_bytes parts) told.each last;
+    })
+    frames)
+    (turns told.frames told.has)
+
+-- an image of the container is one with its documents, all of which can be read
+pub image_of : (container : Container) (image : Image) → Shows container image → TellsReadable image
+    → IsImageOf container image
+image_of container image shows readable = record { documents = shows; readable = readable }
+
+pub images_rest : (history : History) (container : Container) → Rests history (Shows container)
+    → Rests history TellsReadable → Rests history (IsImageOf container)
+images_rest history container shows readable =
+    record { each = λ image may. image_of container image (shows.each image may) (readable.each image may) }
+
+either_image : (before after : Container) (image : Image) → Shows before image ⊎ Shows after image
+    → TellsReadable image → IsImageOf before image ⊎ IsImageOf after image
+either_image before after image (inl shows) readable = inl (image_of before image shows readable)
+either_image before after image (inr shows) readable = inr (image_of after image shows readable)
+
+pub images_turn : (old new : History) (before after : Container) → Turns old new (Shows before) (Shows after)
+    → Stays old new TellsReadable → Turns old new (IsImageOf before) (IsImageOf after)
+images_turn old new before after turns stays = record {
+  time = record {
+    later = turns.time.later;
+    past = turns.time.past;
+    during = λ t image since to left.
+        either_image before after image (turns.time.during t image since to left)
+        (stays.time.during t image since to left);
+  };
+  rests = record {
+    each = λ image may. either_image before after image (turns.rests.each image may) (stays.rests.each image may);
+  };
+}

@@ -1,12 +1,13 @@
 -- What a store that was opened stands for; and what is opened is neither damaged nor of a later version.
 use Rattle.std.proofs.Common.{◌≡◌, ◌⊎◌, inl, inr, ℕ, ◌≤◌, Bool, List, Result, Ok, Err, sym, subst, arith}
-use Rattle.std.specs.Prelude.{IfOk, IfErr, IsTrue}
+use Rattle.std.specs.Prelude.{IfOk, IfErr, IsTrue, OnOk}
+use Rattle.std.specs.List.{AllByRecursion}
 use Rattle.ax_cache.specs.Held.{held}
 use Rattle.ax_cache.specs.declared.lru_pages.LruPages.{LruPages}
 use Rattle.ax_disk.specs.laws.MomentLaws.{progress_stays, progress_within}
 use Rattle.ax_disk.specs.laws.CallLaws.{idles_leave}
 use Rattle.ax_disk.specs.laws.StageLaws.{barrier_goes_on}
-use Rattle.ax_disk.specs.laws.StaysLaws.{idles_stay, rests_weaken}
+use Rattle.ax_disk.specs.laws.StaysLaws.{idles_rest, idles_stay, rests_weaken}
 use Rattle.ax_disk.specs.model.Calls.{Idles}
 use Rattle.ax_disk.specs.model.Image.{Image}
 use Rattle.ax_disk.specs.model.Moments.{History}
@@ -14,9 +15,9 @@ use Rattle.ax_disk.specs.model.Stays.{BarrierStage, Rests, SinceBarrier}
 use Rattle.ax_faults.specs.Faults.{Rose}
 use Rattle.ax_faults.specs.FaultLaws.{rose_since}
 use Rattle.ax_pages.specs.Contents.{Contents}
-use Rattle.ax_pages.specs.Image.{IsNewer}
+use Rattle.ax_pages.specs.Image.{HasFrames, IsNewer}
 use Rattle.ax_pages.specs.HasContents.{HasContents}
-use Rattle.ax_pages.specs.laws.ImageLaws.{damaged_has_no_frames, newer_has_no_frames}
+use Rattle.ax_pages.specs.laws.ImageLaws.{damaged_has_no_frames, newer_has_no_frames, one_frames}
 use Rattle.ax_pages.proofs.ImageContents.{one_contents, either}
 use Rattle.ax_ids.specs.Ids.{number_under}
 use Rattle.ax_log.specs.Opening.{Keeps}
@@ -27,19 +28,36 @@ use Rattle.ax_store.specs.declared.fault.StoreFault.TheVariants as fault
 use Rattle.ax_store.specs.Faults.{IsRefused}
 use Rattle.ax_store.specs.Kept.{Kept}
 use Rattle.ax_store.specs.Store.{IsDamagedStore, IsOpened, TellsFault, store_contents}
-use Rattle.ax_store.proofs.StoreLemmas.{agrees_rests, barrier_weaken}
+use Rattle.ax_store.proofs.StoreLemmas.{barrier_weaken}
 use Rattle.ax_container.specs.Container.{Container}
-use Rattle.ax_image.specs.StandsFor.{ContentsStandFor}
+use Rattle.ax_image.specs.Readable.{AreReadableParts, TellsReadable}
+use Rattle.ax_image.specs.StandsFor.{ContentsStandFor, StandsFor}
 use Rattle.ax_engine.specs.declared.documents.Documents.{Documents}
 use Rattle.ax_engine.specs.Documents.{DocumentsHold, DocumentsWork, number_in}
 use Rattle.ax_engine.specs.Opening.{Numbers, RefusesBy, TellsNumbers}
 use Rattle.ax_engine.specs.Scans.{ScanFails, Scanned}
-use Rattle.ax_engine.specs.Stores.{IsStore, Shows}
+use Rattle.ax_engine.specs.Stores.{IsImageOf, IsStore}
 
-shows_by : (contents : Contents) (container : Container) → ContentsStandFor contents container
-    → (image : Image) → HasContents contents image → Shows container image
-shows_by contents container stand image has =
-    record { contents = contents; has = has; stand = stand }
+-- an image with the log frames of one that stands for a container stands for it too
+image_by : (image : Image) (container : Container) (stands : StandsFor image container)
+    → (other : Image) → HasFrames stands.documents.has.frames other → IsImageOf container other
+image_by image container stands other has =
+    let documents = stands.documents in
+    let readable = stands.readable in
+    record {
+      documents = record {
+        contents = documents.contents;
+        has = record { frames = documents.has.frames; has = has; lead = documents.has.lead };
+        stand = documents.stand;
+      };
+      readable = record {
+        frames = documents.has.frames;
+        has = has;
+        each = subst (AllByRecursion AreReadableParts)
+            (one_frames image readable.frames documents.has.frames readable.has documents.has.has)
+            readable.each;
+      };
+    }
 
 -- the barrier is still to come
 pub idle_since : (old new : History) (P : Image → Type 0) → Idles old new → SinceBarrier old new P
@@ -52,13 +70,33 @@ idle_since old new P idle = record {
 
 module _ (old mid : History) where
   pub since_opening : (before : Container) → IsStore before old
-      → ((contents : Contents) → HasContents contents old.reads
-      → SinceBarrier old mid (HasContents contents))
-      → SinceBarrier old mid (Shows before)
+      → ((frames : List (List ℕ)) → HasFrames frames old.reads → SinceBarrier old mid (HasFrames frames))
+      → SinceBarrier old mid (IsImageOf before)
   since_opening before store since =
-      let contents = store.reads.contents in
-      barrier_weaken old mid (HasContents contents) (Shows before)
-      (shows_by contents before store.reads.stand) (since contents store.reads.has)
+      let has = store.reads.documents.has in
+      barrier_weaken old mid (HasFrames has.frames) (IsImageOf before)
+      (image_by old.reads before store.reads) (since has.frames has.has)
+
+  -- after the opening a crash leaves the log frames that were there
+  pub opened_rests : (before : Container) → IsStore before old
+      → ((frames : List (List ℕ)) → HasFrames frames old.reads → Rests mid (HasFrames frames))
+      → Rests mid (IsImageOf before)
+  opened_rests before store kept =
+      let has = store.reads.documents.has in
+      rests_weaken mid (HasFrames has.frames) (IsImageOf before)
+      (image_by old.reads before store.reads) (kept has.frames has.has)
+
+  -- calls that read came behind it
+  pub since_reading : (before : Container) (new : History) → Rests mid (IsImageOf before)
+      → SinceBarrier old mid (IsImageOf before) → Idles mid new → SinceBarrier old new (IsImageOf before)
+  since_reading before new rests since idles =
+      barrier_goes_on old mid new (IsImageOf before) since rests (idles_stay mid new (IsImageOf before) rests idles)
+
+  pub readable_still : (before : Container) (new : History) → Rests mid (IsImageOf before) → Idles mid new
+      → Rests new TellsReadable
+  readable_still before new rests idles =
+      rests_weaken new (IsImageOf before) TellsReadable (λ image stands. stands.readable)
+      (idles_rest mid new (IsImageOf before) rests idles)
 
   pub refuses_by : (why : StoreFault) → TellsFault why old.reads
       → (IsRefused {T = Unit {0}} (Err why) → Keeps old mid) → RefusesBy why old mid
@@ -72,19 +110,10 @@ module _ (old mid : History) where
     -- the contents that the store was opened by are those of the container
     opened_stand : ContentsStandFor (store_contents store) before
     opened_stand =
+        let documents = was.reads.documents in
         subst (λ (contents : Contents). ContentsStandFor contents before)
-        (one_contents old.reads was.reads.contents (store_contents store) was.reads.has opened.has)
-        was.reads.stand
-
-    opened_rests : Rests mid (Shows before)
-    opened_rests = rests_weaken mid (HasContents (store_contents store)) (Shows before)
-        (shows_by (store_contents store) before opened_stand) (agrees_rests held store mid opened.agrees)
-
-    -- calls that read came behind the opening
-    pub since_reading : (new : History) → SinceBarrier old mid (Shows before) → Idles mid new
-        → SinceBarrier old new (Shows before)
-    since_reading new since idles =
-        barrier_goes_on old mid new (Shows before) since opened_rests (idles_stay mid new (Shows before) opened_rests idles)
+        (one_contents old.reads documents.contents (store_contents store) documents.has opened.has)
+        documents.stand
 
     pub holds_opened : (honest : Bool) (result : Result Documents StoreFault) (new : History) (l m : ℕ)
         → TellsNumbers honest result store new l m → IsTrue honest
@@ -144,6 +173,10 @@ rose_numbered honest (Err fault.Disk) store new first l m tells since is = rose_
 rose_numbered honest (Err (fault.Damaged extent at)) store new first l m tells since is = absurd tells
 rose_numbered honest (Err (fault.Newer version)) store new first l m tells since is = absurd tells
 rose_numbered honest (Err fault.Memory) store new first l m tells since is = absurd cc
+
+pub when_opened : {P : Type 0} → (result : Result Documents StoreFault) → P → OnOk result P
+when_opened (Ok documents) p = p
+when_opened (Err why) p = tt
 
 -- what holds whatever was opened
 pub in_any : {P : Type 0} → (result : Result Documents StoreFault) → P → IfOk result (λ _. P)

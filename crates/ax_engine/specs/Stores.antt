@@ -3,11 +3,15 @@ use Rattle.ax_disk.specs.model.Image.{Image}
 use Rattle.ax_disk.specs.model.Moments.{History}
 use Rattle.ax_disk.specs.model.Stays.{Rests}
 use Rattle.ax_container.specs.Container.{Container}
-use Rattle.ax_image.specs.StandsFor.{StandsFor}
+use Rattle.ax_image.specs.StandsFor.{HasDocuments, StandsFor}
 
--- the image stands for the container
+-- the documents of the image are those of the container
 abbrev pub Shows : Container → Image → Type 0
-Shows container image = StandsFor image container
+Shows container image = HasDocuments container image
+
+-- the image stands for the container: besides, all that it tells can be read
+abbrev pub IsImageOf : Container → Image → Type 0
+IsImageOf container image = StandsFor image container
 
 -- Each image that a crash may leave stands for some container, and what reads give stands for this
 -- one. An empty store is such, and so is every store that a run leaves.

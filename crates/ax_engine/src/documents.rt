@@ -2,12 +2,14 @@
 
 ghost use Rattle.std.specs.Prelude.{◌≡◌, ◌<◌, ◌≤◌, ℕ, List, Err, IsTrue, IfSome, None, Some, true};
 ghost use Rattle.ax_faults.specs.Faults.{Rose};
+ghost use Rattle.ax_disk.specs.model.Stays.{Rests, Stays};
 ghost use Rattle.std.specs.FinMap as map;
 ghost use Rattle.ax_tree.specs.Document.{document_id};
 ghost use Rattle.ax_ids.specs.Ids.{number_under};
 ghost use Rattle.ax_lines.specs.Asked.{IsStorable};
 ghost use Rattle.ax_container.specs.Container.{Container};
 ghost use Rattle.ax_container.specs.Upsert.{Full, upserted};
+ghost use Rattle.ax_image.specs.Readable.{TellsReadable};
 ghost use Rattle.ax_pages.specs.Contents.{next_number as next_number_of, policy_now, is_given};
 ghost use Rattle.ax_engine.specs.Documents.{contents_in, DocumentsHold, DocumentsWork, is_full_of, TellsUpsert, WorksAfterUpsert};
 
@@ -62,6 +64,9 @@ impl Documents {
             → upserted id tree.now before ≡ Err Full → result ≡ Err UpsertFault.Full }
         ensures works { WorksAfterUpsert (IsTrue (D.is_honest disk.old)) result self.new
             (D.history disk.new (D.attached disk.new)) }
+        ensures readable { IsTrue (D.is_honest disk.old)
+            → Rests (D.history disk.old (D.attached disk.old)) TellsReadable
+            → Stays (D.history disk.old (D.attached disk.old)) (D.history disk.new (D.attached disk.new)) TellsReadable }
         ensures cause { result ≡ Err UpsertFault.Disk → Rose (D.faults disk.old) (D.faults disk.new) }
         ensures never_falls { D.faults disk.old ≤ D.faults disk.new }
         ensures attached { D.attached disk.new ≡ D.attached disk.old }
@@ -137,6 +142,9 @@ impl Documents {
             (D.history disk.old (D.attached disk.old)) (D.history disk.new (D.attached disk.new)) }
         ensures works { WorksAfterUpsert (IsTrue (D.is_honest disk.old)) result self.new
             (D.history disk.new (D.attached disk.new)) }
+        ensures readable { IsTrue (D.is_honest disk.old)
+            → Rests (D.history disk.old (D.attached disk.old)) TellsReadable
+            → Stays (D.history disk.old (D.attached disk.old)) (D.history disk.new (D.attached disk.new)) TellsReadable }
         ensures cause { result ≡ Err UpsertFault.Disk → Rose (D.faults disk.old) (D.faults disk.new) }
         ensures never_falls { D.faults disk.old ≤ D.faults disk.new }
         ensures attached { D.attached disk.new ≡ D.attached disk.old }
@@ -173,6 +181,9 @@ impl Documents {
         ensures full { is_full_of (contents_in self.old) ≡ true → result ≡ Err UpsertFault.Full }
         ensures works { WorksAfterUpsert (IsTrue (D.is_honest disk.old)) result self.new
             (D.history disk.new (D.attached disk.new)) }
+        ensures readable { IsTrue (D.is_honest disk.old)
+            → Rests (D.history disk.old (D.attached disk.old)) TellsReadable
+            → Stays (D.history disk.old (D.attached disk.old)) (D.history disk.new (D.attached disk.new)) TellsReadable }
         ensures cause { result ≡ Err UpsertFault.Disk → Rose (D.faults disk.old) (D.faults disk.new) }
         ensures never_falls { D.faults disk.old ≤ D.faults disk.new }
         ensures attached { D.attached disk.new ≡ D.attached disk.old }

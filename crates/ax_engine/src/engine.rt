@@ -3,19 +3,20 @@
 ghost use Rattle.std.specs.Prelude.{◌≡◌, ◌≤◌, ◌+◌, Ok, Err, Some, None, IsTrue, IfOk, IfErr, OnOk};
 ghost use Rattle.ax_faults.specs.Faults.{Rose};
 ghost use Rattle.ax_disk.specs.model.Calls.{Idles};
-ghost use Rattle.ax_disk.specs.model.Stays.{SinceBarrier};
+ghost use Rattle.ax_disk.specs.model.Stays.{Rests, SinceBarrier, Stays};
 ghost use Rattle.ax_container.specs.Container.{Container};
 ghost use Rattle.ax_lines.specs.Asked.{IsAsked, IsStorable};
 ghost use Rattle.ax_lines.specs.declared.line.Line.TheVariants as line;
+ghost use Rattle.ax_image.specs.Readable.{TellsReadable};
 ghost use Rattle.ax_machine.specs.Needs.{most_steps_of};
 ghost use Rattle.ax_pages.specs.Contents.{Contents};
 ghost use Rattle.ax_pages.specs.HasContents.{HasContents};
 ghost use Rattle.ax_engine.specs.Damage.{Meets};
 ghost use Rattle.ax_engine.specs.Documents.{DocumentsHold, DocumentsWork};
-ghost use Rattle.ax_engine.specs.Engine.{Applies, FindsFull, Holds, IsOfLine, LeavesLists, Tells, Works};
+ghost use Rattle.ax_engine.specs.Engine.{Applies, FindsFull, Holds, HoldsOver, IsOfLine, LeavesLists, Tells, Works};
 ghost use Rattle.ax_engine.specs.Opening.{RefusesBy};
 ghost use Rattle.ax_engine.specs.Replies.{IsOfReading, read_answer, upsert_answer};
-ghost use Rattle.ax_engine.specs.Stores.{IsStore, Shows};
+ghost use Rattle.ax_engine.specs.Stores.{IsImageOf, IsStore};
 
 use crate::documents::{Documents, UpsertFault};
 use crate::opening::open_documents;
@@ -64,12 +65,13 @@ impl Engine {
             (D.history disk.new (D.attached disk.new))) }
         ensures unfaulted { IfOk result (λ engine. engine.fault ≡ None) }
         ensures holds { IsTrue (D.is_honest disk.old) → (before : Container)
-            → IsStore before (D.history disk.old (D.attached disk.old)) → IfOk result (λ engine. Holds engine before) }
+            → IsStore before (D.history disk.old (D.attached disk.old))
+            → IfOk result (λ engine. HoldsOver engine (D.history disk.new (D.attached disk.new)) before) }
         ensures opened { IsTrue (D.is_honest disk.old) → IfOk result (λ engine. (contents : Contents)
             × HasContents contents (D.history disk.old (D.attached disk.old)).reads) }
         ensures any_moment { IsTrue (D.is_honest disk.old) → (before : Container)
             → IsStore before (D.history disk.old (D.attached disk.old))
-            → SinceBarrier (D.history disk.old (D.attached disk.old)) (D.history disk.new (D.attached disk.new)) (Shows before) }
+            → SinceBarrier (D.history disk.old (D.attached disk.old)) (D.history disk.new (D.attached disk.new)) (IsImageOf before) }
         ensures refused { IsTrue (D.is_honest disk.old) → IfErr result (λ fault. RefusesBy fault
             (D.history disk.old (D.attached disk.old)) (D.history disk.new (D.attached disk.new))) }
         ensures cause { result ≡ Err StoreFault.Disk → Rose (D.faults disk.old) (D.faults disk.new) }
@@ -108,7 +110,8 @@ impl Engine {
     ) -> Result<Reply, Fault>
         requires asked { IsAsked line }
         requires works { Works (IsTrue (D.is_honest disk.old)) self.old (D.history disk.old (D.attached disk.old)) }
-        ensures applies { IsTrue (D.is_honest disk.old) → (before : Container) → Holds self.old before
+        ensures applies { IsTrue (D.is_honest disk.old) → (before : Container)
+            → HoldsOver self.old (D.history disk.old (D.attached disk.old)) before
             → Applies (IsTrue (D.is_honest disk.old)) before line result self.new
             (D.history disk.old (D.attached disk.old)) (D.history disk.new (D.attached disk.new)) }
         ensures full { (before : Container) → Holds self.old before → FindsFull before line
@@ -175,6 +178,9 @@ fn answer<D: Disk, L: Ledger>(
         → IfErr result (λ fault. Meets fault (D.history disk.new (D.attached disk.new)).reads) }
     ensures works { OnOk result (DocumentsWork (IsTrue (D.is_honest disk.old)) documents.new
         (D.history disk.new (D.attached disk.new))) }
+    ensures readable { IsTrue (D.is_honest disk.old)
+        → Rests (D.history disk.old (D.attached disk.old)) TellsReadable
+        → Stays (D.history disk.old (D.attached disk.old)) (D.history disk.new (D.attached disk.new)) TellsReadable }
     ensures cause { result ≡ Err Fault.Disk → Rose (D.faults disk.old) (D.faults disk.new) }
     ensures never_falls { D.faults disk.old ≤ D.faults disk.new }
     ensures attached { D.attached disk.new ≡ D.attached disk.old }
@@ -200,6 +206,9 @@ fn upsert<D: Disk>(documents: &mut Documents, disk: &mut D, tree: &Tree) -> Resu
     ensures only { IfErr result (λ fault. fault ≡ Fault.Disk) }
     ensures works { OnOk result (DocumentsWork (IsTrue (D.is_honest disk.old)) documents.new
         (D.history disk.new (D.attached disk.new))) }
+    ensures readable { IsTrue (D.is_honest disk.old)
+        → Rests (D.history disk.old (D.attached disk.old)) TellsReadable
+        → Stays (D.history disk.old (D.attached disk.old)) (D.history disk.new (D.attached disk.new)) TellsReadable }
     ensures cause { result ≡ Err Fault.Disk → Rose (D.faults disk.old) (D.faults disk.new) }
     ensures never_falls { D.faults disk.old ≤ D.faults disk.new }
     ensures attached { D.attached disk.new ≡ D.attached disk.old }
@@ -238,6 +247,9 @@ fn query<D: Disk, L: Ledger>(
         → IfErr result (λ fault. Meets fault (D.history disk.new (D.attached disk.new)).reads) }
     ensures works { OnOk result (DocumentsWork (IsTrue (D.is_honest disk.old)) documents.new
         (D.history disk.new (D.attached disk.new))) }
+    ensures readable { IsTrue (D.is_honest disk.old)
+        → Rests (D.history disk.old (D.attached disk.old)) TellsReadable
+        → Stays (D.history disk.old (D.attached disk.old)) (D.history disk.new (D.attached disk.new)) TellsReadable }
     ensures cause { result ≡ Err Fault.Disk → Rose (D.faults disk.old) (D.faults disk.new) }
     ensures never_falls { D.faults disk.old ≤ D.faults disk.new }
     ensures attached { D.attached disk.new ≡ D.attached disk.old }

@@ -1,3 +1,5 @@
+pub mod KeptApart
 pub mod Shown
 pub mod Upserting
 pub mod OneContainer
+pub mod ReadableUpserts

@@ -8,6 +8,7 @@ use Rattle.ax_pages.specs.Image.{IsFresh}
 use Rattle.ax_pages.specs.Contents.{Contents, Numbered, no_contents}
 use Rattle.ax_pages.proofs.ImageContents.{one_contents}
 use Rattle.ax_image.specs.StandsFor.{AreShown, ContentsStandFor, StandsFor}
+use Rattle.ax_image.proofs.KeptApart.{none_apart}
 use Rattle.ax_image.proofs.Shown.{one_list}
 
 pub one_by_contents : (contents : Contents) (x y : Container) → ContentsStandFor contents x → ContentsStandFor contents y → x ≡ y
@@ -18,8 +19,10 @@ one_by_contents contents x y sx sy =
 
 pub one_container : (image : Image) (x y : Container) → StandsFor image x → StandsFor image y → x ≡ y
 one_container image x y sx sy =
-    let same = one_contents image sx.contents sy.contents sx.has sy.has in
-    one_by_contents sx.contents x y sx.stand (subst (λ contents. ContentsStandFor contents y) (sym same) sy.stand)
+    let dx = sx.documents in
+    let dy = sy.documents in
+    let same = one_contents image dx.contents dy.contents dx.has dy.has in
+    one_by_contents dx.contents x y dx.stand (subst (λ contents. ContentsStandFor contents y) (sym same) dy.stand)
 
 no_element : {A : Type 0} (xs : List A) → length xs ≡ 0 → xs ≡ []
 no_element [] e = refl
@@ -33,13 +36,17 @@ nothing_stands =
       next = refl;
       given = refl;
       small = omega arith;
+      apart = none_apart;
       shown = subst (λ pages. AreShown pages []) (sym none) tt;
       sound = record { numbers = omega arith; last = omega arith; few = omega arith; distinct = tt; stored = tt };
     }
 
 pub fresh_files : (image : Image) → IsFresh image → StandsFor image fresh
 fresh_files image is = record {
-  contents = no_contents;
-  has = record { frames = []; has = inl (is, refl); lead = refl };
-  stand = nothing_stands;
+  documents = record {
+    contents = no_contents;
+    has = record { frames = []; has = inl (is, refl); lead = refl };
+    stand = nothing_stands;
+  };
+  readable = record { frames = []; has = inl (is, refl); each = tt };
 }

@@ -18,6 +18,7 @@ use Rattle.ax_pages.specs.Contents.{Contents, meta_bytes, next_in, now_in, polic
 use Rattle.ax_pages.specs.AfterPart.{is_meta, is_document, has_room, after_part, after_parts, last_policy}
 use Rattle.ax_image.specs.StandsFor.{AreShown, ContentsStandFor}
 use Rattle.ax_image.specs.UpsertParts.{document_part, replacing_parts, creating_parts, upsert_parts}
+use Rattle.ax_image.proofs.KeptApart.{apart_with}
 use Rattle.ax_image.proofs.Shown.{as_many, rises_to, found_above, found_page, shown_behind, shown_over}
 
 both : (a b : Bool) → a ≡ true → b ≡ true → (a && b) ≡ true
@@ -101,6 +102,7 @@ module _ (contents : Contents) (before : Container) (id : List ℕ) (tree : Tree
           next = stand.next;
           given = stand.given;
           small = stand.small;
+          apart = apart_with contents new number (canonical_text tree) refl refl refl stand.apart;
           shown = subst (λ shown. AreShown shown (replaced id tree before).entries) (sym (put_entries number))
               (shown_over pages before.entries 0 before.next_number id tree policy found stand.sound.numbers stand.sound.distinct stand.shown is);
           sound = sound;
@@ -150,6 +152,7 @@ module _ (contents : Contents) (before : Container) (id : List ℕ) (tree : Tree
           next = next_is;
           given = ap (λ n. is_given n contents) now_is ∙ stand.given;
           small = omega (arith, now_is, small);
+          apart = apart_with contents (with_document with_meta next policy tree) next (canonical_text tree) now_is refl refl stand.apart;
           shown = subst (λ shown. AreShown shown (created id tree before).entries) (sym (put_entries next))
               (shown_behind pages before.entries 0 next (policy ∷ canonical_text tree) (record { number = next; id = id; tree = tree }) stand.sound.numbers stand.shown
               (record { policy = policy; number_is = refl; payload_is = refl }));

@@ -1,2 +1,4 @@
+pub mod Apart
+pub mod Readable
 pub mod StandsFor
 pub mod UpsertParts

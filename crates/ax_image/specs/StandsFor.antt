@@ -1,5 +1,6 @@
 -- What an image of a store stands for: the container whose documents its pages have. A page's payload
--- is the number of the document's policy and its canonical text.
+-- is the number of the document's policy and its canonical text. The image is in the grammar of the
+-- format, whole: also what nothing holds any more can be read.
 -- From the store's own file format (docs/FORMAT.md, "Parts"); no other document has it.
 use Rattle.std.specs.Prelude.{◌≡◌, ℕ, ◌≤◌, List, [], ◌∷◌, true}
 use Rattle.std.specs.FinMap as map
@@ -9,6 +10,8 @@ use Rattle.ax_container.specs.Container.{Entry, Container, IsSound}
 use Rattle.ax_pages.specs.Contents.{Contents, next_number, policy_now, is_given}
 use Rattle.ax_pages.specs.AfterPart.{last_policy}
 use Rattle.ax_pages.specs.HasContents.{HasContents}
+use Rattle.ax_image.specs.Apart.{AreApart}
+use Rattle.ax_image.specs.Readable.{TellsReadable}
 
 -- a page shows the entry of a document
 pub record IsShown (number : ℕ) (payload : List ℕ) (entry : Entry) : Type 0 where
@@ -27,10 +30,17 @@ pub record ContentsStandFor (contents : Contents) (container : Container) : Type
   pub next : next_number contents ≡ container.next_number
   pub given : is_given (policy_now contents) contents ≡ true
   pub small : policy_now contents ≤ last_policy
+  pub apart : AreApart contents
   pub shown : AreShown (map.entries contents.documents) container.entries
   pub sound : IsSound container
 
-pub record StandsFor (image : Image) (container : Container) : Type 0 where
+-- the documents of the container are those of the image
+pub record HasDocuments (container : Container) (image : Image) : Type 0 where
   pub contents : Contents
   pub has : HasContents contents image
   pub stand : ContentsStandFor contents container
+
+-- and besides all that the image tells can be read
+pub record StandsFor (image : Image) (container : Container) : Type 0 where
+  pub documents : HasDocuments container image
+  pub readable : TellsReadable image

@@ -17,7 +17,7 @@ use Rattle.ax_store.specs.declared.fault.StoreFault.TheVariants as fault
 use Rattle.ax_container.specs.Container.{Container}
 use Rattle.ax_image.specs.StandsFor.{StandsFor}
 use Rattle.ax_engine.specs.Opening.{RefusesBy}
-use Rattle.ax_engine.specs.Stores.{IsStore, Shows}
+use Rattle.ax_engine.specs.Stores.{IsStore, IsImageOf}
 
 -- ---- a barrier, behind a call that changes nothing
 
@@ -71,11 +71,11 @@ module _ (old mid new : List ℕ → History) (name there now : List ℕ) (is : 
       → (contents : Contents) × HasContents contents (old name).reads
   contents_named some = (some.0, subst (HasContents some.0) reads_are some.1)
 
-  pub since_named : (before : Container) → SinceBarrier (mid there) (new now) (Shows before)
-      → SinceBarrier (old name) (new name) (Shows before)
+  pub since_named : (before : Container) → SinceBarrier (mid there) (new now) (IsImageOf before)
+      → SinceBarrier (old name) (new name) (IsImageOf before)
   since_named before since =
-      since_idle (old name) (mid name) (new name) (Shows before) idle
-      (of_name (λ x y. SinceBarrier x y (Shows before)) mid new name there now is still since)
+      since_idle (old name) (mid name) (new name) (IsImageOf before) idle
+      (of_name (λ x y. SinceBarrier x y (IsImageOf before)) mid new name there now is still since)
 
   pub refuses_named : (why : StoreFault) → RefusesBy why (mid there) (new now)
       → RefusesBy why (old name) (new name)

@@ -18,7 +18,7 @@ use Rattle.ax_lines.specs.Refusals.{number_of, word_of}
 use Rattle.ax_machine.specs.ReplyTexts.{reply_text, row_text, end_text}
 use Rattle.ax_machine.specs.Run.{Outcome, Exchange, after_line, after_lines, reply_to, after, texts, text_of}
 use Rattle.ax_script.specs.DiskScript.{StandsAfter, KeepsAcknowledged}
-use Rattle.ax_engine.specs.Stores.{Shows}
+use Rattle.ax_engine.specs.Stores.{IsImageOf}
 use Rattle.ax_script.specs.Progress.{Reaches, Passes, BreaksOff}
 
 up_to_or_after : (t m : ℕ) → (t ≤ m) ⊎ (m < t)
@@ -165,21 +165,21 @@ module _ (a : Container) (line : List ℕ) (outcome : Outcome) where
   abbrev one : List Exchange
   one = record { line = line; outcome = outcome } ∷ []
 
-  turned : (image : Image) → Shows a image ⊎ Shows (after_line a line outcome) image
+  turned : (image : Image) → IsImageOf a image ⊎ IsImageOf (after_line a line outcome) image
       → StandsAfter a one 0 image
   turned image (inl stands) = inl stands
   turned image (inr stands) = inr stands
 
   pub moments_one : (old new : History)
-      → Turns old new (Shows a) (Shows (after_line a line outcome))
+      → Turns old new (IsImageOf a) (IsImageOf (after_line a line outcome))
       → Progresses old new 0 1 (StandsAfter a one)
   moments_one old new turns =
       progress_within old new 0 0 0 1 (StandsAfter a one) (omega arith) (omega arith)
       (progress_stays old new 0 (StandsAfter a one)
-      (elapses_weaken old new (λ t image. Shows a image ⊎ Shows (after_line a line outcome) image)
+      (elapses_weaken old new (λ t image. IsImageOf a image ⊎ IsImageOf (after_line a line outcome) image)
       (λ t image. StandsAfter a one 0 image) (λ t image after to has. turned image has) turns.time))
 
-  pub reaches_served : (text : List ℕ) (image : Image) → Shows (after_line a line outcome) image
+  pub reaches_served : (text : List ℕ) (image : Image) → IsImageOf (after_line a line outcome) image
       → Reaches a one text image
   reaches_served text image stands = record {
     count = 1;
@@ -193,7 +193,7 @@ module _ (a : Container) (line : List ℕ) (outcome : Outcome) where
   none_whole (suc n) le short =
       absurd (omega (arith, short, some_text a one (suc n) (omega arith) (omega arith)))
 
-  pub reaches_unserved : (image : Image) → Shows a image → Reaches a one [] image
+  pub reaches_unserved : (image : Image) → IsImageOf a image → Reaches a one [] image
   reaches_unserved image stands = record {
     count = 0;
     within = omega arith;
@@ -204,7 +204,7 @@ module _ (a : Container) (line : List ℕ) (outcome : Outcome) where
 -- ---- what is reached, by runs one after another
 
 pub reaches_all : (a now : Container) (run : List Exchange) (text : List ℕ) (image : Image)
-    → now ≡ after a run → Shows now image → Reaches a run text image
+    → now ≡ after a run → IsImageOf now image → Reaches a run text image
 reaches_all a now run text image stands shows = record {
   count = length run;
   within = omega arith;
@@ -290,7 +290,7 @@ reaches_keeps a run text image r = record {
 -- ---- the parts of a run on the disk
 
 module _ (honest : Type 0) where
-  pub passes_nothing : (a : Container) (here : History) → (honest → Rests here (Shows a))
+  pub passes_nothing : (a : Container) (here : History) → (honest → Rests here (IsImageOf a))
       → Passes honest a [] a here here
   passes_nothing a here rests = record {
     moments = λ h. progress_stays here here 0 (StandsAfter a []) (elapses_start here (λ _ image. StandsAfter a [] 0 image));
@@ -331,6 +331,6 @@ module _ (honest : Type 0) where
       → Passes honest a run now old new → BreaksOff honest a run text old new
   breaks_off_behind a now run text old new stands passed = record {
     moments = passed.moments;
-    rests = λ h. rests_weaken new (Shows now) (Reaches a run text)
+    rests = λ h. rests_weaken new (IsImageOf now) (Reaches a run text)
         (λ image shows. reaches_all a now run text image stands shows) (passed.rests h);
   }

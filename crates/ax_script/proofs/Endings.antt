@@ -13,7 +13,7 @@ use Rattle.ax_disk.specs.model.Moments.{History}
 use Rattle.ax_disk.specs.model.Stays.{Rests}
 use Rattle.ax_machine.specs.Run.{text_of}
 use Rattle.ax_script.specs.Progress.{ServesLines, BeginsLines, ServesLast, BeginsLast, Progress}
-use Rattle.ax_engine.specs.Stores.{Shows}
+use Rattle.ax_engine.specs.Stores.{IsImageOf}
 use Rattle.ax_script.specs.Progress.{BreaksOff, Ends, BreaksOffWith, EndsEarly, EndsServing, IsOfServing, StopsBy, outlets}
 use Rattle.ax_script.specs.Script.{most_input, BeginsToAnswer, IsTextAt, Runs}
 use Rattle.ax_script.specs.Streams.{Streams}
@@ -104,7 +104,7 @@ module _ (honest : Type 0) where
   -- ---- the run begins
 
   pub progress_begins : (before : Container) (old : Streams) (entry : History)
-      → (honest → Rests entry (Shows before))
+      → (honest → Rests entry (IsImageOf before))
       → Progress honest before old old entry entry before [] 0
   progress_begins before old entry rests = record {
     taken = [];

@@ -15,7 +15,7 @@ use Rattle.ax_image.specs.StandsFor.{StandsFor}
 use Rattle.ax_machine.specs.Run.{Exchange, after_lines}
 use Rattle.ax_script.specs.declared.status.Status.{Status}
 use Rattle.ax_script.specs.declared.status.Status.TheVariants as status
-use Rattle.ax_engine.specs.Stores.{IsStore, Shows}
+use Rattle.ax_engine.specs.Stores.{IsStore, IsImageOf}
 use Rattle.ax_script.specs.DiskScript.{StandsAfter, KeepsAcknowledged, RunsOnDisk}
 use Rattle.ax_script.specs.Opening.{IsWithin, Refuses, RefusesOpening, TellsServed}
 use Rattle.ax_script.specs.Progress.{Reaches, EndsEarly, Ends, EndsServing}
@@ -31,21 +31,21 @@ none_served : (before : Container) (run : List Exchange) → after_lines 0 befor
 none_served before [] = refl
 none_served before (x ∷ xs) = refl
 
-begins : (before : Container) (run : List Exchange) (image : Image) → Shows before image
+begins : (before : Container) (run : List Exchange) (image : Image) → IsImageOf before image
     → StandsFor image (after_lines 0 before run)
 begins before run image shows = subst (StandsFor image) (sym (none_served before run)) shows
 
-begins_after : (before : Container) (run : List Exchange) (image : Image) → Shows before image
+begins_after : (before : Container) (run : List Exchange) (image : Image) → IsImageOf before image
     → StandsAfter before run 0 image
 begins_after before run image shows = inl (begins before run image shows)
 
 since_begins : (before : Container) (run : List Exchange) (entry exit : History)
-    → SinceBarrier entry exit (Shows before) → SinceBarrier entry exit (StandsAfter before run 0)
+    → SinceBarrier entry exit (IsImageOf before) → SinceBarrier entry exit (StandsAfter before run 0)
 since_begins before run entry exit since =
-    barrier_weaken entry exit (Shows before) (StandsAfter before run 0) (begins_after before run) since
+    barrier_weaken entry exit (IsImageOf before) (StandsAfter before run 0) (begins_after before run) since
 
 keeps_none : (before : Container) (run : List Exchange) (text : List ℕ) (image : Image) → run ≡ []
-    → Shows before image → KeepsAcknowledged before run text image
+    → IsImageOf before image → KeepsAcknowledged before run text image
 keeps_none before run text image none shows = record {
   count = 0;
   within = omega arith;
@@ -55,7 +55,7 @@ keeps_none before run text image none shows = record {
 
 -- the run ended before it took a line
 pub on_disk_early : (before : Container) (ended : Status) (at : Streams) (entry exit : History)
-    → EarlyRun before ended at → SinceBarrier entry exit (Shows before)
+    → EarlyRun before ended at → SinceBarrier entry exit (IsImageOf before)
     → RunsOnDisk before ended at at entry exit
 on_disk_early before ended at entry exit early since =
     let script = early.script in
@@ -69,7 +69,7 @@ on_disk_early before ended at entry exit early since =
           (elapses_start exit (λ _ image. StandsAfter before script.run 0 image))));
       at_exit = ⊎_elim
           (λ (may : Rests exit (MayLeave entry.unsynced)). inr (early.no_text, may))
-          (λ (shows : Rests exit (Shows before)). inl (rests_weaken exit (Shows before)
+          (λ (shows : Rests exit (IsImageOf before)). inl (rests_weaken exit (IsImageOf before)
           (KeepsAcknowledged before script.run script.text)
           (λ image has. keeps_none before script.run script.text image early.no_line has) shows))
           since.rests;
@@ -80,12 +80,12 @@ pub on_disk_untouched : (before : Container) (ended : Status) (at : Streams) (en
     → EarlyRun before ended at → RunsOnDisk before ended at at entry entry
 on_disk_untouched before ended at entry early =
     on_disk_early before ended at entry entry early
-    (idle_since entry entry (Shows before) (idles_start entry))
+    (idle_since entry entry (IsImageOf before) (idles_start entry))
 
 -- ---- the store was opened, and lines were served
 
 pub on_disk_served : (honest : Type 0) (before : Container) (ended : Status) (old new : Streams)
-    (entry mid exit : History) → honest → SinceBarrier entry mid (Shows before)
+    (entry mid exit : History) → honest → SinceBarrier entry mid (IsImageOf before)
     → Ends honest before ended old new mid exit → RunsOnDisk before ended old new entry exit
 on_disk_served honest before ended old new entry mid exit h since ends =
     let script = ends.script in
@@ -101,7 +101,7 @@ on_disk_served honest before ended old new entry mid exit h since ends =
 -- the same of the store of a name, which is the one attached
 pub on_disk_named : (honest : Type 0) (before : Container) (ended : Status) (old new : Streams)
     (entry mid exit : List ℕ → History) (name there now : List ℕ) → there ≡ name → now ≡ there
-    → honest → SinceBarrier (entry name) (mid name) (Shows before)
+    → honest → SinceBarrier (entry name) (mid name) (IsImageOf before)
     → Ends honest before ended old new (mid there) (exit now)
     → RunsOnDisk before ended old new (entry name) (exit name)
 on_disk_named honest before ended old new entry mid exit name there now is still h since ends =
@@ -189,9 +189,9 @@ pub early_complete : (DiskRose : Type 0) (before : Container) (ended : Status) (
 early_complete D before status.DiskFault old new store refuses early disk no_disk =
     absurd (no_disk (disk refl))
 early_complete D before (status.Damaged extent at) old new store refuses early disk no_disk =
-    absurd (not_damaged old.reads store.reads.contents extent at store.reads.has refuses.0)
+    absurd (not_damaged old.reads store.reads.documents.contents extent at store.reads.documents.has refuses.0)
 early_complete D before (status.Newer version) old new store refuses early disk no_disk =
-    absurd (not_newer old.reads store.reads.contents version store.reads.has refuses.0)
+    absurd (not_newer old.reads store.reads.documents.contents version store.reads.documents.has refuses.0)
 early_complete D before status.Memory old new store refuses early disk no_disk = inr (inl refl)
 early_complete D before status.Done old new store refuses early disk no_disk = absurd early
 early_complete D before status.Words old new store refuses early disk no_disk = absurd early

@@ -12,9 +12,9 @@ use Rattle.ax_lines.specs.declared.line.Line.TheVariants as line
 use Rattle.ax_lines.specs.declared.refusal.Refusal.{Refusal}
 use Rattle.ax_lines.specs.Lines.{line_of}
 use Rattle.ax_engine.specs.Damage.{Meets}
-use Rattle.ax_engine.specs.Engine.{Applies, Holds, Works, made_by}
+use Rattle.ax_engine.specs.Engine.{Applies, HoldsOver, Works, made_by}
 use Rattle.ax_engine.specs.Replies.{IsReply}
-use Rattle.ax_engine.specs.Stores.{Shows}
+use Rattle.ax_engine.specs.Stores.{IsImageOf}
 use Rattle.ax_engine.specs.declared.engine.Engine.{Engine}
 use Rattle.ax_engine.specs.declared.engine.Fault.{Fault}
 use Rattle.ax_engine.specs.declared.engine.Fault.TheVariants as fault
@@ -68,22 +68,22 @@ module _ (honest : Type 0) (before : Container) (line : List ℕ) (engine : Engi
   by_text : (made : Reply) (text : List ℕ) → IsTextOf made text
       → TellsLine honest before line (Ok made) engine old new
       → (outcome : Outcome) × (text ≡ reply_text (reply_to before line outcome))
-      × Holds engine (after_line before line outcome)
-      × (honest → Turns old new (Shows before) (Shows (after_line before line outcome)))
+      × HoldsOver engine new (after_line before line outcome)
+      × (honest → Turns old new (IsImageOf before) (IsImageOf (after_line before line outcome)))
   by_text made text (inl whole) told = (told.0, whole (reply_to before line told.0) told.1, told.2, told.3)
   by_text made text (inr short) told =
       let same = unchanged before line told.0 (not_ok made (reply_to before line told.0) told.1 short.0) in (
         OutOfMemory,
         short.1,
-        subst (Holds engine) same told.2,
-        subst (λ (after : Container). honest → Turns old new (Shows before) (Shows after)) same told.3,
+        subst (HoldsOver engine new) same told.2,
+        subst (λ (after : Container). honest → Turns old new (IsImageOf before) (IsImageOf after)) same told.3,
       )
 
   pub whole_of : (result : Result (Unit {0}) Status) (answered : Result Reply Fault)
       → TellsLine honest before line answered engine old new
       → Works honest engine new → later ≤ steps + most_steps before line
       → OnOk result (WritesWhole answered written now)
-      → OnOk result ((after : Container) × Holds engine after
+      → OnOk result ((after : Container) × HoldsOver engine new after
       × Serves honest before line after (outlets written old steps) (outlets now new later))
   whole_of result (Ok made) told works bounded whole = OnOk-map result
       (λ added. (let by = by_text made added.0 added.1 told in (
@@ -123,31 +123,31 @@ tells_applied honest before bytes asked engine old new (Ok made) read told =
     is = ap (served before) read
 
     by : (outcome : Outcome) → IsReply made (made_by before asked outcome).1
-        → Holds engine (made_by before asked outcome).0
-        → (honest → Turns old new (Shows before) (Shows (made_by before asked outcome).0))
+        → HoldsOver engine new (made_by before asked outcome).0
+        → (honest → Turns old new (IsImageOf before) (IsImageOf (made_by before asked outcome).0))
         → TellsLine honest before bytes (Ok made) engine old new
     by Served reply_is holds turns = (
       Served,
       subst (λ (m : Container × reply.Reply). IsReply made m.1) (sym is) reply_is,
-      subst (λ (m : Container × reply.Reply). Holds engine m.0) (sym is) holds,
-      subst (λ (m : Container × reply.Reply). honest → Turns old new (Shows before) (Shows m.0)) (sym is) turns,
+      subst (λ (m : Container × reply.Reply). HoldsOver engine new m.0) (sym is) holds,
+      subst (λ (m : Container × reply.Reply). honest → Turns old new (IsImageOf before) (IsImageOf m.0)) (sym is) turns,
     )
     by OutOfMemory reply_is holds turns = (OutOfMemory, reply_is, holds, turns)
 tells_applied honest before bytes asked engine old new (Err fault.Disk) read told =
-    subst (λ (m : Container × reply.Reply). honest → Turns old new (Shows before) (Shows m.0))
+    subst (λ (m : Container × reply.Reply). honest → Turns old new (IsImageOf before) (IsImageOf m.0))
     (sym (ap (served before) read)) told
 tells_applied honest before bytes asked engine old new (Err (fault.Damaged extent at)) read told = absurd told
 
 pub tells_refused : (honest : Type 0) (before : Container) (bytes : List ℕ) (why : Refusal)
-    (engine : Engine) (old new : History) → line_of bytes ≡ Err why → Holds engine before
-    → (honest → Turns old new (Shows before) (Shows before))
+    (engine : Engine) (old new : History) → line_of bytes ≡ Err why → HoldsOver engine new before
+    → (honest → Turns old new (IsImageOf before) (IsImageOf before))
     → TellsLine honest before bytes (Ok (given.Refused why)) engine old new
 tells_refused honest before bytes why engine old new read holds turns =
     let is : step before bytes ≡ (before, reply.Refused why) = ap (served before) read in (
       Served,
       ap (λ (m : Container × reply.Reply). m.1) is,
-      subst (λ (m : Container × reply.Reply). Holds engine m.0) (sym is) holds,
-      subst (λ (m : Container × reply.Reply). honest → Turns old new (Shows before) (Shows m.0)) (sym is) turns,
+      subst (λ (m : Container × reply.Reply). HoldsOver engine new m.0) (sym is) holds,
+      subst (λ (m : Container × reply.Reply). honest → Turns old new (IsImageOf before) (IsImageOf m.0)) (sym is) turns,
     )
 
 -- ---- the status of a line that was not served

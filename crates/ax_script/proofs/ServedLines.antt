@@ -13,7 +13,7 @@ use Rattle.ax_machine.proofs.Runs.{text_of-one}
 use Rattle.ax_disk.specs.model.Stays.{Rests, Turns}
 use Rattle.ax_script.specs.Script.{Answers, BeginsToAnswer}
 use Rattle.ax_script.specs.Progress.{Serves, BeginsToServe, ServesLines, BeginsLines, ServesLast}
-use Rattle.ax_engine.specs.Stores.{Shows}
+use Rattle.ax_engine.specs.Stores.{IsImageOf}
 use Rattle.ax_script.specs.Progress.{BeginsLast, Passes, BreaksOff}
 use Rattle.ax_script.specs.Streams.{Outlets}
 use Rattle.ax_script.proofs.Answering.{Answers-nil, answers_some, Answers-append}
@@ -55,7 +55,7 @@ module _ (honest : Type 0) where
       new.history
   line_passed before now line old new served = record {
     moments = λ h. moments_one before line served.outcome old.history new.history
-        (subst (λ c. Turns old.history new.history (Shows before) (Shows c)) served.made
+        (subst (λ c. Turns old.history new.history (IsImageOf before) (IsImageOf c)) served.made
         (served.turns h));
     rests = served.rests;
   }
@@ -109,7 +109,7 @@ module _ (honest : Type 0) where
 
   -- nothing was taken
   pub serves_nothing : (before : Container) (pending : List ℕ) (old : Outlets)
-      → IsOneLine pending → (honest → Rests old.history (Shows before))
+      → IsOneLine pending → (honest → Rests old.history (IsImageOf before))
       → ServesLines honest before pending before pending old old
   serves_nothing before pending old plain rests = record {
     lines = [];
@@ -184,7 +184,7 @@ module _ (honest : Type 0) where
 
   -- nothing was written of what the lines among the bytes are answered
   pub begins_with_no_line : (before : Container) (bytes : List ℕ) (old : Outlets)
-      → (honest → Rests old.history (Shows before)) → BeginsLines honest before bytes old old
+      → (honest → Rests old.history (IsImageOf before)) → BeginsLines honest before bytes old old
   begins_with_no_line before bytes old rests =
       let are = there_are_lines bytes in
       let some = answers_some before are.0 in
@@ -212,7 +212,7 @@ module _ (honest : Type 0) where
     pub served : ServesLines honest before (first ++ done) now pending old new
 
   pub piece_begins : (before : Container) (first piece : List ℕ) (old : Outlets)
-      → IsOneLine first → (honest → Rests old.history (Shows before))
+      → IsOneLine first → (honest → Rests old.history (IsImageOf before))
       → InPiece before before first first piece piece old old
   piece_begins before first piece old plain rests = record {
     done = [];
@@ -297,7 +297,7 @@ module _ (honest : Type 0) where
 
   -- no piece is left, which is no line
   pub serves_no_last : (before : Container) (old : Outlets)
-      → (honest → Rests old.history (Shows before)) → ServesLast honest before [] old old
+      → (honest → Rests old.history (IsImageOf before)) → ServesLast honest before [] old old
   serves_no_last before old rests = record {
     run = [];
     text = [];

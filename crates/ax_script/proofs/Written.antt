@@ -9,8 +9,8 @@ use Rattle.ax_disk.specs.model.Moments.{History}
 use Rattle.ax_disk.specs.model.Stays.{Turns}
 use Rattle.ax_disk.specs.laws.StaysLaws.{rests_weaken}
 use Rattle.ax_container.specs.Container.{Container}
-use Rattle.ax_engine.specs.Engine.{Holds, Works}
-use Rattle.ax_engine.specs.Stores.{Shows}
+use Rattle.ax_engine.specs.Engine.{HoldsOver, Works}
+use Rattle.ax_engine.specs.Stores.{IsImageOf}
 use Rattle.ax_engine.specs.declared.engine.Engine.{Engine}
 use Rattle.ax_engine.proofs.Applying.{rests_over}
 use Rattle.ax_machine.specs.Needs.{most_steps}
@@ -29,8 +29,8 @@ module _ (honest : Type 0) (engine : Engine) (before : Container) (line : List �
   answered = reply_text (reply_to before line outcome)
 
   pub serves_by : (bytes : List ℕ) → bytes ≡ answered → Appends old.written new.written bytes
-      → Works honest engine new.history → Holds engine after
-      → (honest → Turns old.history new.history (Shows before) (Shows after))
+      → Works honest engine new.history → HoldsOver engine new.history after
+      → (honest → Turns old.history new.history (IsImageOf before) (IsImageOf after))
       → new.steps ≤ old.steps + most_steps before line
       → Serves honest before line after old new
   serves_by bytes is added works holds turns bounded = record {
@@ -43,8 +43,8 @@ module _ (honest : Type 0) (engine : Engine) (before : Container) (line : List �
   }
 
   pub begins_by : (bytes : List ℕ) → bytes ≡ answered → AppendsPrefix old.written new.written bytes
-      → Works honest engine new.history → Holds engine after
-      → (honest → Turns old.history new.history (Shows before) (Shows after))
+      → Works honest engine new.history → HoldsOver engine new.history after
+      → (honest → Turns old.history new.history (IsImageOf before) (IsImageOf after))
       → new.steps ≤ old.steps + most_steps before line
       → BeginsToServe honest before line old new
   begins_by bytes is added works holds turns bounded =
@@ -53,7 +53,7 @@ module _ (honest : Type 0) (engine : Engine) (before : Container) (line : List �
         outcome = outcome;
         replied = prefix;
         turns = turns;
-        rests = λ h. rests_weaken new.history (Shows after)
+        rests = λ h. rests_weaken new.history (IsImageOf after)
             (Reaches before (record { line = line; outcome = outcome } ∷ []) (take prefix.0 answered))
             (λ image shows. reaches_served before line outcome (take prefix.0 answered) image shows)
             (rests_over honest engine new.history after works holds h);
@@ -61,7 +61,7 @@ module _ (honest : Type 0) (engine : Engine) (before : Container) (line : List �
       }
 
 either_reached : (before : Container) (line : List ℕ) (outcome : Outcome) (image : Image)
-    → Shows before image ⊎ Shows (after_line before line outcome) image
+    → IsImageOf before image ⊎ IsImageOf (after_line before line outcome) image
     → Reaches before (record { line = line; outcome = outcome } ∷ []) [] image
 either_reached before line outcome image (inl shows) = reaches_unserved before line outcome image shows
 either_reached before line outcome image (inr shows) = reaches_served before line outcome [] image shows
@@ -69,14 +69,14 @@ either_reached before line outcome image (inr shows) = reaches_served before lin
 -- nothing was written of the reply
 pub begins_without : (honest : Type 0) (before : Container) (line : List ℕ) (outcome : Outcome)
     (written : Option (List ℕ)) (old new : History) (steps now : ℕ)
-    → (honest → Turns old new (Shows before) (Shows (after_line before line outcome)))
+    → (honest → Turns old new (IsImageOf before) (IsImageOf (after_line before line outcome)))
     → now ≤ steps + most_steps before line
     → BeginsToServe honest before line (outlets written old steps) (outlets written new now)
 begins_without honest before line outcome written old new steps now turns bounded = record {
   outcome = outcome;
   replied = (0, omega arith, Appends-nil written);
   turns = turns;
-  rests = λ h. rests_weaken new (λ image. Shows before image ⊎ Shows (after_line before line outcome) image)
+  rests = λ h. rests_weaken new (λ image. IsImageOf before image ⊎ IsImageOf (after_line before line outcome) image)
       (Reaches before (record { line = line; outcome = outcome } ∷ []) [])
       (λ image shows. either_reached before line outcome image shows) (turns h).rests;
   bounded = bounded;

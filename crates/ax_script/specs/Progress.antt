@@ -10,7 +10,7 @@ use Rattle.ax_disk.specs.model.Stays.{Rests, Turns}
 use Rattle.ax_container.specs.Container.{Container}
 use Rattle.ax_image.specs.StandsFor.{StandsFor}
 use Rattle.ax_engine.specs.Damage.{IsMetOutside}
-use Rattle.ax_engine.specs.Stores.{Shows}
+use Rattle.ax_engine.specs.Stores.{IsImageOf}
 use Rattle.ax_lines.specs.ScriptLines.{AreLines, last_line}
 use Rattle.ax_machine.specs.Needs.{most_steps, most_steps_in}
 use Rattle.ax_machine.specs.ReplyTexts.{reply_text}
@@ -84,7 +84,7 @@ pub record Reaches (before : Container) (run : List Exchange) (text : List ℕ)
 pub record Passes (honest : Type 0) (before : Container) (run : List Exchange) (now : Container)
     (old new : History) : Type 0 where
   pub moments : honest → Progresses old new 0 (length run) (StandsAfter before run)
-  pub rests : honest → Rests new (Shows now)
+  pub rests : honest → Rests new (IsImageOf now)
 
 -- the disk went through some lines of the run, all whose replies are whole in the text
 pub record BreaksOff (honest : Type 0) (before : Container) (run : List Exchange) (text : List ℕ)
@@ -98,8 +98,8 @@ pub record Serves (honest : Type 0) (before : Container) (line : List ℕ) (now 
   pub outcome : Outcome
   pub made : now ≡ after_line before line outcome
   pub replied : Appends old.written new.written (reply_text (reply_to before line outcome))
-  pub turns : honest → Turns old.history new.history (Shows before) (Shows now)
-  pub rests : honest → Rests new.history (Shows now)
+  pub turns : honest → Turns old.history new.history (IsImageOf before) (IsImageOf now)
+  pub rests : honest → Rests new.history (IsImageOf now)
   pub bounded : new.steps ≤ old.steps + most_steps before line
 
 -- the line was answered, and a prefix of its reply was written
@@ -107,8 +107,8 @@ pub record BeginsToServe (honest : Type 0) (before : Container) (line : List ℕ
     (old new : Outlets) : Type 0 where
   pub outcome : Outcome
   pub replied : AppendsPrefix old.written new.written (reply_text (reply_to before line outcome))
-  pub turns : honest → Turns old.history new.history (Shows before)
-      (Shows (after_line before line outcome))
+  pub turns : honest → Turns old.history new.history (IsImageOf before)
+      (IsImageOf (after_line before line outcome))
   pub rests : honest → Rests new.history (Reaches before
       (record { line = line; outcome = outcome } ∷ [])
       (take replied.0 (reply_text (reply_to before line outcome))))

@@ -6,9 +6,9 @@ use Rattle.ax_base.specs.Appends.{AppendsPrefix}
 use Rattle.ax_disk.specs.model.Moments.{History}
 use Rattle.ax_disk.specs.model.Stays.{Turns}
 use Rattle.ax_container.specs.Container.{Container}
-use Rattle.ax_engine.specs.Engine.{Holds}
+use Rattle.ax_engine.specs.Engine.{HoldsOver}
 use Rattle.ax_engine.specs.Replies.{IsReply}
-use Rattle.ax_engine.specs.Stores.{Shows}
+use Rattle.ax_engine.specs.Stores.{IsImageOf}
 use Rattle.ax_engine.specs.declared.engine.Engine.{Engine}
 use Rattle.ax_engine.specs.declared.engine.Fault.{Fault}
 use Rattle.ax_engine.specs.declared.engine.Fault.TheVariants as fault
@@ -43,10 +43,10 @@ WritesPart (Err why) old new = old ≡ new
 abbrev pub TellsLine : Type 0 → Container → List ℕ → Result Reply Fault → Engine → History → History → Type 0
 TellsLine honest before line (Ok made) engine old new =
     (outcome : Outcome) × IsReply made (reply_to before line outcome)
-    × Holds engine (after_line before line outcome)
-    × (honest → Turns old new (Shows before) (Shows (after_line before line outcome)))
+    × HoldsOver engine new (after_line before line outcome)
+    × (honest → Turns old new (IsImageOf before) (IsImageOf (after_line before line outcome)))
 TellsLine honest before line (Err fault.Disk) engine old new =
-    honest → Turns old new (Shows before) (Shows (step before line).0)
+    honest → Turns old new (IsImageOf before) (IsImageOf (step before line).0)
 TellsLine honest before line (Err (fault.Damaged extent at)) engine old new = ⊥
 
 -- a text that was made, or that of out of memory

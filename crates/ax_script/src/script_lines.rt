@@ -1,7 +1,7 @@
 ghost use Rattle.std.specs.Prelude.{◌≡◌, ◌++◌, ◌^◌, ◌<◌, ◌≤◌, ◌⊎◌, [], length, OnOk, OnErr, None, Err, IsTrue, IfErr};
 ghost use Rattle.ax_faults.specs.Faults.{Rose};
 ghost use Rattle.ax_container.specs.Container.{Container};
-ghost use Rattle.ax_engine.specs.Engine.{Holds, Works};
+ghost use Rattle.ax_engine.specs.Engine.{HoldsOver, Works};
 ghost use Rattle.ax_script.specs.Progress.{outlets, Serves, BeginsToServe, ServesLines, BeginsLines, ServesLast, BeginsLast, Ends, BreaksOffWith, EndsServing, IsOfServing, StopsBy};
 ghost use Rattle.ax_lines.specs.ScriptLines.{IsOneLine};
 
@@ -32,7 +32,7 @@ pub fn serve_source<D: Disk, S: Source, K: Sink, L: Ledger>(
     requires few { length buffer.old ≤ 2 ^ 20 }
     requires works { Works (IsTrue (D.is_honest disk.old)) engine.old (D.history disk.old (D.attached disk.old)) }
     requires unfaulted { engine.old.fault ≡ None }
-    ensures script { IsTrue (D.is_honest disk.old) → (before : Container) → Holds engine.old before
+    ensures script { IsTrue (D.is_honest disk.old) → (before : Container) → HoldsOver engine.old (D.history disk.old (D.attached disk.old)) before
         → Ends (IsTrue (D.is_honest disk.old)) before result
         (record { remaining = S.rest source.old; written = K.written sink.old; steps = steps.old })
         (record { remaining = S.rest source.new; written = K.written sink.new; steps = steps.new })
@@ -48,7 +48,7 @@ pub fn serve_source<D: Disk, S: Source, K: Sink, L: Ledger>(
     ensures attached { D.attached disk.new ≡ D.attached disk.old }
     ensures honest { D.is_honest disk.new ≡ D.is_honest disk.old }
     ensures steps { steps.old ≤ steps.new }
-    ensures sound { IsTrue (D.is_honest disk.old) → (before : Container) → Holds engine.old before → IsOfServing result }
+    ensures sound { IsTrue (D.is_honest disk.old) → (before : Container) → HoldsOver engine.old (D.history disk.old (D.attached disk.old)) before → IsOfServing result }
     ensures of_serving { EndsServing (D.is_honest disk.old) result (D.history disk.new (D.attached disk.new)) }
 {
     let mut pending = Vec::new(alloc);
@@ -93,19 +93,19 @@ fn serve_piece<D: Disk, K: Sink, L: Ledger>(
     requires line { IsOneLine pending.old.items }
     requires works { Works (IsTrue (D.is_honest disk.old)) engine.old (D.history disk.old (D.attached disk.old)) }
     requires unfaulted { engine.old.fault ≡ None }
-    ensures ok { IsTrue (D.is_honest disk.old) → (before : Container) → Holds engine.old before
-        → OnOk result ((now : Container) × Holds engine.new now
+    ensures ok { IsTrue (D.is_honest disk.old) → (before : Container) → HoldsOver engine.old (D.history disk.old (D.attached disk.old)) before
+        → OnOk result ((now : Container) × HoldsOver engine.new (D.history disk.new (D.attached disk.new)) now
         × ServesLines (IsTrue (D.is_honest disk.old)) before (pending.old.items ++ piece.now) now pending.new.items
         (outlets (K.written sink.old) (D.history disk.old (D.attached disk.old)) steps.old)
         (outlets (K.written sink.new) (D.history disk.new (D.attached disk.new)) steps.new)) }
-    ensures err { IsTrue (D.is_honest disk.old) → (before : Container) → Holds engine.old before
+    ensures err { IsTrue (D.is_honest disk.old) → (before : Container) → HoldsOver engine.old (D.history disk.old (D.attached disk.old)) before
         → OnErr result (BeginsLines (IsTrue (D.is_honest disk.old)) before (pending.old.items ++ piece.now)
         (outlets (K.written sink.old) (D.history disk.old (D.attached disk.old)) steps.old)
         (outlets (K.written sink.new) (D.history disk.new (D.attached disk.new)) steps.new)) }
     ensures works { OnOk result (Works (IsTrue (D.is_honest disk.old)) engine.new (D.history disk.new (D.attached disk.new))) }
     ensures unfaulted { OnOk result (engine.new.fault ≡ None) }
     ensures line { OnOk result (IsOneLine pending.new.items) }
-    ensures sound { IsTrue (D.is_honest disk.old) → (before : Container) → Holds engine.old before → IfErr result BreaksOffWith }
+    ensures sound { IsTrue (D.is_honest disk.old) → (before : Container) → HoldsOver engine.old (D.history disk.old (D.attached disk.old)) before → IfErr result BreaksOffWith }
     ensures only { IfErr result (λ status. StopsBy (D.is_honest disk.old) status
         (D.history disk.new (D.attached disk.new))) }
     ensures disk_cause { result ≡ Err Status.DiskFault → Rose (D.faults disk.old) (D.faults disk.new) }
@@ -149,19 +149,19 @@ fn serve_head<D: Disk, K: Sink, L: Ledger>(
 ) -> Result<(), Status>
     requires works { Works (IsTrue (D.is_honest disk.old)) engine.old (D.history disk.old (D.attached disk.old)) }
     requires unfaulted { engine.old.fault ≡ None }
-    ensures ok { IsTrue (D.is_honest disk.old) → (before : Container) → Holds engine.old before
-        → OnOk result ((now : Container) × Holds engine.new now
+    ensures ok { IsTrue (D.is_honest disk.old) → (before : Container) → HoldsOver engine.old (D.history disk.old (D.attached disk.old)) before
+        → OnOk result ((now : Container) × HoldsOver engine.new (D.history disk.new (D.attached disk.new)) now
         × Serves (IsTrue (D.is_honest disk.old)) before (pending.old.items ++ head.now) now
         (outlets (K.written sink.old) (D.history disk.old (D.attached disk.old)) steps.old)
         (outlets (K.written sink.new) (D.history disk.new (D.attached disk.new)) steps.new)) }
     ensures empty { OnOk result (pending.new.items ≡ []) }
-    ensures err { IsTrue (D.is_honest disk.old) → (before : Container) → Holds engine.old before
+    ensures err { IsTrue (D.is_honest disk.old) → (before : Container) → HoldsOver engine.old (D.history disk.old (D.attached disk.old)) before
         → OnErr result (BeginsToServe (IsTrue (D.is_honest disk.old)) before (pending.old.items ++ head.now)
         (outlets (K.written sink.old) (D.history disk.old (D.attached disk.old)) steps.old)
         (outlets (K.written sink.new) (D.history disk.new (D.attached disk.new)) steps.new)) }
     ensures works { OnOk result (Works (IsTrue (D.is_honest disk.old)) engine.new (D.history disk.new (D.attached disk.new))) }
     ensures unfaulted { OnOk result (engine.new.fault ≡ None) }
-    ensures sound { IsTrue (D.is_honest disk.old) → (before : Container) → Holds engine.old before → IfErr result BreaksOffWith }
+    ensures sound { IsTrue (D.is_honest disk.old) → (before : Container) → HoldsOver engine.old (D.history disk.old (D.attached disk.old)) before → IfErr result BreaksOffWith }
     ensures only { IfErr result (λ status. StopsBy (D.is_honest disk.old) status
         (D.history disk.new (D.attached disk.new))) }
     ensures disk_cause { result ≡ Err Status.DiskFault → Rose (D.faults disk.old) (D.faults disk.new) }
@@ -197,15 +197,15 @@ fn serve_last<D: Disk, K: Sink, L: Ledger>(
 ) -> Status
     requires works { Works (IsTrue (D.is_honest disk.old)) engine.old (D.history disk.old (D.attached disk.old)) }
     requires unfaulted { engine.old.fault ≡ None }
-    ensures done { IsTrue (D.is_honest disk.old) → (before : Container) → Holds engine.old before
+    ensures done { IsTrue (D.is_honest disk.old) → (before : Container) → HoldsOver engine.old (D.history disk.old (D.attached disk.old)) before
         → result ≡ Status.Done → ServesLast (IsTrue (D.is_honest disk.old)) before pending.now
         (outlets (K.written sink.old) (D.history disk.old (D.attached disk.old)) steps.old)
         (outlets (K.written sink.new) (D.history disk.new (D.attached disk.new)) steps.new) }
-    ensures prefix { IsTrue (D.is_honest disk.old) → (before : Container) → Holds engine.old before
+    ensures prefix { IsTrue (D.is_honest disk.old) → (before : Container) → HoldsOver engine.old (D.history disk.old (D.attached disk.old)) before
         → BreaksOffWith result → BeginsLast (IsTrue (D.is_honest disk.old)) before pending.now
         (outlets (K.written sink.old) (D.history disk.old (D.attached disk.old)) steps.old)
         (outlets (K.written sink.new) (D.history disk.new (D.attached disk.new)) steps.new) }
-    ensures sound { IsTrue (D.is_honest disk.old) → (before : Container) → Holds engine.old before
+    ensures sound { IsTrue (D.is_honest disk.old) → (before : Container) → HoldsOver engine.old (D.history disk.old (D.attached disk.old)) before
         → (result ≡ Status.Done) ⊎ BreaksOffWith result }
     ensures only { (result ≡ Status.Done) ⊎ StopsBy (D.is_honest disk.old) result
         (D.history disk.new (D.attached disk.new)) }

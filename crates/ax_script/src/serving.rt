@@ -3,7 +3,7 @@ ghost use Rattle.std.specs.Io.KnownBytes.{Appends};
 ghost use Rattle.ax_base.specs.Appends.{AppendsPrefix};
 ghost use Rattle.ax_faults.specs.Faults.{Rose};
 ghost use Rattle.ax_container.specs.Container.{Container};
-ghost use Rattle.ax_engine.specs.Engine.{Holds, Works};
+ghost use Rattle.ax_engine.specs.Engine.{Holds, HoldsOver, Works};
 ghost use Rattle.ax_machine.specs.Needs.{most_steps};
 ghost use Rattle.ax_engine.specs.Damage.{Meets};
 ghost use Rattle.ax_script.specs.Progress.{outlets, Serves, BeginsToServe, BreaksOffWith, IsLineFault, StopsBy};
@@ -35,17 +35,17 @@ pub fn serve_line<D: Disk, K: Sink, L: Ledger>(
     steps: &mut Steps<L>,
 ) -> Result<(), Status>
     requires works { Works (IsTrue (D.is_honest disk.old)) engine.old (D.history disk.old (D.attached disk.old)) }
-    ensures whole { IsTrue (D.is_honest disk.old) → (before : Container) → Holds engine.old before
-        → OnOk result ((now : Container) × Holds engine.new now
+    ensures whole { IsTrue (D.is_honest disk.old) → (before : Container) → HoldsOver engine.old (D.history disk.old (D.attached disk.old)) before
+        → OnOk result ((now : Container) × HoldsOver engine.new (D.history disk.new (D.attached disk.new)) now
         × Serves (IsTrue (D.is_honest disk.old)) before line.now now
         (outlets (K.written sink.old) (D.history disk.old (D.attached disk.old)) steps.old)
         (outlets (K.written sink.new) (D.history disk.new (D.attached disk.new)) steps.new)) }
-    ensures prefix { IsTrue (D.is_honest disk.old) → (before : Container) → Holds engine.old before → OnErr result
+    ensures prefix { IsTrue (D.is_honest disk.old) → (before : Container) → HoldsOver engine.old (D.history disk.old (D.attached disk.old)) before → OnErr result
         (BeginsToServe (IsTrue (D.is_honest disk.old)) before line.now
         (outlets (K.written sink.old) (D.history disk.old (D.attached disk.old)) steps.old)
         (outlets (K.written sink.new) (D.history disk.new (D.attached disk.new)) steps.new)) }
     ensures works { Works (IsTrue (D.is_honest disk.old)) engine.new (D.history disk.new (D.attached disk.new)) }
-    ensures sound { IsTrue (D.is_honest disk.old) → (before : Container) → Holds engine.old before → IfErr result BreaksOffWith }
+    ensures sound { IsTrue (D.is_honest disk.old) → (before : Container) → HoldsOver engine.old (D.history disk.old (D.attached disk.old)) before → IfErr result BreaksOffWith }
     ensures only { IfErr result IsLineFault }
     ensures stops { engine.old.fault ≡ None → IfErr result (λ status. StopsBy (D.is_honest disk.old) status
         (D.history disk.new (D.attached disk.new))) }
@@ -75,7 +75,7 @@ fn answer<D: Disk, L: Ledger>(
     steps: &mut Steps<L>,
 ) -> Result<Reply, Fault>
     requires works { Works (IsTrue (D.is_honest disk.old)) engine.old (D.history disk.old (D.attached disk.old)) }
-    ensures tells { IsTrue (D.is_honest disk.old) → (before : Container) → Holds engine.old before
+    ensures tells { IsTrue (D.is_honest disk.old) → (before : Container) → HoldsOver engine.old (D.history disk.old (D.attached disk.old)) before
         → TellsLine (IsTrue (D.is_honest disk.old)) before line.now result engine.new
         (D.history disk.old (D.attached disk.old)) (D.history disk.new (D.attached disk.new)) }
     ensures works { Works (IsTrue (D.is_honest disk.old)) engine.new (D.history disk.new (D.attached disk.new)) }
@@ -107,7 +107,7 @@ fn answer_line<D: Disk, L: Ledger>(
     steps: &mut Steps<L>,
 ) -> Result<Reply, Fault>
     requires works { Works (IsTrue (D.is_honest disk.old)) engine.old (D.history disk.old (D.attached disk.old)) }
-    ensures tells { IsTrue (D.is_honest disk.old) → (before : Container) → Holds engine.old before
+    ensures tells { IsTrue (D.is_honest disk.old) → (before : Container) → HoldsOver engine.old (D.history disk.old (D.attached disk.old)) before
         → TellsLine (IsTrue (D.is_honest disk.old)) before line.now result engine.new
         (D.history disk.old (D.attached disk.old)) (D.history disk.new (D.attached disk.new)) }
     ensures works { Works (IsTrue (D.is_honest disk.old)) engine.new (D.history disk.new (D.attached disk.new)) }

@@ -147,6 +147,22 @@ contents_since_on l old mid new contents opened has since idles =
     (λ image frames. record { frames = has.frames; has = subst (λ fs. HasFrames fs image) same frames; lead = has.lead }) (rests_of l opened.frames mid opened.agrees) in
     barrier_goes_on old mid new (HasContents contents) (contents_since old mid contents old.reads has since) rests (idles_stay mid new (HasContents contents) rests idles)
 
+-- the same told of the frames that were there
+pub frames_rest : (l : Log) (before : Image) (mid new : History) (frames : List (List ℕ)) → opening.IsOpened l before mid
+    → HasFrames frames before → Idles mid new → Rests new (HasFrames frames)
+frames_rest l before mid new frames opened has idles =
+    let same = one_frames before opened.frames frames (opened_frames l before mid opened) has in
+    idles_rest mid new (HasFrames frames)
+    (subst (λ fs. Rests mid (HasFrames fs)) same (rests_of l opened.frames mid opened.agrees)) idles
+
+pub frames_since_on : (l : Log) (old mid new : History) (frames : List (List ℕ)) → opening.IsOpened l old.reads mid
+    → HasFrames frames old.reads → SinceBarrier old mid (HasFrames frames) → Idles mid new
+    → SinceBarrier old new (HasFrames frames)
+frames_since_on l old mid new frames opened has since idles =
+    let same = one_frames old.reads opened.frames frames (opened_frames l old.reads mid opened) has in
+    let rests = subst (λ fs. Rests mid (HasFrames fs)) same (rests_of l opened.frames mid opened.agrees) in
+    barrier_goes_on old mid new (HasFrames frames) since rests (idles_stay mid new (HasFrames frames) rests idles)
+
 pub refused_store : (fault : LogFault) (before : Image) (history : History) → opening.Tells (Err fault) before history → TellsFault (of_log fault) before
 refused_store by_log.Disk before history tells = tt
 refused_store (by_log.Damaged extent at) before history tells = inl tells
@@ -246,3 +262,13 @@ module _ {C : Type 0} (pages : C → CachedPages) (store : Store C) (old : Histo
       (contents_of agrees.frames store.pages agrees.takes)
       (contents_of (agrees.frames ++ parts_bytes parts ∷ []) kept (takes_more kept (record { lead = lead; offsets = refl })))
       turn
+
+-- a commit, told of the frames that reads give: they are those by which the log agrees
+pub turned_frames : {C : Type 0} (pages : C → CachedPages) (store : Store C) (old new : History) (agrees : Agrees pages store old)
+    → MayLeave old.unsynced old.reads → (frames : List (List ℕ)) (span : List ℕ) → HasFrames frames old.reads
+    → Turns old new (HasFrames agrees.frames) (HasFrames (agrees.frames ++ span ∷ []))
+    → Turns old new (HasFrames frames) (HasFrames (frames ++ span ∷ []))
+turned_frames pages store old new agrees may frames span has turns =
+    subst (λ fs. Turns old new (HasFrames fs) (HasFrames (fs ++ span ∷ [])))
+    (one_frames old.reads agrees.frames frames
+    ((rests_of store.log agrees.frames old agrees.logged).each old.reads may) has) turns

@@ -1,8 +1,10 @@
 //! Committing a batch.
 
-ghost use Rattle.std.specs.Prelude.{◌≡◌, ◌≢◌, ◌≤◌, ◌<◌, [], ℕ, List, Some, Err, true, false, length, IsTrue, IfErr, OnOk, OnErr};
+ghost use Rattle.std.specs.Prelude.{◌≡◌, ◌≢◌, ◌≤◌, ◌<◌, [], ◌∷◌, ◌++◌, ℕ, List, Some, Err, true, false, length, IsTrue, IfErr, OnOk, OnErr};
 ghost use Rattle.ax_disk.specs.model.Calls.{Idles};
 ghost use Rattle.ax_disk.specs.model.Stays.{Turns};
+ghost use Rattle.ax_frame.specs.Part.{AllFit, parts_bytes};
+ghost use Rattle.ax_pages.specs.Image.{HasFrames};
 ghost use Rattle.ax_pages.specs.Contents.{Contents};
 ghost use Rattle.ax_pages.specs.HasContents.{HasContents};
 ghost use Rattle.ax_pages.specs.AfterPart.{after_parts};
@@ -71,6 +73,13 @@ impl<C: PageCache> Store<C> {
             → after_parts (batch_parts batch) (store_contents self.old) ≡ Some new
             → Turns (D.history disk.old (D.attached disk.old)) (D.history disk.new (D.attached disk.new))
             (HasContents (store_contents self.old)) (HasContents new) }
+
+        // Its log frames are those that were there, or these and one of the batch's parts behind them.
+        ensures frames { IsTrue (D.is_honest disk.old) → store_failed self.old ≡ false → (frames : List (List ℕ))
+            → HasFrames frames (D.history disk.old (D.attached disk.old)).reads
+            → Turns (D.history disk.old (D.attached disk.old)) (D.history disk.new (D.attached disk.new))
+            (HasFrames frames) (HasFrames (frames ++ parts_bytes (batch_parts batch) ∷ [])) }
+        ensures fit { AllFit (batch_parts batch) }
 
         ensures works { OnOk result (store_failed self.new ≡ false) }
         ensures fails { OnErr result (store_failed self.new ≡ true) }

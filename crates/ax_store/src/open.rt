@@ -1,7 +1,8 @@
 //! Opening a store.
 
-ghost use Rattle.std.specs.Prelude.{◌≡◌, ℕ, List, IsTrue, IfOk, false};
-ghost use Rattle.ax_disk.specs.model.Stays.{SinceBarrier};
+ghost use Rattle.std.specs.Prelude.{◌≡◌, ℕ, List, IsTrue, IfOk, OnOk, false};
+ghost use Rattle.ax_disk.specs.model.Stays.{Rests, SinceBarrier};
+ghost use Rattle.ax_pages.specs.Image.{HasFrames};
 ghost use Rattle.ax_pages.specs.Contents.{Contents};
 ghost use Rattle.ax_pages.specs.HasContents.{HasContents};
 ghost use Rattle.ax_log.specs.Opening.{Keeps};
@@ -47,6 +48,14 @@ impl<C: PageCache + Drop> Store<C> {
         ensures any_moment { IsTrue (D.is_honest disk.old) → (contents : Contents)
             → HasContents contents (D.history disk.old (D.attached disk.old)).reads
             → SinceBarrier (D.history disk.old (D.attached disk.old)) (D.history disk.new (D.attached disk.new)) (HasContents contents) }
+
+        // It leaves the log frames that were there, all of them and no other.
+        ensures frames { IsTrue (D.is_honest disk.old) → (frames : List (List ℕ))
+            → HasFrames frames (D.history disk.old (D.attached disk.old)).reads
+            → SinceBarrier (D.history disk.old (D.attached disk.old)) (D.history disk.new (D.attached disk.new)) (HasFrames frames) }
+        ensures kept { IsTrue (D.is_honest disk.old) → (frames : List (List ℕ))
+            → HasFrames frames (D.history disk.old (D.attached disk.old)).reads
+            → OnOk result (Rests (D.history disk.new (D.attached disk.new)) (HasFrames frames)) }
 
         ensures cause { HasDiskCause result (D.faults disk.old) (D.faults disk.new) }
         ensures attached { D.attached disk.new ≡ D.attached disk.old }

@@ -4,6 +4,8 @@ use Rattle.std.specs.Prelude.{IfErr, IsTrue, OnOk, Result}
 use Rattle.ax_cache.specs.Held.{held}
 use Rattle.ax_lines.specs.declared.line.Line.TheVariants as line
 use Rattle.ax_store.proofs.AheadLemmas.{ahead_of_nothing}
+use Rattle.ax_disk.specs.laws.StaysLaws.{idles_stay}
+use Rattle.ax_image.specs.Readable.{TellsReadable}
 use Rattle.ax_engine.specs.Damage.{Meets}
 use Rattle.ax_engine.specs.Documents.{DocumentsWork}
 use Rattle.ax_engine.specs.Engine.{Tells}
@@ -65,3 +67,8 @@ returns-clause-never_falls g c =
 pub returns-clause-lists : goal.returns-clause-lists
 returns-clause-lists g c = λ honest.
     lists_read _ c.args.documents.now _ _ _ _ _ _ c.reply_to_query-read.result c.reply_to_query-read.ensures.scans honest
+
+pub returns-clause-readable : goal.returns-clause-readable
+returns-clause-readable g c = λ honest rests.
+    idles_stay _ _ TellsReadable rests
+    (lists_read _ c.args.documents.now _ _ _ _ _ _ c.reply_to_query-read.result c.reply_to_query-read.ensures.scans honest)

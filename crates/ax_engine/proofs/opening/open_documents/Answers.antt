@@ -4,12 +4,12 @@ use Rattle.std.specs.Prelude.{IfOk}
 use Rattle.ax_disk.specs.laws.StaysLaws.{idles_start}
 use Rattle.ax_engine.specs.Documents.{DocumentsWork}
 use Rattle.ax_store.specs.Store.{store_contents}
-use Rattle.ax_engine.specs.Stores.{Shows}
-use Rattle.ax_engine.proofs.Opened.{holds_opened, idle_since, in_any, refuses_none, rose_numbered, since_opening, since_reading, works_numbered}
+use Rattle.ax_engine.specs.Stores.{IsImageOf}
+use Rattle.ax_engine.proofs.Opened.{holds_opened, idle_since, in_any, opened_rests, readable_still, refuses_none, rose_numbered, since_opening, since_reading, when_opened, works_numbered}
 use Rattle.ax_engine.proofs.opening.open_documents.Goals as goal
 
 pub returns-in_default-clause-any_moment : goal.returns-in_default-clause-any_moment
-returns-in_default-clause-any_moment g c = λ honest before store. idle_since _ _ (Shows before) (idles_start _)
+returns-in_default-clause-any_moment g c = λ honest before store. idle_since _ _ (IsImageOf before) (idles_start _)
 
 pub returns-in-Ok-open_store-clause-works : goal.returns-in-Ok-open_store-clause-works
 returns-in-Ok-open_store-clause-works g c =
@@ -24,9 +24,15 @@ returns-in-Ok-open_store-clause-holds g c = λ honest before store.
 
 pub returns-in-Ok-open_store-clause-any_moment : goal.returns-in-Ok-open_store-clause-any_moment
 returns-in-Ok-open_store-clause-any_moment g c = λ honest before store.
-    since_reading _ _ c.in-Ok-open_store.store before store (c.in-Ok-open_store.ensures.tells honest) _
-    (since_opening _ _ before store (c.open_store.ensures.any_moment honest))
+    since_reading _ _ before _ (opened_rests _ _ before store (c.in-Ok-open_store.ensures.kept honest))
+    (since_opening _ _ before store (c.open_store.ensures.frames honest))
     (c.number_all.ensures.numbers.lists (subst IsTrue (sym c.open_store.ensures.honest) honest))
+
+pub returns-in-Ok-open_store-clause-readable : goal.returns-in-Ok-open_store-clause-readable
+returns-in-Ok-open_store-clause-readable g c = λ honest before store.
+    when_opened c.number_all.result
+    (readable_still _ _ before _ (opened_rests _ _ before store (c.in-Ok-open_store.ensures.kept honest))
+    (c.number_all.ensures.numbers.lists (subst IsTrue (sym c.open_store.ensures.honest) honest)))
 
 pub returns-in-Ok-open_store-clause-refused : goal.returns-in-Ok-open_store-clause-refused
 returns-in-Ok-open_store-clause-refused g c = λ honest.
@@ -39,7 +45,7 @@ returns-in-Ok-open_store-clause-cause g c =
 
 pub returns-in-Err-clause-any_moment : goal.returns-in-Err-clause-any_moment
 returns-in-Err-clause-any_moment g c = λ honest before store.
-    since_opening _ _ before store (c.open_store.ensures.any_moment honest)
+    since_opening _ _ before store (c.open_store.ensures.frames honest)
 
 pub returns-in-Ok-open_store-clause-opened : goal.returns-in-Ok-open_store-clause-opened
 returns-in-Ok-open_store-clause-opened g c = λ honest.

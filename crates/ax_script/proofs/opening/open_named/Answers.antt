@@ -1,13 +1,13 @@
 -- The store of the name is attached, and then opened.
 use Rattle.std.proofs.Common.{IsTrue, sym, subst}
-use Rattle.ax_engine.specs.Stores.{Shows}
+use Rattle.ax_engine.specs.Stores.{IsImageOf}
 use Rattle.ax_engine.proofs.Opened.{idle_since}
 use Rattle.ax_script.proofs.Attached.{contents_named, since_named, store_there}
 use Rattle.ax_script.proofs.opening.open_named.Goals as goal
 
 pub returns-in_default-clause-any_moment : goal.returns-in_default-clause-any_moment
 returns-in_default-clause-any_moment g c = λ honest before store.
-    idle_since _ _ (Shows before) (c.attach.ensures.lists honest (g.D.Disk.store_named c.args.name.now))
+    idle_since _ _ (IsImageOf before) (c.attach.ensures.lists honest (g.D.Disk.store_named c.args.name.now))
 
 pub returns-in-Ok-open_engine-clause-holds : goal.returns-in-Ok-open_engine-clause-holds
 returns-in-Ok-open_engine-clause-holds g c = λ honest before store.

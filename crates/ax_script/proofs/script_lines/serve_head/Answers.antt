@@ -2,7 +2,7 @@
 use Rattle.std.proofs.Common.{◌≡◌, List, ℕ, [], ◌++◌, OnOk, IsTrue, sym, subst, ◌∙◌, arith}
 use Rattle.ax_container.specs.Container.{Container}
 use Rattle.ax_machine.specs.Run.{Served}
-use Rattle.ax_engine.specs.Engine.{Holds}
+use Rattle.ax_engine.specs.Engine.{HoldsOver}
 use Rattle.ax_script.specs.Progress.{Serves, outlets}
 use Rattle.ax_engine.proofs.Applying.{still_over}
 use Rattle.ax_script.proofs.Written.{begins_without, empty_list}
@@ -11,7 +11,7 @@ use Rattle.ax_script.proofs.script_lines.serve_head.Goals as goal
 pub returns-then-is_empty-clause-ok : goal.returns-then-is_empty-clause-ok
 returns-then-is_empty-clause-ok g c = λ honest before holds.
     let P : List ℕ → Type 0 = λ pending. OnOk c.serve_line.result ((now : Container)
-    × Holds c.serve_line.new.engine now × Serves (IsTrue (g.D.Disk.is_honest c.args.disk.now)) before
+    × HoldsOver c.serve_line.new.engine (g.D.Disk.history c.serve_line.new.disk (g.D.Disk.attached c.serve_line.new.disk)) now × Serves (IsTrue (g.D.Disk.is_honest c.args.disk.now)) before
     (pending ++ c.args.head.now) now
     (outlets (g.K.Sink.written c.args.sink.now) (g.D.Disk.history c.args.disk.now
     (g.D.Disk.attached c.args.disk.now)) c.args.steps.now)
@@ -30,7 +30,7 @@ returns-in_default-clause-err g c = λ honest before holds.
 pub returns-clause-ok : goal.returns-clause-ok
 returns-clause-ok g c = λ honest before holds.
     let P : List ℕ → Type 0 = λ line. (now : Container)
-    × Holds c.serve_line-served.new.engine now × Serves (IsTrue (g.D.Disk.is_honest c.args.disk.now)) before
+    × HoldsOver c.serve_line-served.new.engine (g.D.Disk.history c.serve_line-served.new.disk (g.D.Disk.attached c.serve_line-served.new.disk)) now × Serves (IsTrue (g.D.Disk.is_honest c.args.disk.now)) before
     line now
     (outlets (g.K.Sink.written c.args.sink.now) (g.D.Disk.history c.args.disk.now
     (g.D.Disk.attached c.args.disk.now)) c.args.steps.now)

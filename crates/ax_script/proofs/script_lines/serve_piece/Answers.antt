@@ -3,7 +3,7 @@ use Rattle.std.proofs.Common.{ℕ, ◌++◌, ◌∙◌, List, IsTrue, Bool, refl
 use Rattle.ax_container.specs.Container.{Container}
 use Rattle.ax_lines.specs.ScriptLines.{IsOneLine}
 use Rattle.ax_lines.proofs.Splits.{IsOneLine-append}
-use Rattle.ax_engine.specs.Engine.{Holds, Works}
+use Rattle.ax_engine.specs.Engine.{HoldsOver, Works}
 use Rattle.ax_script.specs.Progress.{outlets, Serves, BeginsToServe, ServesLines, StopsBy}
 use Rattle.ax_script.proofs.ServedLines.{InPiece, piece_begins, piece_goes_on, piece_fails}
 use Rattle.ax_script.proofs.ServedLines.{piece_ends, piece_breaks_off}
@@ -32,7 +32,7 @@ pub lines-preserved : goal.lines-preserved
 lines-preserved g c = record {
   part = λ honest before holds.
       let p = c.lines.invariant.part honest before holds in
-      let S : Bool → Type 0 = λ h. (now : Container) × Holds c.serve_head.new.engine now
+      let S : Bool → Type 0 = λ h. (now : Container) × HoldsOver c.serve_head.new.engine (g.D.Disk.history c.serve_head.new.disk (g.D.Disk.attached c.serve_head.new.disk)) now
       × Serves (IsTrue h) p.0 (c.lines.pending.items ++ c.in-Some.head.now) now
       (outlets (g.K.Sink.written c.lines.sink) (g.D.Disk.history c.lines.disk
       (g.D.Disk.attached c.lines.disk)) c.lines.steps)

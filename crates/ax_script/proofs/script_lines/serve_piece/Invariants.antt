@@ -2,15 +2,15 @@
 use Rattle.std.proofs.Common.{◌≡◌, None, ◌≤◌, length, IsTrue}
 use Rattle.ax_container.specs.Container.{Container}
 use Rattle.ax_lines.specs.ScriptLines.{IsOneLine}
-use Rattle.ax_engine.specs.Engine.{Holds, Works}
+use Rattle.ax_engine.specs.Engine.{HoldsOver, Works}
 use Rattle.ax_script.specs.Progress.{outlets}
 use Rattle.ax_script.proofs.ServedLines.{InPiece}
 use Rattle.ax_script.proofs.script_lines.serve_piece.Given as goal
 
 abbrev pub invariant-lines : goal.invariant-lines
 invariant-lines g l = record {
-  part : IsTrue (g.D.Disk.is_honest l.fn.disk) → (before : Container) → Holds l.fn.engine before
-      → (now : Container) × Holds l.engine now
+  part : IsTrue (g.D.Disk.is_honest l.fn.disk) → (before : Container) → HoldsOver l.fn.engine (g.D.Disk.history l.fn.disk (g.D.Disk.attached l.fn.disk)) before
+      → (now : Container) × HoldsOver l.engine (g.D.Disk.history l.disk (g.D.Disk.attached l.disk)) now
       × InPiece (IsTrue (g.D.Disk.is_honest l.fn.disk)) before now l.fn.pending.items l.pending.items
       l.piece l.rest
       (outlets (g.K.Sink.written l.fn.sink)

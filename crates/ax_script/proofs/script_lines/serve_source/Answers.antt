@@ -3,7 +3,7 @@ use Rattle.std.proofs.Common.{ℕ, List, [], Bool, ◌++◌, ◌∙◌, IsTrue, 
 use Rattle.std.specs.Io.KnownBytes.{Consumes}
 use Rattle.ax_container.specs.Container.{Container}
 use Rattle.ax_lines.specs.ScriptLines.{IsOneLine}
-use Rattle.ax_engine.specs.Engine.{Holds, Works}
+use Rattle.ax_engine.specs.Engine.{HoldsOver, Works}
 use Rattle.ax_script.specs.Progress.{outlets, ServesLines, BeginsLines, ServesLast, BeginsLast, Progress}
 use Rattle.ax_script.proofs.Endings.{streams, progress_begins, progress_goes_on, ends_by_read_fault}
 use Rattle.ax_script.proofs.Endings.{ends_long, ends_in_piece, ends_at_end, last_ends, last_serving}
@@ -103,7 +103,7 @@ pub pieces-preserved : goal.pieces-preserved
 pieces-preserved g c = record {
   progress = λ honest before holds.
       let p = c.pieces.invariant.progress honest before holds in
-      let S : Bool → Type 0 = λ h. (now : Container) × Holds c.serve_piece-served.new.engine now
+      let S : Bool → Type 0 = λ h. (now : Container) × HoldsOver c.serve_piece-served.new.engine (g.D.Disk.history c.serve_piece-served.new.disk (g.D.Disk.attached c.serve_piece-served.new.disk)) now
       × ServesLines (IsTrue h) p.0
       (c.pieces.pending.items ++ take c.in-Ok.count c.read_some.new.buf) now c.serve_piece-served.new.pending.items
       (outlets (g.K.Sink.written c.pieces.sink)

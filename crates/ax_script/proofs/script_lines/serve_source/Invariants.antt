@@ -1,7 +1,7 @@
 -- What was taken so far is served, but for a pending piece without a newline.
 use Rattle.std.proofs.Common.{◌≡◌, None, ◌≤◌, ◌-◌, IsTrue}
 use Rattle.ax_container.specs.Container.{Container}
-use Rattle.ax_engine.specs.Engine.{Holds, Works}
+use Rattle.ax_engine.specs.Engine.{HoldsOver, Works}
 use Rattle.ax_lines.specs.ScriptLines.{IsOneLine}
 use Rattle.ax_script.specs.Script.{most_input}
 use Rattle.ax_script.specs.Progress.{Progress}
@@ -10,8 +10,8 @@ use Rattle.ax_script.proofs.script_lines.serve_source.Given as goal
 
 abbrev pub invariant-pieces : goal.invariant-pieces
 invariant-pieces g l = record {
-  progress : IsTrue (g.D.Disk.is_honest l.fn.disk) → (before : Container) → Holds l.fn.engine before
-      → (now : Container) × Holds l.engine now
+  progress : IsTrue (g.D.Disk.is_honest l.fn.disk) → (before : Container) → HoldsOver l.fn.engine (g.D.Disk.history l.fn.disk (g.D.Disk.attached l.fn.disk)) before
+      → (now : Container) × HoldsOver l.engine (g.D.Disk.history l.disk (g.D.Disk.attached l.disk)) now
       × Progress (IsTrue (g.D.Disk.is_honest l.fn.disk)) before
       (streams (g.S.Source.rest l.fn.source) (g.K.Sink.written l.fn.sink) l.fn.steps)
       (streams (g.S.Source.rest l.source) (g.K.Sink.written l.sink) l.steps)

@@ -3,6 +3,10 @@ use Rattle.std.proofs.Common.{List, sym, subst, ◌∙◌}
 use Rattle.ax_cache.specs.Held.{held}
 use Rattle.ax_container.specs.Upsert.{replaced}
 use Rattle.ax_frame.specs.Part.{PartValue}
+use Rattle.ax_disk.specs.laws.StaysLaws.{stays_start}
+use Rattle.ax_image.specs.Readable.{IsReadablePart, TellsReadable}
+use Rattle.ax_image.proofs.ReadableUpserts.{replacing_readable}
+use Rattle.std.specs.List.{AllByRecursion}
 use Rattle.ax_image.specs.UpsertParts.{replacing_parts}
 use Rattle.ax_pages.specs.Contents.{Contents}
 use Rattle.ax_store.specs.Store.{store_contents}
@@ -10,7 +14,7 @@ use Rattle.ax_store.specs.Batch.{batch_parts}
 use Rattle.ax_store.specs.Putting.{AreWithin}
 use Rattle.ax_store.proofs.StoreLemmas.{agrees_same}
 use Rattle.ax_engine.specs.Documents.{contents_in}
-use Rattle.ax_engine.proofs.Holding.{still, holds_room, works_room, made_by, turned_by}
+use Rattle.ax_engine.proofs.Holding.{still, holds_room, works_room, made_by, readable_by, turned_by}
 use Rattle.ax_engine.proofs.Writing.{within_text, within_replacing, replaces, replaced_leads, numbers_replaced}
 use Rattle.ax_engine.proofs.documents.Documents.replace.Goals as goal
 
@@ -87,3 +91,31 @@ returns-in-Err-clause-tells g c = λ before id holds doc at.
           c.reserve.ensures.same.contents
           (c.commit.ensures.any_moment honest (c.reserve.ensures.same.failed ∙ c.requires.works.unfailed)),
     )
+
+pub returns-in_default-clause-readable : goal.returns-in_default-clause-readable
+returns-in_default-clause-readable g c = λ honest rests. stays_start _ TellsReadable rests
+
+pub returns-then-not-is_held-clause-readable : goal.returns-then-not-is_held-clause-readable
+returns-then-not-is_held-clause-readable g c = λ honest rests. stays_start _ TellsReadable rests
+
+pub returns-in_default-replacing-clause-readable : goal.returns-in_default-replacing-clause-readable
+returns-in_default-replacing-clause-readable g c = λ honest rests. stays_start _ TellsReadable rests
+
+pub returns-in_default-reserve-clause-readable : goal.returns-in_default-reserve-clause-readable
+returns-in_default-reserve-clause-readable g c = λ honest rests. stays_start _ TellsReadable rests
+
+pub returns-in-Ok-commit-clause-readable : goal.returns-in-Ok-commit-clause-readable
+returns-in-Ok-commit-clause-readable g c = λ honest rests.
+    readable_by _ _ (batch_parts c.in-Ok.batch) rests
+    (g.met.D.Disk.reads_may_stay c.args.disk.now (g.D.Disk.attached c.args.disk.now) honest) c.commit.ensures.fit
+    (subst (AllByRecursion IsReadablePart) (sym c.in-Ok.ensures.parts)
+    (replacing_readable c.args.number c.in-Some.policy c.args.tree.now c.requires.storable))
+    (c.commit.ensures.frames honest (c.reserve.ensures.same.failed ∙ c.requires.works.unfailed))
+
+pub returns-in-Err-clause-readable : goal.returns-in-Err-clause-readable
+returns-in-Err-clause-readable g c = λ honest rests.
+    readable_by _ _ (batch_parts c.in-Ok.batch) rests
+    (g.met.D.Disk.reads_may_stay c.args.disk.now (g.D.Disk.attached c.args.disk.now) honest) c.commit.ensures.fit
+    (subst (AllByRecursion IsReadablePart) (sym c.in-Ok.ensures.parts)
+    (replacing_readable c.args.number c.in-Some.policy c.args.tree.now c.requires.storable))
+    (c.commit.ensures.frames honest (c.reserve.ensures.same.failed ∙ c.requires.works.unfailed))

@@ -3,6 +3,7 @@ use Rattle.ax_engine.proofs.Applying.{applies_told}
 use Rattle.ax_engine.proofs.engine.Engine.apply.Goals as goal
 
 pub returns-clause-applies : goal.returns-clause-applies
-returns-clause-applies g c = λ honest before holds.
+returns-clause-applies g c = λ honest before over.
     applies_told _ before _ c.answer-answered.result _ _ _ c.fault_of-self.ensures.none
-    (c.answer-answered.ensures.tells honest before holds.documents)
+    (c.answer-answered.ensures.tells honest before over.holds.documents)
+    (c.answer-answered.ensures.readable honest over.readable)

@@ -3,7 +3,7 @@ use Rattle.ax_frame.specs.Part.{parts_bytes}
 use Rattle.ax_log.specs.Commit.{IsCommitSpelling}
 use Rattle.ax_store.specs.Putting.{AreWithin, CanTake, Puts}
 use Rattle.ax_store.proofs.CanFrames.{can_from}
-use Rattle.ax_store.proofs.StoreLemmas.{text_of, turns, committed}
+use Rattle.ax_store.proofs.StoreLemmas.{text_of, turns, turned_frames, committed}
 use Rattle.ax_store.proofs.store.Store.commit.Goals as goal
 
 pub returns-in_default-clause-any_moment : goal.returns-in_default-clause-any_moment
@@ -38,3 +38,30 @@ returns-clause-any_moment g c = λ honest works new lead.
     let text = text_of c.args.batch.frame.items c.args.batch.text can (c.args.batch.spelled c.requires.sealed) in
     turns g.C.PageCache.pages c.args.self.now _ agrees c.args.batch.text can _ new lead
     (c.commit.ensures.any_moment honest agrees.frames (parts_bytes c.args.batch.text) agrees.logged (subst (λ bytes. IsCommitSpelling bytes (parts_bytes c.args.batch.text)) (sym c.deref.ensures.value) text))
+
+pub returns-in_default-clause-frames : goal.returns-in_default-clause-frames
+returns-in_default-clause-frames g c = λ honest works frames has.
+    let agrees = c.requires.agrees honest works in
+    let can = can_from c.args.batch.text (c.args.batch.can c.requires.sealed) in
+    let text = text_of c.args.batch.frame.items c.args.batch.text can (c.args.batch.spelled c.requires.sealed) in
+    turned_frames g.C.PageCache.pages c.args.self.now _ _ agrees
+    (g.met.D.Disk.reads_may_stay c.args.disk.now (g.D.Disk.attached c.args.disk.now) honest) frames (parts_bytes c.args.batch.text) has
+    (c.commit.ensures.any_moment honest agrees.frames (parts_bytes c.args.batch.text) agrees.logged (subst (λ bytes. IsCommitSpelling bytes (parts_bytes c.args.batch.text)) (sym c.deref.ensures.value) text))
+
+pub returns-in_default-clause-fit : goal.returns-in_default-clause-fit
+returns-in_default-clause-fit g c = (can_from c.args.batch.text (c.args.batch.can c.requires.sealed)).fit
+
+pub returns-clause-frames : goal.returns-clause-frames
+returns-clause-frames g c = λ honest works frames has.
+    let agrees = c.requires.agrees honest works in
+    let can = can_from c.args.batch.text (c.args.batch.can c.requires.sealed) in
+    let text = text_of c.args.batch.frame.items c.args.batch.text can (c.args.batch.spelled c.requires.sealed) in
+    turned_frames g.C.PageCache.pages c.args.self.now _ _ agrees
+    (g.met.D.Disk.reads_may_stay c.args.disk.now (g.D.Disk.attached c.args.disk.now) honest) frames (parts_bytes c.args.batch.text) has
+    (c.commit.ensures.any_moment honest agrees.frames (parts_bytes c.args.batch.text) agrees.logged (subst (λ bytes. IsCommitSpelling bytes (parts_bytes c.args.batch.text)) (sym c.deref.ensures.value) text))
+
+pub returns-clause-fit : goal.returns-clause-fit
+returns-clause-fit g c = (can_from c.args.batch.text (c.args.batch.can c.requires.sealed)).fit
+
+pub returns-then-self-clause-fit : goal.returns-then-self-clause-fit
+returns-then-self-clause-fit g c = (can_from c.args.batch.text (c.args.batch.can c.requires.sealed)).fit

@@ -1,6 +1,6 @@
 use Rattle.std.proofs.Common.{sym, subst, refl}
 use Rattle.std.specs.Prelude.{IsTrue}
-use Rattle.ax_store.proofs.StoreLemmas.{contents_since, contents_since_on, load_opened, load_refused, load_keeps}
+use Rattle.ax_store.proofs.StoreLemmas.{contents_since, contents_since_on, frames_rest, frames_since_on, load_opened, load_refused, load_keeps}
 use Rattle.ax_store.proofs.store.Store.open_store.Goals as goal
 
 pub returns-in-Err-clause-any_moment : goal.returns-in-Err-clause-any_moment
@@ -42,3 +42,23 @@ returns-in-Err-make-clause-any_moment g c = λ honest contents has.
     let opened = c.in-Ok.ensures.tells honest in
     let still = subst IsTrue (sym c.open_log.ensures.honest) honest in
     contents_since_on c.in-Ok.log _ _ _ contents opened has (c.open_log.ensures.any_moment honest) (c.load.ensures.lists still)
+
+pub returns-in-Ok-make-clause-frames : goal.returns-in-Ok-make-clause-frames
+returns-in-Ok-make-clause-frames g c = λ honest frames has.
+    frames_since_on c.in-Ok.log _ _ _ frames (c.in-Ok.ensures.tells honest) has
+    (c.open_log.ensures.any_moment honest frames has) (c.load.ensures.lists (subst IsTrue (sym c.open_log.ensures.honest) honest))
+
+pub returns-in-Err-load-clause-frames : goal.returns-in-Err-load-clause-frames
+returns-in-Err-load-clause-frames g c = λ honest frames has.
+    frames_since_on c.in-Ok.log _ _ _ frames (c.in-Ok.ensures.tells honest) has
+    (c.open_log.ensures.any_moment honest frames has) (c.load.ensures.lists (subst IsTrue (sym c.open_log.ensures.honest) honest))
+
+pub returns-in-Err-make-clause-frames : goal.returns-in-Err-make-clause-frames
+returns-in-Err-make-clause-frames g c = λ honest frames has.
+    frames_since_on c.in-Ok.log _ _ _ frames (c.in-Ok.ensures.tells honest) has
+    (c.open_log.ensures.any_moment honest frames has) (c.load.ensures.lists (subst IsTrue (sym c.open_log.ensures.honest) honest))
+
+pub returns-in-Ok-make-clause-kept : goal.returns-in-Ok-make-clause-kept
+returns-in-Ok-make-clause-kept g c = λ honest frames has.
+    frames_rest c.in-Ok.log _ _ _ frames (c.in-Ok.ensures.tells honest) has
+    (c.load.ensures.lists (subst IsTrue (sym c.open_log.ensures.honest) honest))
