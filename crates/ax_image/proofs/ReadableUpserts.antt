@@ -63,4 +63,4 @@ replacing_readable number policy tree storable = (document_readable number polic
 pub creating_readable : (number policy : ℕ) (tree : Tree) → IsStorable tree
     → AllByRecursion IsReadablePart (creating_parts number policy tree)
 creating_readable number policy tree storable =
-    (meta_readable (number + 1) policy, document_readable number policy tree storable, tt)
+    (meta_readable (number + 1) policy, (document_readable number policy tree storable, tt))

@@ -6,13 +6,14 @@ use Rattle.std.specs.List.{AllByRecursion}
 use Rattle.ax_disk.specs.model.Image.{Image}
 use Rattle.ax_frame.specs.Part.{PartValue, AllFit, parts_bytes}
 use Rattle.ax_pages.specs.Image.{HasFrames}
+use Rattle.ax_area.specs.declared.numbers.TheConstants.{NEWEST_VERSION}
 use Rattle.ax_area.specs.Changes.{Change, change_of}
 use Rattle.ax_area.specs.Items.{single}
 use Rattle.ax_image_grammar.specs.Payloads.{IsReadable}
 
 -- the newest version of the format that is known, which is the one that is written
 abbrev pub newest : ℕ
-newest = 1
+newest = NEWEST_VERSION
 
 -- whatever change the part says, its payload is in the grammar of such changes
 abbrev pub IsReadablePart : PartValue → Type 0
