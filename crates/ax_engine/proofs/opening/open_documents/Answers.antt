@@ -31,7 +31,7 @@ returns-in-Ok-open_store-clause-any_moment g c = λ honest before store.
 pub returns-in-Ok-open_store-clause-readable : goal.returns-in-Ok-open_store-clause-readable
 returns-in-Ok-open_store-clause-readable g c = λ honest before store.
     when_opened c.number_all.result
-    (readable_still _ _ before _ (opened_rests _ _ before store (c.in-Ok-open_store.ensures.kept honest))
+    (readable_still (g.D.Disk.history c.args.disk.now (g.D.Disk.attached c.args.disk.now)) _ before _ (opened_rests _ _ before store (c.in-Ok-open_store.ensures.kept honest))
     (c.number_all.ensures.numbers.lists (subst IsTrue (sym c.open_store.ensures.honest) honest)))
 
 pub returns-in-Ok-open_store-clause-refused : goal.returns-in-Ok-open_store-clause-refused
