@@ -1,0 +1,4 @@
+pub mod Documents
+pub mod Stepping
+pub mod Telling
+pub mod InGrammar
