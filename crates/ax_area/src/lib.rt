@@ -4,7 +4,7 @@
 //! An item is one part, or the first part of a long document with its pieces. It is read once, by the table of
 //! kinds, to a change in which no version stands; all definitions behind that are the same for each version. It
 //! stands on `ax_pages` for areas and term pages, on `ax_frame` for slots, frames and parts, and on `ax_disk` for
-//! images. Nothing stands on it yet but `ax_image_grammar`: the log and the store still have the words of
+//! images. What images stand for cites its changes; the log and the store still have the words of
 //! `ax_pages`, and go over to these.
 //!
 //! Its one contract: opening finds exactly one thing of each image: a version with what the area tells and the
