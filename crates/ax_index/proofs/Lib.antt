@@ -1,6 +1,8 @@
 pub mod CallLemmas
 pub mod DeltaParts
+pub mod CarriedLemmas
 pub mod DeltaRunLemmas
+pub mod DeltaSizes
 pub mod FoldedPairs
 pub mod Gathering
 pub mod IndexPages

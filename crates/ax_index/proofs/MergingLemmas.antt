@@ -30,6 +30,7 @@ use Rattle.ax_pairs.proofs.PairOrder.{NotAfter, both_ways, not_after_then, not_b
 use Rattle.ax_pairs.proofs.Leading.{lead_nothing, lead_then}
 use Rattle.ax_store.specs.Kept.{deltas_of}
 use Rattle.ax_index.specs.Bare.{has_deltas, with_deltas}
+use Rattle.ax_index.specs.Carried.{HasLowPair}
 use Rattle.ax_index.specs.Merging.{IsStuck, IsMergePlan, IsPassed, IsReady, IsBehind, IsMergedTo}
 use Rattle.ax_index.specs.Planning.{IsUpTo, IsPageDone, IsPagePlanned}
 use Rattle.ax_index.proofs.DeltaRunLemmas.{carry_nothing}
@@ -173,6 +174,12 @@ merged_one {honest = honest} page at before merged next later old here new behin
             (planned.done.bare refl) planned.done.same planned.done.new_bare,
       );
       next_is = planned.next_is;
+      new_with = λ n from below.
+          ⊎_elim
+          (λ (l : n < length is.now).
+          subst HasLowPair (sym (planned.done.same n l (λ e. omega (arith, e, from, there)))) (is.new_with n from l))
+          (λ (l : length is.now ≤ n). planned.done.new_with n l below)
+          (cases_lt n (length is.now));
       ready = ready_by page at before is.now planned.after is.parts planned.parts true behind up planned.done;
       stuck = λ n h passed.
           ⊎_elim
@@ -211,9 +218,11 @@ left_one {honest = honest} page at before merged next old here behind is stuck_h
       no_deltas = is.no_deltas;
       fewer = is.fewer;
       next_is = is.next_is;
+      new_with = is.new_with;
       ready = subst (λ (ps : List PartValue). IsReady at before is.now ps) (append-nil is.parts)
           (ready_by page at before is.now is.now is.parts [] false behind up
-          (done_by_deltas {honest = true} page [] before is.now is.now [] (λ p h. absurd (cc)) (carry_nothing page is.now)));
+          (done_by_deltas {honest = true} page [] before is.now is.now [] (λ p h. absurd (cc)) there (carry_nothing page is.now)
+          (λ more. absurd (omega (arith, more)))));
       stuck = λ n h passed.
           ⊎_elim
           (λ (less : pair_cmp (low_pair n before) (low_pair page before) ≡ Less). is.stuck n h less)
@@ -235,6 +244,7 @@ merged_none page before next old of next_is = record {
   no_deltas = λ number. refl;
   fewer = omega arith;
   next_is = next_is;
+  new_with = λ n from below. absurd (omega arith);
   ready = (
     of.there,
     record {
@@ -243,6 +253,7 @@ merged_none page before next old of next_is = record {
       fresh = λ n from below. absurd (omega arith);
       same = λ n h from. refl;
       none = λ n h from. refl;
+      no_bases = λ n h from. refl;
     },
   );
   stuck = λ n h passed.
@@ -261,6 +272,7 @@ merged_all before asked merged next old new is most = record {
   fewer = is.fewer;
   at_most = most;
   finished = λ less number h. is.stuck number h tt;
+  new_with = is.new_with;
 }
 
 -- ---- a page that can't be merged

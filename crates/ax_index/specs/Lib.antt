@@ -1,6 +1,8 @@
 pub mod Bare
+pub mod Carried
 pub mod Damage
 pub mod DeltaRuns
+pub mod DeltaSizes
 pub mod Merging
 pub mod Planning
 pub mod Plans

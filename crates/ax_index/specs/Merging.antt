@@ -14,6 +14,7 @@ use Rattle.ax_pairs.specs.PairSets.{PairSet}
 use Rattle.ax_pairs.specs.TermParts.{LeadTo}
 use Rattle.ax_store.specs.Kept.{deltas_of}
 use Rattle.ax_index.specs.Bare.{has_deltas, with_deltas}
+use Rattle.ax_index.specs.Carried.{HasLowPair}
 use Rattle.ax_index.specs.Planning.{IsUpTo}
 
 -- Of an index on an honest disk, a page that still has deltas has so many pairs that its new pages might need a number which
@@ -24,7 +25,7 @@ IsStuck honest number before after =
     → HasPairs (term_page number before) pairs → most_term_pages < length after + length pairs
 
 -- Behind the parts that a batch had, parts were put that change no pair. So many pages fewer have deltas: as
--- many as were asked for, or else no page has deltas but those that are stuck.
+-- many as were asked for, or else no page has deltas but those that are stuck. A new page has a pair.
 pub record IsMergePlan (honest : Bool) (asked merged : ℕ) (old new : List PartValue) (before : List TermPage) : Type 0 where
   pub parts : List PartValue
   pub added : new ≡ old ++ parts
@@ -35,6 +36,7 @@ pub record IsMergePlan (honest : Bool) (asked merged : ℕ) (old new : List Part
   pub fewer : with_deltas after + merged ≡ with_deltas before
   pub at_most : merged ≤ asked
   pub finished : merged < asked → (number : ℕ) → number < length before → IsStuck honest number before after
+  pub new_with : (number : ℕ) → length before ≤ number → number < length after → HasLowPair (term_page number after)
 
 -- the page comes before the one that is next, in the order of low pairs
 abbrev pub IsPassed : Option ℕ → ℕ → List TermPage → Type 0
@@ -62,5 +64,6 @@ pub record IsMergedTo (honest : Bool) (at : Option ℕ) (before : List TermPage)
   pub no_deltas : (number : ℕ) → deltas_of number parts ≡ 0
   pub fewer : with_deltas now + merged ≡ with_deltas before
   pub next_is : next ≡ length now
+  pub new_with : (number : ℕ) → length before ≤ number → number < length now → HasLowPair (term_page number now)
   pub ready : IsReady at before now parts
   pub stuck : (number : ℕ) → number < length before → IsPassed at number before → IsStuck honest number before now

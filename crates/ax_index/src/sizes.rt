@@ -6,7 +6,8 @@
 //! decides what a write costs: bases of `MOST_BASE_BYTES` at most, split to `SPLIT_BASE_BYTES`, have about
 //! three quarters of the most.
 
-ghost use Rattle.std.specs.Prelude.{◌<◌, ◌≤◌, length};
+ghost use Rattle.std.specs.Prelude.{◌↔◌, ◌<◌, ◌≤◌, IsTrue, length, take};
+ghost use Rattle.ax_index.specs.DeltaSizes.{HaveShortTerms, counted_bytes};
 
 use ax_delta::Change;
 use ax_leaf::short_term::in_common;
@@ -27,8 +28,11 @@ const MOST_BASE_BYTES: usize = 4_096;
 /// As how many bytes the pairs of a base are counted, at most, that is split off one of more.
 const SPLIT_BASE_BYTES: usize = 2_048;
 
-/// How many bytes the changes of a delta are counted as, at most, but for one alone. A part has room for
-/// 65,536.
+/// The most bytes of a term that a change may bring.
+const MOST_TERM_BYTES: usize = 4_096;
+
+/// How many bytes the changes of a delta are counted as, at most, where they do not fit one. A part has room
+/// for 65,536.
 const MOST_DELTA_BYTES: usize = 60_000;
 
 /// What a term and a number take beside the bytes of the term, at most: five numbers of five bytes.
@@ -99,17 +103,24 @@ fn bytes_of_number(number: u32) -> usize
     }
 }
 
-/// How many of rising changes a delta is to have: as many as fit a part, and at least one.
+/// Has no term of the changes more than 4,096 bytes? `plan_changes` requires it.
+pub fn have_short_terms(changes: &[Change]) -> bool
+    ensures { IsTrue result ↔ HaveShortTerms changes.now }
+{
+    changes.iter().all(|change| change.pair.term.as_slice().len() <= MOST_TERM_BYTES)
+}
+
+/// How many of rising changes a delta is to have: as many as surely fit a part.
 pub(crate) fn delta_len(changes: &[Change]) -> usize
+    requires short { HaveShortTerms changes.now }
     ensures within { result ≤ length changes.now }
     ensures some { 0 < length changes.now → 0 < result }
+    ensures fits { counted_bytes (take result changes.now) ≤ 60000 }
 {
-    let mut bytes: usize = 0;
+    let mut bytes = 0;
     for (i, change) in changes.iter().enumerate() {
-        bytes = bytes
-            .saturating_add(BESIDE_TERM)
-            .saturating_add(change.pair.term.as_slice().len());
-        if i > 0 && bytes > MOST_DELTA_BYTES {
+        bytes += BESIDE_TERM + change.pair.term.as_slice().len();
+        if bytes > MOST_DELTA_BYTES {
             return i;
         }
     }
