@@ -169,7 +169,7 @@ first_planned {honest = honest} all changes run behind before merged next later 
     subst (λ (n : ℕ). IsPlannedTo honest all behind before (merged + n) later more old new) (sym extra_is)
     (planned_more all run behind before merged next room more old here new page is_merged later mine up (first_there changes page before first)
     (subst (λ (left : List Change). IsFirstOf left page before) whole first) some
-    (run_all_belong before page changes run behind whole some first rise parted) parted
+    (run_all_belong before page changes run behind whole some first rise parted) (rise_parted changes run behind whole rise).0 parted
     (planned mine.now mine.parts up mine.next_is (run_all_belong before page changes run behind whole some first rise parted)) never_less)
 
 -- ---- stores

@@ -45,6 +45,13 @@ bases_put_more n (part ∷ first) second = by_test (is_base_kind (kind_of part.k
     by_test true e = ap (λ (ps : List (List ℕ)). part.payload ∷ ps) e
     by_test false e = e
 
+pub same_bases : (n : ℕ) (first second : List PartValue) → bases_put n second ≡ [] → bases_put n (first ++ second) ≡ bases_put n first
+same_bases n first second none =
+    bases_put_more n first second ∙ ap (λ (ps : List (List ℕ)). bases_put n first ++ ps) none ∙ append-nil (bases_put n first)
+
+pub later_bases : (n : ℕ) (first second : List PartValue) → bases_put n first ≡ [] → bases_put n (first ++ second) ≡ bases_put n second
+later_bases n first second none = bases_put_more n first second ∙ ap (λ (ps : List (List ℕ)). ps ++ bases_put n second) none
+
 -- ---- how many
 
 many_by_kind : (k : Option Kind) (key n : ℕ) (payload : List ℕ) (payloads : List (List ℕ))
@@ -133,13 +140,19 @@ put_as : (merged : Bool) (changes : List Change) (bases deltas : List (List ℕ)
 put_as true changes bases deltas some put = inl (some, put.0, put.1)
 put_as false changes bases deltas some put = inr put
 
+pub was_merged : (merged : Bool) (changes : List Change) (bases deltas : List (List ℕ)) → IsPutBy merged changes bases deltas → 0 < length bases → merged ≡ true
+was_merged true changes bases deltas put some = refl
+was_merged false changes bases deltas put some = absurd (omega (arith, some, ap (λ (ps : List (List ℕ)). length ps) put.0))
+
+pub some_in : (p : Pair) (pairs : List Pair) → has p pairs ≡ true → 0 < length pairs
+some_in p [] h = absurd (cc)
+some_in p (q ∷ pairs) h = omega arith
+
 module _ (page : ℕ) (pages : List TermPage) (done run : List Change) (parts more : List PartValue) (belong : AllBelong (changed_pairs run) page pages) where
   pub settled_here : (merged : Bool) → 0 < length run → AreBefore (changed_pairs done) (low_pair page pages) → bases_put page parts ≡ [] → deltas_put page parts ≡ []
       → IsPutBy merged run (bases_put page more) (deltas_put page more) → IsSettled page pages (done ++ run) (parts ++ more)
   settled_here merged some passed no_bases no_deltas put =
-      let bases : bases_put page (parts ++ more) ≡ bases_put page more =
-      bases_put_more page parts more ∙ ap (λ (ps : List (List ℕ)). ps ++ bases_put page more) no_bases
-      in
+      let bases : bases_put page (parts ++ more) ≡ bases_put page more = later_bases page parts more no_bases in
       let deltas : deltas_put page (parts ++ more) ≡ deltas_put page more =
       deltas_put_more page parts more ∙ ap (λ (ps : List (List ℕ)). ps ++ deltas_put page more) no_deltas
       in
@@ -162,9 +175,7 @@ module _ (page : ℕ) (pages : List TermPage) (done run : List Change) (parts mo
       → IsSettled number pages done parts → IsSettled number pages (done ++ run) (parts ++ more)
   settled_other number are apart no_bases no_deltas was =
       let of = was.of_page in
-      let bases : bases_put number (parts ++ more) ≡ bases_put number parts =
-      bases_put_more number parts more ∙ ap (λ (ps : List (List ℕ)). bases_put number parts ++ ps) no_bases ∙ append-nil (bases_put number parts)
-      in
+      let bases : bases_put number (parts ++ more) ≡ bases_put number parts = same_bases number parts more no_bases in
       let deltas : deltas_put number (parts ++ more) ≡ deltas_put number parts =
       deltas_put_more number parts more ∙ ap (λ (ps : List (List ℕ)). deltas_put number parts ++ ps) no_deltas ∙ append-nil (deltas_put number parts)
       in

@@ -30,12 +30,13 @@ use Rattle.ax_pairs.proofs.PairOrder.{NotAfter, both_ways, not_after_then, not_b
 use Rattle.ax_pairs.proofs.Leading.{lead_nothing, lead_then}
 use Rattle.ax_store.specs.Kept.{deltas_of}
 use Rattle.ax_index.specs.Bare.{has_deltas, with_deltas}
-use Rattle.ax_index.specs.Carried.{HasLowPair}
+use Rattle.ax_index.specs.Carried.{HasLowPair, HasSome}
 use Rattle.ax_index.specs.Merging.{IsStuck, IsMergePlan, IsPassed, IsReady, IsBehind, IsMergedTo}
 use Rattle.ax_index.specs.Planning.{IsUpTo, IsPageDone, IsPagePlanned}
+use Rattle.ax_index.proofs.CarriedLemmas.{same_bases}
 use Rattle.ax_index.proofs.DeltaRunLemmas.{carry_nothing}
 use Rattle.ax_index.proofs.Lists.{deltas_more}
-use Rattle.ax_index.proofs.PlanningLemmas.{as_number, done_by_deltas, up_behind}
+use Rattle.ax_index.proofs.PlanningLemmas.{as_number, done_by_deltas, of_now, up_behind}
 
 -- ---- how many
 
@@ -180,6 +181,24 @@ merged_one {honest = honest} page at before merged next later old here new behin
           subst HasLowPair (sym (planned.done.same n l (λ e. omega (arith, e, from, there)))) (is.new_with n from l))
           (λ (l : length is.now ≤ n). planned.done.new_with n l below)
           (cases_lt n (length is.now));
+      filled = λ told set index n h based p of member.
+          ⊎_elim
+          (λ (e : n ≡ page).
+          subst (λ (k : ℕ). HasSome (term_page k planned.after)) (sym e)
+          (planned.done.filled refl told set (is.holds told set index) p
+          (of_now (low_pair page before) before is.now is.parts p page up (same_not_after (low_pair page before) (low_pair page before) refl)
+          (subst (λ (k : ℕ). IsPageOf p k before) e of))
+          member))
+          (λ (apart : n ≡ page → ⊥).
+          subst HasSome (sym (planned.done.same n (omega (arith, h, is.longer)) apart))
+          (is.filled told set index n h
+          (omega (
+            arith,
+            based,
+            ap (λ (ps : List (List ℕ)). length ps) (same_bases n is.parts planned.parts (planned.done.elsewhere n h apart)),
+          ))
+          p of member))
+          (cases_eq n page);
       ready = ready_by page at before is.now planned.after is.parts planned.parts true behind up planned.done;
       stuck = λ n h passed.
           ⊎_elim
@@ -219,6 +238,7 @@ left_one {honest = honest} page at before merged next old here behind is stuck_h
       fewer = is.fewer;
       next_is = is.next_is;
       new_with = is.new_with;
+      filled = is.filled;
       ready = subst (λ (ps : List PartValue). IsReady at before is.now ps) (append-nil is.parts)
           (ready_by page at before is.now is.now is.parts [] false behind up
           (done_by_deltas {honest = true} page [] before is.now is.now [] (λ p h. absurd (cc)) there (carry_nothing page is.now)
@@ -245,6 +265,7 @@ merged_none page before next old of next_is = record {
   fewer = omega arith;
   next_is = next_is;
   new_with = λ n from below. absurd (omega arith);
+  filled = λ told set index n h some p of member. absurd (omega (arith, some));
   ready = (
     of.there,
     record {
@@ -273,6 +294,7 @@ merged_all before asked merged next old new is most = record {
   at_most = most;
   finished = λ less number h. is.stuck number h tt;
   new_with = is.new_with;
+  filled = is.filled;
 }
 
 -- ---- a page that can't be merged

@@ -27,7 +27,7 @@ use Rattle.ax_pairs.proofs.Rewritten.{base_low, rewritten}
 use Rattle.ax_pairs.proofs.Sets.{same_set}
 use Rattle.ax_pairs.proofs.SplitOff.{with_list, split_off}
 use Rattle.ax_index.specs.Bare.{has_deltas}
-use Rattle.ax_index.specs.Carried.{HasLowPair, bases_put}
+use Rattle.ax_index.specs.Carried.{HasLowPair, HasSome, bases_put}
 use Rattle.ax_index.specs.Rewriting.{without, Replaces, Rewrites}
 use Rattle.ax_index.proofs.CarriedLemmas.{bases_put_more, no_base_of, one_base_put}
 use Rattle.ax_index.proofs.Lists.{deltas_more, bases_more, has_more, in_first, in_second, not_in_first, first_of_list, rises_back, one_before, not_in_both, not_in_other, first_least}
@@ -36,7 +36,7 @@ use Rattle.ax_index.proofs.Lists.{deltas_more, bases_more, has_more, in_first, i
 
 module _ (page : ℕ) (first rest : List Pair) (now : List TermPage) (payload : List ℕ) (there : page < length now) (rise : Rise (first ++ rest))
     (spelled : IsLeaf payload (low_pair page now) (postings_of first)) (belong : AllBelong (first ++ rest) page now)
-    (above : (p : Pair) → has p rest ≡ true → pair_cmp (low_pair page now) p ≡ Less) where
+    (above : (p : Pair) → has p rest ≡ true → pair_cmp (low_pair page now) p ≡ Less) (some : 0 < length (first ++ rest) → 0 < length first) where
   abbrev after_first : List TermPage
   after_first = after_base page payload now
 
@@ -84,6 +84,10 @@ module _ (page : ℕ) (first rest : List Pair) (now : List TermPage) (payload : 
     own = ap (λ (ps : List (List ℕ)). length ps) (one_base_put page payload);
     elsewhere = λ n h apart. no_base_of page n payload apart;
     new_with = λ n from below. absurd (omega (arith, lows_first.many));
+    filled = λ h.
+        subst HasSome
+        (sym (ap (term_page page) (put_within page (with_base payload) now there) ∙ get_or-set_same now page (with_base payload) no_term_page there))
+        (first, of_payload payload (low_pair page now) first spelled, some h);
     fresh = λ n from below. absurd (omega (arith, lows_first.many));
     front = first;
     whole = refl;
@@ -209,6 +213,8 @@ module _ (page : ℕ) (list : List Pair) (q : Pair) (piece rest : List Pair) (no
         (λ (l : n < length old).
         subst HasLowPair (sym (get_or_append_left old (new_page ∷ []) no_term_page n l)) (is.new_with n from l))
         (last_or_before n below);
+    filled = λ h.
+        subst HasSome (sym (get_or_append_left old (new_page ∷ []) no_term_page page (omega (arith, is.there, is.longer)))) (is.filled h);
     fresh = λ n from below.
         ⊎_elim
         (λ (e : n ≡ length old).

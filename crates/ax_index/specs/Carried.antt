@@ -75,6 +75,10 @@ pub record IsSettled (number : ℕ) (pages : List TermPage) (all : List Change) 
   pub of_page : AreChangesOf number pages all changes
   pub put : IsPut changes (bases_put number parts) (deltas_put number parts)
 
--- a page has pairs, and its low pair among them
+-- a page has pairs
+abbrev pub HasSome : TermPage → Type 0
+HasSome page = (pairs : List Pair) × HasPairs page pairs × (0 < length pairs)
+
+-- and its low pair among them
 abbrev pub HasLowPair : TermPage → Type 0
 HasLowPair page = (pairs : List Pair) × HasPairs page pairs × (has (low_of page) pairs ≡ true)

@@ -15,7 +15,7 @@ use Rattle.ax_pairs.specs.PairSets.{PairSet, with_changes}
 use Rattle.ax_pairs.specs.TermParts.{LeadTo, bases_below}
 use Rattle.ax_store.specs.Kept.{deltas_of}
 use Rattle.ax_index.specs.Bare.{has_deltas}
-use Rattle.ax_index.specs.Carried.{AreCarriedBy, HasLowPair, IsSettled, bases_put, deltas_put}
+use Rattle.ax_index.specs.Carried.{AreCarriedBy, HasLowPair, HasSome, IsSettled, bases_put, deltas_put}
 
 -- each pair is before the bound
 abbrev pub AreBefore : List Pair → Pair → Type 0
@@ -65,6 +65,8 @@ pub record IsPageDone (honest : Bool) (page : ℕ) (changes : List Change) (befo
   pub elsewhere : (n : ℕ) → n < length before → n ≢ page → bases_put n parts ≡ []
   pub put : IsPutBy merged changes (bases_put page parts) (deltas_put page parts)
   pub new_with : (n : ℕ) → length now ≤ n → n < length after → HasLowPair (term_page n after)
+  pub filled : merged ≡ true → IsTrue honest → (set : PairSet) → IsIndex now set → (p : Pair) → IsPageOf p page now
+      → with_changes changes set p ≡ true → HasSome (term_page page after)
   pub bare : merged ≡ true → has_deltas (term_page page after) ≡ false
   pub new_bare : (n : ℕ) → length now ≤ n → n < length after → has_deltas (term_page n after) ≡ false
   pub holds : IsTrue honest → (set : PairSet) → IsIndex now set → IsIndex after (with_changes changes set)
@@ -100,3 +102,6 @@ pub record IsPlannedTo (honest : Bool) (changes rest : List Change) (before : Li
   pub each : AreApart before → (number : ℕ) → number < length before → IsSettled number before done parts
   pub new_without : (number : ℕ) → length before ≤ number → deltas_of number parts ≡ 0
   pub new_with : (number : ℕ) → length before ≤ number → number < length now → HasLowPair (term_page number now)
+  pub filled : IsTrue honest → (set : PairSet) → IsIndex before set → (number : ℕ) → number < length before
+      → 0 < length (bases_put number parts) → (p : Pair) → IsPageOf p number before → with_changes done set p ≡ true
+      → HasSome (term_page number now)
