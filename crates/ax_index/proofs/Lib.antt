@@ -8,6 +8,7 @@ pub mod Gathering
 pub mod IndexPages
 pub mod Lists
 pub mod NumberLists
+pub mod PageSizesLemmas
 pub mod PageWalk
 pub mod PlanningLemmas
 pub mod Postings

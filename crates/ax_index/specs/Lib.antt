@@ -4,6 +4,7 @@ pub mod Damage
 pub mod DeltaRuns
 pub mod DeltaSizes
 pub mod Merging
+pub mod PageSizes
 pub mod Planning
 pub mod Plans
 pub mod Reading

@@ -5,7 +5,6 @@ use Rattle.std.specs.declared.cmp.Ordering.TheVariants.{Less}
 use Rattle.ax_frame.specs.Part.{PartValue}
 use Rattle.ax_pair.specs.declared.pair.Pair.{Pair}
 use Rattle.ax_pair.specs.Order.{pair_cmp}
-use Rattle.ax_pages.specs.AfterPart.{most_term_pages}
 use Rattle.ax_pages.specs.Contents.{TermPage, term_page}
 use Rattle.ax_pages.specs.TermPages.{IsLastPage, IsNextPage, IsPageOf, low_pair}
 use Rattle.ax_pairs.specs.Index.{IsIndex}
@@ -15,14 +14,15 @@ use Rattle.ax_pairs.specs.TermParts.{LeadTo}
 use Rattle.ax_store.specs.Kept.{deltas_of}
 use Rattle.ax_index.specs.Bare.{has_deltas, with_deltas}
 use Rattle.ax_index.specs.Carried.{HasLowPair, HasSome, bases_put}
+use Rattle.ax_index.specs.PageSizes.{NeedsTooMany}
 use Rattle.ax_index.specs.Planning.{IsUpTo}
 
--- Of an index on an honest disk, a page that still has deltas has so many pairs that its new pages might need a number which
--- no page may have.
+-- Of an index on an honest disk, a page that still has deltas needs more new pages than may be: the last would have a
+-- number which no page may have.
 abbrev pub IsStuck : Bool → ℕ → List TermPage → List TermPage → Type 0
 IsStuck honest number before after =
     IsTrue honest → (set : PairSet) → IsIndex before set → has_deltas (term_page number after) ≡ true → (pairs : List Pair)
-    → HasPairs (term_page number before) pairs → most_term_pages < length after + length pairs
+    → HasPairs (term_page number before) pairs → NeedsTooMany (length after) pairs
 
 -- Behind the parts that a batch had, parts were put that change no pair. So many pages fewer have deltas: as
 -- many as were asked for, or else no page has deltas but those that are stuck. A new page has a pair, and one

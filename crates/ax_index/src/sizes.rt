@@ -6,8 +6,9 @@
 //! decides what a write costs: bases of `MOST_BASE_BYTES` at most, split to `SPLIT_BASE_BYTES`, have about
 //! three quarters of the most.
 
-ghost use Rattle.std.specs.Prelude.{◌↔◌, ◌<◌, ◌≤◌, IsTrue, length, take};
+ghost use Rattle.std.specs.Prelude.{◌≡◌, ◌↔◌, ◌+◌, ◌<◌, ◌≤◌, ◌^◌, IsTrue, nat_lt, if◌then◌else◌, length, take, drop};
 ghost use Rattle.ax_index.specs.DeltaSizes.{HaveShortTerms, counted_bytes};
+ghost use Rattle.ax_index.specs.PageSizes.{TakePages, bytes_beside, number_bytes, rest_of};
 
 use ax_delta::Change;
 use ax_leaf::short_term::in_common;
@@ -38,28 +39,41 @@ const MOST_DELTA_BYTES: usize = 60_000;
 /// What a term and a number take beside the bytes of the term, at most: five numbers of five bytes.
 const BESIDE_TERM: usize = 25;
 
-/// How many of rising pairs a base is to have: all, where they are few enough.
+/// How many of rising pairs a base is to have: all, where they are few enough. The term of the first is not
+/// counted: it names the page too, whatever the page holds, and a long one must not leave it alone there.
 pub(crate) fn base_len(pairs: &[Pair]) -> usize
     ensures within { result ≤ length pairs.now }
     ensures some { 0 < length pairs.now → 0 < result }
+    ensures cut { drop result pairs.now ≡ rest_of pairs.now }
 {
-    let mut bytes: usize = 0;
+    let mut bytes = BESIDE_TERM;
     let mut front = 1;
-    for i in 0..pairs.len() {
-        bytes = bytes.saturating_add(bytes_of(pairs, i));
+    for i in 1..pairs.len() {
+        bytes += bytes_behind(&pairs[i - 1], &pairs[i]);
         if bytes > MOST_BASE_BYTES {
             return front;
         }
-        if bytes <= SPLIT_BASE_BYTES {
-            front = i + 1;
-        }
+        front = front_after(bytes, front, i);
     }
     pairs.len()
 }
 
+/// How many pairs a base has that is split off: so many more as bytes up to this pair are few enough.
+fn front_after(bytes: usize, front: usize, i: usize) -> usize
+    requires { i < 2 ^ 63 }
+    ensures { result ≡ (if nat_lt 2048 bytes then front else i + 1) }
+{
+    if bytes > SPLIT_BASE_BYTES {
+        front
+    } else {
+        i + 1
+    }
+}
+
 /// How many new pages the pairs of one take beside it.
 pub(crate) fn new_pages(pairs: &[Pair]) -> usize
-    ensures { result ≤ length pairs.now }
+    ensures within { result ≤ length pairs.now }
+    ensures take { TakePages result (rest_of pairs.now) }
 {
     let mut count = 0;
     let (_, mut rest) = pairs.split_at(base_len(pairs));
@@ -71,28 +85,25 @@ pub(crate) fn new_pages(pairs: &[Pair]) -> usize
     count
 }
 
-/// How many bytes of a base a pair takes behind those before it, counted from above where they are of two
-/// terms, and about so many where they are of one. The term of the first is not counted: it names the page
-/// too, whatever the page holds, and a long one must not leave it alone there.
-fn bytes_of(pairs: &[Pair], i: usize) -> usize
-    requires { i < length pairs.now }
+/// How many bytes of a base a pair takes behind another, counted from above where they are of two terms,
+/// and about so many where they are of one.
+fn bytes_behind(before: &Pair, pair: &Pair) -> usize
+    ensures few { result ≤ 2 ^ 63 + 8 }
+    ensures is { result ≡ bytes_beside before.now pair.now }
 {
-    if i == 0 {
-        return BESIDE_TERM;
+    let term = pair.term.as_slice();
+    let last = before.term.as_slice();
+    let shared = in_common(last, term);
+    if shared == term.len() && shared == last.len() {
+        return bytes_of_number(pair.number.saturating_sub(before.number));
     }
-    let term = pairs[i].term.as_slice();
-    let before = &pairs[i - 1];
-    let shared = in_common(before.term.as_slice(), term);
-    if shared == term.len() && shared == before.term.as_slice().len() {
-        return bytes_of_number(pairs[i].number.saturating_sub(before.number));
-    }
-    let number = bytes_of_number(pairs[i].number);
-    4 + number + (term.len() - shared)
+    4 + bytes_of_number(pair.number) + (term.len() - shared)
 }
 
 /// How many bytes a number takes, seven bits a byte.
 fn bytes_of_number(number: u32) -> usize
-    ensures { result ≤ 5 }
+    ensures few { result ≤ 5 }
+    ensures is { result ≡ number_bytes number }
 {
     match number {
         0..=0x7f => 1,
