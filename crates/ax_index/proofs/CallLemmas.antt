@@ -71,7 +71,8 @@ planned_by_deltas page changes before now earlier old new next least room there 
       parts = is.put.parts;
       added = is.put.added;
       after = is.put.after;
-      done = done_by_deltas page changes before now is.put.after is.put.parts (all_now before now earlier (changed_pairs changes) page up belong) is.put.carry;
+      done = done_by_deltas page changes before now is.put.after is.put.parts (all_now before now earlier (changed_pairs changes) page up belong) there is.put.carry
+          (λ more. is.few (omega (arith, more, is.put.counted)));
       next_is = next_is ∙ sym is.put.carry.lows.many;
       enough = omega (arith, is.enough, is.put.counted, room_is);
     }
@@ -166,7 +167,9 @@ first_planned {honest = honest} all changes run behind before merged next later 
     in
     let up : IsUpTo (low_pair page before) before mine.now mine.parts = mine.ready page (subst (λ (left : List Change). IsFirstOf left page before) whole first) in
     subst (λ (n : ℕ). IsPlannedTo honest all behind before (merged + n) later more old new) (sym extra_is)
-    (planned_more all run behind before merged next room more old here new page is_merged later mine up (first_there changes page before first) parted
+    (planned_more all run behind before merged next room more old here new page is_merged later mine up (first_there changes page before first)
+    (subst (λ (left : List Change). IsFirstOf left page before) whole first) some
+    (run_all_belong before page changes run behind whole some first rise parted) (rise_parted changes run behind whole rise).0 parted
     (planned mine.now mine.parts up mine.next_is (run_all_belong before page changes run behind whole some first rise parted)) never_less)
 
 -- ---- stores

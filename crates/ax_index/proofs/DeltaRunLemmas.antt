@@ -1,5 +1,5 @@
 -- Deltas of one page, one after another.
-use Rattle.std.proofs.Common.{◌≡◌, ◌≢◌, ℕ, ◌+◌, ◌<◌, List, [], ◌∷◌, ◌++◌, length, arith, refl, sym, ap, ◌∙◌, Bool, cond}
+use Rattle.std.proofs.Common.{◌≡◌, ◌≢◌, ℕ, ◌+◌, ◌<◌, List, [], ◌∷◌, ◌++◌, length, arith, refl, sym, ap, ◌∙◌, subst, Bool, cond}
 use Rattle.std.proofs.lemmas.Bool.{eq-eqb, ne_eqb}
 use Rattle.ax_frame.specs.Part.{PartValue}
 use Rattle.ax_pair.specs.Order.{Rise}
@@ -17,7 +17,9 @@ use Rattle.ax_pairs.proofs.Changed.{set_lows, delta_set}
 use Rattle.ax_pairs.proofs.Leading.{lead_nothing, lead_then, lead_delta, delta_part}
 use Rattle.ax_pairs.proofs.Sets.{changed_twice, same_set}
 use Rattle.ax_store.specs.Kept.{deltas_of}
+use Rattle.ax_index.specs.Carried.{AreDeltasOf, deltas_put}
 use Rattle.ax_index.specs.DeltaRuns.{KeepLows, CarryChanges}
+use Rattle.ax_index.proofs.CarriedLemmas.{carried_one, carried_then, deltas_put_more}
 use Rattle.ax_index.proofs.Lists.{deltas_more, bases_more, changed_more, in_first, in_second}
 
 pub as_same_lows : (before after : List TermPage) → KeepLows before after → HaveSameLows before after
@@ -33,6 +35,7 @@ carry_nothing page now = record {
   same = λ n apart. refl;
   deltas = λ n apart. refl;
   no_bases = λ count. refl;
+  are = refl;
   holds = λ set is belong. is;
 }
 
@@ -50,6 +53,7 @@ carry_one page changes now payload there up spelled = record {
   same = λ n apart. set_other page (with_delta payload (term_page page now)) now n apart;
   deltas = λ n apart. no_delta_of page n payload apart;
   no_bases = λ count. refl;
+  are = carried_one page changes payload spelled;
   holds = λ set is belong. delta_set now set page payload changes is there up spelled belong;
 }
 
@@ -61,6 +65,8 @@ carry_then page first second now between after a b one other = record {
   same = λ n apart. other.same n apart ∙ one.same n apart;
   deltas = λ n apart. omega (arith, deltas_more n a b, one.deltas n apart, other.deltas n apart);
   no_bases = λ count. omega (arith, bases_more count a b, one.no_bases count, other.no_bases count);
+  are = subst (AreDeltasOf (first ++ second)) (sym (deltas_put_more page a b))
+      (carried_then (deltas_put page a) (deltas_put page b) first second one.are other.are);
   holds = λ set is belong.
       let pairs : changed_pairs (first ++ second) ≡ changed_pairs first ++ changed_pairs second = changed_more first second in
       let of_first : AllBelong (changed_pairs first) page now =

@@ -1,11 +1,14 @@
 pub mod CallLemmas
 pub mod DeltaParts
+pub mod CarriedLemmas
 pub mod DeltaRunLemmas
+pub mod DeltaSizes
 pub mod FoldedPairs
 pub mod Gathering
 pub mod IndexPages
 pub mod Lists
 pub mod NumberLists
+pub mod PageSizesLemmas
 pub mod PageWalk
 pub mod PlanningLemmas
 pub mod Postings

@@ -18,7 +18,6 @@ use Rattle.ax_delta.specs.Said.{has}
 use Rattle.ax_delta.proofs.SamePair.{true_or_false, less_apart}
 use Rattle.ax_delta.proofs.OneList.{one_list}
 use Rattle.ax_pair.specs.Order.{Rise}
-use Rattle.ax_pages.specs.AfterPart.{most_term_pages}
 use Rattle.ax_pages.specs.Contents.{TermPage, no_term_page, term_page}
 use Rattle.ax_pages.specs.TermPages.{IsPageOf, IsLastPage, IsNextPage, low_pair}
 use Rattle.ax_pairs.specs.Index.{AllBelong, IsIndex}
@@ -30,11 +29,14 @@ use Rattle.ax_pairs.proofs.PairOrder.{NotAfter, both_ways, not_after_then, not_b
 use Rattle.ax_pairs.proofs.Leading.{lead_nothing, lead_then}
 use Rattle.ax_store.specs.Kept.{deltas_of}
 use Rattle.ax_index.specs.Bare.{has_deltas, with_deltas}
+use Rattle.ax_index.specs.Carried.{HasLowPair, HasSome}
 use Rattle.ax_index.specs.Merging.{IsStuck, IsMergePlan, IsPassed, IsReady, IsBehind, IsMergedTo}
+use Rattle.ax_index.specs.PageSizes.{NeedsTooMany}
 use Rattle.ax_index.specs.Planning.{IsUpTo, IsPageDone, IsPagePlanned}
+use Rattle.ax_index.proofs.CarriedLemmas.{same_bases}
 use Rattle.ax_index.proofs.DeltaRunLemmas.{carry_nothing}
 use Rattle.ax_index.proofs.Lists.{deltas_more}
-use Rattle.ax_index.proofs.PlanningLemmas.{as_number, done_by_deltas, up_behind}
+use Rattle.ax_index.proofs.PlanningLemmas.{as_number, done_by_deltas, of_now, up_behind}
 
 -- ---- how many
 
@@ -129,14 +131,14 @@ passed_or_here page at pages n behind h passed =
 
 stuck_still : {honest : Bool} (n : ℕ) (before now after : List TermPage) → term_page n after ≡ term_page n now → length now ≤ length after → IsStuck honest n before now → IsStuck honest n before after
 stuck_still n before now after same longer stuck told set index deltas pairs has_pairs =
-    let room : most_term_pages < length now + length pairs = stuck told set index (ap has_deltas (sym same) ∙ deltas) pairs has_pairs in
-    omega (arith, room)
+    let (count, take, over) = stuck told set index (ap has_deltas (sym same) ∙ deltas) pairs has_pairs in
+    (count, take, omega (arith, over, longer))
 
 stuck_by_number : {honest : Bool} (n page : ℕ) (before after : List TermPage) → n < length before → page < length before → low_pair n before ≡ low_pair page before → IsStuck honest page before after → IsStuck honest n before after
 stuck_by_number n page before after h there same stuck told set index =
     let one : n ≡ page = index.apart.apart n page h there same in
     subst
-    (λ (k : ℕ). has_deltas (term_page k after) ≡ true → (pairs : List Pair) → HasPairs (term_page k before) pairs → most_term_pages < length after + length pairs)
+    (λ (k : ℕ). has_deltas (term_page k after) ≡ true → (pairs : List Pair) → HasPairs (term_page k before) pairs → NeedsTooMany (length after) pairs)
     (sym one) (stuck told set index)
 
 -- ---- a page is merged, or left
@@ -173,6 +175,30 @@ merged_one {honest = honest} page at before merged next later old here new behin
             (planned.done.bare refl) planned.done.same planned.done.new_bare,
       );
       next_is = planned.next_is;
+      new_with = λ n from below.
+          ⊎_elim
+          (λ (l : n < length is.now).
+          subst HasLowPair (sym (planned.done.same n l (λ e. omega (arith, e, from, there)))) (is.new_with n from l))
+          (λ (l : length is.now ≤ n). planned.done.new_with n l below)
+          (cases_lt n (length is.now));
+      filled = λ told set index n h based p of member.
+          ⊎_elim
+          (λ (e : n ≡ page).
+          subst (λ (k : ℕ). HasSome (term_page k planned.after)) (sym e)
+          (planned.done.filled refl told set (is.holds told set index) p
+          (of_now (low_pair page before) before is.now is.parts p page up (same_not_after (low_pair page before) (low_pair page before) refl)
+          (subst (λ (k : ℕ). IsPageOf p k before) e of))
+          member))
+          (λ (apart : n ≡ page → ⊥).
+          subst HasSome (sym (planned.done.same n (omega (arith, h, is.longer)) apart))
+          (is.filled told set index n h
+          (omega (
+            arith,
+            based,
+            ap (λ (ps : List (List ℕ)). length ps) (same_bases n is.parts planned.parts (planned.done.elsewhere n h apart)),
+          ))
+          p of member))
+          (cases_eq n page);
       ready = ready_by page at before is.now planned.after is.parts planned.parts true behind up planned.done;
       stuck = λ n h passed.
           ⊎_elim
@@ -211,9 +237,12 @@ left_one {honest = honest} page at before merged next old here behind is stuck_h
       no_deltas = is.no_deltas;
       fewer = is.fewer;
       next_is = is.next_is;
+      new_with = is.new_with;
+      filled = is.filled;
       ready = subst (λ (ps : List PartValue). IsReady at before is.now ps) (append-nil is.parts)
           (ready_by page at before is.now is.now is.parts [] false behind up
-          (done_by_deltas {honest = true} page [] before is.now is.now [] (λ p h. absurd (cc)) (carry_nothing page is.now)));
+          (done_by_deltas {honest = true} page [] before is.now is.now [] (λ p h. absurd (cc)) there (carry_nothing page is.now)
+          (λ more. absurd (omega (arith, more)))));
       stuck = λ n h passed.
           ⊎_elim
           (λ (less : pair_cmp (low_pair n before) (low_pair page before) ≡ Less). is.stuck n h less)
@@ -235,6 +264,8 @@ merged_none page before next old of next_is = record {
   no_deltas = λ number. refl;
   fewer = omega arith;
   next_is = next_is;
+  new_with = λ n from below. absurd (omega arith);
+  filled = λ told set index n h some p of member. absurd (omega (arith, some));
   ready = (
     of.there,
     record {
@@ -243,6 +274,7 @@ merged_none page before next old of next_is = record {
       fresh = λ n from below. absurd (omega arith);
       same = λ n h from. refl;
       none = λ n h from. refl;
+      no_bases = λ n h from. refl;
     },
   );
   stuck = λ n h passed.
@@ -261,13 +293,15 @@ merged_all before asked merged next old new is most = record {
   fewer = is.fewer;
   at_most = most;
   finished = λ less number h. is.stuck number h tt;
+  new_with = is.new_with;
+  filled = is.filled;
 }
 
 -- ---- a page that can't be merged
 
--- its pairs, as they were read, are as many as it has
-pub as_many : (page : TermPage) (pairs some : List Pair) → Rise pairs → HasPairs page some → ((p : Pair) → has p pairs ≡ has p some) → length pairs ≡ length some
-as_many page pairs some rise has_some same = ap length (one_list pairs some rise (list_rises page some has_some) same)
+-- its pairs, as they were read, are those that it has
+pub its_pairs : (page : TermPage) (pairs some : List Pair) → Rise pairs → HasPairs page some → ((p : Pair) → has p pairs ≡ has p some) → pairs ≡ some
+its_pairs page pairs some rise has_some same = one_list pairs some rise (list_rises page some has_some) same
 
 pub all_of_page : (pages : List TermPage) (set : PairSet) (page : ℕ) (pairs : List Pair) → IsIndex pages set → page < length pages
     → ((some : List Pair) → HasPairs (term_page page pages) some → (p : Pair) → has p pairs ≡ has p some) → AllBelong pairs page pages
@@ -317,7 +351,7 @@ pub step_done : {honest : Bool} (page : ℕ) (at : Option ℕ) (before : List Te
     → ((now : List TermPage) (earlier : List PartValue) → IsUpTo (low_pair page before) before now earlier → next ≡ length now
     → done ≡ true → IsPagePlanned honest page [] before now true later (λ number. 0) here new)
     → (done ≡ false → (new ≡ here) × (later ≡ next))
-    → (IsTrue honest → (set : PairSet) → IsIndex before set → done ≡ false → (pairs : List Pair) → HasPairs (term_page page before) pairs → most_term_pages < next + length pairs)
+    → (IsTrue honest → (set : PairSet) → IsIndex before set → done ≡ false → (pairs : List Pair) → HasPairs (term_page page before) pairs → NeedsTooMany next pairs)
     → IsMergedTo honest at before (merged + as_number done) later old new
 step_done {honest = honest} page at before merged next later old here new true behind is deltas planned left stuck =
     merged_one page at before merged next later old here new behind is deltas (λ now earlier up next_is. planned now earlier up next_is refl)
@@ -325,7 +359,8 @@ step_done {honest = honest} page at before merged next later old here new false 
     let same = left refl in
     let kept : IsMergedTo honest at before merged next old here =
     left_one page at before merged next old here behind is
-    (λ now next_is alike told set index still pairs has_pairs. omega (arith, stuck told set index refl pairs has_pairs, next_is))
+    (λ now next_is alike told set index still pairs has_pairs.
+    subst (λ (n : ℕ). NeedsTooMany n pairs) next_is (stuck told set index refl pairs has_pairs))
     in
     subst (λ (n : ℕ). IsMergedTo honest at before n later old new) (omega arith)
     (subst (λ (n : ℕ). IsMergedTo honest at before merged n old new) (sym same.1)
@@ -355,14 +390,13 @@ whole_planned page before here now earlier old new next later pairs list there u
 
 pub stuck_whole : (before here : List TermPage) (set : PairSet) (page next : ℕ) (pairs list some : List Pair) → IsIndex before set → page < length before → here ≡ before → list ≡ pairs → Rise pairs
     → ((any : List Pair) → HasPairs (term_page page before) any → (p : Pair) → has p pairs ≡ has p any) → HasPairs (term_page page before) some
-    → (AllBelong list page here → most_term_pages < next + length list) → most_term_pages < next + length some
+    → (AllBelong list page here → NeedsTooMany next list) → NeedsTooMany next some
 stuck_whole before here set page next pairs list some index there same list_is rise has_pairs has_some full =
     let all : AllBelong list page before =
     subst (λ (ps : List Pair). AllBelong ps page before) (sym list_is) (all_of_page before set page pairs index there has_pairs)
     in
-    let many : length pairs ≡ length some = as_many (term_page page before) pairs some rise has_some (has_pairs some has_some) in
-    let least : most_term_pages < next + length list = full (subst (λ (ts : List TermPage). AllBelong list page ts) (sym same) all) in
-    omega (arith, least, ap length list_is, many)
+    let they : pairs ≡ some = its_pairs (term_page page before) pairs some rise has_some (has_pairs some has_some) in
+    subst (NeedsTooMany next) (list_is ∙ they) (full (subst (λ (ts : List TermPage). AllBelong list page ts) (sym same) all))
 
 -- ---- a step, by what merging answers
 
@@ -372,7 +406,7 @@ pub step_by : {honest : Bool} (result : Result Bool StoreFault) (page : ℕ) (at
     → IfOk result (λ done. done ≡ true → IsPagePlanned honest page [] before now true later (λ number. 0) here new))
     → IfOk result (λ done. done ≡ false → (new ≡ here) × (later ≡ next))
     → (IsTrue honest → (set : PairSet) → IsIndex before set
-    → IfOk result (λ done. done ≡ false → (pairs : List Pair) → HasPairs (term_page page before) pairs → most_term_pages < next + length pairs))
+    → IfOk result (λ done. done ≡ false → (pairs : List Pair) → HasPairs (term_page page before) pairs → NeedsTooMany next pairs))
     → IfOk result (λ done. IsMergedTo honest at before (merged + as_number done) later old new)
 step_by (Ok done) page at before merged next later old here new behind is deltas planned left stuck =
     step_done page at before merged next later old here new done behind is deltas planned left stuck

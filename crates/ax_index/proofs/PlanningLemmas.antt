@@ -11,22 +11,24 @@ use Rattle.ax_pair.proofs.PairOrder.{pair_cmp_total}
 use Rattle.ax_delta.specs.declared.change.Change.{Change}
 use Rattle.ax_delta.specs.Changes.{changed_pairs}
 use Rattle.ax_delta.specs.Said.{has, said_by}
-use Rattle.ax_delta.proofs.SamePair.{less_apart}
+use Rattle.ax_delta.proofs.SamePair.{less_apart, true_or_false}
 use Rattle.ax_pages.specs.Contents.{TermPage, term_page}
-use Rattle.ax_pages.specs.TermPages.{IsLastPage, IsNextPage, IsPageOf, low_pair}
+use Rattle.ax_pages.specs.TermPages.{AreApart, IsLastPage, IsNextPage, IsPageOf, low_pair}
 use Rattle.ax_pairs.specs.Index.{AllBelong, IsIndex}
 use Rattle.ax_pairs.specs.PagePairs.{HasPairs}
-use Rattle.ax_pairs.specs.PairSets.{with_changes}
+use Rattle.ax_pairs.specs.PairSets.{PairSet, with_changes}
 use Rattle.ax_pairs.proofs.PairOrder.{NotAfter, order_cases, same_not_after, less_not_after, not_both, less_then, then_less, not_after_then}
 use Rattle.ax_pairs.proofs.Changed.{here_merged, others_same}
 use Rattle.ax_pairs.proofs.Leading.{lead_nothing, lead_then}
 use Rattle.ax_pairs.proofs.Sets.{changed_twice, same_set}
 use Rattle.ax_store.specs.Kept.{deltas_of}
-use Rattle.ax_index.specs.DeltaRuns.{CarryChanges}
-use Rattle.ax_index.specs.Planning.{IsPartedAt, IsUpTo, IsPageDone, IsPagePlanned, IsFirstOf, IsPlannedTo}
+use Rattle.ax_index.specs.Carried.{HasLowPair, HasSome, IsSettled, bases_put, deltas_put}
+use Rattle.ax_index.specs.DeltaRuns.{AreFew, CarryChanges}
+use Rattle.ax_index.specs.Planning.{AreBefore, IsPartedAt, IsUpTo, IsPageDone, IsPagePlanned, IsFirstOf, IsPlannedTo}
 use Rattle.ax_index.specs.Plans.{IsPlan, most_merged}
 use Rattle.ax_index.specs.Rewriting.{Rewrites}
-use Rattle.ax_index.proofs.Lists.{deltas_more, bases_more, first_least}
+use Rattle.ax_index.proofs.CarriedLemmas.{bases_put_more, later_bases, many_deltas, no_bases_put, no_deltas_put, same_bases, settled_here, settled_none, settled_other, some_in, was_merged}
+use Rattle.ax_index.proofs.Lists.{deltas_more, bases_more, changed_more, first_least, not_in_first}
 use Rattle.ax_index.proofs.RewritingLemmas.{finished}
 
 -- ---- where a page ends
@@ -113,8 +115,9 @@ all_now before now parts pairs page is belong p h =
 -- ---- one page
 
 pub done_by_deltas : {honest : Bool} (page : ℕ) (changes : List Change) (before now after : List TermPage) (parts : List PartValue) → AllBelong (changed_pairs changes) page now
-    → CarryChanges page changes now parts after → IsPageDone honest page changes before now parts after false
-done_by_deltas page changes before now after parts belong carry = record {
+    → page < length before → CarryChanges page changes now parts after → AreFew changes (deltas_of page parts)
+    → IsPageDone honest page changes before now parts after false
+done_by_deltas page changes before now after parts belong there carry few = record {
   lead = carry.lead;
   longer = omega (arith, carry.lows.many);
   lows = λ n h. carry.lows.low n;
@@ -122,6 +125,13 @@ done_by_deltas page changes before now after parts belong carry = record {
   same = λ n h apart. carry.same n apart;
   deltas = carry.deltas;
   bases = carry.no_bases (length before);
+  elsewhere = λ n h apart. no_bases_put n (length before) parts h (carry.no_bases (length before));
+  put = (
+    no_bases_put page (length before) parts there (carry.no_bases (length before)),
+    record { are = carry.are; one = λ more. few (omega (arith, more, many_deltas page parts)) },
+  );
+  new_with = λ n from below. absurd (omega (arith, carry.lows.many));
+  filled = λ merged. absurd (cc);
   bare = λ merged. absurd (cc);
   new_bare = λ n from below. absurd (omega (arith, carry.lows.many));
   holds = λ told set is. carry.holds set is belong;
@@ -132,7 +142,7 @@ pub done_by_bases : {honest : Bool} (page : ℕ) (changes : List Change) (before
     → AllBelong list page before → (IsTrue honest → (some : List Pair) → HasPairs (term_page page before) some → (p : Pair) → has p pairs ≡ has p some)
     → ((p : Pair) → has p list ≡ unwrap_or (said_by p changes) (has p pairs))
     → Rewrites page list [] now parts after → IsPageDone honest page changes before now parts after true
-done_by_bases page changes before now after parts earlier pairs list there up rise belong of_page has_pairs made is = record {
+done_by_bases {honest = honest} page changes before now after parts earlier pairs list there up rise belong of_page has_pairs made is = record {
   lead = is.lead;
   longer = is.longer;
   lows = is.lows;
@@ -140,22 +150,30 @@ done_by_bases page changes before now after parts earlier pairs list there up ri
   same = is.same;
   deltas = λ n apart. is.no_deltas n;
   bases = is.one_base (length before) there up.longer;
+  elsewhere = λ n h apart. is.elsewhere n (omega (arith, up.longer)) apart;
+  put = (is.own, no_deltas_put page parts (is.no_deltas page));
+  new_with = is.new_with;
+  filled = λ merged told set index p of member.
+      is.filled (some_in p list (here_merged now set page changes (index.pairs page) list index rise (index.have page (now_there up)) (made_now told set index) p of ∙ member));
   bare = λ merged. is.bare;
   new_bare = is.new_bare;
   holds = λ told set index.
-      let same : term_page page now ≡ term_page page before = up.same page there (λ less. less_apart (low_pair page before) (low_pair page before) less refl) in
-      let in_page : page < length now = omega (arith, up.longer) in
-      let mine : HasPairs (term_page page now) (index.pairs page) = index.have page in_page in
-      let was : HasPairs (term_page page before) (index.pairs page) = subst (λ (x : TermPage). HasPairs x (index.pairs page)) same mine in
-      let alike : (p : Pair) → has p list ≡ unwrap_or (said_by p changes) (has p (index.pairs page)) =
-      λ p. made p ∙ ap (unwrap_or (said_by p changes)) (has_pairs told (index.pairs page) was p)
-      in
       finished page list now parts after is set (with_changes changes set) index
       (record {
-        here = here_merged now set page changes (index.pairs page) list index rise mine alike;
+        here = here_merged now set page changes (index.pairs page) list index rise (index.have page (now_there up)) (made_now told set index);
         others = others_same now set page changes index.apart rise belong;
       });
 }
+  where
+    now_there : IsUpTo (low_pair page before) before now earlier → page < length now
+    now_there is_up = omega (arith, there, is_up.longer)
+
+    made_now : IsTrue honest → (set : PairSet) (index : IsIndex now set) → (p : Pair) → has p list ≡ unwrap_or (said_by p changes) (has p (index.pairs page))
+    made_now told set index p =
+        let same : term_page page now ≡ term_page page before = up.same page there (λ less. less_apart (low_pair page before) (low_pair page before) less refl) in
+        let mine : HasPairs (term_page page now) (index.pairs page) = index.have page (now_there up) in
+        let was : HasPairs (term_page page before) (index.pairs page) = subst (λ (x : TermPage). HasPairs x (index.pairs page)) same mine in
+        made p ∙ ap (unwrap_or (said_by p changes)) (has_pairs told (index.pairs page) was p)
 
 -- ---- all pages
 
@@ -176,8 +194,14 @@ planned_none changes before room old = record {
     fresh = λ n from below. absurd (omega arith);
     same = λ n h from. refl;
     none = λ n h from. refl;
+    no_bases = λ n h from. refl;
   };
   enough = λ number. omega arith;
+  passed = λ page first p h. absurd (cc);
+  each = λ apart number h. settled_none number before;
+  new_without = λ number from. refl;
+  new_with = λ number from below. absurd (omega arith);
+  filled = λ told set index number h some p of member. absurd (omega (arith, some));
 }
 
 -- from the page behind one that is done on, pages are as they were
@@ -207,6 +231,9 @@ up_behind page after other changes before now new parts more merged up done behi
           (cases_lt n (length now));
       same = λ n h from. done.same n (omega (arith, up.longer)) (apart n from) ∙ up.same n h (lower n from);
       none = λ n h from. omega (arith, deltas_more n parts more, up.none n h (lower n from), done.deltas n (apart n from));
+      no_bases = λ n h from.
+          bases_put_more n parts more
+          ∙ ap (λ (ps : List (List ℕ)). ps ++ bases_put n more) (up.no_bases n h (lower n from)) ∙ done.elsewhere n h (apart n from);
     }
 
 abbrev pub as_number : Bool → ℕ
@@ -214,7 +241,8 @@ as_number merged = cond merged 1 0
 
 module _ {honest : Bool} (changes run behind : List Change) (before : List TermPage) (merged next : ℕ) (room more : ℕ → ℕ) (old here new : List PartValue) (page : ℕ) (is_merged : Bool) (later : ℕ)
     (is : IsPlannedTo honest changes (run ++ behind) before merged next room old here) (up : IsUpTo (low_pair page before) before is.now is.parts)
-    (there : page < length before)
+    (there : page < length before) (first_here : IsFirstOf (run ++ behind) page before) (some : 0 < length run)
+    (belong : AllBelong (changed_pairs run) page before) (rise : Rise (changed_pairs run))
     (parted : IsPartedAt page run behind before) (planned : IsPagePlanned honest page run before is.now is_merged later more here new)
     (never_less : (number : ℕ) → room number ≤ more number) where
   -- the page of what is behind is behind
@@ -252,6 +280,64 @@ module _ {honest : Bool} (changes run behind : List Change) (before : List TermP
       omega (arith, deltas_more number is.parts planned.parts, planned.done.deltas number apart, is.enough number, never_less number))
       (cases_eq number page)
 
+  passed_behind : (other : ℕ) → IsFirstOf behind other before → AreBefore (changed_pairs (is.done ++ run)) (low_pair other before)
+  passed_behind other first p h =
+      let (after, behind_it, up_to) = past other first in
+      let parted_there : has p (changed_pairs is.done ++ changed_pairs run) ≡ true = sym (ap (has p) (changed_more is.done run)) ∙ h in
+      ⊎_elim
+      (λ (earlier : has p (changed_pairs is.done) ≡ true).
+      pair_cmp_total.trans p (low_pair page before) (low_pair other before) (is.passed page first_here p earlier)
+      (less_then (low_pair page before) (low_pair after before) (low_pair other before) behind_it.after up_to))
+      (λ (not_in : has p (changed_pairs is.done) ≡ false).
+      less_then p (low_pair after before) (low_pair other before)
+      (before_next before page after p behind_it (belong p (sym (not_in_first p (changed_pairs is.done) (changed_pairs run) not_in) ∙ parted_there))) up_to)
+      (true_or_false (has p (changed_pairs is.done)))
+
+  same_page : pair_cmp (low_pair page before) (low_pair page before) ≡ Less → ⊥
+  same_page less = less_apart (low_pair page before) (low_pair page before) less refl
+
+  each_now : AreApart before → (number : ℕ) → number < length before → IsSettled number before (is.done ++ run) (is.parts ++ planned.parts)
+  each_now are number h =
+      ⊎_elim
+      (λ (e : number ≡ page).
+      subst (λ (n : ℕ). IsSettled n before (is.done ++ run) (is.parts ++ planned.parts)) (sym e)
+      (settled_here page before is.done run is.parts planned.parts belong is_merged some (is.passed page first_here)
+      (up.no_bases page there same_page) (no_deltas_put page is.parts (up.none page there same_page)) planned.done.put))
+      (λ (apart : number ≡ page → ⊥).
+      settled_other page before is.done run is.parts planned.parts belong number are apart
+      (planned.done.elsewhere number h apart) (no_deltas_put number planned.parts (planned.done.deltas number apart)) (is.each are number h))
+      (cases_eq number page)
+
+  filled_now : IsTrue honest → (set : PairSet) → IsIndex before set → (number : ℕ) → number < length before
+      → 0 < length (bases_put number (is.parts ++ planned.parts)) → (p : Pair) → IsPageOf p number before → with_changes (is.done ++ run) set p ≡ true
+      → HasSome (term_page number planned.after)
+  filled_now told set index number h based p of member =
+      let twice : with_changes run (with_changes is.done set) p ≡ true = sym (changed_twice is.done run set p) ∙ member in
+      ⊎_elim
+      (λ (e : number ≡ page).
+      let bases : bases_put number (is.parts ++ planned.parts) ≡ bases_put page planned.parts =
+      ap (λ (n : ℕ). bases_put n (is.parts ++ planned.parts)) e ∙ later_bases page is.parts planned.parts (up.no_bases page there same_page)
+      in
+      subst (λ (n : ℕ). HasSome (term_page n planned.after)) (sym e)
+      (planned.done.filled
+      (was_merged is_merged run (bases_put page planned.parts) (deltas_put page planned.parts) planned.done.put
+      (omega (arith, based, ap (λ (ps : List (List ℕ)). length ps) bases)))
+      told (with_changes is.done set) (is.holds told set index) p
+      (of_now (low_pair page before) before is.now is.parts p page up (same_not_after (low_pair page before) (low_pair page before) refl)
+      (subst (λ (n : ℕ). IsPageOf p n before) e of))
+      twice))
+      (λ (apart : number ≡ page → ⊥).
+      let bases : bases_put number (is.parts ++ planned.parts) ≡ bases_put number is.parts =
+      same_bases number is.parts planned.parts (planned.done.elsewhere number h apart)
+      in
+      subst HasSome (sym (planned.done.same number (omega (arith, h, up.longer)) apart))
+      (is.filled told set index number h (omega (arith, based, ap (λ (ps : List (List ℕ)). length ps) bases)) p of
+      (others_same before (with_changes is.done set) page run index.apart rise belong p number apart of ∙ twice)))
+      (cases_eq number page)
+
+  not_page : (number : ℕ) → length before ≤ number → number ≢ page
+  not_page number from e = omega (arith, e, from, there)
+
   pub planned_more : IsPlannedTo honest changes behind before (merged + as_number is_merged) later more old new
   planned_more = record {
     parts = is.parts ++ planned.parts;
@@ -268,6 +354,17 @@ module _ {honest : Bool} (changes run behind : List Change) (before : List TermP
     next_is = planned.next_is;
     ready = ready_behind;
     enough = room_behind;
+    passed = passed_behind;
+    each = each_now;
+    filled = filled_now;
+    new_without = λ number from.
+        omega (arith, deltas_more number is.parts planned.parts, is.new_without number from, planned.done.deltas number (not_page number from));
+    new_with = λ number from below.
+        ⊎_elim
+        (λ (l : number < length is.now).
+        subst HasLowPair (sym (planned.done.same number l (not_page number from))) (is.new_with number from l))
+        (λ (l : length is.now ≤ number). planned.done.new_with number l below)
+        (cases_lt number (length is.now));
   }
 
 pub planned_all : {honest : Bool} (changes : List Change) (before : List TermPage) (merged next : ℕ) (room : ℕ → ℕ) (old new : List PartValue)
@@ -281,4 +378,10 @@ planned_all changes before merged next room old new is few = record {
       subst (λ (made : List Change). IsIndex is.now (with_changes made set)) (sym (is.whole ∙ append-nil is.done)) (is.holds told set index);
   merges = is.merges;
   few = few;
+  each = λ apart number h.
+      subst (λ (made : List Change). IsSettled number before made is.parts) (sym (is.whole ∙ append-nil is.done)) (is.each apart number h);
+  new_without = λ number from. no_deltas_put number is.parts (is.new_without number from);
+  new_with = is.new_with;
+  filled = λ told set index number h some p of member.
+      is.filled told set index number h some p of (subst (λ (made : List Change). with_changes made set p ≡ true) (is.whole ∙ append-nil is.done) member);
 }

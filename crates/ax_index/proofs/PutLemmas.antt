@@ -89,7 +89,7 @@ first_put page first rest now low old new there same rise begins some belong put
     λ p h. subst (λ (l : Pair). pair_cmp l p ≡ Less) (sym same) (behind_some low first rest rise begins some p h)
     in
     let rewrites : Rewrites page (first ++ rest) rest now (base_part page put.payload ∷ []) (after_base page put.payload now) =
-    first_base page first rest now put.payload there rise (subst (λ (l : Pair). IsLeaf put.payload l (postings_of first)) (sym same) put.is) belong above
+    first_base page first rest now put.payload there rise (subst (λ (l : Pair). IsLeaf put.payload l (postings_of first)) (sym same) put.is) belong above some
     in
     record {
       parts = base_part page put.payload ∷ [];

@@ -1,5 +1,5 @@
 -- A page written anew: its own base first, and then one new page after another.
-use Rattle.std.proofs.Common.{◌≡◌, ◌≢◌, ℕ, ◌+◌, ◌<◌, ◌≤◌, List, [], ◌∷◌, ◌++◌, length, arith, refl, sym, ap, ◌∙◌, subst, Bool, true, false, cond, append_assoc, ⊎_elim, ◌⊎◌, inl, inr}
+use Rattle.std.proofs.Common.{◌≡◌, ◌≢◌, ℕ, ◌+◌, ◌<◌, ◌≤◌, List, [], ◌∷◌, ◌++◌, length, arith, refl, sym, ap, ◌∙◌, subst, Bool, true, false, cond, append_assoc, append-nil, ⊎_elim, ◌⊎◌, inl, inr}
 use Rattle.std.specs.declared.cmp.Ordering.TheVariants.{Less}
 use Rattle.std.proofs.lemmas.Bool.{lt-ltb, le-ltb, cases_lt}
 use Rattle.std.proofs.lemmas.List.{get_or_append_left, get_or-set_same}
@@ -27,14 +27,16 @@ use Rattle.ax_pairs.proofs.Rewritten.{base_low, rewritten}
 use Rattle.ax_pairs.proofs.Sets.{same_set}
 use Rattle.ax_pairs.proofs.SplitOff.{with_list, split_off}
 use Rattle.ax_index.specs.Bare.{has_deltas}
+use Rattle.ax_index.specs.Carried.{HasLowPair, HasSome, bases_put}
 use Rattle.ax_index.specs.Rewriting.{without, Replaces, Rewrites}
+use Rattle.ax_index.proofs.CarriedLemmas.{bases_put_more, no_base_of, one_base_put}
 use Rattle.ax_index.proofs.Lists.{deltas_more, bases_more, has_more, in_first, in_second, not_in_first, first_of_list, rises_back, one_before, not_in_both, not_in_other, first_least}
 
 -- ---- the base of the page itself
 
 module _ (page : ℕ) (first rest : List Pair) (now : List TermPage) (payload : List ℕ) (there : page < length now) (rise : Rise (first ++ rest))
     (spelled : IsLeaf payload (low_pair page now) (postings_of first)) (belong : AllBelong (first ++ rest) page now)
-    (above : (p : Pair) → has p rest ≡ true → pair_cmp (low_pair page now) p ≡ Less) where
+    (above : (p : Pair) → has p rest ≡ true → pair_cmp (low_pair page now) p ≡ Less) (some : 0 < length (first ++ rest) → 0 < length first) where
   abbrev after_first : List TermPage
   after_first = after_base page payload now
 
@@ -79,6 +81,13 @@ module _ (page : ℕ) (first rest : List Pair) (now : List TermPage) (payload : 
     bare = ap has_deltas (ap (term_page page) (put_within page (with_base payload) now there) ∙ get_or-set_same now page (with_base payload) no_term_page there);
     new_bare = λ n from below. absurd (omega (arith, lows_first.many));
     one_base = λ count below within. ap (λ (b : Bool). cond b 1 0 + 0) (lt-ltb page count below);
+    own = ap (λ (ps : List (List ℕ)). length ps) (one_base_put page payload);
+    elsewhere = λ n h apart. no_base_of page n payload apart;
+    new_with = λ n from below. absurd (omega (arith, lows_first.many));
+    filled = λ h.
+        subst HasSome
+        (sym (ap (term_page page) (put_within page (with_base payload) now there) ∙ get_or-set_same now page (with_base payload) no_term_page there))
+        (first, of_payload payload (low_pair page now) first spelled, some h);
     fresh = λ n from below. absurd (omega (arith, lows_first.many));
     front = first;
     whole = refl;
@@ -187,6 +196,25 @@ module _ (page : ℕ) (list : List Pair) (q : Pair) (piece rest : List Pair) (no
         ap (λ (b : Bool). cond b 1 0 + 0) (le-ltb (length old) count (omega (arith, is.longer)))
         in
         omega (arith, bases_more count parts (base_part (length old) payload ∷ []), is.one_base count below within, none);
+    own = ap (λ (ps : List (List ℕ)). length ps)
+        (bases_put_more page parts (base_part (length old) payload ∷ [])
+        ∙ ap (λ (ps : List (List ℕ)). bases_put page parts ++ ps) (no_base_of (length old) page payload (λ e. omega (arith, e, is.there, is.longer)))
+        ∙ append-nil (bases_put page parts))
+        ∙ is.own;
+    elsewhere = λ n h apart.
+        bases_put_more n parts (base_part (length old) payload ∷ [])
+        ∙ ap (λ (ps : List (List ℕ)). bases_put n parts ++ ps) (no_base_of (length old) n payload (λ e. omega (arith, e, h, is.longer)))
+        ∙ append-nil (bases_put n parts) ∙ is.elsewhere n h apart;
+    new_with = λ n from below.
+        ⊎_elim
+        (λ (e : n ≡ length old).
+        subst HasLowPair (sym (at_behind new_page old n e))
+        (q ∷ piece, of_payload payload q (q ∷ piece) spelled, ap (λ (l : Pair). has l (q ∷ piece)) low_is ∙ first_of_list q piece))
+        (λ (l : n < length old).
+        subst HasLowPair (sym (get_or_append_left old (new_page ∷ []) no_term_page n l)) (is.new_with n from l))
+        (last_or_before n below);
+    filled = λ h.
+        subst HasSome (sym (get_or_append_left old (new_page ∷ []) no_term_page page (omega (arith, is.there, is.longer)))) (is.filled h);
     fresh = λ n from below.
         ⊎_elim
         (λ (e : n ≡ length old).

@@ -1,7 +1,10 @@
 pub mod Bare
+pub mod Carried
 pub mod Damage
 pub mod DeltaRuns
+pub mod DeltaSizes
 pub mod Merging
+pub mod PageSizes
 pub mod Planning
 pub mod Plans
 pub mod Reading

@@ -5,26 +5,28 @@ use Rattle.std.specs.declared.cmp.Ordering.TheVariants.{Less}
 use Rattle.ax_frame.specs.Part.{PartValue}
 use Rattle.ax_pair.specs.declared.pair.Pair.{Pair}
 use Rattle.ax_pair.specs.Order.{pair_cmp}
-use Rattle.ax_pages.specs.AfterPart.{most_term_pages}
 use Rattle.ax_pages.specs.Contents.{TermPage, term_page}
-use Rattle.ax_pages.specs.TermPages.{IsLastPage, IsNextPage, low_pair}
+use Rattle.ax_pages.specs.TermPages.{IsLastPage, IsNextPage, IsPageOf, low_pair}
 use Rattle.ax_pairs.specs.Index.{IsIndex}
 use Rattle.ax_pairs.specs.PagePairs.{HasPairs}
 use Rattle.ax_pairs.specs.PairSets.{PairSet}
 use Rattle.ax_pairs.specs.TermParts.{LeadTo}
 use Rattle.ax_store.specs.Kept.{deltas_of}
 use Rattle.ax_index.specs.Bare.{has_deltas, with_deltas}
+use Rattle.ax_index.specs.Carried.{HasLowPair, HasSome, bases_put}
+use Rattle.ax_index.specs.PageSizes.{NeedsTooMany}
 use Rattle.ax_index.specs.Planning.{IsUpTo}
 
--- Of an index on an honest disk, a page that still has deltas has so many pairs that its new pages might need a number which
--- no page may have.
+-- Of an index on an honest disk, a page that still has deltas needs more new pages than may be: the last would have a
+-- number which no page may have.
 abbrev pub IsStuck : Bool → ℕ → List TermPage → List TermPage → Type 0
 IsStuck honest number before after =
     IsTrue honest → (set : PairSet) → IsIndex before set → has_deltas (term_page number after) ≡ true → (pairs : List Pair)
-    → HasPairs (term_page number before) pairs → most_term_pages < length after + length pairs
+    → HasPairs (term_page number before) pairs → NeedsTooMany (length after) pairs
 
 -- Behind the parts that a batch had, parts were put that change no pair. So many pages fewer have deltas: as
--- many as were asked for, or else no page has deltas but those that are stuck.
+-- many as were asked for, or else no page has deltas but those that are stuck. A new page has a pair, and one
+-- that is merged is left without pairs only where it has none.
 pub record IsMergePlan (honest : Bool) (asked merged : ℕ) (old new : List PartValue) (before : List TermPage) : Type 0 where
   pub parts : List PartValue
   pub added : new ≡ old ++ parts
@@ -35,6 +37,9 @@ pub record IsMergePlan (honest : Bool) (asked merged : ℕ) (old new : List Part
   pub fewer : with_deltas after + merged ≡ with_deltas before
   pub at_most : merged ≤ asked
   pub finished : merged < asked → (number : ℕ) → number < length before → IsStuck honest number before after
+  pub new_with : (number : ℕ) → length before ≤ number → number < length after → HasLowPair (term_page number after)
+  pub filled : IsTrue honest → (set : PairSet) → IsIndex before set → (number : ℕ) → number < length before
+      → 0 < length (bases_put number parts) → (p : Pair) → IsPageOf p number before → set p ≡ true → HasSome (term_page number after)
 
 -- the page comes before the one that is next, in the order of low pairs
 abbrev pub IsPassed : Option ℕ → ℕ → List TermPage → Type 0
@@ -62,5 +67,8 @@ pub record IsMergedTo (honest : Bool) (at : Option ℕ) (before : List TermPage)
   pub no_deltas : (number : ℕ) → deltas_of number parts ≡ 0
   pub fewer : with_deltas now + merged ≡ with_deltas before
   pub next_is : next ≡ length now
+  pub new_with : (number : ℕ) → length before ≤ number → number < length now → HasLowPair (term_page number now)
+  pub filled : IsTrue honest → (set : PairSet) → IsIndex before set → (number : ℕ) → number < length before
+      → 0 < length (bases_put number parts) → (p : Pair) → IsPageOf p number before → set p ≡ true → HasSome (term_page number now)
   pub ready : IsReady at before now parts
   pub stuck : (number : ℕ) → number < length before → IsPassed at number before → IsStuck honest number before now

@@ -9,12 +9,13 @@ use Rattle.ax_frame.specs.Part.{PartValue}
 use Rattle.ax_pair.specs.declared.pair.Pair.{Pair}
 use Rattle.ax_pair.specs.Order.{pair_cmp}
 use Rattle.ax_pages.specs.Contents.{TermPage, term_page}
-use Rattle.ax_pages.specs.TermPages.{IsLastPage, IsNextPage, IsPageOf, low_pair}
+use Rattle.ax_pages.specs.TermPages.{AreApart, IsLastPage, IsNextPage, IsPageOf, low_pair}
 use Rattle.ax_pairs.specs.Index.{IsIndex}
 use Rattle.ax_pairs.specs.PairSets.{PairSet, with_changes}
 use Rattle.ax_pairs.specs.TermParts.{LeadTo, bases_below}
 use Rattle.ax_store.specs.Kept.{deltas_of}
 use Rattle.ax_index.specs.Bare.{has_deltas}
+use Rattle.ax_index.specs.Carried.{AreCarriedBy, HasLowPair, HasSome, IsSettled, bases_put, deltas_put}
 
 -- each pair is before the bound
 abbrev pub AreBefore : List Pair → Pair → Type 0
@@ -43,6 +44,12 @@ pub record IsUpTo (bound : Pair) (before now : List TermPage) (parts : List Part
   pub fresh : (n : ℕ) → length before ≤ n → n < length now → pair_cmp (low_pair n now) bound ≡ Less
   pub same : (n : ℕ) → n < length before → (pair_cmp (low_pair n before) bound ≡ Less → ⊥) → term_page n now ≡ term_page n before
   pub none : (n : ℕ) → n < length before → (pair_cmp (low_pair n before) bound ≡ Less → ⊥) → deltas_of n parts ≡ 0
+  pub no_bases : (n : ℕ) → n < length before → (pair_cmp (low_pair n before) bound ≡ Less → ⊥) → bases_put n parts ≡ []
+
+-- what is put for one page: a base, where it is merged, and else deltas that carry the changes
+abbrev pub IsPutBy : Bool → List Change → List (List ℕ) → List (List ℕ) → Type 0
+IsPutBy true changes bases deltas = (length bases ≡ 1) × (deltas ≡ [])
+IsPutBy false changes bases deltas = (bases ≡ []) × AreCarriedBy changes deltas
 
 -- What the parts put for one page and the changes of it make of the pages as they are now: new pages have
 -- low pairs before the page that was next.
@@ -55,6 +62,11 @@ pub record IsPageDone (honest : Bool) (page : ℕ) (changes : List Change) (befo
   pub same : (n : ℕ) → n < length now → n ≢ page → term_page n after ≡ term_page n now
   pub deltas : (n : ℕ) → n ≢ page → deltas_of n parts ≡ 0
   pub bases : bases_below (length before) parts ≡ (if merged then 1 else 0)
+  pub elsewhere : (n : ℕ) → n < length before → n ≢ page → bases_put n parts ≡ []
+  pub put : IsPutBy merged changes (bases_put page parts) (deltas_put page parts)
+  pub new_with : (n : ℕ) → length now ≤ n → n < length after → HasLowPair (term_page n after)
+  pub filled : merged ≡ true → IsTrue honest → (set : PairSet) → IsIndex now set → (p : Pair) → IsPageOf p page now
+      → with_changes changes set p ≡ true → HasSome (term_page page after)
   pub bare : merged ≡ true → has_deltas (term_page page after) ≡ false
   pub new_bare : (n : ℕ) → length now ≤ n → n < length after → has_deltas (term_page n after) ≡ false
   pub holds : IsTrue honest → (set : PairSet) → IsIndex now set → IsIndex after (with_changes changes set)
@@ -86,3 +98,10 @@ pub record IsPlannedTo (honest : Bool) (changes rest : List Change) (before : Li
   pub next_is : next ≡ length now
   pub ready : (page : ℕ) → IsFirstOf rest page before → IsUpTo (low_pair page before) before now parts
   pub enough : (number : ℕ) → deltas_of number parts ≤ room number
+  pub passed : (page : ℕ) → IsFirstOf rest page before → AreBefore (changed_pairs done) (low_pair page before)
+  pub each : AreApart before → (number : ℕ) → number < length before → IsSettled number before done parts
+  pub new_without : (number : ℕ) → length before ≤ number → deltas_of number parts ≡ 0
+  pub new_with : (number : ℕ) → length before ≤ number → number < length now → HasLowPair (term_page number now)
+  pub filled : IsTrue honest → (set : PairSet) → IsIndex before set → (number : ℕ) → number < length before
+      → 0 < length (bases_put number parts) → (p : Pair) → IsPageOf p number before → with_changes done set p ≡ true
+      → HasSome (term_page number now)

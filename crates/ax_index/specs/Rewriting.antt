@@ -15,6 +15,7 @@ use Rattle.ax_pairs.specs.PairSets.{PairSet}
 use Rattle.ax_pairs.specs.TermParts.{LeadTo, bases_below}
 use Rattle.ax_store.specs.Kept.{deltas_of}
 use Rattle.ax_index.specs.Bare.{has_deltas}
+use Rattle.ax_index.specs.Carried.{HasLowPair, HasSome, bases_put}
 
 -- Behind the parts that a batch had, a base of these pairs was put.
 pub record IsBasePut (number : ℕ) (low : Pair) (pairs : List Pair) (old new : List PartValue) : Type 0 where
@@ -43,6 +44,10 @@ pub record Rewrites (page : ℕ) (list rest : List Pair) (now : List TermPage) (
   pub bare : has_deltas (term_page page after) ≡ false
   pub new_bare : (n : ℕ) → length now ≤ n → n < length after → has_deltas (term_page n after) ≡ false
   pub one_base : (count : ℕ) → page < count → count ≤ length now → bases_below count parts ≡ 1
+  pub own : length (bases_put page parts) ≡ 1
+  pub elsewhere : (n : ℕ) → n < length now → n ≢ page → bases_put n parts ≡ []
+  pub new_with : (n : ℕ) → length now ≤ n → n < length after → HasLowPair (term_page n after)
+  pub filled : 0 < length list → HasSome (term_page page after)
   pub fresh : (n : ℕ) → length now ≤ n → n < length after → has (low_pair n after) list ≡ true
   pub front : List Pair
   pub whole : list ≡ front ++ rest

@@ -9,6 +9,7 @@ ghost use Rattle.ax_pages.specs.TermPages.{low_pair};
 ghost use Rattle.ax_pairs.specs.Index.{AllBelong};
 ghost use Rattle.ax_store.specs.Batch.{batch_parts};
 ghost use Rattle.ax_store.specs.Store.{store_contents};
+ghost use Rattle.ax_index.specs.PageSizes.{HasNumbers, NeedsTooMany, rest_of};
 ghost use Rattle.ax_index.specs.Rewriting.{IsBasePut, IsRewritten};
 
 use crate::out_of_memory::Memory;
@@ -42,7 +43,7 @@ pub(crate) fn rewrite<C>(
         → IfOk result (λ done. done ≡ true → IsRewritten page pairs.now now next.new (batch_parts batch.old) (batch_parts batch.new)) }
     ensures left { IfOk result (λ done. done ≡ false → (batch_parts batch.new ≡ batch_parts batch.old) × (next.new ≡ next.old)) }
     ensures full { IfOk result (λ done. done ≡ false → AllBelong pairs.now page (store_contents store.now).terms
-        → most_term_pages < next.old + length pairs.now) }
+        → NeedsTooMany next.old pairs.now) }
 {
     if !all_belong(store, page, pairs) || !has_numbers(*next, pairs) {
         return Ok(false);
@@ -54,7 +55,8 @@ pub(crate) fn rewrite<C>(
 
 /// Whether there are numbers for the new pages that the pairs need.
 fn has_numbers(next: u32, pairs: &[Pair]) -> bool
-    ensures { IsTrue result ⊎ (most_term_pages < next + length pairs.now) }
+    ensures few { IsTrue result → HasNumbers next (rest_of pairs.now) }
+    ensures many { IsTrue result ⊎ NeedsTooMany next pairs.now }
 {
     next as usize + new_pages(pairs) <= MOST_PAGES as usize
 }
@@ -80,6 +82,7 @@ fn put_bases(
 ) -> Result<(), Memory>
     requires rise { Rise pairs.now }
     requires begins { BeginsFrom low.now pairs.now }
+    requires numbers { HasNumbers next.old (rest_of pairs.now) }
     ensures { (now : List TermPage) → next.old ≡ length now → page < length now → low_pair page now ≡ low.now
         → AllBelong pairs.now page now
         → OnOk result (IsRewritten page pairs.now now next.new (batch_parts batch.old) (batch_parts batch.new)) }
@@ -104,12 +107,10 @@ fn put_new_page(
 ) -> Result<(), Memory>
     requires rise { Rise pairs.now }
     requires begins { BeginsFrom low.now pairs.now }
+    requires number { next.old < most_term_pages }
     ensures put { OnOk result (IsBasePut next.old low.now pairs.now (batch_parts batch.old) (batch_parts batch.new)) }
     ensures next { OnOk result ((next.new ≡ next.old + 1) × (next.old < most_term_pages)) }
 {
-    if *next >= MOST_PAGES {
-        return Err(Memory);
-    }
     put_base(alloc, batch, *next, low, pairs)?;
     *next += 1;
     Ok(())

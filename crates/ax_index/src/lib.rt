@@ -31,3 +31,4 @@ pub use looking::has;
 pub use merging::merge_some;
 pub use numbers::pairs_in;
 pub use plan::plan_changes;
+pub use sizes::have_short_terms;

@@ -3,7 +3,6 @@
 ghost use Rattle.std.specs.Prelude.{◌≡◌, ◌<◌, ◌≤◌, ◌+◌, ℕ, List, Option, Some, [], IsTrue, IfOk, IfErr, OnOk, if◌then◌else◌, true, false, length};
 ghost use Rattle.ax_frame.specs.Part.{PartValue};
 ghost use Rattle.ax_pair.specs.declared.pair.Pair.{Pair};
-ghost use Rattle.ax_pages.specs.AfterPart.{most_term_pages};
 ghost use Rattle.ax_pages.specs.Contents.{TermPage, term_page};
 ghost use Rattle.ax_pages.specs.TermPages.{low_pair};
 ghost use Rattle.ax_pairs.specs.Index.{IsIndex};
@@ -17,6 +16,7 @@ ghost use Rattle.ax_store.specs.Store.{AgreesUnlessFailed, store_contents, store
 ghost use Rattle.ax_index.specs.Bare.{has_deltas as does_have_deltas};
 ghost use Rattle.ax_index.specs.Damage.{FailsBy, TellsPart};
 ghost use Rattle.ax_index.specs.Merging.{IsBehind, IsMergePlan, IsMergedTo};
+ghost use Rattle.ax_index.specs.PageSizes.{NeedsTooMany};
 ghost use Rattle.ax_index.specs.Planning.{IsUpTo, IsPagePlanned};
 ghost use Rattle.ax_index.specs.Plans.{HasNoDeltas};
 ghost use Rattle.ax_index.specs.Reads.{Reads, Reserves};
@@ -34,8 +34,9 @@ use ax_store::{Batch, Store, StoreFault};
 use std::alloc::Global;
 
 /// Puts parts behind those of a batch that merge `n` term pages with deltas, from the least low pair on, and
-/// answers how many they are: fewer only where no page is left that has deltas, but for those whose pairs
-/// might need a new page with a number from 2^31 on. No pair is changed. It makes the room that a commit of
+/// answers how many they are: fewer only where no page is left that has deltas, but for those whose fold
+/// needs so many new pages that the last would have a number from 2^31 on. No pair is changed, and no page
+/// is made without one. It makes the room that a commit of
 /// the batch needs.
 ///
 /// `Disk`, `Damaged`: as `has`. `Memory` where there is no room; the store is then as before but for room,
@@ -212,7 +213,7 @@ fn merge_whole<D: Disk, C: PageCache>(
     ensures left { IfOk result (λ done. done ≡ false → (batch_parts batch.new ≡ batch_parts batch.old) × (next.new ≡ next.old)) }
     ensures stuck { IsTrue (D.is_honest disk.old) → (set : PairSet) → IsIndex (store_contents store.old).terms set
         → IfOk result (λ done. done ≡ false → (pairs : List Pair) → HasPairs (term_page page (store_contents store.old).terms) pairs
-        → most_term_pages < next.old + length pairs) }
+        → NeedsTooMany next.old pairs) }
     ensures told { IsTrue (D.is_honest disk.old) → IfErr result (TellsPart store.old) }
     ensures slot { slot.new ≡ slot.old }
     ensures reads { Reads C.pages (D.is_honest disk.old) store.old store.new

@@ -32,7 +32,8 @@ use ax_term::TermRange;
 use std::alloc::{AllocError, Global};
 
 /// The rising numbers with a term in the range, of the set that the term pages hold. It reads the pages
-/// that may have a term of the range, each with its parts.
+/// that may have a term of the range, each with its parts. The numbers rise whatever the pages hold and
+/// whatever the disk gives.
 ///
 /// `Disk`, `Damaged`: as `has`. `Memory` where there is no room for the pairs of a page or for the numbers.
 pub fn pairs_in<D: Disk, C: PageCache>(
@@ -46,6 +47,7 @@ pub fn pairs_in<D: Disk, C: PageCache>(
         (D.history disk.old (D.attached disk.old)) }
     ensures numbers { IsTrue (D.is_honest disk.old) → (set : PairSet) → IsIndex (store_contents store.old).terms set
         → IfOk result (λ numbers. AreNumbersIn range.now set numbers.items) }
+    ensures rising { IfOk result (λ numbers. IsRisingList numbers.items) }
     ensures told { IsTrue (D.is_honest disk.old) → IfErr result (TellsPart store.old) }
     ensures reads { Reads C.pages (D.is_honest disk.old) store.old store.new
         (D.history disk.old (D.attached disk.old)) (D.history disk.new (D.attached disk.new))
@@ -76,6 +78,7 @@ fn numbers_by<D: Disk, C: PageCache>(
         (D.history disk.old (D.attached disk.old)) }
     ensures numbers { IsTrue (D.is_honest disk.old) → (set : PairSet) → IsIndex (store_contents store.old).terms set
         → IfOk result (λ numbers. AreNumbersIn range.now set numbers.items) }
+    ensures rising { IfOk result (λ numbers. IsRisingList numbers.items) }
     ensures told { IsTrue (D.is_honest disk.old) → IfErr result (TellsPart store.old) }
     ensures slot { slot.new ≡ slot.old }
     ensures reads { Reads C.pages (D.is_honest disk.old) store.old store.new

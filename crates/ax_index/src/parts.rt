@@ -1,11 +1,12 @@
 //! Parts of term pages, put behind those of a batch.
 
-ghost use Rattle.std.specs.Prelude.{◌≡◌, ◌<◌, [], ◌∷◌, ◌++◌, List, length, OnOk, IfOk};
+ghost use Rattle.std.specs.Prelude.{◌≡◌, ◌<◌, ◌≤◌, [], ◌∷◌, ◌++◌, List, length, OnOk, IfOk};
 ghost use Rattle.ax_delta.specs.Changes.{changed_pairs};
 ghost use Rattle.ax_pair.specs.Order.{Rise, BeginsFrom};
 ghost use Rattle.ax_pages.specs.Contents.{TermPage};
 ghost use Rattle.ax_store.specs.Batch.{batch_parts};
-ghost use Rattle.ax_index.specs.DeltaRuns.{ArePut};
+ghost use Rattle.ax_index.specs.DeltaRuns.{AreFew, ArePut};
+ghost use Rattle.ax_index.specs.DeltaSizes.{HaveShortTerms, counted_bytes};
 ghost use Rattle.ax_index.specs.Rewriting.{IsBasePut};
 
 use crate::out_of_memory::Memory;
@@ -21,14 +22,38 @@ const BASE: u8 = 5;
 
 const DELTA: u8 = 6;
 
-/// Puts deltas of a page that carry rising changes, and answers how many they are.
+/// Puts deltas of a page that carry rising changes, and answers how many they are: one, but for changes of
+/// which one delta would be longer than a part may be.
 pub(crate) fn put_deltas(
     alloc: Global,
     batch: &mut Batch,
     page: u32,
     changes: &[Change],
 ) -> Result<usize, Memory>
-    requires { Rise (changed_pairs changes.now) }
+    requires some { 0 < length changes.now }
+    requires rise { Rise (changed_pairs changes.now) }
+    requires short { HaveShortTerms changes.now }
+    ensures put { (now : List TermPage) → page < length now
+        → IfOk result (λ count. ArePut page changes.now now count (batch_parts batch.old) (batch_parts batch.new)) }
+    ensures few { IfOk result (λ count. AreFew changes.now count) }
+{
+    let payload = ax_delta::encode(alloc, changes)?;
+    if payload.len() <= MOST_PAYLOAD {
+        put_part(alloc, batch, DELTA, page, payload.as_slice())?;
+        return Ok(1);
+    }
+    put_pieces(alloc, batch, page, changes)
+}
+
+/// Puts a delta of each piece into which rising changes are cut, and answers how many they are.
+fn put_pieces(
+    alloc: Global,
+    batch: &mut Batch,
+    page: u32,
+    changes: &[Change],
+) -> Result<usize, Memory>
+    requires rise { Rise (changed_pairs changes.now) }
+    requires short { HaveShortTerms changes.now }
     ensures { (now : List TermPage) → page < length now
         → IfOk result (λ count. ArePut page changes.now now count (batch_parts batch.old) (batch_parts batch.new)) }
 {
@@ -47,6 +72,7 @@ pub(crate) fn put_deltas(
 fn put_delta(alloc: Global, batch: &mut Batch, page: u32, changes: &[Change]) -> Result<(), Memory>
     requires some { 0 < length changes.now }
     requires rise { Rise (changed_pairs changes.now) }
+    requires fits { counted_bytes changes.now ≤ 60000 }
     ensures { (now : List TermPage) → page < length now
         → OnOk result (ArePut page changes.now now 1 (batch_parts batch.old) (batch_parts batch.new)) }
 {
@@ -55,7 +81,8 @@ fn put_delta(alloc: Global, batch: &mut Batch, page: u32, changes: &[Change]) ->
     Ok(())
 }
 
-/// Puts a base of a page of this low pair.
+/// Puts a base of a page of this low pair. `Memory` also where its payload is longer than a part may be, as it
+/// is only where a term of the pages has more bytes than a change may bring.
 pub(crate) fn put_base(
     alloc: Global,
     batch: &mut Batch,
@@ -68,12 +95,14 @@ pub(crate) fn put_base(
     ensures { OnOk result (IsBasePut page low.now pairs.now (batch_parts batch.old) (batch_parts batch.new)) }
 {
     let payload = ax_leaf::encode(alloc, low, pairs)?;
+    if payload.len() > MOST_PAYLOAD {
+        return Err(Memory);
+    }
     put_part(alloc, batch, BASE, page, payload.as_slice())?;
     Ok(())
 }
 
-/// Puts a part. `Memory` also where the payload is longer than a part may be: bases and deltas are cut so
-/// that none is.
+/// Puts a part.
 fn put_part(
     alloc: Global,
     batch: &mut Batch,
@@ -81,12 +110,10 @@ fn put_part(
     key: u32,
     payload: &[u8],
 ) -> Result<(), Memory>
+    requires { length payload.now ≤ 65536 }
     ensures { OnOk result (batch_parts batch.new
         ≡ batch_parts batch.old ++ record { kind = kind; key = key; payload = payload.now } ∷ []) }
 {
-    if payload.len() > MOST_PAYLOAD {
-        return Err(Memory);
-    }
     batch.add(alloc, Part { kind, key, payload })?;
     Ok(())
 }

@@ -20,6 +20,7 @@ ghost use Rattle.ax_store.specs.Slots.{IsSlotOf};
 ghost use Rattle.ax_store.specs.Store.{AgreesUnlessFailed, SameButRoom, store_contents, store_failed, store_room, store_slots, store_spare};
 ghost use Rattle.ax_index.specs.Damage.{FailsBy, TellsPart};
 ghost use Rattle.ax_index.specs.DeltaRuns.{AreCarried};
+ghost use Rattle.ax_index.specs.DeltaSizes.{HaveShortTerms};
 ghost use Rattle.ax_index.specs.Planning.{IsUpTo, IsPagePlanned, IsPlannedTo};
 ghost use Rattle.ax_index.specs.Plans.{HasNoDeltas, IsPlan};
 ghost use Rattle.ax_index.specs.Reads.{Reads, Reserves};
@@ -43,10 +44,12 @@ use std::alloc::Global;
 
 /// Puts parts behind those of a batch that make changes in the set which the term pages hold: a pair that
 /// is added is in it, one that is dropped is not, whether it was before or not. The pairs of the changes
-/// rise.
+/// rise, and their terms have at most 4,096 bytes: `have_short_terms` tells it.
 ///
-/// It answers how many term pages it merges, at most 16, and reads the parts of no other; other pages that
-/// are changed get deltas. It makes the room that a commit of the batch needs.
+/// It answers how many term pages it merges, at most 16, and reads the parts of no other. Each other page
+/// gets just the changes of its pairs: one delta, but where it would be longer than a part may be, and none
+/// where nothing of it is changed. New pages have no deltas, and none is empty. It makes the room that a
+/// commit of the batch needs.
 ///
 /// `Disk`, `Damaged`: as `has`. `Memory` where there is no room; the store is then as before but for room,
 /// and the batch may hold further parts.
@@ -58,6 +61,7 @@ pub fn plan_changes<D: Disk, C: PageCache>(
     batch: &mut Batch,
 ) -> Result<u32, StoreFault>
     requires rise { Rise (changed_pairs changes.now) }
+    requires short { HaveShortTerms changes.now }
     requires slots { 2 ≤ free_count (store_slots store.old) }
     requires agrees { AgreesUnlessFailed C.pages (D.is_honest disk.old) store.old
         (D.history disk.old (D.attached disk.old)) }
@@ -102,6 +106,7 @@ fn plan_by<D: Disk, C: PageCache>(
     batch: &mut Batch,
 ) -> Result<u32, StoreFault>
     requires rise { Rise (changed_pairs changes.now) }
+    requires short { HaveShortTerms changes.now }
     requires slot { IsSlotOf store.old slot.old }
     requires agrees { AgreesUnlessFailed C.pages (D.is_honest disk.old) store.old
         (D.history disk.old (D.attached disk.old)) }
@@ -162,6 +167,7 @@ fn plan_first<'a, D: Disk, C: PageCache>(
 ) -> Result<&'a [Change], StoreFault>
     requires some { 0 < length changes.now }
     requires rise { Rise (changed_pairs changes.now) }
+    requires short { HaveShortTerms changes.now }
     requires slot { IsSlotOf store.old slot.old }
     requires agrees { AgreesUnlessFailed C.pages (D.is_honest disk.old) store.old
         (D.history disk.old (D.attached disk.old)) }
@@ -170,6 +176,7 @@ fn plan_first<'a, D: Disk, C: PageCache>(
         → IsPlannedTo (D.is_honest disk.old) all changes.entry.now (store_contents store.old).terms plan.old.merged plan.old.next (λ number. store_room number store.old) old (batch_parts batch.old)
         → IfOk result (λ behind. IsPlannedTo (D.is_honest disk.old) all behind.now (store_contents store.old).terms plan.new.merged plan.new.next (λ number. store_room number store.new) old (batch_parts batch.new)) }
     ensures rise { IfOk result (λ behind. Rise (changed_pairs behind.now)) }
+    ensures short { IfOk result (λ behind. HaveShortTerms behind.now) }
     ensures fewer { IfOk result (λ behind. length behind.now < length changes.entry.now) }
     ensures few { plan.new.merged ≤ 16 }
     ensures told { IsTrue (D.is_honest disk.old) → IfErr result (TellsPart store.old) }
@@ -223,7 +230,9 @@ fn plan_page<D: Disk, C: PageCache>(
     batch: &mut Batch,
 ) -> Result<bool, StoreFault>
     requires page { page < length (store_contents store.old).terms }
+    requires some { 0 < length changes.now }
     requires rise { Rise (changed_pairs changes.now) }
+    requires short { HaveShortTerms changes.now }
     requires slot { IsSlotOf store.old slot.old }
     requires agrees { AgreesUnlessFailed C.pages (D.is_honest disk.old) store.old
         (D.history disk.old (D.attached disk.old)) }
@@ -263,7 +272,9 @@ fn plan_deltas<C>(
     changes: &[Change],
 ) -> Result<bool, StoreFault>
     requires page { page < length (store_contents store.old).terms }
+    requires some { 0 < length changes.now }
     requires rise { Rise (changed_pairs changes.now) }
+    requires short { HaveShortTerms changes.now }
     ensures planned { (now : List TermPage) → page < length now
         → OnOk result (AreCarried page changes.now now (store_room page store.new) (batch_parts batch.old) (batch_parts batch.new)) }
     ensures deltas { IfOk result (λ merged. merged ≡ false) }
@@ -286,7 +297,9 @@ fn put_changes<C>(
     changes: &[Change],
 ) -> Result<(), Memory>
     requires page { page < length (store_contents store.old).terms }
+    requires some { 0 < length changes.now }
     requires rise { Rise (changed_pairs changes.now) }
+    requires short { HaveShortTerms changes.now }
     ensures put { (now : List TermPage) → page < length now
         → OnOk result (AreCarried page changes.now now (store_room page store.new) (batch_parts batch.old) (batch_parts batch.new)) }
     ensures never_less { (number : ℕ) → store_room number store.old ≤ store_room number store.new }
@@ -377,7 +390,7 @@ fn changed(alloc: Global, pairs: Vec<Pair>, changes: &[Change]) -> Result<Vec<Pa
     }
     let payload = ax_delta::encode(alloc, changes)?;
     let Some(delta) = ax_delta::check(payload.as_slice()) else {
-        return Err(Memory);
+        unreachable!()
     };
     let after = ax_delta::merge(alloc, pairs, &delta)?;
     Ok(after)

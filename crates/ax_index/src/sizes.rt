@@ -6,7 +6,9 @@
 //! decides what a write costs: bases of `MOST_BASE_BYTES` at most, split to `SPLIT_BASE_BYTES`, have about
 //! three quarters of the most.
 
-ghost use Rattle.std.specs.Prelude.{◌<◌, ◌≤◌, length};
+ghost use Rattle.std.specs.Prelude.{◌≡◌, ◌↔◌, ◌+◌, ◌<◌, ◌≤◌, ◌^◌, IsTrue, nat_lt, if◌then◌else◌, length, take, drop};
+ghost use Rattle.ax_index.specs.DeltaSizes.{HaveShortTerms, counted_bytes};
+ghost use Rattle.ax_index.specs.PageSizes.{TakePages, bytes_beside, number_bytes, rest_of};
 
 use ax_delta::Change;
 use ax_leaf::short_term::in_common;
@@ -27,35 +29,51 @@ const MOST_BASE_BYTES: usize = 4_096;
 /// As how many bytes the pairs of a base are counted, at most, that is split off one of more.
 const SPLIT_BASE_BYTES: usize = 2_048;
 
-/// How many bytes the changes of a delta are counted as, at most, but for one alone. A part has room for
-/// 65,536.
+/// The most bytes of a term that a change may bring.
+const MOST_TERM_BYTES: usize = 4_096;
+
+/// How many bytes the changes of a delta are counted as, at most, where they do not fit one. A part has room
+/// for 65,536.
 const MOST_DELTA_BYTES: usize = 60_000;
 
 /// What a term and a number take beside the bytes of the term, at most: five numbers of five bytes.
 const BESIDE_TERM: usize = 25;
 
-/// How many of rising pairs a base is to have: all, where they are few enough.
+/// How many of rising pairs a base is to have: all, where they are few enough. The term of the first is not
+/// counted: it names the page too, whatever the page holds, and a long one must not leave it alone there.
 pub(crate) fn base_len(pairs: &[Pair]) -> usize
     ensures within { result ≤ length pairs.now }
     ensures some { 0 < length pairs.now → 0 < result }
+    ensures cut { drop result pairs.now ≡ rest_of pairs.now }
 {
-    let mut bytes: usize = 0;
+    let mut bytes = BESIDE_TERM;
     let mut front = 1;
-    for i in 0..pairs.len() {
-        bytes = bytes.saturating_add(bytes_of(pairs, i));
+    for i in 1..pairs.len() {
+        bytes += bytes_behind(&pairs[i - 1], &pairs[i]);
         if bytes > MOST_BASE_BYTES {
             return front;
         }
-        if bytes <= SPLIT_BASE_BYTES {
-            front = i + 1;
-        }
+        front = front_after(bytes, front, i);
     }
     pairs.len()
 }
 
+/// How many pairs a base has that is split off: so many more as bytes up to this pair are few enough.
+fn front_after(bytes: usize, front: usize, i: usize) -> usize
+    requires { i < 2 ^ 63 }
+    ensures { result ≡ (if nat_lt 2048 bytes then front else i + 1) }
+{
+    if bytes > SPLIT_BASE_BYTES {
+        front
+    } else {
+        i + 1
+    }
+}
+
 /// How many new pages the pairs of one take beside it.
 pub(crate) fn new_pages(pairs: &[Pair]) -> usize
-    ensures { result ≤ length pairs.now }
+    ensures within { result ≤ length pairs.now }
+    ensures take { TakePages result (rest_of pairs.now) }
 {
     let mut count = 0;
     let (_, mut rest) = pairs.split_at(base_len(pairs));
@@ -67,28 +85,25 @@ pub(crate) fn new_pages(pairs: &[Pair]) -> usize
     count
 }
 
-/// How many bytes of a base a pair takes behind those before it, counted from above where they are of two
-/// terms, and about so many where they are of one. The term of the first is not counted: it names the page
-/// too, whatever the page holds, and a long one must not leave it alone there.
-fn bytes_of(pairs: &[Pair], i: usize) -> usize
-    requires { i < length pairs.now }
+/// How many bytes of a base a pair takes behind another, counted from above where they are of two terms,
+/// and about so many where they are of one.
+fn bytes_behind(before: &Pair, pair: &Pair) -> usize
+    ensures few { result ≤ 2 ^ 63 + 8 }
+    ensures is { result ≡ bytes_beside before.now pair.now }
 {
-    if i == 0 {
-        return BESIDE_TERM;
+    let term = pair.term.as_slice();
+    let last = before.term.as_slice();
+    let shared = in_common(last, term);
+    if shared == term.len() && shared == last.len() {
+        return bytes_of_number(pair.number.saturating_sub(before.number));
     }
-    let term = pairs[i].term.as_slice();
-    let before = &pairs[i - 1];
-    let shared = in_common(before.term.as_slice(), term);
-    if shared == term.len() && shared == before.term.as_slice().len() {
-        return bytes_of_number(pairs[i].number.saturating_sub(before.number));
-    }
-    let number = bytes_of_number(pairs[i].number);
-    4 + number + (term.len() - shared)
+    4 + bytes_of_number(pair.number) + (term.len() - shared)
 }
 
 /// How many bytes a number takes, seven bits a byte.
 fn bytes_of_number(number: u32) -> usize
-    ensures { result ≤ 5 }
+    ensures few { result ≤ 5 }
+    ensures is { result ≡ number_bytes number }
 {
     match number {
         0..=0x7f => 1,
@@ -99,17 +114,24 @@ fn bytes_of_number(number: u32) -> usize
     }
 }
 
-/// How many of rising changes a delta is to have: as many as fit a part, and at least one.
+/// Has no term of the changes more than 4,096 bytes? `plan_changes` requires it.
+pub fn have_short_terms(changes: &[Change]) -> bool
+    ensures { IsTrue result ↔ HaveShortTerms changes.now }
+{
+    changes.iter().all(|change| change.pair.term.as_slice().len() <= MOST_TERM_BYTES)
+}
+
+/// How many of rising changes a delta is to have: as many as surely fit a part.
 pub(crate) fn delta_len(changes: &[Change]) -> usize
+    requires short { HaveShortTerms changes.now }
     ensures within { result ≤ length changes.now }
     ensures some { 0 < length changes.now → 0 < result }
+    ensures fits { counted_bytes (take result changes.now) ≤ 60000 }
 {
-    let mut bytes: usize = 0;
+    let mut bytes = 0;
     for (i, change) in changes.iter().enumerate() {
-        bytes = bytes
-            .saturating_add(BESIDE_TERM)
-            .saturating_add(change.pair.term.as_slice().len());
-        if i > 0 && bytes > MOST_DELTA_BYTES {
+        bytes += BESIDE_TERM + change.pair.term.as_slice().len();
+        if bytes > MOST_DELTA_BYTES {
             return i;
         }
     }

@@ -16,7 +16,9 @@ ghost use Rattle.ax_store.specs.Store.{store_contents, store_room, store_spare};
 use ax_cache::PageCache;
 use ax_delta::are_in_order;
 use ax_disk::Disk;
-use ax_index::{Change, Pair, StoreFault, TermRange, has, merge_some, pairs_in, plan_changes};
+use ax_index::{
+    Change, Pair, StoreFault, TermRange, has, have_short_terms, merge_some, pairs_in, plan_changes,
+};
 use ax_store::{Batch, Store};
 use std::alloc::Global;
 
@@ -33,7 +35,7 @@ pub fn open<D: Disk, C: PageCache + Drop>(
 }
 
 /// Plans rising changes and commits them, and answers how many pages were merged. Changes that do not
-/// rise are answered by `Memory`.
+/// rise, or with a term of more than 4,096 bytes, are answered by `Memory`.
 pub fn change<D: Disk, C: PageCache>(
     alloc: Global,
     disk: &mut D,
@@ -46,7 +48,7 @@ pub fn change<D: Disk, C: PageCache>(
     ensures kept { OnErr result (store_contents store.new ≡ store_contents store.old) }
     ensures ready { IsReady C.pages store.new (D.is_honest disk.new) (D.history disk.new (D.attached disk.new)) }
 {
-    if !are_in_order(changes) {
+    if !are_in_order(changes) || !have_short_terms(changes) {
         return Err(StoreFault::Memory);
     }
     let mut batch = Batch::begin(alloc);

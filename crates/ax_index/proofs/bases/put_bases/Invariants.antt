@@ -4,12 +4,14 @@ use Rattle.ax_pages.specs.Contents.{TermPage}
 use Rattle.ax_pages.specs.TermPages.{low_pair}
 use Rattle.ax_pairs.specs.Index.{AllBelong}
 use Rattle.ax_store.specs.Batch.{batch_parts}
+use Rattle.ax_index.specs.PageSizes.{HasNumbers}
 use Rattle.ax_index.specs.Rewriting.{IsRewrittenTo}
 use Rattle.ax_index.proofs.bases.put_bases.Given as goal
 
 abbrev pub invariant-loop-low : goal.invariant-loop-low
 invariant-loop-low l = record {
   rise : Rise l.rest;
+  numbers : HasNumbers l.next l.rest;
   rewritten : (now : List TermPage) → l.fn.next ≡ length now → l.page < length now → low_pair l.page now ≡ l.fn.low
       → AllBelong l.pairs l.page now → IsRewrittenTo l.page l.pairs l.rest now l.next (batch_parts l.fn.batch) (batch_parts l.batch);
 }

@@ -9,6 +9,7 @@ use Rattle.ax_index.proofs.plan.plan_by.Goals as goal
 pub loop-rest-init : goal.loop-rest-init
 loop-rest-init g c = record {
   rise = c.requires.rise;
+  short = c.requires.short;
   planned = planned_begin c.args.changes.now (store_contents c.args.store.now).terms c.pages.result _ _ c.pages.ensures;
   few = omega arith;
   reserves = nothing_reserved g.C.PageCache.pages _ c.args.store.now _ _ c.requires.agrees;
@@ -24,6 +25,7 @@ loop-rest-preserved g c =
     let more = c.in-Ok-plan_first.ensures in
     record {
       rise = more.rise;
+      short = more.short;
       planned = planned_on _ _ c.args.changes.now c.loop-rest.rest.now c.in-Ok-plan_first.behind.now _ (store_contents c.args.store.now).terms _ _ _ _ _ _ _ _ _
           inv.honest (ap (λ contents. contents.terms) inv.reserves.same.contents) (more.planned c.args.changes.now _) inv.planned;
       few = more.few;

@@ -3,6 +3,7 @@ use Rattle.ax_delta.specs.Changes.{changed_pairs}
 use Rattle.ax_pair.specs.Order.{Rise}
 use Rattle.ax_store.specs.Batch.{batch_parts}
 use Rattle.ax_store.specs.Store.{store_contents, store_failed, store_room}
+use Rattle.ax_index.specs.DeltaSizes.{HaveShortTerms}
 use Rattle.ax_index.specs.Planning.{IsPlannedTo}
 use Rattle.ax_index.specs.Reads.{Reserves}
 use Rattle.ax_index.proofs.plan.plan_by.Given as goal
@@ -10,6 +11,7 @@ use Rattle.ax_index.proofs.plan.plan_by.Given as goal
 abbrev pub invariant-loop-rest : goal.invariant-loop-rest
 invariant-loop-rest g l = record {
   rise : Rise (changed_pairs l.rest);
+  short : HaveShortTerms l.rest;
   planned : IsPlannedTo (g.D.Disk.is_honest l.fn.disk) l.changes l.rest (store_contents l.fn.store).terms l.plan.merged l.plan.next (λ number. store_room number l.store)
       (batch_parts l.fn.batch) (batch_parts l.batch);
   few : l.plan.merged ≤ 16;

@@ -1,5 +1,12 @@
-use Rattle.std.proofs.Common.{◌+◌, ◌<◌, ◌≤◌}
+use Rattle.std.proofs.Common.{◌≡◌, ◌-◌, ◌<◌, ◌≤◌, drop, get_or, length}
+use Rattle.ax_pair.specs.declared.pair.Pair.{Pair}
+use Rattle.ax_index.specs.PageSizes.{rest_from, rest_of}
 use Rattle.ax_index.proofs.sizes.base_len.Given as goal
 
 abbrev pub invariant-loop-i : goal.invariant-loop-i
-invariant-loop-i l = (0 < l.front) × (l.front ≤ l.i + 1)
+invariant-loop-i l = record {
+  some : 0 < l.front;
+  up_to : l.front ≤ l.i;
+  few : l.bytes ≤ 4096;
+  so_far : (d : Pair) → 0 < length l.pairs → rest_of l.pairs ≡ rest_from l.bytes (get_or l.pairs (l.i - 1) d) (drop l.front l.pairs) (drop l.i l.pairs);
+}
