@@ -1,5 +1,5 @@
 -- One document more, the end of a walk, and the answer.
-use Rattle.std.proofs.Common.{◌≡◌, ◌≤◌, ◌+◌, ℕ, List, [], ◌∷◌, ◌++◌, length, map, Bool, true, Option, Some, None, refl, sym, ap, subst, ◌∙◌}
+use Rattle.std.proofs.Common.{◌≡◌, ◌≢◌, ◌≤◌, ◌+◌, ℕ, List, [], ◌∷◌, ◌++◌, length, map, Bool, true, Option, Some, None, refl, sym, ap, subst, ◌∙◌}
 use Rattle.std.specs.Option.{IfSome}
 use Rattle.std.specs.List.Sorted.{IsStrictlySortedBy}
 use Rattle.std.specs.Ordering.{nat_cmp}
@@ -10,6 +10,7 @@ use Rattle.ax_mean.specs.Answer.{distinct_where}
 use Rattle.ax_excerpt.specs.declared.excerpt.Excerpt.{Excerpt}
 use Rattle.ax_excerpt.specs.Enough.{is_enough}
 use Rattle.ax_excerpt.specs.Plain.{are_plain}
+use Rattle.ax_excerpt_text.specs.Wholes.{tree_read}
 use Rattle.ax_sieve.specs.Conditions.{is_dropped}
 use Rattle.ax_result.specs.Answers.{answer_of}
 use Rattle.ax_answer.proofs.Rowless.{nothing_added}
@@ -113,3 +114,7 @@ finished held rows gives query entries answers rise =
     gives query (parts_of held.excerpt entries) answers.gathers
     (subst (IsStrictlySortedBy nat_cmp) (sym (same_numbers held.excerpt entries)) rise)
     ∙ same_answer held.excerpt query entries answers.enough
+
+-- bytes that stand for a tree do not stand for none
+pub one_stands : (tree : Tree) (text : List ℕ) → tree_read text ≡ Some tree → tree_read text ≢ None
+one_stands tree text is none = absurd (cc)
