@@ -41,7 +41,6 @@ impl<'a> TextAnswer<'a> {
     ghost use Rattle.ax_result.specs.Answers.{answer_of};
     ghost use Rattle.ax_answer.specs.Gathering.{HasEnough};
     ghost use Rattle.ax_excerpt_text.specs.Wholes.{tree_read};
-    ghost use Rattle.ax_sieve.specs.Conditions.{DropsNothing};
     ghost use Rattle.ax_answer_text.specs.Parts.{AreReadWhole};
     ghost use Rattle.ax_answer_text.specs.TextAnswers.{Answers};
 
@@ -72,8 +71,8 @@ impl<'a> TextAnswer<'a> {
 
     /// Takes in a document: its number and its canonical text. It takes at most one step of work. After
     /// an error the answer is of no more use. Bytes that stand for no tree are `Outside` where they are
-    /// read whole and no condition may drop them before.
-    #[tactic(auto, using(crate::proofs::TextLaws::dropped, crate::proofs::TextLaws::taken, crate::proofs::TextLaws::one_stands))]
+    /// read whole and the query has no condition.
+    #[tactic(auto, using(crate::proofs::TextLaws::dropped, crate::proofs::TextLaws::taken, crate::proofs::TextLaws::one_stands, crate::proofs::TextLaws::not_passed_over))]
     pub fn add<L: Ledger>(
         &mut self,
         alloc: Global,
@@ -87,8 +86,9 @@ impl<'a> TextAnswer<'a> {
             → Answers self.new query (entries ++ (number, tree) ∷ [])) }
         ensures inside { (tree : TreeOf) → text.now ≡ canonical_text tree → IsReadable tree
             → result ≢ Err TextFault.Outside }
-        ensures outside { DropsNothing self.old.sieve → AreReadWhole self.old.excerpt text.now
-            → OnOk result (tree_read text.now ≢ None) }
+        ensures outside { (query : queries.Query) → (entries : List (ℕ × TreeOf))
+            → Answers self.old query entries → query.condition ≡ None
+            → AreReadWhole self.old.excerpt text.now → OnOk result (tree_read text.now ≢ None) }
         ensures one { steps.new ≤ steps.old + 1 }
         ensures never_falls { steps.old ≤ steps.new }
     {
