@@ -1,5 +1,6 @@
 -- One document more, the end of a walk, and the answer.
-use Rattle.std.proofs.Common.{◌≡◌, ◌≤◌, ◌+◌, ℕ, List, [], ◌∷◌, ◌++◌, length, map, Bool, true, Option, Some, None, refl, sym, ap, subst, ◌∙◌}
+use Rattle.std.proofs.Common.{◌≡◌, ◌≢◌, ◌≤◌, ◌+◌, ℕ, List, [], ◌∷◌, ◌++◌, length, map, Bool, true, false, Option, Some, None, refl, sym, ap, subst, ◌∙◌}
+use Rattle.std.proofs.lemmas.Bool.{false≢true}
 use Rattle.std.specs.Option.{IfSome}
 use Rattle.std.specs.List.Sorted.{IsStrictlySortedBy}
 use Rattle.std.specs.Ordering.{nat_cmp}
@@ -10,12 +11,13 @@ use Rattle.ax_mean.specs.Answer.{distinct_where}
 use Rattle.ax_excerpt.specs.declared.excerpt.Excerpt.{Excerpt}
 use Rattle.ax_excerpt.specs.Enough.{is_enough}
 use Rattle.ax_excerpt.specs.Plain.{are_plain}
-use Rattle.ax_sieve.specs.Conditions.{is_dropped}
+use Rattle.ax_excerpt_text.specs.Wholes.{tree_read}
+use Rattle.ax_sieve.specs.Conditions.{is_dropped, DropsNothing}
 use Rattle.ax_result.specs.Answers.{answer_of}
 use Rattle.ax_answer.proofs.Rowless.{nothing_added}
 use Rattle.ax_answer.specs.Gathering.{Gathers, HasEnough}
 use Rattle.ax_answer_text.specs.declared.text_answer.TextAnswer.{TextAnswer}
-use Rattle.ax_answer_text.specs.Parts.{Suffices, is_plain, part_of, parts_of}
+use Rattle.ax_answer_text.specs.Parts.{Suffices, AreReadWhole, is_plain, part_of, parts_of}
 use Rattle.ax_answer_text.specs.TextAnswers.{Answers}
 use Rattle.ax_answer_text.proofs.SameParts.{all_the_same, and_parts, no_envs, no_rows, same_answer, same_numbers}
 
@@ -39,6 +41,7 @@ dropped held query entries number tree is answers =
     let none = answers.sifts tree is in
     record {
       sifts = answers.sifts;
+      nothing = answers.nothing;
       enough = answers.enough;
       gathers = subst (Gathers held.answer query)
           (sym (and_parts held.excerpt entries ((number, tree) ∷ [])))
@@ -57,6 +60,7 @@ pub taken : (old new : TextAnswer) (number : ℕ) (tree part : Tree) → new.sie
     → Answers new query (entries ++ (number, tree) ∷ [])
 taken old new number tree part sieve excerpt is added query entries answers = record {
   sifts = λ t dropped. answers.sifts t (ap (λ s. is_dropped s t) (sym sieve) ∙ dropped);
+  nothing = λ none. subst DropsNothing (sym sieve) (answers.nothing none);
   enough = subst (λ e. Suffices e query) (sym excerpt) answers.enough;
   gathers = subst (Gathers new.answer query)
       (ap (λ p. parts_of old.excerpt entries ++ (number, p) ∷ []) is
@@ -73,6 +77,7 @@ pub done : (held : TextAnswer)
     → Answers held query (entries ++ more)
 done held sound query entries more answers = record {
   sifts = answers.sifts;
+  nothing = answers.nothing;
   enough = answers.enough;
   gathers = subst (Gathers held.answer query) (sym (and_parts held.excerpt entries more))
       (sound query (parts_of held.excerpt entries) (parts_of held.excerpt more) answers.gathers);
@@ -113,3 +118,15 @@ finished held rows gives query entries answers rise =
     gives query (parts_of held.excerpt entries) answers.gathers
     (subst (IsStrictlySortedBy nat_cmp) (sym (same_numbers held.excerpt entries)) rise)
     ∙ same_answer held.excerpt query entries answers.enough
+
+-- bytes that stand for a tree do not stand for none
+pub one_stands : (tree : Tree) (text : List ℕ) → tree_read text ≡ Some tree → tree_read text ≢ None
+one_stands tree text is none = absurd (cc)
+
+-- they are not dropped, either, where the query has no condition
+pub not_passed_over : (held : TextAnswer) (text : List ℕ) (drops : Bool) → drops ≡ true
+    → (DropsNothing held.sieve → drops ≡ false)
+    → (query : Query) (entries : List (ℕ × Tree)) → Answers held query entries → query.condition ≡ None
+    → AreReadWhole held.excerpt text → tree_read text ≢ None
+not_passed_over held text drops is nothing query entries answers none whole =
+    absurd (false≢true (sym (nothing (answers.nothing none)) ∙ is))

@@ -6,6 +6,7 @@ use Rattle.ax_excerpt.specs.declared.excerpt.Excerpt.{Excerpt}
 use Rattle.ax_excerpt.specs.Enough.{is_enough}
 use Rattle.ax_excerpt.specs.Excerpts.{excerpt_of}
 use Rattle.ax_excerpt.specs.Plain.{are_plain}
+use Rattle.ax_excerpt_text.specs.Wholes.{IsNoMap}
 
 -- what is read of a document: what an excerpt leaves of it, and all of it without one
 abbrev pub part_of : Option Excerpt → Tree → Tree
@@ -24,3 +25,8 @@ Suffices (Some excerpt) query = is_enough excerpt query ≡ true
 abbrev pub is_plain : Option Excerpt → Bool
 is_plain None = true
 is_plain (Some excerpt) = are_plain excerpt
+
+-- bytes of which all is read: without an excerpt, and where they do not begin as a map does
+abbrev pub AreReadWhole : Option Excerpt → List ℕ → Type 0
+AreReadWhole None text = Unit {0}
+AreReadWhole (Some excerpt) text = IsNoMap text

@@ -1,10 +1,11 @@
 //! The answer of a query from texts that are added one by one.
 
-ghost use Rattle.std.specs.Prelude.{◌≡◌, ◌≢◌, true, Err, IfOk};
+ghost use Rattle.std.specs.Prelude.{◌≡◌, ◌≢◌, true, Err, Some, IfOk};
 ghost use Rattle.ax_tree.specs.CanonicalText.{canonical_text};
 ghost use Rattle.ax_tree.specs.declared.tree.Tree.{Tree as TreeOf};
 ghost use Rattle.ax_excerpt_text.specs.Left.{IsReadable};
-ghost use Rattle.ax_answer_text.specs.Parts.{is_plain, part_of};
+ghost use Rattle.ax_excerpt_text.specs.Wholes.{tree_read};
+ghost use Rattle.ax_answer_text.specs.Parts.{is_plain, part_of, AreReadWhole};
 
 use crate::text_fault::{Memory, TextFault};
 use ax_answer::Answer;
@@ -31,7 +32,7 @@ pub struct TextAnswer<'a> {
 }
 
 impl<'a> TextAnswer<'a> {
-    ghost use Rattle.std.specs.Prelude.{◌≡◌, ◌≢◌, ◌≤◌, ◌+◌, ℕ, List, [], ◌∷◌, ◌++◌, map, true, Some, Err, IfOk, OnOk};
+    ghost use Rattle.std.specs.Prelude.{◌≡◌, ◌≢◌, ◌≤◌, ◌+◌, ℕ, List, [], ◌∷◌, ◌++◌, map, true, Some, None, Err, IfOk, OnOk};
     ghost use Rattle.std.specs.Ordering.{nat_cmp};
     ghost use Rattle.std.specs.List.Sorted.{IsStrictlySortedBy};
     ghost use Rattle.ax_tree.specs.CanonicalText.{canonical_text};
@@ -39,6 +40,8 @@ impl<'a> TextAnswer<'a> {
     ghost use Rattle.ax_excerpt_text.specs.Left.{IsReadable};
     ghost use Rattle.ax_result.specs.Answers.{answer_of};
     ghost use Rattle.ax_answer.specs.Gathering.{HasEnough};
+    ghost use Rattle.ax_excerpt_text.specs.Wholes.{tree_read};
+    ghost use Rattle.ax_answer_text.specs.Parts.{AreReadWhole};
     ghost use Rattle.ax_answer_text.specs.TextAnswers.{Answers};
 
     /// No document yet.
@@ -67,8 +70,9 @@ impl<'a> TextAnswer<'a> {
     }
 
     /// Takes in a document: its number and its canonical text. It takes at most one step of work. After
-    /// an error the answer is of no more use.
-    #[tactic(auto, using(crate::proofs::TextLaws::dropped, crate::proofs::TextLaws::taken))]
+    /// an error the answer is of no more use. Bytes that stand for no tree are `Outside` where they are
+    /// read whole and the query has no condition.
+    #[tactic(auto, using(crate::proofs::TextLaws::dropped, crate::proofs::TextLaws::taken, crate::proofs::TextLaws::one_stands, crate::proofs::TextLaws::not_passed_over))]
     pub fn add<L: Ledger>(
         &mut self,
         alloc: Global,
@@ -82,6 +86,9 @@ impl<'a> TextAnswer<'a> {
             → Answers self.new query (entries ++ (number, tree) ∷ [])) }
         ensures inside { (tree : TreeOf) → text.now ≡ canonical_text tree → IsReadable tree
             → result ≢ Err TextFault.Outside }
+        ensures outside { (query : queries.Query) → (entries : List (ℕ × TreeOf))
+            → Answers self.old query entries → query.condition ≡ None
+            → AreReadWhole self.old.excerpt text.now → OnOk result (tree_read text.now ≢ None) }
         ensures one { steps.new ≤ steps.old + 1 }
         ensures never_falls { steps.old ≤ steps.new }
     {
@@ -145,6 +152,8 @@ fn read_part(
         → IsReadable tree → found ≡ part_of excerpt.now tree) }
     ensures inside { (tree : TreeOf) → text.now ≡ canonical_text tree → IsReadable tree
         → result ≢ Err TextFault.Outside }
+    ensures whole { IfOk result (λ found. AreReadWhole excerpt.now text.now
+        → tree_read text.now ≡ Some found) }
 {
     let read = match excerpt {
         Some(excerpt) => read_excerpt(alloc, reader, excerpt, text),

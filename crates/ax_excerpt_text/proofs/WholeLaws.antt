@@ -1,10 +1,12 @@
 -- The canonical text of a tree that reads back stands for that tree alone.
-use Rattle.std.proofs.Common.{◌≡◌, ℕ, List, Option, Some, Bor, sym, ap, ◌∙◌, subst, rules}
+use Rattle.std.proofs.Common.{◌≡◌, ◌≤◌, ℕ, List, Option, Some, None, Result, Ok, Err, IfOk, IfSome, sym, ap, ◌∙◌, arith, rules}
 use Rattle.std.specs.Str.{is_utf8, IsUtf8}
-use Rattle.std.proofs.lemmas.Str.{IsUtf8-from_is_utf8}
+use Rattle.std.proofs.lemmas.Str.{is_utf8-from_IsUtf8}
 use Rattle.ax_tree.specs.declared.tree.Tree.{Tree}
 use Rattle.ax_tree.specs.declared.tree.Tree as tree
 use Rattle.ax_tree.specs.CanonicalText.{canonical_text}
+use Rattle.ax_tree.specs.declared.out_of_memory.Memory.{Memory}
+use Rattle.ax_tree.specs.Nesting.{nesting}
 use Rattle.ax_tree.specs.WellFormed.{IsWellFormed, is_well_formed}
 use Rattle.ax_text.specs.Reading.{reading, Stands, NotJson, NotWhole}
 use Rattle.ax_text.proofs.RoundTrip.{text-stands}
@@ -12,50 +14,62 @@ use Rattle.ax_skim.specs.declared.scalar.Scalar.{Scalar}
 use Rattle.ax_skim.specs.declared.scalar.Scalar.TheVariants as scalar
 use Rattle.ax_skim.specs.Scalars.{scalar_tree}
 use Rattle.ax_excerpt_text.specs.Left.{IsReadable}
-
-one_tree : (a b : Tree) → Stands a ≡ Stands b → a ≡ b
-one_tree a b e = cc
+use Rattle.ax_excerpt_text.specs.Wholes.{tree_in, tree_read}
 
 stands : (tree : Tree) (text : List ℕ) → text ≡ canonical_text tree → IsReadable tree
     → reading text ≡ Stands tree
 stands tree text is readable = ap reading is ∙ text-stands tree readable.0 readable.1
 
-pub is_read : (tree found : Tree) (text : List ℕ) → reading text ≡ Stands found
-    → text ≡ canonical_text tree → IsReadable tree → found ≡ tree
-is_read tree found text told is readable =
-    one_tree found tree (sym told ∙ stands tree text is readable)
+pub is_stood : (found : Tree) (text : List ℕ) → reading text ≡ Stands found → Some found ≡ tree_read text
+is_stood found text told = sym (ap tree_in told)
 
-pub is_json : (tree : Tree) (text : List ℕ) → reading text ≡ NotJson → text ≡ canonical_text tree
-    → IsReadable tree → ⊥
-is_json tree text told is readable = apart (sym told ∙ stands tree text is readable)
-  where
-    apart : NotJson ≡ Stands tree → ⊥
-    apart e = cc
+pub no_json : (text : List ℕ) → reading text ≡ NotJson → None ≡ tree_read text
+no_json text told = sym (ap tree_in told)
 
-pub is_whole : (tree : Tree) (text : List ℕ) → reading text ≡ NotWhole → text ≡ canonical_text tree
-    → IsReadable tree → ⊥
-is_whole tree text told is readable = apart (sym told ∙ stands tree text is readable)
-  where
-    apart : NotWhole ≡ Stands tree → ⊥
-    apart e = cc
+pub not_whole : (text : List ℕ) → reading text ≡ NotWhole → None ≡ tree_read text
+not_whole text told = sym (ap tree_in told)
+
+-- what is read of the canonical text of a tree is the tree
+pub read_so : (found : Option Tree) (text : List ℕ) → found ≡ tree_read text
+    → (tree : Tree) → text ≡ canonical_text tree → IsReadable tree → found ≡ Some tree
+read_so found text read tree is readable = read ∙ ap tree_in (stands tree text is readable)
+
+pub no_json_given : (text : List ℕ) → reading text ≡ NotJson
+    → (tree : Tree) → text ≡ canonical_text tree → IsReadable tree → None ≡ Some tree
+no_json_given text told = read_so None text (no_json text told)
+
+pub not_whole_given : (text : List ℕ) → reading text ≡ NotWhole
+    → (tree : Tree) → text ≡ canonical_text tree → IsReadable tree → None ≡ Some tree
+not_whole_given text told = read_so None text (not_whole text told)
 
 -- ---- scalars
+
+no_nesting : (s : Scalar) → nesting (scalar_tree s) ≡ 0
+no_nesting scalar.Null = search (rules, tree.the_lemmas)
+no_nesting (scalar.Truth value) = search (rules, tree.the_lemmas)
+no_nesting (scalar.Number value) = search (rules, tree.the_lemmas)
+no_nesting (scalar.Text value) = search (rules, tree.the_lemmas)
+
+-- a scalar that is well formed is what its text stands for
+pub scalar_read : (s : Scalar) (found : Tree) (text : List ℕ) → text ≡ canonical_text (scalar_tree s)
+    → (found ≡ scalar_tree s) × IsWellFormed found → tree_read text ≡ Some found
+scalar_read s found text is made =
+    ap tree_in (stands found text (is ∙ ap canonical_text (sym made.0))
+    (made.1, small (ap nesting made.0 ∙ no_nesting s)))
+  where
+    small : {n : ℕ} → n ≡ 0 → n ≤ 127
+    small e = omega (arith, e)
+
+pub at_once : (s : Scalar) (made : Result (Option Tree) Memory) (text : List ℕ)
+    → text ≡ canonical_text (scalar_tree s)
+    → IfOk made (λ found. IfSome found (λ tree. (tree ≡ scalar_tree s) × IsWellFormed tree))
+    → IfOk made (λ found. IfSome found (λ tree. tree_read text ≡ Some tree))
+at_once s (Ok (Some tree)) text is made = scalar_read s tree text is made
+at_once s (Ok None) text is made = tt
+at_once s (Err fault) text is made = tt
 
 text_formed : (bytes : List ℕ) → is_well_formed (tree.Text bytes) ≡ is_utf8 bytes
 text_formed bytes = search (rules, tree.the_lemmas)
 
--- the text of a tree that reads back is UTF-8
-pub is_text : (s : Scalar) (bytes : Bor (List ℕ)) → s ≡ scalar.Text bytes
-    → (IsUtf8 bytes.now → ⊥) → IsWellFormed (scalar_tree s) → ⊥
-is_text s bytes is none formed =
-    none (IsUtf8-from_is_utf8 bytes.now
-    (sym (ap (λ x. is_well_formed (scalar_tree x)) is ∙ text_formed bytes.now) ∙ formed))
-
--- where the scalar is the tree's, what is made of it is the tree
-pub of_scalar : (s : Scalar) (found : Option Tree) (text : List ℕ)
-    → ((tree : Tree) → text ≡ canonical_text tree → scalar_tree s ≡ tree)
-    → (IsWellFormed (scalar_tree s) → found ≡ Some (scalar_tree s))
-    → (tree : Tree) → text ≡ canonical_text tree → IsReadable tree → found ≡ Some tree
-of_scalar s found text told made tree is readable =
-    let same = told tree is in
-    made (subst IsWellFormed (sym same) readable.0) ∙ ap Some same
+pub text_well_formed : (bytes : List ℕ) → IsUtf8 bytes → IsWellFormed (tree.Text bytes)
+text_well_formed bytes own = text_formed bytes ∙ is_utf8-from_IsUtf8 bytes own

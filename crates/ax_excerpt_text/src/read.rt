@@ -9,6 +9,7 @@ ghost use Rattle.ax_skim.specs.Members.{members_text};
 ghost use Rattle.ax_excerpt.specs.Excerpts.{excerpt_of, chosen};
 ghost use Rattle.ax_excerpt.specs.Plain.{are_plain, plain_parts, plain_flag, leaving};
 ghost use Rattle.ax_excerpt_text.specs.Left.{IsReadable, AreReadable};
+ghost use Rattle.ax_excerpt_text.specs.Wholes.{tree_read, IsNoMap};
 
 use crate::looking::look;
 use crate::whole::read_whole;
@@ -20,7 +21,8 @@ use std::alloc::Global;
 
 /// What the excerpt leaves of the tree of that canonical text. It is there for the canonical text of
 /// each tree that reads back: UTF-8, names that rise, numbers of 64 bits, nested 127 deep at the most.
-/// Of other bytes the answer may be anything. `Memory` where memory ran out.
+/// Of other bytes it is what they stand for where they are read whole, so none where they stand for
+/// nothing; where only members of a map are read, it is not said. `Memory` where memory ran out.
 #[cycle(excerpt)]
 pub fn read_excerpt(
     alloc: Global,
@@ -29,8 +31,10 @@ pub fn read_excerpt(
     text: &[u8],
 ) -> Result<Option<Tree>, Memory>
     requires plain { are_plain excerpt.now ≡ true }
-    ensures { IfOk result (λ found. (tree : TreeOf) → text.now ≡ canonical_text tree
+    ensures given { IfOk result (λ found. (tree : TreeOf) → text.now ≡ canonical_text tree
         → IsReadable tree → found ≡ Some (excerpt_of excerpt.now tree)) }
+    ensures whole { excerpt.now ≡ Excerpt.Whole → IfOk result (λ found. found ≡ tree_read text.now) }
+    ensures no_map { IsNoMap text.now → IfOk result (λ found. found ≡ tree_read text.now) }
 {
     match excerpt {
         Excerpt::Whole => read_whole(alloc, reader, text),

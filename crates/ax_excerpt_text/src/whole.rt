@@ -1,10 +1,11 @@
 //! Trees read whole.
-ghost use Rattle.std.specs.Prelude.{◌≡◌, Some, IfOk};
+ghost use Rattle.std.specs.Prelude.{◌≡◌, Some, IfOk, IfSome};
 ghost use Rattle.ax_tree.specs.CanonicalText.{canonical_text};
 ghost use Rattle.ax_tree.specs.WellFormed.{IsWellFormed};
 ghost use Rattle.ax_tree.specs.declared.tree.Tree.{Tree as TreeOf};
 ghost use Rattle.ax_skim.specs.Scalars.{scalar_tree};
 ghost use Rattle.ax_excerpt_text.specs.Left.{IsReadable};
+ghost use Rattle.ax_excerpt_text.specs.Wholes.{tree_read};
 
 use ax_skim::{Scalar, read_scalar};
 use ax_text::{TextFault, TreeReader};
@@ -12,25 +13,39 @@ use ax_tree::{Memory, Text, Tree};
 use std::alloc::Global;
 use std::str;
 
-/// The tree of a canonical text: a scalar at once, anything else by the reader.
+/// The tree that the bytes stand for as a JSON text, none of bytes that stand for none: a scalar of a
+/// canonical text at once, anything else by the reader.
+#[tactic(auto, using(crate::proofs::WholeLaws::read_so))]
 pub(crate) fn read_whole(
     alloc: Global,
     reader: &mut TreeReader,
     text: &[u8],
 ) -> Result<Option<Tree>, Memory>
-    ensures { IfOk result (λ found. (tree : TreeOf) → text.now ≡ canonical_text tree
+    ensures given { IfOk result (λ found. (tree : TreeOf) → text.now ≡ canonical_text tree
         → IsReadable tree → found ≡ Some tree) }
+    ensures read { IfOk result (λ found. found ≡ tree_read text.now) }
+{
+    match read_at_once(alloc, text) {
+        Ok(Some(tree)) => Ok(Some(tree)),
+        Ok(None) => read_by_reader(alloc, reader, text),
+        Err(memory) => Err(memory),
+    }
+}
+
+/// The tree of a scalar's canonical text; none where it is not told at once.
+fn read_at_once(alloc: Global, text: &[u8]) -> Result<Option<Tree>, Memory>
+    ensures { IfOk result (λ found. IfSome found (λ tree. tree_read text.now ≡ Some tree)) }
 {
     match read_scalar(text) {
         Some(scalar) => tree_of(alloc, &scalar),
-        None => read_by_reader(alloc, reader, text),
+        None => Ok(None),
     }
 }
 
 /// The tree that a scalar is; none of a text that is no UTF-8.
 fn tree_of(alloc: Global, scalar: &Scalar) -> Result<Option<Tree>, Memory>
-    ensures { IfOk result (λ found. IsWellFormed (scalar_tree scalar.now)
-        → found ≡ Some (scalar_tree scalar.now)) }
+    ensures { IfOk result (λ found. IfSome found (λ tree.
+        (tree ≡ scalar_tree scalar.now) × IsWellFormed tree)) }
 {
     match *scalar {
         Scalar::Null => Ok(Some(Tree::Null)),
@@ -47,13 +62,15 @@ fn tree_of(alloc: Global, scalar: &Scalar) -> Result<Option<Tree>, Memory>
 }
 
 /// The tree that the bytes stand for as a JSON text; none of bytes that stand for none.
+#[tactic(auto, using(crate::proofs::WholeLaws::is_stood, crate::proofs::WholeLaws::no_json, crate::proofs::WholeLaws::not_whole, crate::proofs::WholeLaws::read_so, crate::proofs::WholeLaws::no_json_given, crate::proofs::WholeLaws::not_whole_given))]
 fn read_by_reader(
     alloc: Global,
     reader: &mut TreeReader,
     text: &[u8],
 ) -> Result<Option<Tree>, Memory>
-    ensures { IfOk result (λ found. (tree : TreeOf) → text.now ≡ canonical_text tree
+    ensures given { IfOk result (λ found. (tree : TreeOf) → text.now ≡ canonical_text tree
         → IsReadable tree → found ≡ Some tree) }
+    ensures read { IfOk result (λ found. found ≡ tree_read text.now) }
 {
     match reader.read(alloc, text) {
         Ok(tree) => Ok(Some(tree)),

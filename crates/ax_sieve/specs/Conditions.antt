@@ -35,3 +35,7 @@ abbrev pub IsSieve : Sieve → Query → Type 0
 IsSieve sieve query =
     (tree : Tree) → is_dropped sieve tree ≡ true
     → (envs_of_tree query tree ≡ []) × ((number : ℕ) → keyed_rows query number tree ≡ [])
+
+-- there is no condition
+abbrev pub DropsNothing : Sieve → Type 0
+DropsNothing sieve = sieve.conditions.items ≡ []

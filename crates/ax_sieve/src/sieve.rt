@@ -15,16 +15,17 @@ pub struct Sieve<'a> {
 }
 
 impl<'a> Sieve<'a> {
-    ghost use Rattle.std.specs.Prelude.{◌≡◌, true, IfOk, IsTrue};
+    ghost use Rattle.std.specs.Prelude.{◌≡◌, true, false, None, IfOk, IsTrue};
     ghost use Rattle.ax_tree.specs.CanonicalText.{canonical_text};
     ghost use Rattle.ax_tree.specs.declared.tree.Tree.{Tree};
-    ghost use Rattle.ax_sieve.specs.Conditions.{IsSieve, is_dropped};
+    ghost use Rattle.ax_sieve.specs.Conditions.{IsSieve, is_dropped, DropsNothing};
 
     /// The conditions of WHERE that compare a member of the document with a literal, or with a number
     /// that has one sign, where the query has one source, without steps and IN. None of another
     /// query: then nothing is dropped.
     pub fn of(alloc: Global, query: &'a Query) -> Result<Sieve<'a>, Memory>
-        ensures { IfOk result (λ sieve. IsSieve sieve query.now) }
+        ensures sifts { IfOk result (λ sieve. IsSieve sieve query.now) }
+        ensures nothing { IfOk result (λ sieve. query.now.condition ≡ None → DropsNothing sieve) }
     {
         let (Some(alias), Some(condition)) = (only_alias(query), &query.condition) else {
             return Ok(Sieve {
@@ -39,8 +40,9 @@ impl<'a> Sieve<'a> {
     /// once.
     #[tactic(auto, using(std::proofs::lemmas::List::Folds::list_any_at))]
     pub fn drops(&self, text: &[u8]) -> bool
-        ensures { IsTrue result → (tree : Tree) → text.now ≡ canonical_text tree
+        ensures dropped { IsTrue result → (tree : Tree) → text.now ≡ canonical_text tree
             → is_dropped self.now tree ≡ true }
+        ensures nothing { DropsNothing self.now → result ≡ false }
     {
         for condition in &self.conditions {
             if condition.fails(text) {

@@ -1,6 +1,7 @@
 pub mod Blocks
 pub mod Members
 pub mod Nested
+pub mod Numerals
 pub mod Roles
 pub mod Scalars
 pub mod Skipping

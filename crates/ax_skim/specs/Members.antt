@@ -1,5 +1,5 @@
 -- A map's text behind its opening bracket, and the front of a member in it.
-use Rattle.std.specs.Prelude.{◌≡◌, ℕ, ◌==◌, List, [], ◌∷◌, ◌++◌, map, if◌then◌else◌, Option, Some, None}
+use Rattle.std.specs.Prelude.{◌≡◌, ℕ, ◌==◌, ◌&&◌, nat_le, not, Bool, List, [], ◌∷◌, ◌++◌, map, if◌then◌else◌, Option, Some, None}
 use Rattle.std.specs.Option.{option_and_then}
 use Rattle.std.specs.List.{join_with_byte}
 use Rattle.json.specs.Print.{quoted}
@@ -11,6 +11,10 @@ use Rattle.ax_skim.specs.Skipping.{past_value}
 -- JSON writes the name, or the text, without an escape
 abbrev pub IsPlain : List ℕ → Type 0
 IsPlain name = quoted name ≡ 34 ∷ name ++ 34 ∷ []
+
+-- no control character, no quote and no backslash
+abbrev pub is_plain_byte : ℕ → Bool
+is_plain_byte byte = nat_le 32 byte && (not (byte == 34) && not (byte == 92))
 
 -- what follows a prefix
 abbrev pub past_prefix : List ℕ → List ℕ → Option (List ℕ)

@@ -2,13 +2,13 @@
 
 ghost use Rattle.std.specs.Prelude.{◌≡◌, ◌<◌, ◌==◌, ◌∷◌, ◌++◌, [], ℕ, List, length, Some, IfSome, IsSomeAnd};
 ghost use Rattle.std.specs.Option.{option_map};
-ghost use Rattle.std.specs.List.{list_any};
+ghost use Rattle.std.specs.List.{list_all};
 ghost use Rattle.json.specs.Print.{quoted};
 ghost use Rattle.ax_tree.specs.declared.members.Member.{Member};
 ghost use Rattle.ax_tree.specs.declared.tree.Tree.{Tree};
 ghost use Rattle.ax_tree.specs.CanonicalText.{canonical_text};
 ghost use Rattle.ax_tree.specs.Document.{member, value_of, document_id};
-ghost use Rattle.ax_skim.specs.Members.{IsPlain, members_text, past_prefix, past_name, past_member};
+ghost use Rattle.ax_skim.specs.Members.{IsPlain, is_plain_byte, members_text, past_prefix, past_name, past_member};
 ghost use Rattle.ax_skim.specs.Skipping.{past_value};
 
 use crate::skip::after_value;
@@ -68,11 +68,12 @@ pub fn after_member(members: &[u8]) -> Option<&[u8]>
     if byte == b',' { Some(after) } else { None }
 }
 
-/// The text of the value at the front, and what follows it.
+/// The text of the value at the front, and what follows it; `None` where no value ends.
 pub fn split_value(text: &[u8]) -> Option<(&[u8], &[u8])>
-    ensures { (value : List ℕ) → (after : List ℕ) → text.now ≡ value ++ after
+    ensures given { (value : List ℕ) → (after : List ℕ) → text.now ≡ value ++ after
         → past_value text.now ≡ Some after
         → IsSomeAnd result (λ parts. (parts.0.now ≡ value) × (parts.1.now ≡ after)) }
+    ensures after { option_map (λ parts. parts.1.now) result ≡ past_value text.now }
 {
     let after = after_value(text)?;
     Some((&text[..text.len() - after.len()], after))
@@ -87,19 +88,18 @@ fn front_value(text: &[u8]) -> Option<&[u8]>
     Some(value)
 }
 
-/// The text of a JSON string that has no escape, without its quotes; `None` of one that has.
-#[tactic(auto, using(crate::proofs::Escapes::unescaped, crate::proofs::Escapes::no_backslash))]
+/// The text of a JSON string that has no escape, without its quotes; `None` of one that has, and of
+/// what is no JSON string.
+#[tactic(auto, using(crate::proofs::Escapes::unescaped, crate::proofs::Escapes::is_plain_text, crate::proofs::Escapes::written_plain, crate::proofs::Escapes::own_plain))]
 pub fn plain_text(value: &[u8]) -> Option<&[u8]>
     ensures found { (text : List ℕ) → value.now ≡ quoted text
         → IfSome result (λ plain. plain.now ≡ text) }
     ensures given { (text : List ℕ) → IsPlain text → value.now ≡ quoted text
         → option_map (λ plain. plain.now) result ≡ Some text }
+    ensures written { IfSome result (λ plain. IsPlain plain.now × (value.now ≡ quoted plain.now)) }
 {
     let inside = inside_quotes(value)?;
-    if has_backslash(inside) {
-        return None;
-    }
-    Some(inside)
+    if is_plain(inside) { Some(inside) } else { None }
 }
 
 /// What stands between two quotes, at the ends.
@@ -117,11 +117,17 @@ fn inside_quotes(value: &[u8]) -> Option<&[u8]>
     }
 }
 
-/// Whether what stands between quotes has a backslash, with which each escape begins.
-fn has_backslash(inside: &[u8]) -> bool
-    ensures { result ≡ list_any (λ byte. byte == 92) inside.now }
+/// Whether what stands between quotes is written there without an escape, and is all of one text: no
+/// control character, no quote and no backslash. It looks at all bytes, so that many are compared at
+/// once.
+fn is_plain(inside: &[u8]) -> bool
+    ensures { result ≡ list_all is_plain_byte inside.now }
 {
-    inside.contains(&b'\\')
+    let mut plain = true;
+    for &byte in inside {
+        plain = plain && byte >= b' ' && byte != b'"' && byte != b'\\';
+    }
+    plain
 }
 
 /// The id in the canonical text of a document; `None` also where it is written with an escape.

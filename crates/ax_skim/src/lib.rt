@@ -6,7 +6,8 @@
 //! `memchr`. Its one contract: where bytes are the canonical text of a tree, `find_member` answers the
 //! canonical text of the member of a name, exactly, `split_value` and `after_member` where a value and
 //! a member end, `find_id` the id of a document, and `read_scalar` a scalar, the last two where JSON
-//! writes the text without an escape. Of other bytes nothing is said.
+//! writes the text without an escape. Of other bytes `plain_text` and `read_scalar` answer nothing, and
+//! `split_value` nothing where no value ends; for the others nothing is said.
 #![tactic(auto)]
 
 mod blocks;

@@ -5,8 +5,8 @@ use Rattle.ax_excerpt_text.proofs.ReadLaws.{map_read, part_here, plain_first, pl
 use Rattle.ax_excerpt_text.proofs.read.+excerpt.Goals as goal
 use Rattle.ax_excerpt_text.proofs.read.+excerpt.Goals.{read_parts-in-Some+in-Ok-Some+in-Ok+in_ok-push, read_parts-in_default}
 
-pub read_excerpt-returns-in_ok-found-in-Some : goal.read_excerpt-returns-in_ok-found-in-Some
-read_excerpt-returns-in_ok-found-in-Some t c =
+pub read_excerpt-returns-in_ok-found-in-Some-clause-given : goal.read_excerpt-returns-in_ok-found-in-Some-clause-given
+read_excerpt-returns-in_ok-found-in-Some-clause-given t c =
     λ tree is readable. c.as_map.ensures
     ∙ map_read c.args.text.now c.in-Some.members.now _ c.in_ok-found-in-Some.found tree
     c.in-Some.ensures is readable c.in_ok-found-in-Some.ensures
@@ -32,7 +32,7 @@ read_parts-returns-in-Ok-None t c =
     c.loop-part.invariant _ c.as_bytes.result.now c.in-Some.text.now
     (ap (option_map (λ (x : Bor (List ℕ)). x.now)) c.in-Some.is)
     (c.as_bytes.ensures.value ∙ c.as_str.ensures.text) c.look-looked.ensures
-    (λ t text_is own. sym none ∙ c.in-Ok-None.ensures t text_is own) those is rising readable)
+    (λ t text_is own. sym none ∙ c.in-Ok-None.ensures.given t text_is own) those is rising readable)
 
 pub read_parts-loop-part-preserved : goal.read_parts-loop-part-preserved
 read_parts-loop-part-preserved t c =
@@ -47,7 +47,7 @@ read_parts-loop-part-preserved t c =
           c.match-looked.found.items
           (ap (option_map (λ (x : Bor (List ℕ)). x.now)) w.in-Some.is)
           (c.as_bytes.ensures.value ∙ c.as_str.ensures.text) c.look-looked.ensures
-          (λ t text_is own. sym some ∙ w.in-Ok-Some.ensures t text_is own) w.in-Ok.ensures
+          (λ t text_is own. sym some ∙ w.in-Ok-Some.ensures.given t text_is own) w.in-Ok.ensures
           (ap (λ f. f.items) w.found-is ∙ w.in_ok-push.ensures.items)
       | read_parts-in_default w ↦
           loop_past c.args.members.now c.loop-part.rest.now c.look-looked.result.rest.now
