@@ -15,5 +15,6 @@ pub mod AheadLemmas
 pub mod NextHeld
 pub mod PartPlaces
 pub mod TermOrder
+pub mod PageBeforeLemmas
 pub mod TermBases
 pub mod ChangedRows

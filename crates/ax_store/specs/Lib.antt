@@ -3,6 +3,7 @@ pub mod Rows
 pub mod Listed
 pub mod TermRows
 pub mod Kept
+pub mod PageBefore
 pub mod Taking
 pub mod Change
 pub mod Batch

@@ -9,6 +9,7 @@ ghost use Rattle.ax_pages.specs.AfterPart.{is_base, is_delta, is_same, is_taken,
 ghost use Rattle.ax_pages.specs.Contents.{no_term_page, term_page, term_parts};
 ghost use Rattle.ax_pages.specs.TermPages.{IsPageOf, IsNextPage, IsLastPage, low_pair};
 ghost use Rattle.ax_store.specs.Kept.{with_base_at, with_delta_at};
+ghost use Rattle.ax_store.specs.PageBefore.{IsFirstPage, IsPageBefore};
 ghost use Rattle.ax_store.specs.Rows.{payload_kept, offset_kept};
 ghost use Rattle.ax_store.specs.TermRows.{base_payload, base_offset, page_in, IsOrderOf, IsCountUpTo};
 
@@ -126,6 +127,16 @@ impl TermPages {
         ensures none { IfNone result (IsLastPage page self.now.pages) }
     {
         page_behind(&self.order, &self.rows, page)
+    }
+
+    /// The page with the next lower low pair. `None` exactly where no page has a lower one. It is looked
+    /// for by halves.
+    pub(crate) fn previous(&self, page: u32) -> Option<u32>
+        requires { page < length self.now.pages }
+        ensures found { IfSome result (λ previous. IsPageBefore previous page self.now.pages) }
+        ensures none { IfNone result (IsFirstPage page self.now.pages) }
+    {
+        page_before(&self.order, &self.rows, page)
     }
 
     /// Whether a base of that payload is within the format.
@@ -285,6 +296,22 @@ fn page_behind(order: &[u32], rows: &[TermRow], page: u32) -> Option<u32>
     let (term, number) = low_at(rows, page);
     let behind = count_up_to(order, rows, term, number);
     order.get(behind).copied()
+}
+
+/// The page with the next lower low pair, where there is one.
+fn page_before(order: &[u32], rows: &[TermRow], page: u32) -> Option<u32>
+    requires order { IsOrderOf order.now (map page_in rows.now) }
+    requires there { page < length rows.now }
+    ensures found { IfSome result (λ previous. IsPageBefore previous page (map page_in rows.now)) }
+    ensures none { IfNone result (IsFirstPage page (map page_in rows.now)) }
+{
+    let (term, number) = low_at(rows, page);
+    // The last of these is the page itself.
+    let up_to = count_up_to(order, rows, term, number);
+    if up_to < 2 {
+        return None;
+    }
+    Some(order[up_to - 2])
 }
 
 /// The position in the order at which a new page would stand that has that base.

@@ -3,6 +3,7 @@
 ghost use Rattle.std.specs.Prelude.{◌≡◌, ◌<◌, length, is_some, IfSome, IfNone};
 ghost use Rattle.ax_pages.specs.Contents.{term_page};
 ghost use Rattle.ax_pages.specs.TermPages.{IsPageOf, IsNextPage, IsLastPage, low_pair};
+ghost use Rattle.ax_store.specs.PageBefore.{IsFirstPage, IsPageBefore};
 ghost use Rattle.ax_store.specs.Store.{store_contents};
 
 use crate::store::Store;
@@ -47,5 +48,15 @@ impl<C> Store<C> {
         ensures none { IfNone result (IsLastPage page (store_contents self.now).terms) }
     {
         self.pages.terms().next(page)
+    }
+
+    /// The page with the next lower low pair. `None` exactly where no page has a lower one. It is looked
+    /// for by halves.
+    pub fn previous_page(&self, page: u32) -> Option<u32>
+        requires { page < length (store_contents self.now).terms }
+        ensures found { IfSome result (λ previous. IsPageBefore previous page (store_contents self.now).terms) }
+        ensures none { IfNone result (IsFirstPage page (store_contents self.now).terms) }
+    {
+        self.pages.terms().previous(page)
     }
 }
