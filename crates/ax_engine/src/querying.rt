@@ -1,10 +1,12 @@
 //! The rows of a query over all documents of an open store, and the reply that has them.
 
-ghost use Rattle.std.specs.Prelude.{◌≡◌, ◌≤◌, ◌+◌, ℕ, List, [], ◌∷◌, ◌++◌, length, Some, IsTrue, IfOk, OnOk, true, drop, option_map};
+ghost use Rattle.std.specs.Prelude.{◌≡◌, ◌≢◌, ◌≤◌, ◌+◌, ℕ, List, [], ◌∷◌, ◌++◌, length, Some, None, IsTrue, IfOk, OnOk, true, drop, option_map};
 ghost use Rattle.std.specs.FinMap as map;
+ghost use Rattle.ax_answer_text.specs.Parts.{AreReadWhole};
 ghost use Rattle.ax_answer_text.specs.TextAnswers.{Answers};
 ghost use Rattle.ax_container.specs.Container.{Container};
 ghost use Rattle.ax_excerpt_text.specs.Left.{IsReadable};
+ghost use Rattle.ax_excerpt_text.specs.Wholes.{tree_read};
 ghost use Rattle.ax_grammar.specs.Query.{query_in};
 ghost use Rattle.ax_image.specs.StandsFor.{ContentsStandFor};
 ghost use Rattle.ax_machine.specs.Needs.{query_need};
@@ -286,6 +288,12 @@ fn add_document<D: Disk, L: Ledger>(
         → option_map (λ payload. drop 1 payload) (map.get (store_contents store.old).documents number) ≡ Some (canonical_text tree)
         → IsReadable tree → OnOk result ((query : queries.Query) → (entries : List (ℕ × TreeOf))
         → Answers answer.old query entries → Answers answer.new query (entries ++ (number, tree) ∷ [])) }
+
+    // Bytes that are read whole and stand for no tree are never passed over, where the query has no condition.
+    ensures outside { IsTrue (D.is_honest disk.old) → (text : List ℕ)
+        → option_map (λ payload. drop 1 payload) (map.get (store_contents store.old).documents number) ≡ Some text
+        → (query : queries.Query) → (entries : List (ℕ × TreeOf)) → Answers answer.old query entries
+        → query.condition ≡ None → AreReadWhole answer.old.excerpt text → OnOk result (tree_read text ≢ None) }
     ensures one { steps.new ≤ steps.old + 1 }
     ensures never_falls { steps.old ≤ steps.new }
     ensures scans { Scans (D.is_honest disk.old) result store.old store.new ahead.new
