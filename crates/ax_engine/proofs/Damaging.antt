@@ -3,7 +3,7 @@ use Rattle.std.proofs.Common.{◌≡◌, ℕ, Bool, ◌∷◌, List, [], Option,
 use Rattle.std.specs.Prelude.{◌≢◌, IsTrue, is_some, slice_get}
 use Rattle.std.specs.FinMap as finite
 use Rattle.std.specs.List.{AllByRecursion}
-use Rattle.std.specs.Option.{option_to_list}
+use Rattle.std.specs.Option.{option_map, option_to_list}
 use Rattle.std.specs.Ordering.{nat_cmp}
 use Rattle.std.proofs.lemmas.Bool.{cases_eq}
 use Rattle.ax_answer_text.specs.declared.text_fault.TextFault.{TextFault}
@@ -131,3 +131,9 @@ met_outside store ahead history extent at agrees may outside =
       lead = agrees.agrees.takes;
       there = outside.1;
     }
+
+-- what was read ahead of a document that has this text is this text
+pub text_ahead : (payload : Option (List ℕ)) (found : Bool) (text meant : List ℕ) → IsAhead payload found text
+    → option_map (λ (bytes : List ℕ). drop 1 bytes) payload ≡ Some meant → text ≡ meant
+text_ahead (Some payload) found text meant ahead is = ahead.1 ∙ some_is (drop 1 payload) meant is
+text_ahead None found text meant ahead is = absurd cc

@@ -4,7 +4,7 @@ use Rattle.std.specs.Prelude.{IsTrue}
 use Rattle.std.specs.FinMap as map
 use Rattle.ax_store.specs.Kept.{Kept}
 use Rattle.ax_store.specs.ReadAhead.{IsAhead, ahead_text}
-use Rattle.ax_engine.proofs.Damaging.{text_fails}
+use Rattle.ax_engine.proofs.Damaging.{text_ahead, text_fails}
 use Rattle.ax_engine.proofs.querying.add_document.Goals as goal
 
 pub returns-in-Err-add-clause-scans : goal.returns-in-Err-add-clause-scans
@@ -18,3 +18,8 @@ returns-in-Err-add-clause-scans g c =
     (λ tree is readable outside. c.add.ensures.inside tree (c.text.ensures ∙ is) readable
     (c.in-Err-add.is ∙ ap (λ why. Err why) outside))
     c.text_fault.ensures.memory c.text_fault.ensures.outside
+
+pub returns-in-Ok-add-clause-added : goal.returns-in-Ok-add-clause-added
+returns-in-Ok-add-clause-added g c = λ honest tree is readable query entries answers.
+    c.in-Ok-add.ensures.added tree (c.text.ensures ∙ text_ahead _ _ _ _ (c.in-Ok.ensures.text honest) is) readable
+    query entries answers
