@@ -1,7 +1,9 @@
 -- A text that is none of a document is damage.
-use Rattle.std.proofs.Common.{Err, sym, ap, subst, ◌∙◌}
-use Rattle.std.specs.Prelude.{IsTrue}
+use Rattle.std.proofs.Common.{ℕ, List, None, Err, sym, ap, subst, ◌∙◌}
+use Rattle.std.specs.Prelude.{◌≢◌, IsTrue}
 use Rattle.std.specs.FinMap as map
+use Rattle.ax_answer_text.specs.Parts.{AreReadWhole}
+use Rattle.ax_excerpt_text.specs.Wholes.{tree_read}
 use Rattle.ax_store.specs.Kept.{Kept}
 use Rattle.ax_store.specs.ReadAhead.{IsAhead, ahead_text}
 use Rattle.ax_engine.proofs.Damaging.{text_ahead, text_fails}
@@ -23,3 +25,10 @@ pub returns-in-Ok-add-clause-added : goal.returns-in-Ok-add-clause-added
 returns-in-Ok-add-clause-added g c = λ honest tree is readable query entries answers.
     c.in-Ok-add.ensures.added tree (c.text.ensures ∙ text_ahead _ _ _ _ (c.in-Ok.ensures.text honest) is) readable
     query entries answers
+
+pub returns-in-Ok-add-clause-outside : goal.returns-in-Ok-add-clause-outside
+returns-in-Ok-add-clause-outside g c = λ honest text is query entries answers none whole.
+    let same = c.text.ensures ∙ text_ahead _ _ _ _ (c.in-Ok.ensures.text honest) is in
+    subst (λ (bytes : List ℕ). tree_read bytes ≢ None) same
+    (c.in-Ok-add.ensures.outside query entries answers none
+    (subst (AreReadWhole c.args.answer.now.excerpt) (sym same) whole))
