@@ -25,8 +25,11 @@ pub(crate) struct StoreFiles<F: SystemFile> {
 impl<F: SystemFile> StoreFiles<F> {
     /// Files that are open. All count as unsynced.
     pub fn new(root: F, a: F, b: F) -> StoreFiles<F>
-        ensures { marks result.root.is_unsynced result.a.is_unsynced result.b.is_unsynced
+        ensures unsynced { marks result.root.is_unsynced result.a.is_unsynced result.b.is_unsynced
             ≡ all_marked }
+        ensures root { result.root.file ≡ root }
+        ensures a { result.a.file ≡ a }
+        ensures b { result.b.file ≡ b }
     {
         StoreFiles {
             root: StoreFile::new(root),
