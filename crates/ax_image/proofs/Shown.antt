@@ -30,11 +30,13 @@ one_entry : (number : ℕ) (payload : List ℕ) (a b : Entry) → IsShown number
 one_entry number payload a b sa sb ha hb =
     let numbers : a.number ≡ b.number = sym sa.number_is ∙ sb.number_is in
     let texts : canonical_text a.tree ≡ canonical_text b.tree = ap (drop 1) (sym sa.payload_is ∙ sb.payload_is) in
-    let trees : a.tree ≡ b.tree = one_text a.tree b.tree (numbers_fit-well_formed a.tree ha.well_formed) (numbers_fit-well_formed b.tree hb.well_formed) texts in
+    let trees : a.tree ≡ b.tree = one_text a.tree b.tree (numbers_fit-well_formed a.tree ha.well_formed)
+    (numbers_fit-well_formed b.tree hb.well_formed) texts in
     let ids : a.id ≡ b.id = same_some a.id b.id (sym ha.own_id ∙ ap document_id trees ∙ hb.own_id) in
     λ i. record { number = numbers i; id = ids i; tree = trees i }
 
-pub one_list : (pages : List (ℕ × List ℕ)) (xs ys : List Entry) → AreShown pages xs → AreShown pages ys → AllByRecursion IsStored xs → AllByRecursion IsStored ys → xs ≡ ys
+pub one_list : (pages : List (ℕ × List ℕ)) (xs ys : List Entry) → AreShown pages xs → AreShown pages ys → AllByRecursion IsStored xs
+    → AllByRecursion IsStored ys → xs ≡ ys
 one_list [] [] [] sx sy hx hy = refl
 one_list [] [] (y ∷ ys) sx sy hx hy = absurd sy
 one_list [] (x ∷ xs) ys sx sy hx hy = absurd sx
@@ -57,7 +59,8 @@ pub rises_to : (before next : ℕ) (entries : List Entry) → NumbersRise before
 rises_to before next [] rise = rise
 rises_to before next (e ∷ es) rise = omega (arith, rise.0, rises_to e.number next es rise.1)
 
-pub found_above : (id : List ℕ) (before next : ℕ) (entries : List Entry) (found : Entry) → NumbersRise before entries next → find (has_id id) entries ≡ Some found → before < found.number
+pub found_above : (id : List ℕ) (before next : ℕ) (entries : List Entry) (found : Entry) → NumbersRise before entries next
+    → find (has_id id) entries ≡ Some found → before < found.number
 found_above id before next [] found rise is = absurd cc
 found_above id before next (e ∷ es) found rise is =
     elim (has_id id e) as (λ b. has_id id e ≡ b → (if b then Some e else find (has_id id) es) ≡ Some found → before < found.number) [
@@ -65,17 +68,20 @@ found_above id before next (e ∷ es) found rise is =
       | false ↦ λ other same. let above = found_above id e.number next es found rise.1 same in omega (arith, rise.0, above)
     ] refl is
 
-after_greater : (k : ℕ) (payload : List ℕ) (page : ℕ × List ℕ) (pages : List (ℕ × List ℕ)) → page.0 < k → put nat_cmp k payload (page ∷ pages) ≡ page ∷ put nat_cmp k payload pages
+after_greater : (k : ℕ) (payload : List ℕ) (page : ℕ × List ℕ) (pages : List (ℕ × List ℕ)) → page.0 < k
+    → put nat_cmp k payload (page ∷ pages) ≡ page ∷ put nat_cmp k payload pages
 after_greater k payload page pages lt =
     ap (λ r. by_order r ((k, payload) ∷ page ∷ pages) ((page.0, payload) ∷ pages) (page ∷ put nat_cmp k payload pages)) (sym (nat_cmp_is k page.0 Greater lt))
 
-at_equal : (k : ℕ) (payload : List ℕ) (page : ℕ × List ℕ) (pages : List (ℕ × List ℕ)) → k ≡ page.0 → put nat_cmp k payload (page ∷ pages) ≡ (page.0, payload) ∷ pages
+at_equal : (k : ℕ) (payload : List ℕ) (page : ℕ × List ℕ) (pages : List (ℕ × List ℕ)) → k ≡ page.0
+    → put nat_cmp k payload (page ∷ pages) ≡ (page.0, payload) ∷ pages
 at_equal k payload page pages e =
     ap (λ r. by_order r ((k, payload) ∷ page ∷ pages) ((page.0, payload) ∷ pages) (page ∷ put nat_cmp k payload pages)) (sym (nat_cmp_is k page.0 Equal e))
 
 -- ---- a page put behind all others, and one put over the page of an entry
 
-pub shown_behind : (pages : List (ℕ × List ℕ)) (entries : List Entry) (before next : ℕ) (payload : List ℕ) (new : Entry) → NumbersRise before entries next → AreShown pages entries → IsShown next payload new
+pub shown_behind : (pages : List (ℕ × List ℕ)) (entries : List Entry) (before next : ℕ) (payload : List ℕ) (new : Entry)
+    → NumbersRise before entries next → AreShown pages entries → IsShown next payload new
     → AreShown (put nat_cmp next payload pages) (entries ++ new ∷ [])
 shown_behind [] [] before next payload new rise shown is = (is, tt)
 shown_behind [] (e ∷ es) before next payload new rise shown is = absurd shown
@@ -93,17 +99,20 @@ unchanged id tree (e ∷ es) none =
     λ i. with_tree-other id tree e parts.0 i ∷ unchanged id tree es parts.1 i
 
 -- one page and one entry in front, which is of the id or is not
-over_first : (p : ℕ × List ℕ) (ps : List (ℕ × List ℕ)) (e : Entry) (es : List Entry) (id : List ℕ) (tree : Tree) (policy : ℕ) (found : Entry) → IdsAreDistinct (e ∷ es) → AreShown (p ∷ ps) (e ∷ es)
+over_first : (p : ℕ × List ℕ) (ps : List (ℕ × List ℕ)) (e : Entry) (es : List Entry) (id : List ℕ) (tree : Tree) (policy : ℕ) (found : Entry)
+    → IdsAreDistinct (e ∷ es) → AreShown (p ∷ ps) (e ∷ es)
     → has_id id e ≡ true → e ≡ found → AreShown (put nat_cmp found.number (policy ∷ canonical_text tree) (p ∷ ps)) (map (with_tree id tree) (e ∷ es))
 over_first p ps e es id tree policy found distinct shown own same =
     let payload : List ℕ = policy ∷ canonical_text tree in
     let number : found.number ≡ p.0 = ap (λ (x : Entry). x.number) (sym same) ∙ sym shown.0.number_is in
     let others : map (with_tree id tree) es ≡ es = unchanged id tree es (ap (λ x. list_any (has_id x) es) (sym (same_from_eq e.id id own)) ∙ distinct.0) in
-    let first : IsShown p.0 payload (record { number = e.number; id = e.id; tree = tree }) = record { policy = policy; number_is = shown.0.number_is; payload_is = refl } in
+    let first : IsShown p.0 payload (record { number = e.number; id = e.id; tree = tree }) =
+    record { policy = policy; number_is = shown.0.number_is; payload_is = refl } in
     subst (λ pages. AreShown pages (map (with_tree id tree) (e ∷ es))) (sym (at_equal found.number payload p ps number))
     (subst (λ x. IsShown p.0 payload x) (sym (with_tree-own id tree e own)) first, subst (AreShown ps) (sym others) shown.1)
 
-over_later : (p : ℕ × List ℕ) (ps : List (ℕ × List ℕ)) (e : Entry) (es : List Entry) (next : ℕ) (id : List ℕ) (tree : Tree) (policy : ℕ) (found : Entry) → NumbersRise e.number es next → AreShown (p ∷ ps) (e ∷ es)
+over_later : (p : ℕ × List ℕ) (ps : List (ℕ × List ℕ)) (e : Entry) (es : List Entry) (next : ℕ) (id : List ℕ) (tree : Tree) (policy : ℕ)
+    (found : Entry) → NumbersRise e.number es next → AreShown (p ∷ ps) (e ∷ es)
     → has_id id e ≡ false → find (has_id id) es ≡ Some found
     → AreShown (put nat_cmp found.number (policy ∷ canonical_text tree) ps) (map (with_tree id tree) es)
     → AreShown (put nat_cmp found.number (policy ∷ canonical_text tree) (p ∷ ps)) (map (with_tree id tree) (e ∷ es))
@@ -113,27 +122,33 @@ over_later p ps e es next id tree policy found rise shown other same later =
     subst (λ pages. AreShown pages (map (with_tree id tree) (e ∷ es))) (sym (after_greater found.number payload p ps below))
     (subst (λ x. IsShown p.0 p.1 x) (sym (with_tree-other id tree e other)) shown.0, later)
 
-pub shown_over : (pages : List (ℕ × List ℕ)) (entries : List Entry) (before next : ℕ) (id : List ℕ) (tree : Tree) (policy : ℕ) (found : Entry) → NumbersRise before entries next → IdsAreDistinct entries → AreShown pages entries
+pub shown_over : (pages : List (ℕ × List ℕ)) (entries : List Entry) (before next : ℕ) (id : List ℕ) (tree : Tree) (policy : ℕ) (found : Entry)
+    → NumbersRise before entries next → IdsAreDistinct entries → AreShown pages entries
     → find (has_id id) entries ≡ Some found → AreShown (put nat_cmp found.number (policy ∷ canonical_text tree) pages) (map (with_tree id tree) entries)
 shown_over [] [] before next id tree policy found rise distinct shown is = absurd cc
 shown_over [] (e ∷ es) before next id tree policy found rise distinct shown is = absurd shown
 shown_over (p ∷ ps) [] before next id tree policy found rise distinct shown is = absurd shown
 shown_over (p ∷ ps) (e ∷ es) before next id tree policy found rise distinct shown is =
-    elim (has_id id e) as (λ b. has_id id e ≡ b → (if b then Some e else find (has_id id) es) ≡ Some found → AreShown (put nat_cmp found.number (policy ∷ canonical_text tree) (p ∷ ps)) (map (with_tree id tree) (e ∷ es))) [
+    elim (has_id id e) as (λ b. has_id id e ≡ b → (if b then Some e else find (has_id id) es) ≡ Some found
+    → AreShown (put nat_cmp found.number (policy ∷ canonical_text tree) (p ∷ ps)) (map (with_tree id tree) (e ∷ es))) [
       | true ↦ λ own same. over_first p ps e es id tree policy found distinct shown own (same_some e found same)
-      | false ↦ λ other same. over_later p ps e es next id tree policy found rise.1 shown other same (shown_over ps es e.number next id tree policy found rise.1 distinct.1 shown.1 same)
+      | false ↦ λ other same. over_later p ps e es next id tree policy found rise.1 shown other same
+          (shown_over ps es e.number next id tree policy found rise.1 distinct.1 shown.1 same)
     ] refl is
 
 -- the number of an entry has a page
-pub found_page : (pages : List (ℕ × List ℕ)) (entries : List Entry) (id : List ℕ) (found : Entry) → AreShown pages entries → find (has_id id) entries ≡ Some found → is_some (finite.find nat_cmp found.number pages) ≡ true
+pub found_page : (pages : List (ℕ × List ℕ)) (entries : List Entry) (id : List ℕ) (found : Entry) → AreShown pages entries
+    → find (has_id id) entries ≡ Some found → is_some (finite.find nat_cmp found.number pages) ≡ true
 found_page [] [] id found shown is = absurd cc
 found_page [] (e ∷ es) id found shown is = absurd shown
 found_page (p ∷ ps) [] id found shown is = absurd shown
 found_page (p ∷ ps) (e ∷ es) id found shown is =
-    elim (has_id id e) as (λ b. (if b then Some e else find (has_id id) es) ≡ Some found → is_some (if eq_by_cmp nat_cmp found.number p.0 then Some p.1 else finite.find nat_cmp found.number ps) ≡ true) [
+    elim (has_id id e) as (λ b. (if b then Some e else find (has_id id) es) ≡ Some found
+    → is_some (if eq_by_cmp nat_cmp found.number p.0 then Some p.1 else finite.find nat_cmp found.number ps) ≡ true) [
       | true ↦ λ same.
           let number : found.number ≡ p.0 = ap (λ (x : Entry). x.number) (sym (same_some e found same)) ∙ sym shown.0.number_is in
-          ap (λ b. is_some (if b then Some p.1 else finite.find nat_cmp found.number ps)) (ap (eq_by_cmp nat_cmp found.number) (sym number) ∙ same_number found.number)
+          ap (λ b. is_some (if b then Some p.1 else finite.find nat_cmp found.number ps))
+          (ap (eq_by_cmp nat_cmp found.number) (sym number) ∙ same_number found.number)
       | false ↦ λ same. elim (eq_by_cmp nat_cmp found.number p.0) as (λ b. is_some (if b then Some p.1 else finite.find nat_cmp found.number ps) ≡ true) [
         | true ↦ refl
         | false ↦ found_page ps es id found shown.1 same

@@ -1,5 +1,7 @@
 -- The parts of an upsert lead to the upserted container.
-use Rattle.std.proofs.Common.{◌≡◌, ℕ, ◌+◌, ◌^◌, ◌<◌, ◌≤◌, Bool, true, false, List, [], ◌∷◌, length, find, Option, Some, None, Ok, is_some, refl, sym, ap, subst, ◌∙◌, arith}
+use Rattle.std.proofs.Common.{◌≡◌, ℕ, ◌+◌, ◌^◌, ◌<◌, ◌≤◌, Bool, true, false, List, [], ◌∷◌, length}
+use Rattle.std.proofs.Common.{find, Option, Some, None, Ok, is_some, refl, sym, ap, subst, ◌∙◌}
+use Rattle.std.proofs.Common.{arith}
 use Rattle.std.specs.Prelude.{◌&&◌, ◌||◌, nat_lt, nat_le, if◌then◌else◌, option_and_then}
 use Rattle.std.specs.List.{list_any}
 use Rattle.std.specs.Option.{option_map_or}
@@ -38,14 +40,17 @@ next_in-meta next policy fits = from_le_bytes-to_le_bytes_4 next fits
 now_in-meta : (next policy : ℕ) → policy < 2 ^ 32 → now_in (meta_bytes next policy) ≡ policy
 now_in-meta next policy fits = from_le_bytes-to_le_bytes_4 policy fits
 
-pub meta_fits : (next policy : ℕ) (contents : Contents) → 0 < next → next < 2 ^ 32 → policy ≤ last_policy → is_given policy contents ≡ true → is_meta 0 (meta_bytes next policy) contents ≡ true
+pub meta_fits : (next policy : ℕ) (contents : Contents) → 0 < next → next < 2 ^ 32 → policy ≤ last_policy → is_given policy contents ≡ true
+    → is_meta 0 (meta_bytes next policy) contents ≡ true
 meta_fits next policy contents some fits small given =
     let next_is = next_in-meta next policy fits in
     let now_is = now_in-meta next policy (omega (arith, small)) in
-    both _ _ (both _ _ (both _ _ refl (lt-ltb 0 (next_in (meta_bytes next policy)) (omega (arith, some, next_is)))) (le-leb (now_in (meta_bytes next policy)) last_policy (omega (arith, small, now_is))))
+    both _ _ (both _ _ (both _ _ refl (lt-ltb 0 (next_in (meta_bytes next policy)) (omega (arith, some, next_is))))
+    (le-leb (now_in (meta_bytes next policy)) last_policy (omega (arith, small, now_is))))
     (ap (λ n. is_given n contents) now_is ∙ given)
 
-pub document_fits : (number policy : ℕ) (text : List ℕ) (contents : Contents) → 0 < number → is_given policy contents ≡ true → has_room number contents ≡ true → is_document number (policy ∷ text) contents ≡ true
+pub document_fits : (number policy : ℕ) (text : List ℕ) (contents : Contents) → 0 < number → is_given policy contents ≡ true
+    → has_room number contents ≡ true → is_document number (policy ∷ text) contents ≡ true
 document_fits number policy text contents some given room =
     both _ _ (both _ _ (both _ _ (lt-ltb 0 number some) (lt-ltb 0 (length (policy ∷ text)) (omega arith))) given) room
 
@@ -59,7 +64,8 @@ after_document number policy tree contents some given room =
 
 pub any_found : (id : List ℕ) (entries : List Entry) → list_any (has_id id) entries ≡ is_some (find (has_id id) entries)
 any_found id [] = refl
-any_found id (e ∷ es) = elim (has_id id e) as (λ b. (b || list_any (has_id id) es) ≡ is_some (if b then Some e else find (has_id id) es)) [ true ↦ refl | false ↦ any_found id es ]
+any_found id (e ∷ es) = elim (has_id id e) as
+    (λ b. (b || list_any (has_id id) es) ≡ is_some (if b then Some e else find (has_id id) es)) [ true ↦ refl | false ↦ any_found id es ]
 
 some_of : {A : Type 0} (o found : Option A) → found ≡ o → is_some o ≡ true → (x : A) × (found ≡ Some x)
 some_of None found e is = absurd (cc)
@@ -71,7 +77,8 @@ none_of (Some x) is = absurd (cc)
 
 -- what an upsert is to be written as
 abbrev pub Written : Contents → List ℕ → Tree → Container → Container → Type 0
-Written contents id tree before after = (new : Contents) × (after_parts (upsert_parts id tree (policy_now contents) before) contents ≡ Some new) × ContentsStandFor new after
+Written contents id tree before after = (new : Contents) ×
+    (after_parts (upsert_parts id tree (policy_now contents) before) contents ≡ Some new) × ContentsStandFor new after
 
 module _ (contents : Contents) (before : Container) (id : List ℕ) (tree : Tree) (stand : ContentsStandFor contents before) where
   abbrev policy : ℕ
@@ -83,12 +90,14 @@ module _ (contents : Contents) (before : Container) (id : List ℕ) (tree : Tree
   abbrev parts_for : Option Entry → List PartValue
   parts_for found = option_map_or (λ (entry : Entry). replacing_parts entry.number policy tree) found (creating_parts before.next_number policy tree)
 
-  put_entries : (number : ℕ) → finite.entries (finite.insert contents.documents number (policy ∷ canonical_text tree)) ≡ finite.put nat_cmp number (policy ∷ canonical_text tree) pages
+  put_entries : (number : ℕ) → finite.entries (finite.insert contents.documents number (policy ∷ canonical_text tree)) ≡ finite.put nat_cmp number
+      (policy ∷ canonical_text tree) pages
   put_entries number = finite.entries-insert nat_cmp_total contents.documents number (policy ∷ canonical_text tree)
 
   -- ---- a document that the container has
 
-  replaced_by : (found : Entry) → entry_of id before ≡ Some found → IsSound (replaced id tree before) → Written contents id tree before (replaced id tree before)
+  replaced_by : (found : Entry) → entry_of id before ≡ Some found → IsSound (replaced id tree before)
+      → Written contents id tree before (replaced id tree before)
   replaced_by found is sound =
       let number = found.number in
       let new : Contents = with_document contents number policy tree in
@@ -136,7 +145,8 @@ module _ (contents : Contents) (before : Container) (id : List ℕ) (tree : Tree
       let below : next < last_number = left space in
       let few_held : finite.len contents.documents < most_documents = few space in
       let fits = meta_fits (next + 1) policy contents (omega arith) (omega arith) stand.small stand.given in
-      let room = second_or (finite.contains_key contents.documents next) (nat_lt (finite.len contents.documents) most_documents) (lt-ltb (finite.len contents.documents) most_documents few_held) in
+      let room = second_or (finite.contains_key contents.documents next) (nat_lt (finite.len contents.documents) most_documents)
+      (lt-ltb (finite.len contents.documents) most_documents few_held) in
       ap (λ b. option_and_then (after_parts (document_part next policy tree ∷ [])) (if b then Some with_meta else None)) fits
       ∙ ap (option_and_then (after_parts [])) (after_document next policy tree with_meta some_number stand.given room)
 
@@ -154,7 +164,12 @@ module _ (contents : Contents) (before : Container) (id : List ℕ) (tree : Tree
           small = omega (arith, now_is, small);
           apart = apart_with contents (with_document with_meta next policy tree) next (canonical_text tree) now_is refl refl stand.apart;
           shown = subst (λ shown. AreShown shown (created id tree before).entries) (sym (put_entries next))
-              (shown_behind pages before.entries 0 next (policy ∷ canonical_text tree) (record { number = next; id = id; tree = tree }) stand.sound.numbers stand.shown
+              (shown_behind pages before.entries 0 next (policy ∷ canonical_text tree) (record {
+                number = next;
+                id = id;
+                tree =
+                    tree;
+              }) stand.sound.numbers stand.shown
               (record { policy = policy; number_is = refl; payload_is = refl }));
           sound = sound;
         },
@@ -165,7 +180,8 @@ module _ (contents : Contents) (before : Container) (id : List ℕ) (tree : Tree
   entry_there : contains id before ≡ true → (found : Entry) × (entry_of id before ≡ Some found)
   entry_there there = some_of (entry_of id before) (entry_of id before) refl (sym (any_found id before.entries) ∙ there)
 
-  pub written : (after : Container) → ((container : Container) → upserted id tree before ≡ Ok container → IsSound container) → upserted id tree before ≡ Ok after → Written contents id tree before after
+  pub written : (after : Container) → ((container : Container) → upserted id tree before ≡ Ok container → IsSound container)
+      → upserted id tree before ≡ Ok after → Written contents id tree before after
   written after sound is = upsert_cases id tree before after (λ container. IsSound container → Written contents id tree before container)
       (λ there. replaced_by (entry_there there).0 (entry_there there).1)
       (λ absent space. created_by (none_of (entry_of id before) (sym (any_found id before.entries) ∙ absent)) space)

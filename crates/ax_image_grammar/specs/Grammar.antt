@@ -50,7 +50,8 @@ pub record HasTwins (newest : ℕ) (area : Extent) (at : ℕ) (image : Image) : 
   pub same : policy_text a contents ≡ policy_text b contents
   pub two : a ≢ b
 
--- the image is outside the grammar at this place: what each answer that it is damaged says
+-- The image is outside the grammar at this place: opening finds it damaged there, or what stands there
+-- cannot be read, or two policies in use or now have one text.
 abbrev pub IsOutside : ℕ → Extent → ℕ → Image → Type 0
 IsOutside newest area at image =
     IsDamaged newest image area at

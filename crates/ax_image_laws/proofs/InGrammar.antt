@@ -21,7 +21,7 @@ use Rattle.ax_area.specs.Contents.{Contents, Stored, no_contents}
 use Rattle.ax_area.specs.Told.{Told}
 use Rattle.ax_area.specs.Image.{Says}
 use Rattle.ax_area.proofs.LogWords.{fresh_image, live_image}
-use Rattle.ax_area.proofs.OneOutcome.{one_contents}
+use Rattle.ax_area.proofs.OneOutcome.{one_contents, one_told}
 use Rattle.ax_area.proofs.OneTelling.{same_some, some_or_none}
 use Rattle.ax_image_grammar.specs.Grammar.{AreReadable, IsGrammatical, IsOutside}
 use Rattle.ax_image_grammar.specs.Rows.{text_row, policy_row, delta_row, superseded_row}
@@ -31,7 +31,7 @@ use Rattle.ax_image_grammar.proofs.RowsSay.{text_outside, policy_outside, delta_
 use Rattle.ax_image_grammar.proofs.RowsSay.{superseded_outside}
 use Rattle.ax_image.specs.Apart as log_table
 use Rattle.ax_image.specs.Readable.{newest, AreReadableParts, TellsReadable}
-use Rattle.ax_image.specs.StandsFor.{StandsFor}
+use Rattle.ax_image.specs.StandsFor.{HasDocuments, StandsFor}
 use Rattle.ax_image_laws.specs.Agree.{shown_by, Agree}
 use Rattle.ax_image_laws.proofs.Telling.{tells_on}
 
@@ -55,6 +55,7 @@ record Found (old : log.Contents) (image : Image) : Type 0 where
   says : Says newest newest told new image
   agree : Agree old new
   readable : TellsReadable image → AreReadable newest told
+  image_too : AreReadable newest told → TellsReadable image
 
 by_frames : (image : Image) (old : log.Contents) (frames : List (List ℕ))
     → log_image.HasFrames frames image → LeadOn frames log.no_contents old → Found old image
@@ -70,6 +71,7 @@ by_frames image old frames (inl (fresh, none)) lead = record {
   agree = subst (λ c. Agree c no_contents)
       (subst (λ fs. LeadOn fs log.no_contents old) none lead) none_agree;
   readable = λ all. tt;
+  image_too = λ all. record { frames = []; has = inl (fresh, refl); each = tt };
 }
 by_frames image old frames (inr (area, generation, live)) lead =
     let first = live_image area generation frames image live in
@@ -89,6 +91,11 @@ by_frames image old frames (inr (area, generation, live)) lead =
       readable = λ (all : TellsReadable image).
           on.readable (subst (AllByRecursion AreReadableParts)
           (one_frames image all.frames frames all.has (inr (area, generation, live))) all.each);
+      image_too = λ all. record {
+        frames = frames;
+        has = inr (area, generation, live);
+        each = on.frames_too all;
+      };
     }
 
 found : (image : Image) (old : log.Contents) → HasContents old image → Found old image
@@ -155,6 +162,18 @@ in_grammar image container stands =
         apart = apart_too documents.contents is.new is.agree documents.stand.apart;
       },
     )
+
+-- an image in the grammar that has the documents of a container stands for it
+pub stands_by_grammar : (image : Image) (container : Container) (version : ℕ) (told : List Told)
+    (contents : Contents) → IsGrammatical newest version told contents image
+    → HasDocuments container image → StandsFor image container
+stands_by_grammar image container version told contents grammatical documents =
+    let is = found image documents.contents documents.has in record {
+      documents = documents;
+      readable = is.image_too (subst (AreReadable newest)
+          (one_told newest image version newest told is.told contents is.new grammatical.says is.says)
+          grammatical.readable);
+    }
 
 pub outside_nowhere : (image : Image) (container : Container) (area : Extent) (at : ℕ)
     → StandsFor image container → IsOutside newest area at image → ⊥

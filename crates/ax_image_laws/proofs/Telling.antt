@@ -15,7 +15,9 @@ use Rattle.ax_area.specs.Items.{item_bytes, single}
 use Rattle.ax_area.specs.Contents.{Contents, after_changes}
 use Rattle.ax_area.specs.Told.{Told, changes_of, told_bytes, AreTold, Begins, TellOn, Lead}
 use Rattle.ax_area.proofs.OneMore.{lead_on}
+use Rattle.ax_area.specs.Changes.{Change, change_of}
 use Rattle.ax_image_grammar.specs.Grammar.{AreReadable}
+use Rattle.ax_image_grammar.specs.Payloads.{IsReadable}
 use Rattle.ax_image.specs.Readable.{newest, IsReadablePart, AreReadableParts}
 use Rattle.ax_image_laws.specs.Agree.{Agree}
 use Rattle.ax_image_laws.proofs.Stepping.{step}
@@ -30,6 +32,13 @@ record Tells (list : List PartValue) (at : ℕ) (after : log.Contents) (new : Co
   lead : Lead told new reached
   agree : Agree after reached
   readable : AllByRecursion IsReadablePart list → AreReadable newest told
+  parts_too : AreReadable newest told → AllByRecursion IsReadablePart list
+
+-- a part says one change, so where that can be read the part can
+part_too : (part : PartValue) (change : Change) → change_of newest (single part) ≡ Some change
+    → IsReadable newest change → IsReadablePart part
+part_too part change says reads other said =
+    subst (IsReadable newest) (same_some change other (sym says ∙ said)) reads
 
 tells : (list : List PartValue) (at : ℕ) (old after : log.Contents) (new : Contents) → AllFit list
     → after_parts list old ≡ Some after → Agree old new → Tells list at after new
@@ -41,6 +50,7 @@ tells [] at old after new fit leads agree = record {
   lead = refl;
   agree = subst (λ c. Agree c new) (same_some old after leads) agree;
   readable = λ all. tt;
+  parts_too = λ all. tt;
 }
 tells (part ∷ list) at old after new fit leads agree =
     let by = first_step part list old after leads in
@@ -56,6 +66,7 @@ tells (part ∷ list) at old after new fit leads agree =
       lead = ap (option_and_then (after_changes (changes_of others.told))) one.leads ∙ others.lead;
       agree = others.agree;
       readable = λ all. (all.0 one.change one.says, others.readable all.1);
+      parts_too = λ all. (part_too part one.change one.says all.0, others.parts_too all.1);
     }
 
 -- ---- frames one behind another
@@ -65,6 +76,14 @@ joined : (told more : List Told) → AreReadable newest told → AreReadable new
 joined [] more all others = others
 joined (t ∷ told) more all others = (all.0, joined told more all.1 others)
 
+first_of : (told more : List Told) → AreReadable newest (told ++ more) → AreReadable newest told
+first_of [] more all = tt
+first_of (t ∷ told) more all = (all.0, first_of told more all.1)
+
+others_of : (told more : List Told) → AreReadable newest (told ++ more) → AreReadable newest more
+others_of [] more all = all
+others_of (t ∷ told) more all = others_of told more all.1
+
 pub record TellsOn (frames : List (List ℕ)) (at : ℕ) (after : log.Contents)
     (new : Contents) : Type 0 where
   pub told : List Told
@@ -73,6 +92,7 @@ pub record TellsOn (frames : List (List ℕ)) (at : ℕ) (after : log.Contents)
   pub lead : Lead told new reached
   pub agree : Agree after reached
   pub readable : AllByRecursion AreReadableParts frames → AreReadable newest told
+  pub frames_too : AreReadable newest told → AllByRecursion AreReadableParts frames
 
 pub tells_on : (frames : List (List ℕ)) (at : ℕ) (old after : log.Contents) (new : Contents)
     → LeadOn frames old after → Agree old new → TellsOn frames at after new
@@ -83,6 +103,7 @@ tells_on [] at old after new leads agree = record {
   lead = refl;
   agree = subst (λ c. Agree c new) leads agree;
   readable = λ all. tt;
+  frames_too = λ all. tt;
 }
 tells_on (frame ∷ frames) at old after new (between, leads, more) agree =
     let one = tells leads.parts (at + 9) old between new leads.fit leads.lead agree in
@@ -103,4 +124,13 @@ tells_on (frame ∷ frames) at old after new (between, leads, more) agree =
       agree = others.agree;
       readable = λ all. joined one.told others.told (one.readable (same all.0))
           (others.readable all.1);
+      frames_too = λ all. (
+        record {
+          parts = leads.parts;
+          fit = leads.fit;
+          spelled = leads.spelled;
+          readable = one.parts_too (first_of one.told others.told all);
+        },
+        others.frames_too (others_of one.told others.told all),
+      );
     }

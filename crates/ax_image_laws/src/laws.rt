@@ -13,7 +13,7 @@ ghost use Rattle.ax_area.specs.Told.{Told};
 ghost use Rattle.ax_image_grammar.specs.Grammar.{IsGrammatical, IsOutside};
 ghost use Rattle.ax_image_grammar.specs.Rows.{text_row, policy_row, delta_row, superseded_row};
 ghost use Rattle.ax_image.specs.Readable.{newest};
-ghost use Rattle.ax_image.specs.StandsFor.{StandsFor};
+ghost use Rattle.ax_image.specs.StandsFor.{HasDocuments, StandsFor};
 ghost use Rattle.ax_image_laws.specs.Agree.{with_document, Agree};
 
 /// What an image says in the words of all versions agrees with what it has in those of the log.
@@ -37,7 +37,13 @@ pub fn an_image_that_stands_is_in_the_grammar()
         → (told : List Told) × (contents : Contents) × IsGrammatical newest newest told contents image }
 {}
 
-/// So it is outside the grammar nowhere.
+/// And the other way round: an image in the grammar that has the documents of a container stands for it.
+pub fn an_image_in_the_grammar_stands_for_its_documents()
+    ensures { (image : Image) (container : Container) (version : ℕ) (told : List Told) (contents : Contents)
+        → IsGrammatical newest version told contents image → HasDocuments container image → StandsFor image container }
+{}
+
+/// An image that stands for a container is outside the grammar nowhere.
 pub fn an_image_that_stands_is_outside_nowhere()
     ensures { (image : Image) (container : Container) (area : Extent) (at : ℕ)
         → StandsFor image container → IsOutside newest area at image → ⊥ }
