@@ -1,4 +1,5 @@
 pub mod Judging
+pub mod SystemCalls
 pub mod Faults
 pub mod Content
 pub mod Marks
