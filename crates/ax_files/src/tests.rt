@@ -1,4 +1,7 @@
-ghost use Rattle.std.specs.Prelude.{true, false, []};
+ghost use Rattle.std.specs.Prelude.{◌≡◌, true, false, [], ⊤};
+ghost use Rattle.std.specs.IoError.{error_kind};
+ghost use Rattle.std.specs.declared.io.ErrorKind.TheVariants.{Interrupted, StorageFull, Other};
+ghost use Rattle.ax_files.specs.SystemCalls.{SystemCall};
 
 use crate::file_fault::{FileFault, RootState};
 use crate::opening::refuse_lost;
@@ -28,6 +31,12 @@ impl SystemFile for FakeFile {
     ghost content = { λ file. file.bytes.items };
 
     ghost is_working = { λ _. false };
+
+    ghost fails_with = { λ _ call error. (call ≡ SystemCall.Size → ⊥)
+        × (call ≡ SystemCall.ReadPiece → error_kind error ≡ Interrupted)
+        × (call ≡ SystemCall.WriteWhole → error_kind error ≡ StorageFull)
+        × (call ≡ SystemCall.Shorten → error_kind error ≡ StorageFull)
+        × (call ≡ SystemCall.Sync → error_kind error ≡ Other) };
 
     fn size(&self) -> io::Result<u64> {
         Ok(self.bytes.len() as u64)
@@ -81,6 +90,8 @@ impl SystemFile for PlainFile {
 
     ghost is_working = { λ _. false };
 
+    ghost fails_with = { λ _ _ _. ⊤ };
+
     fn size(&self) -> io::Result<u64> {
         Ok(self.bytes.len() as u64)
     }
@@ -128,6 +139,8 @@ impl SystemFile for SteadyFile {
     ghost content = { λ _. [] };
 
     ghost is_working = { λ _. true };
+
+    ghost fails_with = { λ _ _ _. ⊥ };
 
     fn size(&self) -> io::Result<u64> {
         Ok(0)
