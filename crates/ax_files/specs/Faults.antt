@@ -30,6 +30,18 @@ IsOfCall extent call (Bound of_extent) = ⊥
 IsOfCall extent call Detached = ⊥
 IsOfCall extent call Stopped = ⊥
 
+-- that the system failed this call on a file of the store
+abbrev pub IsOfCallOnAny : FileCall → FileFault → Type 0
+IsOfCallOnAny call (Call extent of_call error) = of_call ≡ call
+IsOfCallOnAny call (Folder error) = ⊥
+IsOfCallOnAny call (Locked extent) = ⊥
+IsOfCallOnAny call (Rootless root area) = ⊥
+IsOfCallOnAny call Foreign = ⊥
+IsOfCallOnAny call (Arealess area) = ⊥
+IsOfCallOnAny call (Bound extent) = ⊥
+IsOfCallOnAny call Detached = ⊥
+IsOfCallOnAny call Stopped = ⊥
+
 -- that the system failed a call on a file
 abbrev pub IsOfSomeCall : FileFault → Type 0
 IsOfSomeCall (Call extent call error) = Unit {0}
