@@ -1,7 +1,10 @@
 -- What a fault of a store's files says.
-use Rattle.std.specs.Prelude.{◌≡◌}
+use Rattle.std.specs.Prelude.{◌≡◌, ◌⊎◌}
+use Rattle.std.specs.declared.io.Error.{Error}
 use Rattle.ax_disk.specs.declared.extent.Extent.{Extent}
+use Rattle.ax_files.specs.SystemCalls.{SystemCall}
 use Rattle.ax_files.specs.declared.file_fault.FileCall.{FileCall}
+use Rattle.ax_files.specs.declared.file_fault.FileCall.TheVariants.{Open, Lock, Length, Read, Write, Cut, Sync}
 use Rattle.ax_files.specs.declared.file_fault.FileFault.{FileFault}
 use Rattle.ax_files.specs.declared.file_fault.FileFault.TheVariants.{
   Call,
@@ -27,6 +30,18 @@ IsOfCall extent call (Bound of_extent) = ⊥
 IsOfCall extent call Detached = ⊥
 IsOfCall extent call Stopped = ⊥
 
+-- that the system failed this call on a file of the store
+abbrev pub IsOfCallOnAny : FileCall → FileFault → Type 0
+IsOfCallOnAny call (Call extent of_call error) = of_call ≡ call
+IsOfCallOnAny call (Folder error) = ⊥
+IsOfCallOnAny call (Locked extent) = ⊥
+IsOfCallOnAny call (Rootless root area) = ⊥
+IsOfCallOnAny call Foreign = ⊥
+IsOfCallOnAny call (Arealess area) = ⊥
+IsOfCallOnAny call (Bound extent) = ⊥
+IsOfCallOnAny call Detached = ⊥
+IsOfCallOnAny call Stopped = ⊥
+
 -- that the system failed a call on a file
 abbrev pub IsOfSomeCall : FileFault → Type 0
 IsOfSomeCall (Call extent call error) = Unit {0}
@@ -38,3 +53,26 @@ IsOfSomeCall (Arealess area) = ⊥
 IsOfSomeCall (Bound extent) = ⊥
 IsOfSomeCall Detached = ⊥
 IsOfSomeCall Stopped = ⊥
+
+-- with such an error one of the calls fails that are made of the system here, none of which opens or locks a file
+abbrev pub IsErrorOf : (SystemCall → Error → Type 0) → FileCall → Error → Type 0
+IsErrorOf fails_with Open error = ⊥
+IsErrorOf fails_with Lock error = ⊥
+IsErrorOf fails_with Length error = fails_with SystemCall.Size error
+IsErrorOf fails_with Read error = fails_with SystemCall.ReadPiece error
+IsErrorOf fails_with Write error = fails_with SystemCall.WriteWhole error
+IsErrorOf fails_with Cut error = fails_with SystemCall.Size error ⊎ fails_with SystemCall.Shorten error
+IsErrorOf fails_with Sync error = fails_with SystemCall.Sync error
+
+-- where a fault says that the system failed a call on a file, its error is one with which such a call on that file
+-- fails
+abbrev pub HasItsError : (Extent → SystemCall → Error → Type 0) → FileFault → Type 0
+HasItsError fails_with (Call extent call error) = IsErrorOf (fails_with extent) call error
+HasItsError fails_with (Folder error) = Unit {0}
+HasItsError fails_with (Locked extent) = Unit {0}
+HasItsError fails_with (Rootless root area) = Unit {0}
+HasItsError fails_with Foreign = Unit {0}
+HasItsError fails_with (Arealess area) = Unit {0}
+HasItsError fails_with (Bound extent) = Unit {0}
+HasItsError fails_with Detached = Unit {0}
+HasItsError fails_with Stopped = Unit {0}

@@ -1,6 +1,6 @@
 -- What a disk over files shows: how many of its calls have failed and why the first one did, whether a write, a cut
 -- or a sync of it has failed, and which files of the store attached count as unsynced.
-use Rattle.std.specs.Prelude.{◌≡◌, ℕ, Option, Some, None}
+use Rattle.std.specs.Prelude.{◌≡◌, ℕ, Option, Some, None, IsSomeAnd}
 use Rattle.ax_files.specs.Marks.{Marks, marks, all_marked}
 use Rattle.ax_files.specs.declared.file_disk.FileDisk.{FileDisk}
 use Rattle.ax_files.specs.declared.file_disk.State.{State}
@@ -41,3 +41,15 @@ first_fault_of disk = disk.first_fault
 abbrev pub first_of : Option FileFault → FileFault → Option FileFault
 first_of None fault = Some fault
 first_of (Some first) fault = Some first
+
+-- where the files of a store are attached, a fault that a call on them may answer; else that none is, or that an
+-- earlier call had failed
+abbrev pub IsAnswered : (FileFault → Type 0) → State → FileFault → Type 0
+IsAnswered May (Attached files) fault = May fault
+IsAnswered May Detached fault = fault ≡ FileFault.Detached
+IsAnswered May Stopped fault = fault ≡ FileFault.Stopped
+
+-- from a fault kept or none to the one kept after a failure: the same one, or where there was none such a one
+abbrev pub Keeps : (FileFault → Type 0) → Option FileFault → Option FileFault → Type 0
+Keeps IsSuch None kept = IsSomeAnd kept IsSuch
+Keeps IsSuch (Some first) kept = kept ≡ Some first

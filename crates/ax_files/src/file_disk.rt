@@ -1,11 +1,12 @@
 //! A disk over the files of the operating system: the edge that is trusted and not proved. It tells
 //! nothing of what the files hold, and counts each call that fails.
-ghost use Rattle.std.specs.Prelude.{◌≡◌, ◌≤◌, ◌^◌, ◌+◌, ◌<◌, ◌↔◌, Ok, false, [], length, IfOk, OnOk, IsOk, IsErr, IsSome, MatchResult};
+ghost use Rattle.std.specs.Prelude.{◌≡◌, ◌≤◌, ◌^◌, ◌+◌, ◌<◌, ◌↔◌, Ok, false, [], length, IfOk, OnOk, IsOk, IsErr, IsSome, MatchResult, ◌⊎◌};
 ghost use Rattle.std.proofs.lemmas.Bool.{false≢true};
 ghost use Rattle.ax_faults.specs.Faults.{HasCause, CountsOnce, raised};
+ghost use Rattle.ax_files.specs.Faults.{IsOfCall, IsOfCallOnAny};
 ghost use Rattle.ax_files.specs.Marks.{none_marked, all_marked, marked};
 
-use crate::file_fault::FileFault;
+use crate::file_fault::{FileCall, FileFault};
 use crate::opening::open_files;
 use crate::store_files::StoreFiles;
 use ax_disk::{Disk, DiskFailed, Extent};
@@ -115,7 +116,7 @@ impl FileDisk {
 
 impl Disk for FileDisk {
     ghost use Rattle.ax_disk.specs.DeadDisk.{nothing_told};
-    ghost use Rattle.ax_files.specs.FileDisk.{HasStopped, IsAttached, disk_marks, fault_count, first_fault_of};
+    ghost use Rattle.ax_files.specs.FileDisk.{HasStopped, IsAttached, IsAnswered, Keeps, disk_marks, fault_count, first_fault_of};
 
     ghost faults = { fault_count };
 
@@ -154,6 +155,9 @@ impl Disk for FileDisk {
         ensures cause { HasCause result self.old.faults self.new.faults }
         ensures counts { CountsOnce result self.old.faults self.new.faults }
         ensures explained { IsErr result → IsSome (first_fault_of self.new) }
+        ensures kept { MatchResult result (λ _. first_fault_of self.new ≡ first_fault_of self.old)
+            (λ _. Keeps (IsAnswered (λ fault. IsOfCall ext FileCall.Length fault ⊎ (fault ≡ FileFault.Bound ext)) self.old.state)
+            (first_fault_of self.old) (first_fault_of self.new)) }
         ensures stopped { HasStopped self.old → IsErr result }
         ensures state { self.new.state ≡ self.old.state }
     {
@@ -169,6 +173,9 @@ impl Disk for FileDisk {
         ensures cause { HasCause result self.old.faults self.new.faults }
         ensures counts { CountsOnce result self.old.faults self.new.faults }
         ensures explained { IsErr result → IsSome (first_fault_of self.new) }
+        ensures kept { MatchResult result (λ _. first_fault_of self.new ≡ first_fault_of self.old)
+            (λ _. Keeps (IsAnswered (λ fault. IsOfCall ext FileCall.Read fault) self.old.state)
+            (first_fault_of self.old) (first_fault_of self.new)) }
         ensures stopped { HasStopped self.old → IsErr result }
         ensures state { self.new.state ≡ self.old.state }
     {
@@ -185,6 +192,9 @@ impl Disk for FileDisk {
         ensures cause { HasCause result self.old.faults self.new.faults }
         ensures counts { CountsOnce result self.old.faults self.new.faults }
         ensures explained { IsErr result → IsSome (first_fault_of self.new) }
+        ensures kept { MatchResult result (λ _. first_fault_of self.new ≡ first_fault_of self.old)
+            (λ _. Keeps (IsAnswered (λ fault. IsOfCall ext FileCall.Write fault ⊎ (fault ≡ FileFault.Bound ext)) self.old.state)
+            (first_fault_of self.old) (first_fault_of self.new)) }
         ensures stops { IsErr result ↔ HasStopped self.new }
         ensures marked { OnOk result (disk_marks self.new ≡ marked ext (disk_marks self.old)) }
         ensures stopped { HasStopped self.old → IsErr result }
@@ -201,6 +211,9 @@ impl Disk for FileDisk {
         ensures cause { HasCause result self.old.faults self.new.faults }
         ensures counts { CountsOnce result self.old.faults self.new.faults }
         ensures explained { IsErr result → IsSome (first_fault_of self.new) }
+        ensures kept { MatchResult result (λ _. first_fault_of self.new ≡ first_fault_of self.old)
+            (λ _. Keeps (IsAnswered (λ fault. IsOfCall ext FileCall.Cut fault) self.old.state)
+            (first_fault_of self.old) (first_fault_of self.new)) }
         ensures stops { IsErr result ↔ HasStopped self.new }
         ensures marked { OnOk result (disk_marks self.new ≡ marked ext (disk_marks self.old)) }
         ensures stopped { HasStopped self.old → IsErr result }
@@ -217,6 +230,9 @@ impl Disk for FileDisk {
         ensures cause { HasCause result self.old.faults self.new.faults }
         ensures counts { CountsOnce result self.old.faults self.new.faults }
         ensures explained { IsErr result → IsSome (first_fault_of self.new) }
+        ensures kept { MatchResult result (λ _. first_fault_of self.new ≡ first_fault_of self.old)
+            (λ _. Keeps (IsAnswered (λ fault. IsOfCallOnAny FileCall.Sync fault) self.old.state)
+            (first_fault_of self.old) (first_fault_of self.new)) }
         ensures stops { IsErr result ↔ HasStopped self.new }
         ensures synced { IsOk result ↔ (disk_marks self.new ≡ none_marked) }
         ensures stopped { HasStopped self.old → IsErr result }

@@ -1,4 +1,8 @@
 //! Why a store's files could not be used, in words for people.
+ghost use Rattle.std.specs.Prelude.{◌≡◌, chars};
+ghost use Rattle.std.specs.Char.{is_control};
+ghost use Rattle.std.specs.List.{list_any};
+ghost use Rattle.ax_files.specs.Lines.{ending_text, call_text, defect_text};
 
 use ax_disk::Extent;
 use std::fmt::{self, Display, Formatter};
@@ -80,9 +84,20 @@ struct Named<'a> {
     store: &'a str,
 }
 
+/// Whether a text has a control character.
+fn has_control(text: &str) -> bool
+    ensures { result ≡ list_any is_control (chars text.now) }
+{
+    text.chars().any(|character| character.is_control())
+}
+
 impl<'a> Display for Named<'a> {
+    ghost use Rattle.ax_files.specs.Lines.{name_text};
+
+    ghost output = { λ name. name_text name.store.now };
+
     fn fmt<W: fmt::Write>(&self, f: &mut Formatter<W>) -> fmt::Result {
-        if self.store.chars().any(|character| character.is_control()) {
+        if has_control(self.store) {
             write!(f, "{:?}", self.store)
         } else {
             f.write_str(self.store)
@@ -91,7 +106,9 @@ impl<'a> Display for Named<'a> {
 }
 
 impl FileCall {
-    fn word(self) -> &'static str {
+    fn word(self) -> &'static str
+        ensures { result.now ≡ call_text self }
+    {
         match self {
             FileCall::Open => "open",
             FileCall::Lock => "lock",
@@ -105,7 +122,9 @@ impl FileCall {
 }
 
 /// What the name of a store's file ends with, behind the name of the store and a dot.
-pub(crate) fn ending(extent: Extent) -> &'static str {
+pub(crate) fn ending(extent: Extent) -> &'static str
+    ensures { result.now ≡ ending_text extent }
+{
     match extent {
         Extent::Root => "root",
         Extent::A => "a",
@@ -114,7 +133,9 @@ pub(crate) fn ending(extent: Extent) -> &'static str {
 }
 
 /// What is wrong with a root that stands for a fresh store.
-fn defect(root: RootState) -> &'static str {
+fn defect(root: RootState) -> &'static str
+    ensures { result.now ≡ defect_text root }
+{
     match root {
         RootState::Absent => "is missing",
         RootState::Short => "is too short for a root",
@@ -122,16 +143,31 @@ fn defect(root: RootState) -> &'static str {
     }
 }
 
-impl<'a> Display for Explained<'a> {
-    fn fmt<W: fmt::Write>(&self, f: &mut Formatter<W>) -> fmt::Result {
+impl<'a> Explained<'a> {
+    ghost use Rattle.std.specs.Fmt.{DisplaysOnOk};
+    ghost use Rattle.ax_files.specs.Lines.{words_text, system_error};
+
+    /// The error of the system at the end of the line.
+    fn system_error(&self) -> Option<io::Error>
+        ensures { result ≡ system_error self.now.fault }
+    {
+        match self.fault {
+            FileFault::Call { error, .. } | FileFault::Folder { error } => Some(error),
+            _ => None,
+        }
+    }
+
+    /// Writes the line but for an error of the system at its end.
+    fn write_words<W: fmt::Write>(&self, f: &mut Formatter<W>) -> fmt::Result
+        ensures { DisplaysOnOk W.write_str_gives f.old result
+            (words_text self.now.store.now self.now.fault) f.new }
+    {
         let store = Named { store: self.store };
         match self.fault {
-            FileFault::Call {
-                extent,
-                call,
-                error,
-            } => write!(f, "{store}.{}: {}: {error}", ending(extent), call.word()),
-            FileFault::Folder { error } => write!(f, "the folder of {store}.root: sync: {error}"),
+            FileFault::Call { extent, call, .. } => {
+                write!(f, "{store}.{}: {}: ", ending(extent), call.word())
+            }
+            FileFault::Folder { .. } => write!(f, "the folder of {store}.root: sync: "),
             FileFault::Locked { extent } => {
                 write!(
                     f,
@@ -159,6 +195,29 @@ impl<'a> Display for Explained<'a> {
             }
             FileFault::Detached => write!(f, "{store}: no store is attached"),
             FileFault::Stopped => write!(f, "{store}: an earlier call had failed"),
+        }
+    }
+}
+
+impl<'a> Display for Explained<'a> {
+    ghost use Rattle.std.specs.Fmt.{DisplaysOnOk, DisplaysStyledOnOk};
+    ghost use Rattle.std.specs.Prelude.{None};
+    ghost use Rattle.ax_files.specs.Lines.{line_text, words_text, BeginsOnOk};
+
+    ghost output = { λ line. line_text line.store.now line.fault };
+
+    fn fmt<W: fmt::Write>(&self, f: &mut Formatter<W>) -> fmt::Result
+        ensures writes { DisplaysOnOk W.write_str_gives f.old result
+            (line_text self.now.store.now self.now.fault) f.new }
+        ensures styled { DisplaysStyledOnOk W.write_str_gives f.old result
+            None f.new }
+        ensures begins { BeginsOnOk W.write_str_gives f.old result
+            (words_text self.now.store.now self.now.fault) }
+    {
+        self.write_words(f)?;
+        match self.system_error() {
+            Some(error) => write!(f, "{error}"),
+            None => Ok(()),
         }
     }
 }

@@ -1,9 +1,10 @@
 //! Opening the files of a store: each is locked, a store of which files have been lost is refused, and
 //! only then are absent files made.
 
-ghost use Rattle.std.specs.Prelude.{◌≡◌, ◌^◌, ◌<◌, ◌≤◌, ◌+◌, ◌⊎◌, length, take, drop, IsTrue, IsOk, IfOk, IfErr, OnOk, option_map};
+ghost use Rattle.std.specs.Prelude.{◌≡◌, ◌^◌, ◌<◌, ◌≤◌, ◌+◌, ◌⊎◌, length, take, drop, IsTrue, IsOk, IfOk, IfErr, OnOk, IsSomeAnd, option_map};
 ghost use Rattle.std.specs.Option.{ForSome};
-ghost use Rattle.ax_files.specs.Faults.{IsOfSomeCall};
+ghost use Rattle.ax_files.specs.Content.{at_extent};
+ghost use Rattle.ax_files.specs.Faults.{IsOfSomeCall, HasItsError};
 ghost use Rattle.ax_files.specs.Judging.{IsAtRoot, IsRootFile, IsSound, IsUnsound};
 ghost use Rattle.ax_files.specs.Marks.{marks, all_marked};
 ghost use Rattle.ax_frame.specs.RootSlot.{IsSlot};
@@ -126,6 +127,8 @@ pub(crate) fn refuse_lost<F: SystemFile>(
     ensures works { ForSome root.entry (λ f. IsTrue (F.is_working f.now))
         → ForSome a.entry (λ f. IsTrue (F.is_working f.now)) → ForSome b.entry (λ f. IsTrue (F.is_working f.now))
         → IfErr result (λ fault. ¬ IsOfSomeCall fault) }
+    ensures error { IfErr result (λ fault. HasItsError (λ extent call error.
+        IsSomeAnd (at_extent extent root.entry a.entry b.entry) (λ f. F.fails_with f.now call error)) fault) }
 {
     let state = root_state(root)?;
     let a_len = area_len(a, Extent::A)?;
@@ -138,6 +141,8 @@ fn root_state<F: SystemFile>(root: Option<&F>) -> Result<RootState, FileFault>
     ensures state { ForSome root.entry (λ f. IsTrue (F.is_honest f.now) × (length (F.content f.now) < 2 ^ 63))
         → IfOk result (λ state. IsAtRoot (option_map (λ f. F.content f.now) root.entry) state) }
     ensures fault { IfErr result (λ fault. IsOfSomeCall fault) }
+    ensures error { IfErr result (λ fault. HasItsError
+        (λ of call error. (of ≡ Extent.Root) × IsSomeAnd root.entry (λ f. F.fails_with f.now call error)) fault) }
     ensures works { ForSome root.entry (λ f. IsTrue (F.is_working f.now)) → IsOk result }
 {
     match root {
@@ -151,6 +156,8 @@ fn file_state<F: SystemFile>(root: &F) -> Result<RootState, FileFault>
     ensures state { IsTrue (F.is_honest root.now) → length (F.content root.now) < 2 ^ 63
         → IfOk result (λ state. IsRootFile (F.content root.now) state) }
     ensures fault { IfErr result (λ fault. IsOfSomeCall fault) }
+    ensures error { IfErr result (λ fault. HasItsError
+        (λ extent call error. (extent ≡ Extent.Root) × F.fails_with root.now call error) fault) }
     ensures works { IsTrue (F.is_working root.now) → IsOk result }
 {
     let len = named(Extent::Root, FileCall::Length, root.size())?;
@@ -166,6 +173,8 @@ fn slot_at<F: SystemFile>(root: &F, at: u64) -> Result<RootSlot, FileFault>
         → at + 16 ≤ length (F.content root.now)
         → IfOk result (λ slot. IsSlot (take 16 (drop at (F.content root.now))) slot) }
     ensures fault { IfErr result (λ fault. IsOfSomeCall fault) }
+    ensures error { IfErr result (λ fault. HasItsError
+        (λ extent call error. (extent ≡ Extent.Root) × F.fails_with root.now call error) fault) }
     ensures works { IsTrue (F.is_working root.now) → IsOk result }
 {
     let mut bytes = [0; 16];
@@ -182,6 +191,8 @@ fn area_len<F: SystemFile>(area: Option<&F>, extent: Extent) -> Result<Option<u6
     ensures len { ForSome area.entry (λ f. IsTrue (F.is_honest f.now))
         → IfOk result (λ len. len ≡ option_map length (option_map (λ f. F.content f.now) area.entry)) }
     ensures fault { IfErr result (λ fault. IsOfSomeCall fault) }
+    ensures error { IfErr result (λ fault. HasItsError
+        (λ of call error. (of ≡ extent) × IsSomeAnd area.entry (λ f. F.fails_with f.now call error)) fault) }
     ensures works { ForSome area.entry (λ f. IsTrue (F.is_working f.now)) → IsOk result }
 {
     match area {

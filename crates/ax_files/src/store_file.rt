@@ -1,6 +1,7 @@
 //! One file of a store, and whether it has to be synced.
-ghost use Rattle.std.specs.Prelude.{◌≡◌, ◌≤◌, ◌<◌, ◌+◌, ◌^◌, ◌↔◌, true, false, length, take, drop, IsTrue, IsOk, OnOk, IfOk};
+ghost use Rattle.std.specs.Prelude.{◌≡◌, ◌≤◌, ◌<◌, ◌+◌, ◌^◌, ◌↔◌, true, false, length, take, drop, IsTrue, IsOk, OnOk, IfOk, IfErr, ◌⊎◌};
 ghost use Rattle.ax_disk.specs.model.Calls.{overwritten, bytes_from};
+ghost use Rattle.ax_files.specs.SystemCalls.{SystemCall};
 
 use crate::system_file::SystemFile;
 use std::io::{self, ErrorKind};
@@ -36,6 +37,7 @@ impl<F: SystemFile> StoreFile<F> {
     pub fn len(&self) -> io::Result<u64>
         ensures len { IsTrue (F.is_honest self.now.file)
             → IfOk result (λ len. len ≡ length (F.content self.now.file)) }
+        ensures error { IfErr result (λ error. F.fails_with self.now.file SystemCall.Size error) }
         ensures works { IsTrue (F.is_working self.now.file) → IsOk result }
     {
         self.file.size()
@@ -45,6 +47,7 @@ impl<F: SystemFile> StoreFile<F> {
     pub fn read(&self, at: u64, buf: &mut [u8]) -> io::Result<()>
         ensures bytes { IsTrue (F.is_honest self.now.file) → length (F.content self.now.file) < 2 ^ 63
             → OnOk result (buf.new ≡ bytes_from (F.content self.now.file) at (length buf.old)) }
+        ensures error { IfErr result (λ error. F.fails_with self.now.file SystemCall.ReadPiece error) }
         ensures works { IsTrue (F.is_working self.now.file) → IsOk result }
     {
         fill_from(&self.file, at, buf)
@@ -55,6 +58,7 @@ impl<F: SystemFile> StoreFile<F> {
         ensures unsynced { self.new.is_unsynced ≡ true }
         ensures written { IsTrue (F.is_honest self.old.file) → at ≤ length (F.content self.old.file)
             → OnOk result (F.content self.new.file ≡ overwritten (F.content self.old.file) at bytes.now) }
+        ensures error { IfErr result (λ error. F.fails_with self.old.file SystemCall.WriteWhole error) }
         ensures works { IsTrue (F.is_working self.old.file) → IsOk result }
         ensures working { F.is_working self.new.file ≡ F.is_working self.old.file }
         ensures honest { F.is_honest self.new.file ≡ F.is_honest self.old.file }
@@ -69,6 +73,8 @@ impl<F: SystemFile> StoreFile<F> {
         ensures unsynced { self.new.is_unsynced ≡ true }
         ensures shortened { IsTrue (F.is_honest self.old.file)
             → OnOk result (F.content self.new.file ≡ take len (F.content self.old.file)) }
+        ensures error { IfErr result (λ error. F.fails_with self.old.file SystemCall.Size error
+            ⊎ F.fails_with self.old.file SystemCall.Shorten error) }
         ensures works { IsTrue (F.is_working self.old.file) → IsOk result }
         ensures working { F.is_working self.new.file ≡ F.is_working self.old.file }
         ensures honest { F.is_honest self.new.file ≡ F.is_honest self.old.file }
@@ -87,6 +93,7 @@ impl<F: SystemFile> StoreFile<F> {
             → OnOk result (IsTrue (F.is_settled self.new.file)) }
         ensures content { IsTrue (F.is_honest self.old.file)
             → F.content self.new.file ≡ F.content self.old.file }
+        ensures error { IfErr result (λ error. F.fails_with self.old.file SystemCall.Sync error) }
         ensures works { IsTrue (F.is_working self.old.file) → IsOk result }
         ensures working { F.is_working self.new.file ≡ F.is_working self.old.file }
         ensures honest { F.is_honest self.new.file ≡ F.is_honest self.old.file }
@@ -104,6 +111,7 @@ impl<F: SystemFile> StoreFile<F> {
 pub(crate) fn fill_from<F: SystemFile>(file: &F, at: u64, buf: &mut [u8]) -> io::Result<()>
     ensures bytes { IsTrue (F.is_honest file.now) → length (F.content file.now) < 2 ^ 63
         → OnOk result (buf.new ≡ bytes_from (F.content file.now) at (length buf.old)) }
+    ensures error { IfErr result (λ error. F.fails_with file.now SystemCall.ReadPiece error) }
     ensures works { IsTrue (F.is_working file.now) → IsOk result }
 {
     let reachable = LAST_OFFSET.saturating_sub(at).min(buf.len() as u64) as usize;
@@ -120,6 +128,7 @@ fn read_up_to_end<F: SystemFile>(file: &F, at: u64, buf: &mut [u8]) -> io::Resul
         → IfOk result (λ filled. take filled buf.new ≡ take filled (drop at (F.content file.now))) }
     ensures ended { IsTrue (F.is_honest file.now)
         → IfOk result (λ filled. filled < length buf.old → length (F.content file.now) ≤ at + filled) }
+    ensures error { IfErr result (λ error. F.fails_with file.now SystemCall.ReadPiece error) }
     ensures works { IsTrue (F.is_working file.now) → IsOk result }
 {
     let mut filled = 0;
@@ -140,6 +149,7 @@ fn read_uninterrupted<F: SystemFile>(file: &F, at: u64, buf: &mut [u8]) -> io::R
         → IfOk result (λ count. take count buf.new ≡ take count (drop at (F.content file.now))) }
     ensures end { IsTrue (F.is_honest file.now) → 0 < length buf.old
         → IfOk result (λ count. count ≡ 0 → length (F.content file.now) ≤ at) }
+    ensures error { IfErr result (λ error. F.fails_with file.now SystemCall.ReadPiece error) }
     ensures works { IsTrue (F.is_working file.now) → IsOk result }
 {
     let mut outcome = file.read_piece(buf, at);

@@ -2,7 +2,7 @@
 ghost use Rattle.std.specs.Prelude.{◌≡◌, ◌≢◌, ◌≤◌, ◌<◌, ◌+◌, ◌^◌, ◌↔◌, ◌⊎◌, false, length, take, IsTrue, IsOk, OnOk, IfOk, IfErr, Err};
 ghost use Rattle.ax_disk.specs.model.Calls.{overwritten, bytes_from};
 ghost use Rattle.ax_files.specs.Content.{at_extent};
-ghost use Rattle.ax_files.specs.Faults.{IsOfCall, IsOfSomeCall};
+ghost use Rattle.ax_files.specs.Faults.{IsOfCall, IsOfSomeCall, HasItsError};
 ghost use Rattle.ax_files.specs.Marks.{marks, marked, none_marked, all_marked, first_marked};
 
 use crate::file_fault::{FileCall, FileFault};
@@ -45,6 +45,8 @@ impl<F: SystemFile> StoreFiles<F> {
             → IfOk result (λ len. len
             ≡ length (F.content (at_extent extent self.now.root.file self.now.a.file self.now.b.file))) }
         ensures fault { IfErr result (λ fault. IsOfCall extent FileCall.Length fault ⊎ (fault ≡ FileFault.Bound extent)) }
+        ensures error { IfErr result (λ fault. HasItsError
+            (λ extent. F.fails_with (at_extent extent self.now.root.file self.now.a.file self.now.b.file)) fault) }
         ensures bound { IsTrue (F.is_honest (at_extent extent self.now.root.file self.now.a.file self.now.b.file))
             → result ≡ Err (FileFault.Bound extent)
             → 2 ^ 62 < length (F.content (at_extent extent self.now.root.file self.now.a.file self.now.b.file)) }
@@ -66,6 +68,8 @@ impl<F: SystemFile> StoreFiles<F> {
             ≡ bytes_from (F.content (at_extent extent self.now.root.file self.now.a.file self.now.b.file))
             at (length buf.old)) }
         ensures fault { IfErr result (λ fault. IsOfCall extent FileCall.Read fault) }
+        ensures error { IfErr result (λ fault. HasItsError
+            (λ extent. F.fails_with (at_extent extent self.now.root.file self.now.a.file self.now.b.file)) fault) }
         ensures works { IsTrue (F.is_working (at_extent extent self.now.root.file self.now.a.file self.now.b.file))
             → IsOk result }
     {
@@ -91,6 +95,8 @@ impl<F: SystemFile> StoreFiles<F> {
         ensures a_stays { extent ≢ Extent.A → self.new.a ≡ self.old.a }
         ensures b_stays { extent ≢ Extent.B → self.new.b ≡ self.old.b }
         ensures fault { IfErr result (λ fault. IsOfCall extent FileCall.Write fault ⊎ (fault ≡ FileFault.Bound extent)) }
+        ensures error { IfErr result (λ fault. HasItsError
+            (λ extent. F.fails_with (at_extent extent self.old.root.file self.old.a.file self.old.b.file)) fault) }
     {
         if !is_within(at, bytes.len() as u64) {
             return Err(FileFault::Bound { extent });
@@ -115,6 +121,8 @@ impl<F: SystemFile> StoreFiles<F> {
         ensures a_stays { extent ≢ Extent.A → self.new.a ≡ self.old.a }
         ensures b_stays { extent ≢ Extent.B → self.new.b ≡ self.old.b }
         ensures fault { IfErr result (λ fault. IsOfCall extent FileCall.Cut fault) }
+        ensures error { IfErr result (λ fault. HasItsError
+            (λ extent. F.fails_with (at_extent extent self.old.root.file self.old.a.file self.old.b.file)) fault) }
         ensures works { IsTrue (F.is_working (at_extent extent self.old.root.file self.old.a.file self.old.b.file))
             → IsOk result }
     {
@@ -132,6 +140,8 @@ impl<F: SystemFile> StoreFiles<F> {
         ensures fault { IfErr result (λ fault. IsOfCall
             (first_marked (marks self.new.root.is_unsynced self.new.a.is_unsynced self.new.b.is_unsynced))
             FileCall.Sync fault) }
+        ensures error { IfErr result (λ fault. HasItsError
+            (λ extent. F.fails_with (at_extent extent self.old.root.file self.old.a.file self.old.b.file)) fault) }
         ensures works { IsTrue (F.is_working self.old.root.file) → IsTrue (F.is_working self.old.a.file)
             → IsTrue (F.is_working self.old.b.file) → IsOk result }
         ensures synced { IsOk result

@@ -1,7 +1,9 @@
 //! A file as the system gives it.
-ghost use Rattle.std.specs.Prelude.{◌≡◌, ◌≤◌, ◌<◌, ℕ, Bool, false, List, [], length, take, drop, IsOk, OnOk, IfOk, IsTrue};
+ghost use Rattle.std.specs.Prelude.{◌≡◌, ◌≤◌, ◌<◌, ℕ, Bool, false, List, [], length, take, drop, IsOk, OnOk, IfOk, IfErr, IsTrue, ⊤};
 ghost use Rattle.std.specs.Io.{ReadsAtMost};
+ghost use Rattle.std.specs.declared.io.Error.{Error};
 ghost use Rattle.ax_disk.specs.model.Calls.{overwritten};
+ghost use Rattle.ax_files.specs.SystemCalls.{SystemCall};
 
 use std::fs::File;
 use std::io;
@@ -22,10 +24,14 @@ pub(crate) trait SystemFile: Drop {
     /// Whether the system does what it is asked: then no call on the file fails.
     ghost is_working: { Self → Bool };
 
+    /// With which errors such a call on it, as it is, may fail. A file of the system leaves that open.
+    ghost fails_with: { Self → SystemCall → Error → Type 0 };
+
     /// The length in bytes.
     fn size(&self) -> io::Result<u64>
         ensures length { IsTrue (is_honest self.now)
             → IfOk result (λ size. size ≡ length (content self.now)) }
+        ensures error { IfErr result (λ error. fails_with self.now SystemCall.Size error) }
         ensures works { IsTrue (is_working self.now) → IsOk result };
 
     /// Reads bytes at `at` into the front of `buf`, and answers how many: 0 at the end of the file.
@@ -35,12 +41,14 @@ pub(crate) trait SystemFile: Drop {
             → IfOk result (λ count. take count buf.new ≡ take count (drop at (content self.now))) }
         ensures end { IsTrue (is_honest self.now) → 0 < length buf.old
             → IfOk result (λ count. count ≡ 0 → length (content self.now) ≤ at) }
+        ensures error { IfErr result (λ error. fails_with self.now SystemCall.ReadPiece error) }
         ensures works { IsTrue (is_working self.now) → IsOk result };
 
     /// Writes all the bytes at `at`.
     fn write_whole(&mut self, bytes: &[u8], at: u64) -> io::Result<()>
         ensures written { IsTrue (is_honest self.old) → at ≤ length (content self.old)
             → OnOk result (content self.new ≡ overwritten (content self.old) at bytes.now) }
+        ensures error { IfErr result (λ error. fails_with self.old SystemCall.WriteWhole error) }
         ensures works { IsTrue (is_working self.old) → IsOk result }
         ensures working { is_working self.new ≡ is_working self.old }
         ensures honest { is_honest self.new ≡ is_honest self.old };
@@ -49,6 +57,7 @@ pub(crate) trait SystemFile: Drop {
     fn shorten(&mut self, len: u64) -> io::Result<()>
         ensures shortened { IsTrue (is_honest self.old) → len ≤ length (content self.old)
             → OnOk result (content self.new ≡ take len (content self.old)) }
+        ensures error { IfErr result (λ error. fails_with self.old SystemCall.Shorten error) }
         ensures works { IsTrue (is_working self.old) → IsOk result }
         ensures working { is_working self.new ≡ is_working self.old }
         ensures honest { is_honest self.new ≡ is_honest self.old };
@@ -58,6 +67,7 @@ pub(crate) trait SystemFile: Drop {
         ensures settled { IsTrue (is_honest self.old)
             → OnOk result (IsTrue (is_settled self.new)) }
         ensures content { IsTrue (is_honest self.old) → content self.new ≡ content self.old }
+        ensures error { IfErr result (λ error. fails_with self.old SystemCall.Sync error) }
         ensures works { IsTrue (is_working self.old) → IsOk result }
         ensures working { is_working self.new ≡ is_working self.old }
         ensures honest { is_honest self.new ≡ is_honest self.old };
@@ -71,6 +81,8 @@ impl SystemFile for File {
     ghost content = { λ _. [] };
 
     ghost is_working = { λ _. false };
+
+    ghost fails_with = { λ _ _ _. ⊤ };
 
     fn size(&self) -> io::Result<u64> {
         Ok(self.metadata()?.len())

@@ -1,6 +1,9 @@
-ghost use Rattle.std.specs.Prelude.{true, false, []};
+ghost use Rattle.std.specs.Prelude.{◌≡◌, true, false, [], ⊤};
+ghost use Rattle.std.specs.IoError.{error_kind};
+ghost use Rattle.std.specs.declared.io.ErrorKind.TheVariants.{Interrupted, StorageFull, Other};
+ghost use Rattle.ax_files.specs.SystemCalls.{SystemCall};
 
-use crate::file_fault::{FileFault, RootState};
+use crate::file_fault::{Explained, FileCall, FileFault, RootState};
 use crate::opening::refuse_lost;
 use crate::store_file::fill_from;
 use crate::store_files::StoreFiles;
@@ -28,6 +31,12 @@ impl SystemFile for FakeFile {
     ghost content = { λ file. file.bytes.items };
 
     ghost is_working = { λ _. false };
+
+    ghost fails_with = { λ _ call error. (call ≡ SystemCall.Size → ⊥)
+        × (call ≡ SystemCall.ReadPiece → error_kind error ≡ Interrupted)
+        × (call ≡ SystemCall.WriteWhole → error_kind error ≡ StorageFull)
+        × (call ≡ SystemCall.Shorten → error_kind error ≡ StorageFull)
+        × (call ≡ SystemCall.Sync → error_kind error ≡ Other) };
 
     fn size(&self) -> io::Result<u64> {
         Ok(self.bytes.len() as u64)
@@ -81,6 +90,8 @@ impl SystemFile for PlainFile {
 
     ghost is_working = { λ _. false };
 
+    ghost fails_with = { λ _ _ _. ⊤ };
+
     fn size(&self) -> io::Result<u64> {
         Ok(self.bytes.len() as u64)
     }
@@ -128,6 +139,8 @@ impl SystemFile for SteadyFile {
     ghost content = { λ _. [] };
 
     ghost is_working = { λ _. true };
+
+    ghost fails_with = { λ _ _ _. ⊥ };
 
     fn size(&self) -> io::Result<u64> {
         Ok(0)
@@ -271,5 +284,39 @@ fn nothing_fails_over_files_that_work(rt: HostRuntime) -> Result<(), Fail> {
     assert!(rt; files.cut(Extent::B, 0).is_ok() && files.sync().is_ok());
     let mut buf = [1; 3];
     assert!(rt; files.read(Extent::A, 5, &mut buf).is_ok() && buf == [0, 0, 0]);
+    Ok(())
+}
+
+fn told(rt: &impl AllocGlobal, store: &str, fault: FileFault) -> Result<String, Fail> {
+    Ok(format!(in rt.alloc(); "{}", Explained { store, fault })?)
+}
+
+// Lines as docs/LINES.md has them, and the system's own words as Linux has them.
+#[test]
+fn a_fault_is_told_in_one_line(rt: HostRuntime) -> Result<(), Fail> {
+    let extent = Extent::A;
+    let call = FileCall::Write;
+    let error = io::Error::from_raw_os_error(27);
+    let line = told(
+        &rt,
+        "s",
+        FileFault::Call {
+            extent,
+            call,
+            error,
+        },
+    )?;
+    assert_eq!(rt; line.as_str(), "s.a: write: File too large (os error 27)");
+    let error = io::Error::from_raw_os_error(13);
+    let line = told(&rt, "d/s", FileFault::Folder { error })?;
+    assert_eq!(rt;
+        line.as_str(),
+        "the folder of d/s.root: sync: Permission denied (os error 13)"
+    );
+    let line = told(&rt, "a\nb", FileFault::Locked { extent })?;
+    assert_eq!(rt;
+        line.as_str(),
+        "\"a\\nb\".a: another program holds the store"
+    );
     Ok(())
 }
