@@ -10,6 +10,7 @@ use Rattle.ax_pages.specs.Image.{extent_number}
 use Rattle.ax_pages.specs.declared.page.Page.TheVariants.{Term}
 use Rattle.ax_pool.specs.Frames.{Frames}
 use Rattle.ax_pool.specs.declared.slot.Slot.{Slot}
+use Rattle.ax_store.specs.declared.store.StoreFrames.{StoreFrames}
 use Rattle.ax_log.specs.Log.{log_area}
 use Rattle.ax_store.specs.Kept.{Kept, PageOffsets, offsets_of}
 use Rattle.ax_store.specs.Slots.{IsRead, IsSlotOf, part_at}
@@ -46,7 +47,7 @@ module _ {C : Type 0} where
   same_area : (old new : Store C) → SameButReads old new → store_area new ≡ store_area old
   same_area old new same = ap log_area same.logged
 
-  pub still_taken : (old new : Store C) (slot : Slot) → SameButBytes old new → IsSlotOf old slot → IsSlotOf new slot
+  pub still_taken : (old new : Store C) (slot : Slot StoreFrames) → SameButBytes old new → IsSlotOf old slot → IsSlotOf new slot
   still_taken old new slot same is = subst (λ (taken : List Bool). slice_index_or taken slot.number false ≡ true) (sym same.taken) is
 
   -- ---- faults
@@ -135,5 +136,5 @@ pub slots_back : (old took left new : List Bool) (n m : ℕ) → slice_index_or 
 slots_back old took left new n m free e f same g =
     g ∙ ap (λ (k : ℕ). slice_set left k false) same ∙ ap (λ (taken : List Bool). slice_set taken n false) (f ∙ e) ∙ given_back old n free
 
-pub read_still : (payload : List ℕ) (frames : Frames) (old new : Slot) (len : ℕ) → new ≡ old → IsRead payload frames old.number len → IsRead payload frames new.number len
-read_still payload frames old new len same is = subst (λ (slot : Slot). IsRead payload frames slot.number len) (sym same) is
+pub read_still : (payload : List ℕ) (frames : Frames) (old new : Slot StoreFrames) (len : ℕ) → new ≡ old → IsRead payload frames old.number len → IsRead payload frames new.number len
+read_still payload frames old new len same is = subst (λ (slot : Slot StoreFrames). IsRead payload frames slot.number len) (sym same) is

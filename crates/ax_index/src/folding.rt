@@ -25,8 +25,7 @@ use ax_disk::Disk;
 use ax_leaf::{Memory, PairCursor};
 use ax_pages::Page;
 use ax_pair::{Bytes, Pair};
-use ax_pool::Slot;
-use ax_store::{Store, StoreFault};
+use ax_store::{Store, StoreFault, StoreSlot};
 use std::alloc::Global;
 
 /// The pairs of a term page, of which those of other terms than the wanted ones may be left out.
@@ -34,7 +33,7 @@ pub(crate) fn folded<D: Disk, C: PageCache>(
     alloc: Global,
     store: &mut Store<C>,
     disk: &mut D,
-    slot: &mut Slot,
+    slot: &mut StoreSlot,
     page: u32,
     wanted: &Wanted<'_>,
 ) -> Result<Vec<Pair>, StoreFault>
@@ -75,7 +74,7 @@ fn base_pairs<D: Disk, C: PageCache>(
     alloc: Global,
     store: &mut Store<C>,
     disk: &mut D,
-    slot: &mut Slot,
+    slot: &mut StoreSlot,
     page: u32,
     wanted: &Wanted<'_>,
 ) -> Result<Vec<Pair>, StoreFault>
@@ -163,7 +162,7 @@ fn merge_at<D: Disk, C: PageCache>(
     alloc: Global,
     store: &mut Store<C>,
     disk: &mut D,
-    slot: &mut Slot,
+    slot: &mut StoreSlot,
     page: u32,
     i: usize,
     pairs: Vec<Pair>,

@@ -25,8 +25,7 @@ use ax_cache::PageCache;
 use ax_disk::Disk;
 use ax_pages::Page;
 use ax_pair::Pair;
-use ax_pool::Slot;
-use ax_store::{Store, StoreFault};
+use ax_store::{Store, StoreFault, StoreSlot};
 
 /// Whether a pair is in the set that the term pages hold. It takes no memory, and reads the parts of
 /// the one page to which the pair belongs, from the newest to the first that says something of it.
@@ -64,7 +63,7 @@ pub fn has<D: Disk, C: PageCache>(
 fn has_by<D: Disk, C: PageCache>(
     store: &mut Store<C>,
     disk: &mut D,
-    slot: &mut Slot,
+    slot: &mut StoreSlot,
     pair: &Pair,
 ) -> Result<bool, StoreFault>
     requires slot { IsSlotOf store.old slot.old }
@@ -97,7 +96,7 @@ fn has_by<D: Disk, C: PageCache>(
 fn look_back<D: Disk, C: PageCache>(
     store: &mut Store<C>,
     disk: &mut D,
-    slot: &mut Slot,
+    slot: &mut StoreSlot,
     page: u32,
     pair: &Pair,
 ) -> Result<Option<bool>, StoreFault>
@@ -143,7 +142,7 @@ pub(crate) fn oldest_delta<C>(store: &Store<C>, page: u32) -> usize
 fn look_at<D: Disk, C: PageCache>(
     store: &mut Store<C>,
     disk: &mut D,
-    slot: &mut Slot,
+    slot: &mut StoreSlot,
     page: u32,
     i: usize,
     pair: &Pair,
@@ -189,7 +188,7 @@ fn delta_says(payload: &[u8], pair: &Pair) -> Option<Option<bool>>
 fn base_has<D: Disk, C: PageCache>(
     store: &mut Store<C>,
     disk: &mut D,
-    slot: &mut Slot,
+    slot: &mut StoreSlot,
     page: u32,
     pair: &Pair,
 ) -> Result<bool, StoreFault>

@@ -29,8 +29,7 @@ use crate::wanted::Wanted;
 use ax_cache::PageCache;
 use ax_disk::Disk;
 use ax_pages::Page;
-use ax_pool::Slot;
-use ax_store::{Batch, Store, StoreFault};
+use ax_store::{Batch, Store, StoreFault, StoreSlot};
 use std::alloc::Global;
 
 /// Puts parts behind those of a batch that merge `n` term pages with deltas, from the least low pair on, and
@@ -76,7 +75,7 @@ fn merge_by<D: Disk, C: PageCache>(
     alloc: Global,
     store: &mut Store<C>,
     disk: &mut D,
-    slot: &mut Slot,
+    slot: &mut StoreSlot,
     n: u32,
     batch: &mut Batch,
 ) -> Result<u32, StoreFault>
@@ -110,7 +109,7 @@ fn merge_pages<D: Disk, C: PageCache>(
     alloc: Global,
     store: &mut Store<C>,
     disk: &mut D,
-    slot: &mut Slot,
+    slot: &mut StoreSlot,
     n: u32,
     batch: &mut Batch,
 ) -> Result<u32, StoreFault>
@@ -157,7 +156,7 @@ fn merge_one<D: Disk, C: PageCache>(
     alloc: Global,
     store: &mut Store<C>,
     disk: &mut D,
-    slot: &mut Slot,
+    slot: &mut StoreSlot,
     next: &mut u32,
     page: u32,
     batch: &mut Batch,
@@ -197,7 +196,7 @@ fn merge_whole<D: Disk, C: PageCache>(
     alloc: Global,
     store: &mut Store<C>,
     disk: &mut D,
-    slot: &mut Slot,
+    slot: &mut StoreSlot,
     next: &mut u32,
     page: u32,
     batch: &mut Batch,

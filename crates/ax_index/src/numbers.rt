@@ -26,8 +26,7 @@ use crate::wanted::{Wanted, is_within};
 use ax_cache::PageCache;
 use ax_disk::Disk;
 use ax_pair::Pair;
-use ax_pool::Slot;
-use ax_store::{Store, StoreFault};
+use ax_store::{Store, StoreFault, StoreSlot};
 use ax_term::TermRange;
 use std::alloc::{AllocError, Global};
 
@@ -70,7 +69,7 @@ fn numbers_by<D: Disk, C: PageCache>(
     alloc: Global,
     store: &mut Store<C>,
     disk: &mut D,
-    slot: &mut Slot,
+    slot: &mut StoreSlot,
     range: &TermRange,
 ) -> Result<Vec<u32>, StoreFault>
     requires slot { IsSlotOf store.old slot.old }
@@ -111,7 +110,7 @@ fn gathered<D: Disk, C: PageCache>(
     alloc: Global,
     store: &mut Store<C>,
     disk: &mut D,
-    slot: &mut Slot,
+    slot: &mut StoreSlot,
     range: &TermRange,
 ) -> Result<Vec<u32>, StoreFault>
     requires slot { IsSlotOf store.old slot.old }
@@ -177,7 +176,7 @@ fn gather<D: Disk, C: PageCache>(
     alloc: Global,
     store: &mut Store<C>,
     disk: &mut D,
-    slot: &mut Slot,
+    slot: &mut StoreSlot,
     page: u32,
     range: &TermRange,
     numbers: &mut Vec<u32>,

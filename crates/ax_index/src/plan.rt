@@ -38,8 +38,7 @@ use ax_cache::PageCache;
 use ax_delta::Change;
 use ax_disk::Disk;
 use ax_pair::Pair;
-use ax_pool::Slot;
-use ax_store::{Batch, Store, StoreFault};
+use ax_store::{Batch, Store, StoreFault, StoreSlot};
 use std::alloc::Global;
 
 /// Puts parts behind those of a batch that make changes in the set which the term pages hold: a pair that
@@ -101,7 +100,7 @@ fn plan_by<D: Disk, C: PageCache>(
     alloc: Global,
     store: &mut Store<C>,
     disk: &mut D,
-    slot: &mut Slot,
+    slot: &mut StoreSlot,
     changes: &[Change],
     batch: &mut Batch,
 ) -> Result<u32, StoreFault>
@@ -160,7 +159,7 @@ fn plan_first<'a, D: Disk, C: PageCache>(
     alloc: Global,
     store: &mut Store<C>,
     disk: &mut D,
-    slot: &mut Slot,
+    slot: &mut StoreSlot,
     plan: &mut Plan,
     changes: &'a [Change],
     batch: &mut Batch,
@@ -222,7 +221,7 @@ fn plan_page<D: Disk, C: PageCache>(
     alloc: Global,
     store: &mut Store<C>,
     disk: &mut D,
-    slot: &mut Slot,
+    slot: &mut StoreSlot,
     next: &mut u32,
     page: u32,
     changes: &[Change],
@@ -315,7 +314,7 @@ pub(crate) fn merge_page<D: Disk, C: PageCache>(
     alloc: Global,
     store: &mut Store<C>,
     disk: &mut D,
-    slot: &mut Slot,
+    slot: &mut StoreSlot,
     next: &mut u32,
     page: u32,
     changes: &[Change],

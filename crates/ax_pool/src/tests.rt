@@ -1,11 +1,14 @@
 //! What a pool does with ample memory.
-use crate::{FRAME_BYTES, Pool, Slot};
+use crate::{FRAME_BYTES, Pool};
 use std::test::Fail;
+
+/// The marker of the test's pool.
+struct TestFrames;
 
 /// Three frames are taken, a fourth is not there; what was given back can be taken again.
 #[test]
 fn frames_are_taken_and_given_back(rt: HostRuntime) -> Result<(), Fail> {
-    let mut pool = Pool::make(rt.alloc(), 2)?;
+    let mut pool = Pool::<TestFrames>::make(rt.alloc(), 2)?;
     let (Some(mut first), Some(second)) = (pool.take(), pool.take()) else {
         assert!(rt; false);
         return Ok(());

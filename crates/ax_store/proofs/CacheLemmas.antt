@@ -27,7 +27,8 @@ some_is x y e = cc
 pub none_held : (pages : CachedPages) (area : Extent) (generation : ℕ) (text : List ℕ) → pages ≡ map.empty → HoldsParts pages area generation text
 none_held pages area generation text empty = record {
   each = λ offset bytes held.
-      absurd (no_some bytes (sym (map.get-empty key_cmp (key_of area generation offset)) ∙ ap (λ (m : CachedPages). map.get m (key_of area generation offset)) (sym empty) ∙ held));
+      absurd (no_some bytes (sym (map.get-empty key_cmp (key_of area generation offset))
+      ∙ ap (λ (m : CachedPages). map.get m (key_of area generation offset)) (sym empty) ∙ held));
 }
 
 -- what stands in a text stands there still with more behind it
@@ -39,7 +40,8 @@ more_behind text more offset bytes has = record {
       ∙ has.is;
 }
 
-pub held_on : (pages : CachedPages) (area : Extent) (generation : ℕ) (frames more : List (List ℕ)) → HoldsParts pages area generation (frames_bytes frames) → HoldsParts pages area generation (frames_bytes (frames ++ more))
+pub held_on : (pages : CachedPages) (area : Extent) (generation : ℕ) (frames more : List (List ℕ))
+    → HoldsParts pages area generation (frames_bytes frames) → HoldsParts pages area generation (frames_bytes (frames ++ more))
 held_on pages area generation frames more holds = record {
   each = λ offset bytes held.
       subst (λ text. HasBytesAt text offset bytes) (sym (flat_map-append open_frame frames more))
@@ -78,7 +80,8 @@ inserted : (old : CachedPages) (key other : PartKey) (bytes held : List ℕ) →
     → (map.get old other ≡ Some held) ⊎ ((other ≡ key) × (held ≡ bytes))
 inserted old key other bytes held e = either (eq_by_cmp key_cmp other key) (same_key other key) (sym (map.get-insert key_cmp_total old key bytes other) ∙ e)
   where
-    either : (b : Bool) → (b ≡ true → other ≡ key) → cond b (Some bytes) (map.get old other) ≡ Some held → (map.get old other ≡ Some held) ⊎ ((other ≡ key) × (held ≡ bytes))
+    either : (b : Bool) → (b ≡ true → other ≡ key) → cond b (Some bytes) (map.get old other) ≡ Some held
+        → (map.get old other ≡ Some held) ⊎ ((other ≡ key) × (held ≡ bytes))
     either true same e = inr (same refl, sym (some_is bytes held e))
     either false same e = inl e
 
@@ -90,10 +93,13 @@ removed old key other held e = either (eq_by_cmp key_cmp other key) (sym (map.ge
     either false e = e
 
 kept_put : (full : Bool) (key : PartKey) (bytes : List ℕ) (old new : CachedPages) → IsPut full key bytes old new → IsKept key bytes old new
-kept_put false key bytes old new put = record { each = λ other held e. inserted old key other bytes held (sym (ap (λ (m : CachedPages). map.get m other) put) ∙ e) }
+kept_put false key bytes old new put = record {
+  each = λ other held e. inserted old key other bytes held (sym (ap (λ (m : CachedPages). map.get m other) put) ∙ e);
+}
 kept_put true key bytes old new (dropped, there, put) = record {
   each = λ other held e.
-      ⊎_elim (λ (was : map.get (map.remove old dropped) other ≡ Some held). inl (removed old dropped other held was)) (λ (is : (other ≡ key) × (held ≡ bytes)). inr is)
+      ⊎_elim (λ (was : map.get (map.remove old dropped) other ≡ Some held). inl (removed old dropped other held was))
+      (λ (is : (other ≡ key) × (held ≡ bytes)). inr is)
       (inserted (map.remove old dropped) key other bytes held (sym (ap (λ (m : CachedPages). map.get m other) put) ∙ e));
 }
 
@@ -106,7 +112,8 @@ kept false room key bytes old new put refused = record {
 }
 
 held_now : (old new : CachedPages) (area : Extent) (generation from : ℕ) (text bytes : List ℕ) → IsKept (key_of area generation from) bytes old new
-    → HoldsParts old area generation text → from + length bytes ≤ length text → bytes ≡ take (length bytes) (drop from text) → HoldsParts new area generation text
+    → HoldsParts old area generation text → from + length bytes ≤ length text → bytes ≡ take (length bytes) (drop from text)
+    → HoldsParts new area generation text
 held_now old new area generation from text bytes kept holds within is = record {
   each = λ offset held e.
       ⊎_elim (λ (was : map.get old (key_of area generation offset) ≡ Some held). holds.each offset held was)
@@ -117,8 +124,10 @@ held_now old new area generation from text bytes kept holds within is = record {
 }
 
 -- the cache holds bytes of the frames still
-pub held_read : (old new : CachedPages) (area : Extent) (generation from len : ℕ) (text bytes : List ℕ) (key : PartKey) → key ≡ key_of area generation from → IsKept key bytes old new
+pub held_read : (old new : CachedPages) (area : Extent) (generation from len : ℕ) (text bytes : List ℕ) (key : PartKey)
+    → key ≡ key_of area generation from → IsKept key bytes old new
     → HoldsParts old area generation text → from + len ≤ length text → bytes ≡ take len (drop from text) → HoldsParts new area generation text
 held_read old new area generation from len text bytes key key_is kept holds few taken =
     let long : length bytes ≡ len = ap length taken ∙ length-take-le len (drop from text) (omega (arith, few, length-drop from text)) in
-    held_now old new area generation from text bytes (subst (λ k. IsKept k bytes old new) key_is kept) holds (omega (arith, few, long)) (taken ∙ ap (λ n. take n (drop from text)) (sym long))
+    held_now old new area generation from text bytes (subst (λ k. IsKept k bytes old new) key_is kept) holds (omega (arith, few, long))
+    (taken ∙ ap (λ n. take n (drop from text)) (sym long))

@@ -35,7 +35,9 @@ all_fit (part ∷ parts) e = (fit_from part (one _ _ e), all_fit parts (other _ 
 
 pub can_frame_of : (parts : List PartValue) → CanFrame parts → can_frame parts ≡ true
 can_frame_of parts can =
-    both _ _ (both _ _ (lt-ltb 0 (length (parts_bytes parts)) (parts_take_bytes parts can.some)) (lt-ltb (length (parts_bytes parts)) (2 ^ 64) can.length_fits)) (all_fits parts can.fit)
+    both _ _
+    (both _ _ (lt-ltb 0 (length (parts_bytes parts)) (parts_take_bytes parts can.some)) (lt-ltb (length (parts_bytes parts)) (2 ^ 64) can.length_fits))
+    (all_fits parts can.fit)
 
 pub can_from : (parts : List PartValue) → can_frame parts ≡ true → CanFrame parts
 can_from parts e = record {

@@ -116,7 +116,8 @@ module _ (rows : List TermRow) (key : ℕ) (old row : TermRow) (there : key < le
 
 -- ---- a new page
 
-pub page_put : (order : List ℕ) (rows : List TermRow) (pages : List TermPage) (page at : ℕ) (payload : List ℕ) (row : TermRow) (order_now : List ℕ) (rows_now : List TermRow)
+pub page_put : (order : List ℕ) (rows : List TermRow) (pages : List TermPage) (page at : ℕ) (payload : List ℕ) (row : TermRow)
+    (order_now : List ℕ) (rows_now : List TermRow)
     → IsOrderOf order (map page_in rows) → map page_in rows ≡ pages → is_base (length pages) payload pages ≡ true
     → IsCountUpTo (low_at_front payload) at order (map page_in rows) → page ≡ length pages → page_in row ≡ with_base payload
     → order_now ≡ insert order at page → rows_now ≡ rows ++ row ∷ [] → IsOrderOf order_now (map page_in rows_now)

@@ -25,7 +25,9 @@ use Rattle.ax_store.specs.declared.window.Window.{Window}
 
 module _ (first rest : List (List ℕ)) (span : List ℕ) where
   pub frame_at : (at : ℕ) → at ≡ length (frames_bytes first) → drop at (frames_bytes (first ++ span ∷ rest)) ≡ open_frame span ++ frames_bytes rest
-  frame_at at place = ap (drop at) (flat_map-append open_frame first (span ∷ rest)) ∙ drop_at (frames_bytes first) (open_frame span ++ frames_bytes rest) at (sym place)
+  frame_at at place =
+      ap (drop at) (flat_map-append open_frame first (span ∷ rest))
+      ∙ drop_at (frames_bytes first) (open_frame span ++ frames_bytes rest) at (sym place)
 
   pub head_at : (at : ℕ) → at ≡ length (frames_bytes first) → take 9 (drop at (frames_bytes (first ++ span ∷ rest))) ≡ open_head (length span)
   head_at at place = ap (take 9) (frame_at at place)
@@ -36,10 +38,17 @@ module _ (first rest : List (List ℕ)) (span : List ℕ) where
       let whole : frames_bytes (first ++ span ∷ rest) ≡ before ++ (span ++ frames_bytes rest) =
       flat_map-append open_frame first (span ∷ rest) ∙ sym (append_assoc (frames_bytes first) (open_head (length span)) (span ++ frames_bytes rest)) in
       let place_behind : length before ≡ at + 9 = length-append (frames_bytes first) (open_head (length span)) ∙ ap (λ n. n + 9) (sym place) in
-      ap (take len) (ap (drop (at + 9)) whole ∙ drop_at before (span ++ frames_bytes rest) (at + 9) place_behind) ∙ take_at span (frames_bytes rest) len (sym is)
+      ap (take len) (ap (drop (at + 9)) whole ∙ drop_at before (span ++ frames_bytes rest) (at + 9) place_behind)
+      ∙ take_at span (frames_bytes rest) len (sym is)
 
   pub frames_long : length (frames_bytes (first ++ span ∷ rest)) ≡ length (frames_bytes first) + 9 + length span + length (frames_bytes rest)
-  frames_long = omega (arith, ap length (flat_map-append open_frame first (span ∷ rest)), length-append (frames_bytes first) (open_frame span ++ frames_bytes rest), length-append span (frames_bytes rest))
+  frames_long =
+      omega (
+        arith,
+        ap length (flat_map-append open_frame first (span ∷ rest)),
+        length-append (frames_bytes first) (open_frame span ++ frames_bytes rest),
+        length-append span (frames_bytes rest),
+      )
 
 -- ---- spans
 
@@ -47,7 +56,8 @@ spans_in : (first rest : List (List ℕ)) (span : List ℕ) → AreSpans (first 
 spans_in [] rest span all = all.0
 spans_in (frame ∷ first) rest span all = spans_in first rest span all.1
 
-pub span_of : (log : Log) (first rest : List (List ℕ)) (span : List ℕ) (history : History) → Agrees log (first ++ span ∷ rest) history → MayLeave history.unsynced history.reads → IsSpan span
+pub span_of : (log : Log) (first rest : List (List ℕ)) (span : List ℕ) (history : History) → Agrees log (first ++ span ∷ rest) history
+    → MayLeave history.unsynced history.reads → IsSpan span
 span_of log first rest span history agrees may = spans_in first rest span (agrees.rests.each history.reads may).has.spans
 
 pub head_of_span : (bytes span : List ℕ) → IsSpan span → bytes ≡ open_head (length span) → IsFrameHead bytes (Frame (length span))
@@ -64,7 +74,8 @@ not_bad head n e is = cc
 
 -- ---- what is taken
 
-same_before : (bytes : List ℕ) (at : ℕ) (old mid new : Kept) → mid.contents ≡ old.contents → mid.offsets ≡ old.offsets → Takes bytes at mid new → Takes bytes at old new
+same_before : (bytes : List ℕ) (at : ℕ) (old mid new : Kept) → mid.contents ≡ old.contents → mid.offsets ≡ old.offsets
+    → Takes bytes at mid new → Takes bytes at old new
 same_before bytes at old mid new contents offsets takes = record {
   parts = takes.parts;
   fit = takes.fit;
@@ -73,23 +84,30 @@ same_before bytes at old mid new contents offsets takes = record {
   offsets = takes.offsets ∙ ap (λ o. offsets_after_parts takes.parts at o) offsets;
 }
 
-pub one_frame_more : (frames : List (List ℕ)) (span : List ℕ) (at there : ℕ) (old mid new : Kept) → TakesOn frames at old mid → there ≡ at + length (frames_bytes frames) → Takes span (there + 9) mid new → TakesOn (frames ++ span ∷ []) at old new
+pub one_frame_more : (frames : List (List ℕ)) (span : List ℕ) (at there : ℕ) (old mid new : Kept) → TakesOn frames at old mid
+    → there ≡ at + length (frames_bytes frames) → Takes span (there + 9) mid new → TakesOn (frames ++ span ∷ []) at old new
 one_frame_more [] span at there old mid new on place takes =
     (new, subst (λ n. Takes span (n + 9) old new) {x = there} (omega (arith, place)) (same_before span (there + 9) old mid new on.0 on.1 takes), (refl, refl))
-one_frame_more (frame ∷ frames) span at there old mid new (between, first, others) place takes =
-    (between, first, one_frame_more frames span (at + 9 + length frame) there between mid new others (omega (arith, place, length-append frame (frames_bytes frames))) takes)
+one_frame_more (frame ∷ frames) span at there old mid new (between, first, others) place takes = (
+  between,
+  first,
+  one_frame_more frames span (at + 9 + length frame) there between mid new others (omega (arith, place, length-append frame (frames_bytes frames))) takes,
+)
 
 pub lead_of : (bytes : List ℕ) (at : ℕ) (old new : Kept) → Takes bytes at old new → Leads bytes old.contents new.contents
 lead_of bytes at old new takes = record { parts = takes.parts; fit = takes.fit; spelled = takes.spelled; lead = takes.lead }
 
 pub lead_on_of : (frames : List (List ℕ)) (at : ℕ) (old new : Kept) → TakesOn frames at old new → LeadOn frames old.contents new.contents
 lead_on_of [] at old new on = sym on.0
-lead_on_of (frame ∷ frames) at old new (between, first, others) = (between.contents, lead_of frame (at + 9) old between first, lead_on_of frames (at + 9 + length frame) between new others)
+lead_on_of (frame ∷ frames) at old new (between, first, others) =
+    (between.contents, lead_of frame (at + 9) old between first, lead_on_of frames (at + 9 + length frame) between new others)
 
 -- the same pages in other room
-pub last_same : (frames : List (List ℕ)) (at : ℕ) (old mid new : Kept) → TakesOn frames at old mid → new.contents ≡ mid.contents → new.offsets ≡ mid.offsets → TakesOn frames at old new
+pub last_same : (frames : List (List ℕ)) (at : ℕ) (old mid new : Kept) → TakesOn frames at old mid → new.contents ≡ mid.contents
+    → new.offsets ≡ mid.offsets → TakesOn frames at old new
 last_same [] at old mid new on contents offsets = (contents ∙ on.0, offsets ∙ on.1)
-last_same (frame ∷ frames) at old mid new (between, first, others) contents offsets = (between, first, last_same frames (at + 9 + length frame) between mid new others contents offsets)
+last_same (frame ∷ frames) at old mid new (between, first, others) contents offsets =
+    (between, first, last_same frames (at + 9 + length frame) between mid new others contents offsets)
 
 -- ---- one frame more
 
@@ -104,7 +122,8 @@ pub record HasNext (frames : List (List ℕ)) (at : ℕ) (now : Kept) : Type 0 w
   pub place : at ≡ length (frames_bytes first)
   pub takes : TakesOn first 0 nothing_kept now
 
-has_next : (frames first rest : List (List ℕ)) (at : ℕ) (now : Kept) → frames ≡ first ++ rest → at ≡ length (frames_bytes first) → TakesOn first 0 nothing_kept now → at < length (frames_bytes frames) → HasNext frames at now
+has_next : (frames first rest : List (List ℕ)) (at : ℕ) (now : Kept) → frames ≡ first ++ rest → at ≡ length (frames_bytes first)
+    → TakesOn first 0 nothing_kept now → at < length (frames_bytes frames) → HasNext frames at now
 has_next frames first [] at now are place takes lt =
     absurd (omega (arith, lt, place, ap (λ fs. length (frames_bytes fs)) (are ∙ append-nil first)))
 has_next frames first (span ∷ rest) at now are place takes lt = record { first = first; span = span; rest = rest; are = are; place = place; takes = takes }
@@ -135,7 +154,8 @@ module _ (frames : List (List ℕ)) (at : ℕ) (now : Kept) (next : HasNext fram
     offset = omega (arith, is, next.place);
   }
 
-  pub refused_span : (fault : StoreFault) (area : Extent) (bytes : List ℕ) (new : Kept) → bytes ≡ next.span → TellsSpan (Err fault) area bytes (at + 9) now new → TellsFrame (Err fault) area frames new
+  pub refused_span : (fault : StoreFault) (area : Extent) (bytes : List ℕ) (new : Kept) → bytes ≡ next.span
+      → TellsSpan (Err fault) area bytes (at + 9) now new → TellsFrame (Err fault) area frames new
   refused_span Disk area bytes new same tells = tt
   refused_span (Damaged extent place) area bytes new same tells =
       let within = tells.1.0 in
@@ -143,13 +163,15 @@ module _ (frames : List (List ℕ)) (at : ℕ) (now : Kept) (next : HasNext fram
   refused_span (Newer version) area bytes new same tells = absurd tells
   refused_span Memory area bytes new same tells = tt
 
-none_left : (frames first rest : List (List ℕ)) (at : ℕ) (now : Kept) → frames ≡ first ++ rest → at ≡ length (frames_bytes first) → TakesOn first 0 nothing_kept now → length (frames_bytes frames) ≤ at → TakesOn frames 0 nothing_kept now
+none_left : (frames first rest : List (List ℕ)) (at : ℕ) (now : Kept) → frames ≡ first ++ rest → at ≡ length (frames_bytes first)
+    → TakesOn first 0 nothing_kept now → length (frames_bytes frames) ≤ at → TakesOn frames 0 nothing_kept now
 none_left frames first [] at now are place takes le = subst (λ fs. TakesOn fs 0 nothing_kept now) (sym (are ∙ append-nil first)) takes
 none_left frames first (span ∷ rest) at now are place takes le =
     absurd (omega (arith, le, place, frames_long first rest span, ap (λ fs. length (frames_bytes fs)) are))
 
 -- all frames are taken
-pub all_loaded : (frames : List (List ℕ)) (at : ℕ) (now : Kept) → IsLoadedTo frames at now → length (frames_bytes frames) ≤ at → TakesOn frames 0 nothing_kept now
+pub all_loaded : (frames : List (List ℕ)) (at : ℕ) (now : Kept) → IsLoadedTo frames at now → length (frames_bytes frames) ≤ at
+    → TakesOn frames 0 nothing_kept now
 all_loaded frames at now loaded le = none_left frames loaded.first loaded.rest at now loaded.are loaded.place loaded.takes le
 
 -- ---- answers
@@ -160,20 +182,24 @@ refused_len (Damaged extent at) len tells = absurd tells
 refused_len (Newer version) len tells = absurd tells
 refused_len Memory len tells = tt
 
-pub refused_frame : (fault : StoreFault) (len : ℕ) (area : Extent) (frames : List (List ℕ)) (now : Kept) → TellsLen (Err fault) len → TellsFrame (Err fault) area frames now
+pub refused_frame : (fault : StoreFault) (len : ℕ) (area : Extent) (frames : List (List ℕ)) (now : Kept) → TellsLen (Err fault) len
+    → TellsFrame (Err fault) area frames now
 refused_frame Disk len area frames now tells = tt
 refused_frame (Damaged extent at) len area frames now tells = absurd tells
 refused_frame (Newer version) len area frames now tells = absurd tells
 refused_frame Memory len area frames now tells = tt
 
-pub refused_load : (fault : StoreFault) (area : Extent) (frames : List (List ℕ)) (now : Kept) → TellsFrame (Err fault) area frames now → TellsLoad (Err fault) area frames
+pub refused_load : (fault : StoreFault) (area : Extent) (frames : List (List ℕ)) (now : Kept) → TellsFrame (Err fault) area frames now
+    → TellsLoad (Err fault) area frames
 refused_load Disk area frames now tells = tt
 refused_load (Damaged extent at) area frames now tells = tells
 refused_load (Newer version) area frames now tells = tells
 refused_load Memory area frames now tells = tt
 
-pub agrees_next : (log : Log) (frames : List (List ℕ)) (at : ℕ) (now : Kept) (next : HasNext frames at now) (history : History) → Agrees log frames history → Agrees log (next.first ++ next.span ∷ next.rest) history
+pub agrees_next : (log : Log) (frames : List (List ℕ)) (at : ℕ) (now : Kept) (next : HasNext frames at now) (history : History)
+    → Agrees log frames history → Agrees log (next.first ++ next.span ∷ next.rest) history
 agrees_next log frames at now next history agrees = subst (λ fs. Agrees log fs history) next.are agrees
 
-pub shows_next : (frames : List (List ℕ)) (at : ℕ) (now : Kept) (next : HasNext frames at now) (window : Window) → Shows window frames → Shows window (next.first ++ next.span ∷ next.rest)
+pub shows_next : (frames : List (List ℕ)) (at : ℕ) (now : Kept) (next : HasNext frames at now) (window : Window) → Shows window frames
+    → Shows window (next.first ++ next.span ∷ next.rest)
 shows_next frames at now next window shows = subst (λ fs. Shows window fs) next.are shows

@@ -13,10 +13,12 @@ true_or_false : true ≡ false → ⊥
 true_or_false e = cc
 
 module _ {X : Type 0} where
-  pub len_put : (m : map.FinMap nat_cmp X) (k : ℕ) (x : X) (held : Bool) → held ≡ map.contains_key m k → map.len (map.insert m k x) ≡ (if held then map.len m else map.len m + 1)
+  pub len_put : (m : map.FinMap nat_cmp X) (k : ℕ) (x : X) (held : Bool) → held ≡ map.contains_key m k
+      → map.len (map.insert m k x) ≡ (if held then map.len m else map.len m + 1)
   len_put m k x held is = map.len-insert nat_cmp_total m k x ∙ ap (λ b. if b then map.len m else map.len m + 1) (sym is)
 
-  pub len_cleared : (m : map.FinMap nat_cmp X) (k : ℕ) (held : Bool) → held ≡ map.contains_key m k → map.len (map.remove m k) ≡ (if held then map.len m - 1 else map.len m)
+  pub len_cleared : (m : map.FinMap nat_cmp X) (k : ℕ) (held : Bool) → held ≡ map.contains_key m k
+      → map.len (map.remove m k) ≡ (if held then map.len m - 1 else map.len m)
   len_cleared m k held is = map.len-remove nat_cmp_total m k ∙ ap (λ b. if b then map.len m - 1 else map.len m) (sym is)
 
   pub some_held : (m : map.FinMap nat_cmp X) (k : ℕ) → map.contains_key m k ≡ true → 1 ≤ map.len m
@@ -35,7 +37,8 @@ module _ {X : Type 0} (shown : KeptPart → X) where
   pub len_of_rows : (rows : List Row) → map.len (map_of shown rows) ≤ length rows
   len_of_rows [] = omega (arith, map.len-empty nat_cmp X)
   len_of_rows (row ∷ rows) =
-      elim (option_map shown row.part) as (λ o. map.len (map.from_entries {R = nat_cmp} (add_entry shown row.number o (entries_of shown rows))) ≤ suc (length rows)) [
+      elim (option_map shown row.part) as
+      (λ o. map.len (map.from_entries {R = nat_cmp} (add_entry shown row.number o (entries_of shown rows))) ≤ suc (length rows)) [
         | None ↦ omega (arith, len_of_rows rows)
         | Some x ↦ omega (arith, insert_longer (map_of shown rows) row.number (length rows) x (len_of_rows rows))
       ]

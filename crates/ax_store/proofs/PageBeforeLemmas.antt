@@ -51,7 +51,9 @@ module _ (order : List ℕ) (pages : List TermPage) (is : IsOrderOf order pages)
               ∙ ap (λ (p : ℕ). pair_cmp (low_at i) (low_pair p pages)) (sym is_other) ∙ is.rising i k beyond lt)))
             where
               not_less_both : pair_cmp (low_pair other pages) (low_pair other pages) ≡ Less → ⊥
-              not_less_both e = equal_not_less (pair_cmp (low_pair other pages) (low_pair other pages)) (itself (low_pair other pages) (low_pair other pages) refl) e
+              not_less_both e =
+                  equal_not_less (pair_cmp (low_pair other pages) (low_pair other pages))
+                  (itself (low_pair other pages) (low_pair other pages) refl) e
           by_same (inr within) up =
               let here : k ≡ i = omega (arith, within, up) in
               absurd (equal_not_less (pair_cmp (low_pair other pages) (low_pair page pages))
@@ -105,7 +107,8 @@ module _ (order : List ℕ) (pages : List TermPage) (is : IsOrderOf order pages)
 
 -- the same of what a search for a page's own low pair finds
 module _ (order : List ℕ) (pages : List TermPage) (is : IsOrderOf order pages) (page count number : ℕ) (term : List ℕ) (there : page < length pages)
-    (first : term ≡ (low_pair page pages).term) (second : number ≡ (low_pair page pages).number) (at : IsCountUpTo (the_pair term number) count order pages) where
+    (first : term ≡ (low_pair page pages).term) (second : number ≡ (low_pair page pages).number)
+    (at : IsCountUpTo (the_pair term number) count order pages) where
   own : IsCountUpTo (low_pair page pages) count order pages
   own = subst (λ (p : Pair). IsCountUpTo p count order pages) (of_parts (the_pair term number) (low_pair page pages) first second) at
 

@@ -103,12 +103,17 @@ number_is n k =
 
 -- ---- maps, the payloads and the offsets of the same numbers
 
-module _ (S : ℕ → List ℕ → ℕ → Type 0) (payloads : Numbered) (offsets : Offsets) (before : (q : ℕ) (payload : List ℕ) (at : ℕ) → map.get payloads q ≡ Some payload → map.get offsets q ≡ Some at → S q payload at) (k q : ℕ) (payload : List ℕ) (at : ℕ) where
-  inserted : (v : List ℕ) (here : ℕ) → S k v here → map.get (map.insert payloads k v) q ≡ Some payload → map.get (map.insert offsets k here) q ≡ Some at → S q payload at
+module _ (S : ℕ → List ℕ → ℕ → Type 0) (payloads : Numbered) (offsets : Offsets)
+    (before : (q : ℕ) (payload : List ℕ) (at : ℕ) → map.get payloads q ≡ Some payload → map.get offsets q ≡ Some at → S q payload at)
+    (k q : ℕ) (payload : List ℕ) (at : ℕ) where
+  inserted : (v : List ℕ) (here : ℕ) → S k v here → map.get (map.insert payloads k v) q ≡ Some payload
+      → map.get (map.insert offsets k here) q ≡ Some at → S q payload at
   inserted v here first e f =
-      either (eq_by_cmp nat_cmp q k) (equal_numbers q k) (sym (map.get-insert nat_cmp_total payloads k v q) ∙ e) (sym (map.get-insert nat_cmp_total offsets k here q) ∙ f)
+      either (eq_by_cmp nat_cmp q k) (equal_numbers q k) (sym (map.get-insert nat_cmp_total payloads k v q) ∙ e)
+      (sym (map.get-insert nat_cmp_total offsets k here q) ∙ f)
     where
-      either : (b : Bool) → (b ≡ true → q ≡ k) → (if b then Some v else map.get payloads q) ≡ Some payload → (if b then Some here else map.get offsets q) ≡ Some at → S q payload at
+      either : (b : Bool) → (b ≡ true → q ≡ k) → (if b then Some v else map.get payloads q) ≡ Some payload
+          → (if b then Some here else map.get offsets q) ≡ Some at → S q payload at
       either true same e f =
           subst (λ n. S n payload at) (sym (same refl))
           (subst (λ p. S k p at) (some_is v payload e) (subst (λ a. S k v a) (some_is here at f) first))
@@ -186,24 +191,28 @@ module _ (bytes : List ℕ) where
   one_delta_more key (x ∷ deltas) [] payload at placed stands = absurd placed
   one_delta_more key (x ∷ deltas) (y ∷ places) payload at placed stands = (placed.0, one_delta_more key deltas places payload at placed.1 stands)
 
-  one_part_more : (key : ℕ) (base : Option (List ℕ)) (deltas : List (List ℕ)) (places : List ℕ) (payload : List ℕ) (at : ℕ) → ArePartsAt key base deltas places → Stands 6 key payload at
+  one_part_more : (key : ℕ) (base : Option (List ℕ)) (deltas : List (List ℕ)) (places : List ℕ) (payload : List ℕ) (at : ℕ)
+      → ArePartsAt key base deltas places → Stands 6 key payload at
       → ArePartsAt key base (deltas ++ payload ∷ []) (places ++ at ∷ [])
   one_part_more key None deltas places payload at placed stands = one_delta_more key deltas places payload at placed stands
   one_part_more key (Some x) deltas [] payload at placed stands = absurd placed
   one_part_more key (Some x) deltas (y ∷ places) payload at placed stands = (placed.0, one_delta_more key deltas places payload at placed.1 stands)
 
-  delta_read : (key : ℕ) (deltas : List (List ℕ)) (places : List ℕ) → AreDeltasAt key deltas places → (i at : ℕ) → slice_get places i ≡ Some at → Stands 6 key (slice_index_or deltas i []) at
+  delta_read : (key : ℕ) (deltas : List (List ℕ)) (places : List ℕ) → AreDeltasAt key deltas places → (i at : ℕ)
+      → slice_get places i ≡ Some at → Stands 6 key (slice_index_or deltas i []) at
   delta_read key [] [] placed i at e = absurd (no_some at e)
   delta_read key [] (y ∷ places) placed i at e = absurd placed
   delta_read key (x ∷ deltas) [] placed i at e = absurd placed
   delta_read key (x ∷ deltas) (y ∷ places) placed zero at e = subst (Stands 6 key x) (some_is y at e) placed.0
   delta_read key (x ∷ deltas) (y ∷ places) placed (suc i) at e = delta_read key deltas places placed.1 i at e
 
-  part_read : (key : ℕ) (base : Option (List ℕ)) (deltas : List (List ℕ)) (places : List ℕ) → ArePartsAt key base deltas places → (i at : ℕ) → slice_get places i ≡ Some at
+  part_read : (key : ℕ) (base : Option (List ℕ)) (deltas : List (List ℕ)) (places : List ℕ) → ArePartsAt key base deltas places → (i at : ℕ)
+      → slice_get places i ≡ Some at
       → Stands (if (i == 0) && is_some base then 5 else 6) key (slice_index_or (option_to_list base ++ deltas) i []) at
   part_read key None deltas places placed zero at e = delta_read key deltas places placed zero at e
   part_read key None deltas places placed (suc i) at e =
-      subst (λ b. Stands (if b && false then 5 else 6) key (slice_index_or deltas (suc i) []) at) (sym (not_first i)) (delta_read key deltas places placed (suc i) at e)
+      subst (λ b. Stands (if b && false then 5 else 6) key (slice_index_or deltas (suc i) []) at) (sym (not_first i))
+      (delta_read key deltas places placed (suc i) at e)
   part_read key (Some x) deltas [] placed i at e = absurd placed
   part_read key (Some x) deltas (y ∷ places) placed zero at e = subst (Stands 5 key x) (some_is y at e) placed.0
   part_read key (Some x) deltas (y ∷ places) placed (suc i) at e =
@@ -214,24 +223,29 @@ module _ (bytes : List ℕ) where
     count : length pages ≡ length offsets
     tied : AreTied IsPageAt pages offsets
 
-  term_set : (pages : List TermPage) (offsets : List (List ℕ)) → AreTermsAt pages offsets → (key : ℕ) (page : TermPage) (places : List ℕ) → IsPageAt key page places
+  term_set : (pages : List TermPage) (offsets : List (List ℕ)) → AreTermsAt pages offsets → (key : ℕ) (page : TermPage) (places : List ℕ)
+      → IsPageAt key page places
       → AreTermsAt (slice_set pages key page) (slice_set offsets key places)
   term_set pages offsets terms key page places new = record {
     count = length-set pages key page ∙ terms.count ∙ sym (length-set offsets key places);
     tied = set_tied IsPageAt pages offsets terms.count terms.tied key page places new;
   }
 
-  term_behind : (pages : List TermPage) (offsets : List (List ℕ)) → AreTermsAt pages offsets → (page : TermPage) (places : List ℕ) → IsPageAt (length pages) page places
+  term_behind : (pages : List TermPage) (offsets : List (List ℕ)) → AreTermsAt pages offsets → (page : TermPage) (places : List ℕ)
+      → IsPageAt (length pages) page places
       → AreTermsAt (pages ++ page ∷ []) (offsets ++ places ∷ [])
   term_behind pages offsets terms page places new = record {
     count = omega (arith, terms.count, length-append pages (page ∷ []), length-append offsets (places ∷ []));
     tied = append_tied IsPageAt pages offsets terms.count terms.tied page places new;
   }
 
-  base_put : (pages : List TermPage) (offsets : List (List ℕ)) → AreTermsAt pages offsets → (key : ℕ) (payload : List ℕ) (here : ℕ) → is_base key payload pages ≡ true → Stands 5 key payload here
+  base_put : (pages : List TermPage) (offsets : List (List ℕ)) → AreTermsAt pages offsets → (key : ℕ) (payload : List ℕ) (here : ℕ)
+      → is_base key payload pages ≡ true → Stands 5 key payload here
       → AreTermsAt (after_base key payload pages) (with_base_at key here offsets)
   base_put pages offsets terms key payload here is stands =
-      subst (λ n. AreTermsAt (after_base key payload pages) (if nat_lt key n then slice_set offsets key (here ∷ []) else offsets ++ (here ∷ []) ∷ [])) terms.count
+      subst
+      (λ n. AreTermsAt (after_base key payload pages) (if nat_lt key n then slice_set offsets key (here ∷ []) else offsets ++ (here ∷ []) ∷ []))
+      terms.count
       (either (nat_lt key (length pages)) key_is)
     where
       key_is : nat_lt key (length pages) ≡ false → key ≡ length pages
@@ -240,7 +254,8 @@ module _ (bytes : List ℕ) where
           (nat_lt key most_term_pages) (not (is_taken (low_at_front payload) pages)) new is)
 
       either : (b : Bool) → (b ≡ false → key ≡ length pages)
-          → AreTermsAt (if b then slice_set pages key (with_base payload) else pages ++ with_base payload ∷ []) (if b then slice_set offsets key (here ∷ []) else offsets ++ (here ∷ []) ∷ [])
+          → AreTermsAt (if b then slice_set pages key (with_base payload) else pages ++ with_base payload ∷ [])
+          (if b then slice_set offsets key (here ∷ []) else offsets ++ (here ∷ []) ∷ [])
       either true new = term_set pages offsets terms key (with_base payload) (here ∷ []) (stands, tt)
       either false new = term_behind pages offsets terms (with_base payload) (here ∷ []) (subst (λ n. Stands 5 n payload here) (new refl) stands, tt)
 
@@ -255,7 +270,8 @@ module _ (bytes : List ℕ) where
   record ArePlaced (contents : Contents) (offsets : PageOffsets) : Type 0 where
     meta : (payload : List ℕ) (at : ℕ) → contents.meta ≡ Some payload → offsets.meta ≡ Some at → Stands 1 0 payload at
     policies : (q : ℕ) (payload : List ℕ) (at : ℕ) → map.get contents.policies q ≡ Some payload → map.get offsets.policies q ≡ Some at → Stands 2 q payload at
-    documents : (q : ℕ) (payload : List ℕ) (at : ℕ) → map.get contents.documents q ≡ Some payload → map.get offsets.documents q ≡ Some at → Stands 3 q payload at
+    documents : (q : ℕ) (payload : List ℕ) (at : ℕ) → map.get contents.documents q ≡ Some payload → map.get offsets.documents q ≡ Some at
+        → Stands 3 q payload at
     terms : AreTermsAt contents.terms offsets.terms
 
   none_placed : ArePlaced no_contents no_offsets
@@ -279,7 +295,10 @@ module _ (bytes : List ℕ) where
       (record { meta = meta_placed; policies = placed.policies; documents = placed.documents; terms = placed.terms })
     where
       key_is : key ≡ 0
-      key_is = eqb-true key 0 (first_of (key == 0) (length payload == 8) (nat_lt 0 (next_in payload)) (nat_le (now_in payload) last_policy) (is_given (now_in payload) old) (test_held (is_meta key payload old) (record old { meta = Some payload }) new lead))
+      key_is =
+          eqb-true key 0
+          (first_of (key == 0) (length payload == 8) (nat_lt 0 (next_in payload)) (nat_le (now_in payload) last_policy)
+          (is_given (now_in payload) old) (test_held (is_meta key payload old) (record old { meta = Some payload }) new lead))
 
       meta_placed : (other : List ℕ) (at : ℕ) → Some payload ≡ Some other → Some here ≡ Some at → Stands 1 0 other at
       meta_placed other at e f =
@@ -288,7 +307,8 @@ module _ (bytes : List ℕ) where
           (subst (λ n. Stands 1 n payload here) key_is
           (subst (λ n. Stands n key payload here) (number_is number kind.Meta is) stands)))
   by_kind (Some kind.Policy) number key payload here old new offsets is placed stands lead =
-      let same : new ≡ record old { policies = map.insert old.policies key payload } = passed (nat_le key last_policy) (record old { policies = map.insert old.policies key payload }) new lead in
+      let same : new ≡ record old { policies = map.insert old.policies key payload } =
+      passed (nat_le key last_policy) (record old { policies = map.insert old.policies key payload }) new lead in
       subst (λ c. ArePlaced c (record offsets { policies = map.insert offsets.policies key here })) (sym same)
       (record {
         meta = placed.meta;
@@ -299,7 +319,8 @@ module _ (bytes : List ℕ) where
         terms = placed.terms;
       })
   by_kind (Some kind.Document) number key payload here old new offsets is placed stands lead =
-      let same : new ≡ record old { documents = map.insert old.documents key payload } = passed (is_document key payload old) (record old { documents = map.insert old.documents key payload }) new lead in
+      let same : new ≡ record old { documents = map.insert old.documents key payload } =
+      passed (is_document key payload old) (record old { documents = map.insert old.documents key payload }) new lead in
       subst (λ c. ArePlaced c (record offsets { documents = map.insert offsets.documents key here })) (sym same)
       (record {
         meta = placed.meta;
@@ -310,7 +331,8 @@ module _ (bytes : List ℕ) where
         terms = placed.terms;
       })
   by_kind (Some kind.Gone) number key payload here old new offsets is placed stands lead =
-      let same : new ≡ record old { documents = map.remove old.documents key } = passed (is_gone key payload) (record old { documents = map.remove old.documents key }) new lead in
+      let same : new ≡ record old { documents = map.remove old.documents key } =
+      passed (is_gone key payload) (record old { documents = map.remove old.documents key }) new lead in
       subst (λ c. ArePlaced c (record offsets { documents = map.remove offsets.documents key })) (sym same)
       (record {
         meta = placed.meta;
@@ -319,17 +341,21 @@ module _ (bytes : List ℕ) where
         terms = placed.terms;
       })
   by_kind (Some kind.Base) number key payload here old new offsets is placed stands lead =
-      let same : new ≡ record old { terms = after_base key payload old.terms } = passed (is_base key payload old.terms) (record old { terms = after_base key payload old.terms }) new lead in
+      let same : new ≡ record old { terms = after_base key payload old.terms } =
+      passed (is_base key payload old.terms) (record old { terms = after_base key payload old.terms }) new lead in
       subst (λ c. ArePlaced c (record offsets { terms = with_base_at key here offsets.terms })) (sym same)
       (record {
         meta = placed.meta;
         policies = placed.policies;
         documents = placed.documents;
-        terms = base_put old.terms offsets.terms placed.terms key payload here (test_held (is_base key payload old.terms) (record old { terms = after_base key payload old.terms }) new lead)
+        terms =
+            base_put old.terms offsets.terms placed.terms key payload here
+            (test_held (is_base key payload old.terms) (record old { terms = after_base key payload old.terms }) new lead)
             (subst (λ n. Stands n key payload here) (number_is number kind.Base is) stands);
       })
   by_kind (Some kind.Delta) number key payload here old new offsets is placed stands lead =
-      let same : new ≡ record old { terms = after_delta key payload old.terms } = passed (is_delta key old.terms) (record old { terms = after_delta key payload old.terms }) new lead in
+      let same : new ≡ record old { terms = after_delta key payload old.terms } =
+      passed (is_delta key old.terms) (record old { terms = after_delta key payload old.terms }) new lead in
       subst (λ c. ArePlaced c (record offsets { terms = with_delta_at key here offsets.terms })) (sym same)
       (record {
         meta = placed.meta;
@@ -342,12 +368,14 @@ module _ (bytes : List ℕ) where
 
   -- parts, the first of which stands at an offset
   by_parts : (parts : List PartValue) (here : ℕ) (rest : List ℕ) (old new : Contents) (offsets : PageOffsets)
-      → drop here bytes ≡ parts_bytes parts ++ rest → ArePlaced old offsets → after_parts parts old ≡ Some new → ArePlaced new (offsets_after_parts parts here offsets)
+      → drop here bytes ≡ parts_bytes parts ++ rest → ArePlaced old offsets → after_parts parts old ≡ Some new
+      → ArePlaced new (offsets_after_parts parts here offsets)
   by_parts [] here rest old new offsets spelled placed lead = subst (λ c. ArePlaced c offsets) (some_is old new lead) placed
   by_parts (part ∷ parts) here rest old new offsets spelled placed lead =
       one (after_part part old) refl lead (λ between is e.
       by_parts parts (here + length (part_bytes part)) rest between new (offsets_after (kind_of part.kind) part.key here offsets) behind
-      (by_kind (kind_of part.kind) part.kind part.key part.payload here old between offsets refl placed (record { rest = parts_bytes parts ++ rest; spelled = spelled_on }) is)
+      (by_kind (kind_of part.kind) part.kind part.key part.payload here old between offsets refl placed
+      (record { rest = parts_bytes parts ++ rest; spelled = spelled_on }) is)
       e)
     where
       spelled_on : drop here bytes ≡ part_bytes part ++ (parts_bytes parts ++ rest)
@@ -360,7 +388,8 @@ module _ (bytes : List ℕ) where
           ∙ drop_at (part_bytes part) (parts_bytes parts ++ rest) (length (part_bytes part)) refl
 
       one : (between : Option Contents) → after_part part old ≡ between → option_and_then (after_parts parts) between ≡ Some new
-          → ((between : Contents) → after_part part old ≡ Some between → after_parts parts between ≡ Some new → ArePlaced new (offsets_after_parts parts (here + length (part_bytes part)) (offsets_after (kind_of part.kind) part.key here offsets)))
+          → ((between : Contents) → after_part part old ≡ Some between → after_parts parts between ≡ Some new
+          → ArePlaced new (offsets_after_parts parts (here + length (part_bytes part)) (offsets_after (kind_of part.kind) part.key here offsets)))
           → ArePlaced new (offsets_after_parts parts (here + length (part_bytes part)) (offsets_after (kind_of part.kind) part.key here offsets))
       one None is e on = absurd (no_some new e)
       one (Some between) is e on = on between is e
@@ -380,7 +409,9 @@ module _ (bytes : List ℕ) where
       after_head : drop (here + 9) bytes ≡ frame ++ (frames_bytes frames ++ rest)
       after_head =
           sym (drop-drop 9 here bytes)
-          ∙ ap (drop 9) (spelled ∙ append_assoc (open_frame frame) (frames_bytes frames) rest ∙ append_assoc (open_head (length frame)) frame (frames_bytes frames ++ rest))
+          ∙ ap (drop 9)
+          (spelled ∙ append_assoc (open_frame frame) (frames_bytes frames) rest
+          ∙ append_assoc (open_head (length frame)) frame (frames_bytes frames ++ rest))
           ∙ drop_at (open_head (length frame)) (frame ++ (frames_bytes frames ++ rest)) 9 refl
 
       after_frame : drop (here + 9 + length frame) bytes ≡ frames_bytes frames ++ rest
@@ -393,17 +424,21 @@ module _ (bytes : List ℕ) where
 
   the_one : (S : List ℕ → ℕ → Type 0) (payloads : Option (List ℕ)) (offsets : Option ℕ)
       → ((payload : List ℕ) (at : ℕ) → payloads ≡ Some payload → offsets ≡ Some at → S payload at)
-      → (i at : ℕ) → i < length (option_to_list payloads) → slice_get (option_to_list offsets) i ≡ Some at → S (slice_index_or (option_to_list payloads) i []) at
+      → (i at : ℕ) → i < length (option_to_list payloads) → slice_get (option_to_list offsets) i ≡ Some at
+      → S (slice_index_or (option_to_list payloads) i []) at
   the_one S None offsets placed i at lt e = absurd (omega (arith, lt))
   the_one S (Some payload) None placed i at lt e = absurd (no_some at e)
   the_one S (Some payload) (Some here) placed zero at lt e = placed payload at refl e
   the_one S (Some payload) (Some here) placed (suc i) at lt e = absurd (no_some at e)
 
-  by_page : (contents : Contents) (offsets : PageOffsets) → ArePlaced contents offsets → (page : Page) (i at : ℕ) → i < length (parts_of page contents) → slice_get (offsets_of page offsets) i ≡ Some at
+  by_page : (contents : Contents) (offsets : PageOffsets) → ArePlaced contents offsets → (page : Page) (i at : ℕ)
+      → i < length (parts_of page contents) → slice_get (offsets_of page offsets) i ≡ Some at
       → StandsAt (part_of_page page i contents) bytes at
   by_page contents offsets placed Meta i at lt e = the_one (Stands 1 0) contents.meta offsets.meta placed.meta i at lt e
-  by_page contents offsets placed (Policy n) i at lt e = the_one (Stands 2 n) (map.get contents.policies n) (map.get offsets.policies n) (placed.policies n) i at lt e
-  by_page contents offsets placed (Document n) i at lt e = the_one (Stands 3 n) (map.get contents.documents n) (map.get offsets.documents n) (placed.documents n) i at lt e
+  by_page contents offsets placed (Policy n) i at lt e =
+      the_one (Stands 2 n) (map.get contents.policies n) (map.get offsets.policies n) (placed.policies n) i at lt e
+  by_page contents offsets placed (Document n) i at lt e =
+      the_one (Stands 3 n) (map.get contents.documents n) (map.get offsets.documents n) (placed.documents n) i at lt e
   by_page contents offsets placed (Term n) i at lt e =
       let page : TermPage = term_page n contents.terms in
       let terms = placed.terms in
@@ -411,7 +446,8 @@ module _ (bytes : List ℕ) where
 
 -- ---- the law
 
-pub part_stands : {C : Type 0} (pages : C → CachedPages) (store : Store C) (history : History) → Agrees pages store history → (image : Image) → MayLeave history.unsynced image
+pub part_stands : {C : Type 0} (pages : C → CachedPages) (store : Store C) (history : History) → Agrees pages store history
+    → (image : Image) → MayLeave history.unsynced image
     → (page : Page) (i at : ℕ) → i < length (parts_of page (store_contents store)) → slice_get (offsets_of page (store_offsets store)) i ≡ Some at
     → StandsAt (part_of_page page i (store_contents store)) (list_of (store_area store) image) at
 part_stands pages store history agrees image may =
@@ -436,7 +472,8 @@ payload_of_page (Document n) i contents = refl
 payload_of_page (Term n) i contents = refl
 
 -- behind its head stands the payload of a part, without its first bytes
-pub payload_behind : (part : PartValue) (bytes : List ℕ) (at skip : ℕ) → StandsAt part bytes at → skip ≤ length part.payload → HasBytesAt bytes (at + 9 + skip) (drop skip part.payload)
+pub payload_behind : (part : PartValue) (bytes : List ℕ) (at skip : ℕ) → StandsAt part bytes at → skip ≤ length part.payload
+    → HasBytesAt bytes (at + 9 + skip) (drop skip part.payload)
 payload_behind part bytes at skip stands few = record {
   within = omega (arith, few, long, length-drop skip part.payload);
   is = ap (take (length (drop skip part.payload))) behind ∙ take_at (drop skip part.payload) stands.rest (length (drop skip part.payload)) refl;
@@ -477,7 +514,8 @@ pub record IsReadable (text : List ℕ) (end from len : ℕ) (bytes : List ℕ) 
   pub len_is : len ≡ length bytes
   pub begins : (frame : List ℕ) → take len frame ≡ take len (drop from text) → take (length bytes) frame ≡ bytes
 
-readable : (text : List ℕ) (end from len at : ℕ) (bytes : List ℕ) → end ≡ length text → HasBytesAt text at bytes → end ≤ 2 ^ 62 → from ≡ min at (2 ^ 64 - 1) → len ≡ length bytes → IsReadable text end from len bytes
+readable : (text : List ℕ) (end from len at : ℕ) (bytes : List ℕ) → end ≡ length text → HasBytesAt text at bytes → end ≤ 2 ^ 62
+    → from ≡ min at (2 ^ 64 - 1) → len ≡ length bytes → IsReadable text end from len bytes
 readable text end from len at bytes end_is has small from_is len_is = record {
   within = omega (arith, here, len_is, end_is, has.within);
   len_is = len_is;
@@ -497,9 +535,12 @@ got [] i x e = absurd (no_some x e)
 got (y ∷ xs) zero x e = some_is y x e
 got (y ∷ xs) (suc i) x e = got xs i x e
 
-module _ {C : Type 0} (pages : C → CachedPages) (store : Store C) (history : History) (agrees : Agrees pages store history) (small : log_end store.log ≤ 2 ^ 62) (at from len : ℕ) (payload : List ℕ) where
-  pub part_readable : (page : Page) (i : ℕ) → i < length (parts_of page (store_contents store)) → Some payload ≡ slice_get (parts_of page (store_contents store)) i → Some at ≡ slice_get (offsets_of page (store_offsets store)) i
-      → from ≡ min (at + 9) (2 ^ 64 - 1) → len ≡ length payload → IsReadable (frames_bytes agrees.frames) (log_end store.log) from len (part_at page i (store_contents store))
+module _ {C : Type 0} (pages : C → CachedPages) (store : Store C) (history : History) (agrees : Agrees pages store history)
+    (small : log_end store.log ≤ 2 ^ 62) (at from len : ℕ) (payload : List ℕ) where
+  pub part_readable : (page : Page) (i : ℕ) → i < length (parts_of page (store_contents store))
+      → Some payload ≡ slice_get (parts_of page (store_contents store)) i → Some at ≡ slice_get (offsets_of page (store_offsets store)) i
+      → from ≡ min (at + 9) (2 ^ 64 - 1) → len ≡ length payload
+      → IsReadable (frames_bytes agrees.frames) (log_end store.log) from len (part_at page i (store_contents store))
   part_readable page i there held placed from_is len_is =
       readable (frames_bytes agrees.frames) (log_end store.log) from len (at + 9) (part_at page i (store_contents store)) agrees.logged.end_is
       (subst (λ n. HasBytesAt (frames_bytes agrees.frames) n (part_at page i (store_contents store))) {x = at + 9 + 0} (omega arith)
@@ -507,12 +548,14 @@ module _ {C : Type 0} (pages : C → CachedPages) (store : Store C) (history : H
       small from_is (len_is ∙ ap length (sym (got (parts_of page (store_contents store)) i payload (sym held))))
 
   pub text_readable : (number : ℕ) → Some payload ≡ map.get (store_contents store).documents number → Some at ≡ map.get (store_offsets store).documents number
-      → from ≡ min (at + (9 + min (length payload) 1)) (2 ^ 64 - 1) → len ≡ length payload - min (length payload) 1 → IsReadable (frames_bytes agrees.frames) (log_end store.log) from len (drop 1 payload)
+      → from ≡ min (at + (9 + min (length payload) 1)) (2 ^ 64 - 1) → len ≡ length payload - min (length payload) 1
+      → IsReadable (frames_bytes agrees.frames) (log_end store.log) from len (drop 1 payload)
   text_readable number held placed from_is len_is =
       readable (frames_bytes agrees.frames) (log_end store.log) from len (at + (9 + skip)) (drop 1 payload) agrees.logged.end_is
       (subst (λ n. HasBytesAt (frames_bytes agrees.frames) n (drop 1 payload)) {x = at + 9 + skip} (omega arith)
       (subst (λ bytes. HasBytesAt (frames_bytes agrees.frames) (at + 9 + skip) bytes) (ap (drop skip) same ∙ first_or_none payload)
-      (read_of_part pages store history agrees (Document number) 0 at skip there (ap (λ o. slice_get (option_to_list o) 0) (sym placed)) (subst (λ p. skip ≤ length p) (sym same) (omega arith)))))
+      (read_of_part pages store history agrees (Document number) 0 at skip there (ap (λ o. slice_get (option_to_list o) 0) (sym placed))
+      (subst (λ p. skip ≤ length p) (sym same) (omega arith)))))
       small from_is (len_is ∙ omega (arith, length-drop 1 payload))
     where
       skip : ℕ

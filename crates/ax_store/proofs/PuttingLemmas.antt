@@ -7,11 +7,13 @@ use Rattle.ax_pages.proofs.OneContents.{StepsBy, first_step, same_some}
 use Rattle.ax_store.specs.Kept.{Kept, offsets_after, offsets_after_parts, deltas_by_kind, deltas_of, room_of}
 use Rattle.ax_store.specs.Putting.{AreWithin, IsWithin, CanTake, IsPutTo}
 
-pub none_put : (parts rest : List PartValue) (at : ℕ) (old : Kept) → AreWithin parts old.contents → length parts ≤ old.spare → CanTake parts old → rest ≡ parts → IsPutTo parts at old old rest at
+pub none_put : (parts rest : List PartValue) (at : ℕ) (old : Kept) → AreWithin parts old.contents → length parts ≤ old.spare
+    → CanTake parts old → rest ≡ parts → IsPutTo parts at old old rest at
 none_put parts rest at old within room deltas same =
     subst (λ ps. IsPutTo parts at old old ps at) (sym same) (record { within = within; lead = refl; offsets = refl; room = room; deltas = deltas; len = refl })
 
-module _ (parts : List PartValue) (at : ℕ) (old now : Kept) (rest : List PartValue) (here : ℕ) (put : IsPutTo parts at old now rest here) (part : PartValue) (others : List PartValue) (is : rest ≡ part ∷ others) where
+module _ (parts : List PartValue) (at : ℕ) (old now : Kept) (rest : List PartValue) (here : ℕ) (put : IsPutTo parts at old now rest here)
+    (part : PartValue) (others : List PartValue) (is : rest ≡ part ∷ others) where
   step : StepsBy part others now.contents put.within.0
   step = first_step part others now.contents put.within.0 (ap (λ ps. after_parts ps now.contents) (sym is) ∙ put.within.1)
 
@@ -28,7 +30,8 @@ module _ (parts : List PartValue) (at : ℕ) (old now : Kept) (rest : List PartV
   pub delta_left : deltas_by_kind (kind_of part.kind) part.key part.key ≤ room_of part.key now
   delta_left = omega (arith, deltas_left part.key)
 
-  pub one_put : (next : Kept) (there : ℕ) → after_part part now.contents ≡ Some next.contents → next.offsets ≡ offsets_after (kind_of part.kind) part.key here now.offsets → now.spare ≤ next.spare + 1
+  pub one_put : (next : Kept) (there : ℕ) → after_part part now.contents ≡ Some next.contents
+      → next.offsets ≡ offsets_after (kind_of part.kind) part.key here now.offsets → now.spare ≤ next.spare + 1
       → ((page : ℕ) → room_of page now ≤ room_of page next + deltas_by_kind (kind_of part.kind) part.key page) → there ≡ here + length (part_bytes part)
       → IsPutTo parts at old next others there
   one_put next there lead offsets room rooms place =

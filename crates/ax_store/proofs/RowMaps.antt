@@ -63,7 +63,8 @@ module _ {X : Type 0} where
       → look q es ≡ put_over q k x (look q fs) → look q (add number o es) ≡ put_over q k x (look q (add number o fs))
   over_other number k q None x es fs apart e = e
   over_other number k q (Some y) x es fs apart e =
-      elim (eq_by_cmp nat_cmp q number) as (λ b. eq_by_cmp nat_cmp q number ≡ b → (if b then Some y else look q es) ≡ put_over q k x (if b then Some y else look q fs)) [
+      elim (eq_by_cmp nat_cmp q number) as
+      (λ b. eq_by_cmp nat_cmp q number ≡ b → (if b then Some y else look q es) ≡ put_over q k x (if b then Some y else look q fs)) [
         | true ↦ λ is.
             let differs : eq_by_cmp nat_cmp q k ≡ false = ap (λ n. eq_by_cmp nat_cmp n k) (equal_numbers q number is) ∙ other_number number k apart in
             ap (λ b. if b then x else Some y) (sym differs)
@@ -84,7 +85,8 @@ module _ {X : Type 0} where
 
   look_same : (number k : ℕ) (o : Option X) (es : List (ℕ × X)) → number ≡ k → look k es ≡ None → look k (add number o es) ≡ o
   look_same number k None es e none = none
-  look_same number k (Some x) es e none = ap (λ n. if eq_by_cmp nat_cmp k n then Some x else look k es) e ∙ ap (λ b. if b then Some x else look k es) (same_number k)
+  look_same number k (Some x) es e none =
+      ap (λ n. if eq_by_cmp nat_cmp k n then Some x else look k es) e ∙ ap (λ b. if b then Some x else look k es) (same_number k)
 
 none_is_some : {A : Type 0} (x : A) → None ≡ Some x → ⊥
 none_is_some x e = cc
@@ -110,7 +112,8 @@ module _ {X : Type 0} (shown : KeptPart → X) where
       ∙ found_none rows k (λ j lt. none (suc j) (omega arith))
 
   -- a row of another number, or with no part, is passed over
-  passed : (row : Row) (q : ℕ) (o : Option X) (es : List (ℕ × X)) → shown_of row ≡ o → (row.number ≡ q → row.part ≡ None) → look q es ≡ None → look q (add row.number o es) ≡ None
+  passed : (row : Row) (q : ℕ) (o : Option X) (es : List (ℕ × X)) → shown_of row ≡ o → (row.number ≡ q → row.part ≡ None) → look q es ≡ None
+      → look q (add row.number o es) ≡ None
   passed row q None es is none rest = rest
   passed row q (Some x) es is none rest =
       elim (eq_by_cmp nat_cmp q row.number) as (λ b. eq_by_cmp nat_cmp q row.number ≡ b → (if b then Some x else look q es) ≡ None) [
@@ -121,16 +124,19 @@ module _ {X : Type 0} (shown : KeptPart → X) where
   pub found_cons_none : (row : Row) (rows : List Row) (q : ℕ) → (row.number ≡ q → row.part ≡ None) → found q rows ≡ None → found q (row ∷ rows) ≡ None
   found_cons_none row rows q none rest = looked q row rows ∙ passed row q (shown_of row) (entries_of shown rows) refl none rest
 
-  found_at : (rows : List Row) (i k : ℕ) → i < length rows → number_at rows i ≡ k → NotBefore rows k i → NotBehind rows k i → found k rows ≡ shown_of (row_at rows i)
+  found_at : (rows : List Row) (i k : ℕ) → i < length rows → number_at rows i ≡ k → NotBefore rows k i → NotBehind rows k i
+      → found k rows ≡ shown_of (row_at rows i)
   found_at [] i k lt at none behind = absurd (omega arith)
   found_at (row ∷ rows) zero k lt at none behind =
-      looked k row rows ∙ look_same row.number k (shown_of row) (entries_of shown rows) at (found_none rows k (λ j below. behind (suc j) (omega arith) (omega arith)))
+      looked k row rows
+      ∙ look_same row.number k (shown_of row) (entries_of shown rows) at (found_none rows k (λ j below. behind (suc j) (omega arith) (omega arith)))
   found_at (row ∷ rows) (suc i) k lt at none behind =
       looked k row rows ∙ look_other row.number k (shown_of row) (entries_of shown rows) (none 0 (omega arith))
       ∙ found_at rows i k (omega arith) at (not_before_tail row rows k i none) (not_behind_tail row rows k i behind)
 
   -- a row of the number is given a part
-  found_set : (rows : List Row) (i k q : ℕ) (new : Row) (x : X) → i < length rows → number_at rows i ≡ k → new.number ≡ k → shown_of new ≡ Some x → NotBefore rows k i
+  found_set : (rows : List Row) (i k q : ℕ) (new : Row) (x : X) → i < length rows → number_at rows i ≡ k → new.number ≡ k
+      → shown_of new ≡ Some x → NotBefore rows k i
       → found q (set rows i new) ≡ put_over q k (Some x) (found q rows)
   found_set [] i k q new x lt at is part none = absurd (omega arith)
   found_set (row ∷ rows) zero k q new x lt at is part none =
@@ -146,7 +152,8 @@ module _ {X : Type 0} (shown : KeptPart → X) where
       ∙ ap (put_over q k (Some x)) (sym (looked q row rows))
 
   -- a row of the number loses its part
-  found_clear : (rows : List Row) (i k q : ℕ) (new : Row) → i < length rows → number_at rows i ≡ k → shown_of new ≡ None → NotBefore rows k i → NotBehind rows k i
+  found_clear : (rows : List Row) (i k q : ℕ) (new : Row) → i < length rows → number_at rows i ≡ k → shown_of new ≡ None
+      → NotBefore rows k i → NotBehind rows k i
       → found q (set rows i new) ≡ put_over q k None (found q rows)
   found_clear [] i k q new lt at part none behind = absurd (omega arith)
   found_clear (row ∷ rows) zero k q new lt at part none behind =
@@ -180,7 +187,8 @@ module _ {X : Type 0} (shown : KeptPart → X) where
   pub got : (rows : List Row) (q : ℕ) → map.get (map_of shown rows) q ≡ found q rows
   got rows q = map.get-from_entries nat_cmp_total (entries_of shown rows) q
 
-  map_put : (rows new : List Row) (k : ℕ) (x : X) → ((q : ℕ) → found q new ≡ put_over q k (Some x) (found q rows)) → map_of shown new ≡ map.insert (map_of shown rows) k x
+  map_put : (rows new : List Row) (k : ℕ) (x : X) → ((q : ℕ) → found q new ≡ put_over q k (Some x) (found q rows))
+      → map_of shown new ≡ map.insert (map_of shown rows) k x
   map_put rows new k x is =
       map.same_map nat_cmp_total map.nat_cmp-IsAntisymmetric _ _ (λ q.
       got new q ∙ is q ∙ ap (put_over q k (Some x)) (sym (got rows q)) ∙ sym (map.get-insert nat_cmp_total (map_of shown rows) k x q))
@@ -219,8 +227,11 @@ module _ {X : Type 0} (shown : KeptPart → X) where
     pub held_in_gap : map.contains_key (map_of shown rows) k ≡ false
     held_in_gap = ap is_some get_in_gap
 
-    pub map_inserted : (new : Row) (x : X) → new.number ≡ k → option_map shown new.part ≡ Some x → map_of shown (insert rows i new) ≡ map.insert (map_of shown rows) k x
-    map_inserted new x is part = map_put rows (insert rows i new) k x (λ q. found_insert rows i k q new x gap.in_range is part (λ j lt. nowhere j (omega (arith, gap.in_range))))
+    pub map_inserted : (new : Row) (x : X) → new.number ≡ k → option_map shown new.part ≡ Some x
+        → map_of shown (insert rows i new) ≡ map.insert (map_of shown rows) k x
+    map_inserted new x is part =
+        map_put rows (insert rows i new) k x
+        (λ q. found_insert rows i k q new x gap.in_range is part (λ j lt. nowhere j (omega (arith, gap.in_range))))
 
     -- nothing was there to take away
     pub map_unchanged : map_of shown rows ≡ map.remove (map_of shown rows) k
@@ -238,7 +249,9 @@ rising_insert rows i k new rising gap is a b lt in_range =
     let length_new = length-insert rows i new gap.in_range in
     let below : (j : ℕ) → j < i → number_at longer j ≡ number_at rows j = λ j lt. ap number (get_or-insert_below rows i new no_row j lt gap.in_range) in
     let here : (j : ℕ) → j ≡ i → number_at longer j ≡ k = λ j e. rw e (ap number (get_or-insert_at rows i new no_row gap.in_range) ∙ is) in
-    let above : (j : ℕ) → i < j → number_at longer j ≡ number_at rows (j - 1) = λ j lt. subst (λ q. number_at longer q ≡ number_at rows (j - 1)) {x = j - 1 + 1} (omega arith) (ap number (get_or-insert_above rows i new no_row (j - 1) (omega arith) gap.in_range)) in
+    let above : (j : ℕ) → i < j → number_at longer j ≡ number_at rows (j - 1) =
+    λ j lt. subst (λ q. number_at longer q ≡ number_at rows (j - 1)) {x = j - 1 + 1} (omega arith)
+    (ap number (get_or-insert_above rows i new no_row (j - 1) (omega arith) gap.in_range)) in
     grind (arith, below a, here a, above a, below b, here b, above b, rising a b, rising a (b - 1), rising (a - 1) (b - 1), gap.before a, gap.behind (b - 1))
 
 -- the row that a read or a write by position meets
@@ -248,15 +261,19 @@ row_is rows i row lt is = get_or_default rows i no_row row lt ∙ sym is
 pub number_is : (rows : List Row) (k i : ℕ) (row : Row) → IsAt rows k i → row ≡ get_or rows i row → row.number ≡ k
 number_is rows k i row at is = ap (λ (r : Row). r.number) (sym (row_is rows i row at.in_range is)) ∙ at.has
 
-pub is_some_is : (rows : List Row) (k i : ℕ) (row : Row) (b : Bool) → IsAt rows k i → row ≡ get_or rows i row → b ≡ is_some row.part → b ≡ is_some (row_at rows i).part
+pub is_some_is : (rows : List Row) (k i : ℕ) (row : Row) (b : Bool) → IsAt rows k i → row ≡ get_or rows i row → b ≡ is_some row.part
+    → b ≡ is_some (row_at rows i).part
 is_some_is rows k i row b at is e = e ∙ ap (λ (r : Row). is_some r.part) (sym (row_is rows i row at.in_range is))
 
-shown_copied : {X : Type 0} (shown : KeptPart → X) (part : Option (Bor KeptPart)) → option_map (λ (p : Bor KeptPart). shown p.now) part ≡ option_map shown (option_copied part)
+shown_copied : {X : Type 0} (shown : KeptPart → X) (part : Option (Bor KeptPart))
+    → option_map (λ (p : Bor KeptPart). shown p.now) part ≡ option_map shown (option_copied part)
 shown_copied shown None = refl
 shown_copied shown (Some part) = refl
 
 -- what is shown of the part that was read
-pub shown_at : {X : Type 0} (shown : KeptPart → X) (rows : List Row) (rising : AreRising rows) (k i : ℕ) (row : Row) (part : Option (Bor KeptPart)) → IsAt rows k i → row ≡ get_or rows i row → option_copied part ≡ row.part
+pub shown_at : {X : Type 0} (shown : KeptPart → X) (rows : List Row) (rising : AreRising rows) (k i : ℕ) (row : Row) (part : Option (Bor KeptPart))
+    → IsAt rows k i → row ≡ get_or rows i row → option_copied part ≡ row.part
     → option_map (λ (p : Bor KeptPart). shown p.now) part ≡ map.get (map_of shown rows) k
 shown_at shown rows rising k i row part at is copied =
-    shown_copied shown part ∙ ap (option_map shown) (copied ∙ ap (λ (r : Row). r.part) (sym (row_is rows i row at.in_range is))) ∙ sym (get_at shown rows rising k i at)
+    shown_copied shown part ∙ ap (option_map shown) (copied ∙ ap (λ (r : Row). r.part) (sym (row_is rows i row at.in_range is)))
+    ∙ sym (get_at shown rows rising k i at)

@@ -14,7 +14,8 @@ module _ (rows : List Row) (rising : AreRising rows) (k : ℕ) where
       let numbers_rise : number_at rows i ≤ number_at rows j = grind (arith, rising i j, λ (same : i ≡ j). ap (number_at rows) same) in
       grind (arith, nat_tests))
 
-  pub searched : (r : Result ℕ ℕ) → IsSearchInRange r (length rows) → IsBinarySearchResult (λ row. nat_cmp row.number k) rows r → record { found : IfOk r (IsAt rows k); absent : IfErr r (IsGapFor rows k) }
+  pub searched : (r : Result ℕ ℕ) → IsSearchInRange r (length rows) → IsBinarySearchResult (λ row. nat_cmp row.number k) rows r
+      → record { found : IfOk r (IsAt rows k); absent : IfErr r (IsGapFor rows k) }
   searched (Ok at) in_range equal = record { found = record { in_range = in_range; has = ranked _ k _ (sym (equal no_row)) }; absent = tt }
   searched (Err at) in_range parted = record {
     found = tt;

@@ -28,17 +28,25 @@ module _ (rest : List ℕ) (n : ℕ) (n_is : n ≡ min (length rest) 65545) wher
     spelled = sym (take-append-drop n rest) ∙ ap (λ front. front ++ drop n rest) begins.spelled ∙ append_assoc (part_bytes part) after (drop n rest);
   }
 
-  begins_less : (part : PartValue) (after : List ℕ) → BeginsWithPart rest part after → BeginsWithPart (take n rest) part (take (n - length (part_bytes part)) after)
+  begins_less : (part : PartValue) (after : List ℕ) → BeginsWithPart rest part after
+      → BeginsWithPart (take n rest) part (take (n - length (part_bytes part)) after)
   begins_less part after begins =
       let more : ℕ = n - length (part_bytes part) in
-      let long : n ≡ length (part_bytes part) + more = omega (arith, n_is, part_len part, begins.fit.payload_fits, ap length begins.spelled, length-append (part_bytes part) after) in
+      let long : n ≡ length (part_bytes part) + more =
+      omega (arith, n_is, part_len part, begins.fit.payload_fits, ap length begins.spelled, length-append (part_bytes part) after) in
       record {
         fit = begins.fit;
         spelled = ap (take n) begins.spelled ∙ ap (λ k. take k (part_bytes part ++ after)) long ∙ take-append-add (part_bytes part) after more;
       }
 
   pub front_taken : (size at : ℕ) (old new : Kept) → IsFrontTaken size (take n rest) at old new → IsFrontTaken size rest at old new
-  front_taken size at old new taken = record { part = taken.part; after = taken.after ++ drop n rest; begins = begins_more taken.part taken.after taken.begins; takes = taken.takes; size_is = taken.size_is }
+  front_taken size at old new taken = record {
+    part = taken.part;
+    after = taken.after ++ drop n rest;
+    begins = begins_more taken.part taken.after taken.begins;
+    takes = taken.takes;
+    size_is = taken.size_is;
+  }
 
   pub front_refused : (old : Kept) → IsRefused (take n rest) old.contents → IsRefused rest old.contents
   front_refused old refused = λ part follows begins. refused part (take (n - length (part_bytes part)) follows) (begins_less part follows begins)
@@ -118,7 +126,8 @@ module _ (text : List ℕ) (at len here : ℕ) (old now : Kept) (before : at ≤
 
 -- ---- what stands at an offset, by the bytes that were looked at
 
-module _ (text : List ℕ) (here end most : ℕ) (bytes : List ℕ) (some : here < end) (there : end ≤ length text) (most_is : most ≡ min (end - here) 65545) (looked : bytes ≡ take most (drop here text)) where
+module _ (text : List ℕ) (here end most : ℕ) (bytes : List ℕ) (some : here < end) (there : end ≤ length text)
+    (most_is : most ≡ min (end - here) 65545) (looked : bytes ≡ take most (drop here text)) where
   same_front : bytes ≡ take most (take (end - here) (drop here text))
   same_front = looked ∙ sym (take-take most (end - here) (drop here text) (omega (arith, most_is)))
 
@@ -130,7 +139,8 @@ module _ (text : List ℕ) (here end most : ℕ) (bytes : List ℕ) (some : here
       front_taken (take (end - here) (drop here text)) most most_here size here old new
       (subst (λ front. IsFrontTaken size front here old new) same_front taken)
 
-  pub looked_refused : (area : Extent) (place : ℕ) (old new : Kept) → (place ≡ here) × IsRefused bytes old.contents → TellsNext (Err (Damaged (extent_number area) place)) area (take (end - here) (drop here text)) here old new
+  pub looked_refused : (area : Extent) (place : ℕ) (old new : Kept) → (place ≡ here) × IsRefused bytes old.contents
+      → TellsNext (Err (Damaged (extent_number area) place)) area (take (end - here) (drop here text)) here old new
   looked_refused area place old new (is, refused) =
       (refl, is, front_refused (take (end - here) (drop here text)) most most_here old (subst (λ front. IsRefused front old.contents) same_front refused))
 

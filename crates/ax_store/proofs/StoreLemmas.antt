@@ -45,11 +45,19 @@ use Rattle.ax_store.proofs.LoadLemmas.{one_frame_more, lead_on_of, last_same}
 
 -- ---- the log agrees
 
-has_frames : (l : Log) (frames : List (List ℕ)) (history : History) → log.Agrees l frames history → (image : Image) → log.HasLog history.reads.root (log_area l) frames image → HasFrames frames image
-has_frames l frames history agrees image has = inr (log_area l, log_generation l, record { counts = subst (λ root. IsRoot root (Counts 1 (log_area l) (log_generation l))) (sym has.root_is) agrees.counts; has = has.has })
+has_frames : (l : Log) (frames : List (List ℕ)) (history : History) → log.Agrees l frames history → (image : Image)
+    → log.HasLog history.reads.root (log_area l) frames image → HasFrames frames image
+has_frames l frames history agrees image has =
+    inr (
+      log_area l,
+      log_generation l,
+      record { counts = subst (λ root. IsRoot root (Counts 1 (log_area l) (log_generation l))) (sym has.root_is) agrees.counts; has = has.has },
+    )
 
 pub rests_of : (l : Log) (frames : List (List ℕ)) (history : History) → log.Agrees l frames history → Rests history (HasFrames frames)
-rests_of l frames history agrees = rests_weaken history (log.HasLog history.reads.root (log_area l) frames) (HasFrames frames) (has_frames l frames history agrees) agrees.rests
+rests_of l frames history agrees =
+    rests_weaken history (log.HasLog history.reads.root (log_area l) frames) (HasFrames frames) (has_frames l frames history agrees)
+    agrees.rests
 
 pub agrees_idle : (l : Log) (frames : List (List ℕ)) (old new : History) → log.Agrees l frames old → Idles old new → log.Agrees l frames new
 agrees_idle l frames old new agrees idles =
@@ -63,30 +71,40 @@ agrees_idle l frames old new agrees idles =
     }
 
 -- contents by the frames that lead to them
-pub contents_of : (frames : List (List ℕ)) (kept : Kept) → TakesOn frames 0 nothing_kept kept → (image : Image) → HasFrames frames image → HasContents kept.contents image
+pub contents_of : (frames : List (List ℕ)) (kept : Kept) → TakesOn frames 0 nothing_kept kept → (image : Image) → HasFrames frames image
+    → HasContents kept.contents image
 contents_of frames kept takes image has = record { frames = frames; has = has; lead = lead_on_of frames 0 nothing_kept kept takes }
 
 -- ---- a law for clients: where the store agrees, each image that a crash now may leave has its contents
-pub agrees_rests : {C : Type 0} (pages : C → CachedPages) (store : Store C) (history : History) → Agrees pages store history → Rests history (HasContents (store_contents store))
+pub agrees_rests : {C : Type 0} (pages : C → CachedPages) (store : Store C) (history : History) → Agrees pages store history
+    → Rests history (HasContents (store_contents store))
 agrees_rests pages store history agrees =
     rests_weaken history (HasFrames agrees.frames) (HasContents (store_contents store))
     (contents_of agrees.frames store.pages agrees.takes) (rests_of store.log agrees.frames history agrees.logged)
 
 -- it agrees still where no list changed
-pub agrees_still : {C : Type 0} (pages : C → CachedPages) (store : Store C) (old new : History) → Agrees pages store old → Idles old new → Agrees pages store new
-agrees_still pages store old new agrees idles = record { frames = agrees.frames; logged = agrees_idle store.log agrees.frames old new agrees.logged idles; takes = agrees.takes; caches = agrees.caches }
+pub agrees_still : {C : Type 0} (pages : C → CachedPages) (store : Store C) (old new : History) → Agrees pages store old → Idles old new
+    → Agrees pages store new
+agrees_still pages store old new agrees idles = record {
+  frames = agrees.frames;
+  logged = agrees_idle store.log agrees.frames old new agrees.logged idles;
+  takes = agrees.takes;
+  caches = agrees.caches;
+}
 
 -- the cache holds only bytes of the frames
 abbrev pub CachesOf : {C : Type 0} → (C → CachedPages) → Store C → List (List ℕ) → Type 0
 CachesOf pages store frames = HoldsParts (pages store.cache) (log_area store.log) (log_generation store.log) (frames_bytes frames)
 
-pub caches_same : {C : Type 0} (pages : C → CachedPages) (old new : Store C) (frames : List (List ℕ)) → new.log ≡ old.log → new.cache ≡ old.cache → CachesOf pages old frames → CachesOf pages new frames
+pub caches_same : {C : Type 0} (pages : C → CachedPages) (old new : Store C) (frames : List (List ℕ)) → new.log ≡ old.log
+    → new.cache ≡ old.cache → CachesOf pages old frames → CachesOf pages new frames
 caches_same pages old new frames logged cache caches =
     subst (λ c. HoldsParts (pages c) (log_area new.log) (log_generation new.log) (frames_bytes frames)) (sym cache)
     (subst (λ l. HoldsParts (pages old.cache) (log_area l) (log_generation l) (frames_bytes frames)) (sym logged) caches)
 
 -- and after a read, which changes the cache alone
-pub agrees_read : {C : Type 0} (pages : C → CachedPages) (old new : Store C) (before after : History) (agrees : Agrees pages old before) → new.log ≡ old.log → new.pages ≡ old.pages
+pub agrees_read : {C : Type 0} (pages : C → CachedPages) (old new : Store C) (before after : History) (agrees : Agrees pages old before)
+    → new.log ≡ old.log → new.pages ≡ old.pages
     → CachesOf pages new agrees.frames → Idles before after → Agrees pages new after
 agrees_read pages old new before after agrees logged same caches idles = record {
   frames = agrees.frames;
@@ -96,7 +114,8 @@ agrees_read pages old new before after agrees logged same caches idles = record 
 }
 
 -- and where nothing of it changed but the room
-pub agrees_same : {C : Type 0} (pages : C → CachedPages) (old new : Store C) (history : History) → SameButRoom old new → Agrees pages old history → Agrees pages new history
+pub agrees_same : {C : Type 0} (pages : C → CachedPages) (old new : Store C) (history : History) → SameButRoom old new
+    → Agrees pages old history → Agrees pages new history
 agrees_same pages old new history same agrees = record {
   caches = caches_same pages old new agrees.frames same.logged same.cache agrees.caches;
   frames = agrees.frames;
@@ -105,7 +124,8 @@ agrees_same pages old new history same agrees = record {
 }
 
 -- and where nothing of it changed but its slots
-pub agrees_slots : {C : Type 0} (pages : C → CachedPages) (old new : Store C) (history : History) → SameButSlots old new → Agrees pages old history → Agrees pages new history
+pub agrees_slots : {C : Type 0} (pages : C → CachedPages) (old new : Store C) (history : History) → SameButSlots old new
+    → Agrees pages old history → Agrees pages new history
 agrees_slots pages old new history same agrees = record {
   caches = caches_same pages old new agrees.frames same.logged same.cache agrees.caches;
   frames = agrees.frames;
@@ -115,13 +135,16 @@ agrees_slots pages old new history same agrees = record {
 
 -- ---- barriers
 
-stage_weaken : (old : History) (P Q : Image → Type 0) → ((image : Image) → P image → Q image) → (n : ℕ) (image : Image) → 0 ≤ n → n ≤ 1 → BarrierStage old.unsynced (λ _ image. P image) n image → BarrierStage old.unsynced (λ _ image. Q image) n image
+stage_weaken : (old : History) (P Q : Image → Type 0) → ((image : Image) → P image → Q image) → (n : ℕ) (image : Image) → 0 ≤ n → n ≤ 1
+    → BarrierStage old.unsynced (λ _ image. P image) n image → BarrierStage old.unsynced (λ _ image. Q image) n image
 stage_weaken old P Q weaker zero image from to is = is
 stage_weaken old P Q weaker (suc n) image from to is = weaker image is
 
 pub barrier_weaken : (old new : History) (P Q : Image → Type 0) → ((image : Image) → P image → Q image) → SinceBarrier old new P → SinceBarrier old new Q
 barrier_weaken old new P Q weaker since = record {
-  stages = progress_weaken old new 0 1 (BarrierStage old.unsynced (λ _ image. P image)) (BarrierStage old.unsynced (λ _ image. Q image)) (stage_weaken old P Q weaker) since.stages;
+  stages =
+      progress_weaken old new 0 1 (BarrierStage old.unsynced (λ _ image. P image)) (BarrierStage old.unsynced (λ _ image. Q image))
+      (stage_weaken old P Q weaker) since.stages;
   rests = ⊎_elim (λ (before : Rests new (MayLeave old.unsynced)). inl before) (λ (rests : Rests new P). inr (rests_weaken new P Q weaker rests)) since.rests;
 }
 
@@ -131,7 +154,8 @@ barrier_weaken old new P Q weaker since = record {
 pub contents_since : (old new : History) (contents : Contents) (image : Image) (has : HasContents contents image)
     → ((frames : List (List ℕ)) → HasFrames frames image → SinceBarrier old new (HasFrames frames)) → SinceBarrier old new (HasContents contents)
 contents_since old new contents image has since =
-    barrier_weaken old new (HasFrames has.frames) (HasContents contents) (λ other frames. record { frames = has.frames; has = frames; lead = has.lead }) (since has.frames has.has)
+    barrier_weaken old new (HasFrames has.frames) (HasContents contents)
+    (λ other frames. record { frames = has.frames; has = frames; lead = has.lead }) (since has.frames has.has)
 
 opened_frames : (l : Log) (before : Image) (history : History) (opened : opening.IsOpened l before history) → HasFrames opened.frames before
 opened_frames l before history opened =
@@ -140,12 +164,15 @@ opened_frames l before history opened =
 
 -- after the log was opened, calls that change nothing
 pub contents_since_on : (l : Log) (old mid new : History) (contents : Contents) → opening.IsOpened l old.reads mid → HasContents contents old.reads
-    → ((frames : List (List ℕ)) → HasFrames frames old.reads → SinceBarrier old mid (HasFrames frames)) → Idles mid new → SinceBarrier old new (HasContents contents)
+    → ((frames : List (List ℕ)) → HasFrames frames old.reads → SinceBarrier old mid (HasFrames frames)) → Idles mid new
+    → SinceBarrier old new (HasContents contents)
 contents_since_on l old mid new contents opened has since idles =
     let same = one_frames old.reads opened.frames has.frames (opened_frames l old.reads mid opened) has.has in
     let rests = rests_weaken mid (HasFrames opened.frames) (HasContents contents)
-    (λ image frames. record { frames = has.frames; has = subst (λ fs. HasFrames fs image) same frames; lead = has.lead }) (rests_of l opened.frames mid opened.agrees) in
-    barrier_goes_on old mid new (HasContents contents) (contents_since old mid contents old.reads has since) rests (idles_stay mid new (HasContents contents) rests idles)
+    (λ image frames. record { frames = has.frames; has = subst (λ fs. HasFrames fs image) same frames; lead = has.lead })
+    (rests_of l opened.frames mid opened.agrees) in
+    barrier_goes_on old mid new (HasContents contents) (contents_since old mid contents old.reads has since) rests
+    (idles_stay mid new (HasContents contents) rests idles)
 
 -- the same told of the frames that were there
 pub frames_rest : (l : Log) (before : Image) (mid new : History) (frames : List (List ℕ)) → opening.IsOpened l before mid
@@ -175,7 +202,8 @@ refused_log (by_log.Damaged extent at) refused = λ x. x
 refused_log (by_log.Newer version) refused = λ x. x
 refused_log by_log.Memory refused = absurd refused
 
-pub log_cause : {C : Type 0} (fault : LogFault) (before now : ℕ) → log_faults.HasDiskCause {T = Log} (Err fault) before now → HasDiskCause {T = Store C} (Err (of_log fault)) before now
+pub log_cause : {C : Type 0} (fault : LogFault) (before now : ℕ) → log_faults.HasDiskCause {T = Log} (Err fault) before now
+    → HasDiskCause {T = Store C} (Err (of_log fault)) before now
 log_cause by_log.Disk before now cause = record { never_falls = cause.never_falls; failed = λ failed. cause.failed failed }
 log_cause (by_log.Damaged extent at) before now cause = record { never_falls = cause.never_falls; failed = λ failed. absurd failed }
 log_cause (by_log.Newer version) before now cause = record { never_falls = cause.never_falls; failed = λ failed. absurd failed }
@@ -189,15 +217,21 @@ no_spoiled frames at spoiled none = none_is (spoiled.first) spoiled.frame spoile
     none_is (x ∷ first) frame others e = absurd cc
 
 -- a spoiled area is one that counts
-spoiled_live : (l : Log) (before : Image) (history : History) (opened : opening.IsOpened l before history) (at : ℕ) → AreSpoiled opened.frames no_contents at → IsLive (log_area l) (log_generation l) opened.frames before
+spoiled_live : (l : Log) (before : Image) (history : History) (opened : opening.IsOpened l before history) (at : ℕ)
+    → AreSpoiled opened.frames no_contents at → IsLive (log_area l) (log_generation l) opened.frames before
 spoiled_live l before history opened at spoiled =
     ⊎_elim (λ (fresh : IsFresh before × (opened.frames ≡ [])). absurd (no_spoiled opened.frames at spoiled fresh.1))
     (λ (live : IsLive (log_area l) (log_generation l) opened.frames before). live) opened.from
 
-pub load_refused : (fault : StoreFault) (l : Log) (before : Image) (mid : History) (opened : opening.IsOpened l before mid) → TellsLoad (Err fault) (log_area l) opened.frames → TellsFault fault before
+pub load_refused : (fault : StoreFault) (l : Log) (before : Image) (mid : History) (opened : opening.IsOpened l before mid)
+    → TellsLoad (Err fault) (log_area l) opened.frames → TellsFault fault before
 load_refused Disk l before mid opened tells = tt
 load_refused (Damaged extent at) l before mid opened tells =
-    inr (log_area l, tells.0, record { frames = opened.frames; generation = log_generation l; live = spoiled_live l before mid opened at tells.1; spoiled = tells.1 })
+    inr (
+      log_area l,
+      tells.0,
+      record { frames = opened.frames; generation = log_generation l; live = spoiled_live l before mid opened at tells.1; spoiled = tells.1 },
+    )
 load_refused (Newer version) l before mid opened tells = absurd tells
 load_refused Memory l before mid opened tells = tt
 
@@ -207,17 +241,27 @@ keeps_idle old mid new keeps idles = record {
   stays = stays_join old mid new (MayLeave old.unsynced) keeps.stays (idles_stay mid new (MayLeave old.unsynced) keeps.stays.rests idles);
 }
 
-pub load_keeps : (fault : StoreFault) (l : Log) (old mid new : History) (opened : opening.IsOpened l old.reads mid) → TellsLoad (Err fault) (log_area l) opened.frames
+pub load_keeps : (fault : StoreFault) (l : Log) (old mid new : History) (opened : opening.IsOpened l old.reads mid)
+    → TellsLoad (Err fault) (log_area l) opened.frames
     → ((IsFresh old.reads → ⊥) → Keeps old mid) → Idles mid new → IsRefusal fault → Keeps old new
 load_keeps Disk l old mid new opened tells unchanged idles refused = absurd refused
 load_keeps (Damaged extent at) l old mid new opened tells unchanged idles refused =
-    keeps_idle old mid new (unchanged (λ fresh. fresh_not_live old.reads (log_area l) (log_generation l) opened.frames fresh (spoiled_live l old.reads mid opened at tells.1))) idles
+    keeps_idle old mid new
+    (unchanged (λ fresh. fresh_not_live old.reads (log_area l) (log_generation l) opened.frames fresh (spoiled_live l old.reads mid opened at tells.1)))
+    idles
 load_keeps (Newer version) l old mid new opened tells unchanged idles refused = absurd tells
 load_keeps Memory l old mid new opened tells unchanged idles refused = absurd refused
 
-pub load_opened : {C : Type 0} (pages : C → CachedPages) (store : Store C) (before : Image) (mid new : History) (opened : opening.IsOpened store.log before mid) → TakesOn opened.frames 0 nothing_kept store.pages → Idles mid new → pages store.cache ≡ map.empty → store.failed ≡ false → IsOpened pages store before new
+pub load_opened : {C : Type 0} (pages : C → CachedPages) (store : Store C) (before : Image) (mid new : History) (opened : opening.IsOpened store.log before mid)
+    → TakesOn opened.frames 0 nothing_kept store.pages → Idles mid new → pages store.cache ≡ map.empty → store.failed ≡ false
+    → IsOpened pages store before new
 load_opened pages store before mid new opened takes idles empty works = record {
-  agrees = record { frames = opened.frames; logged = agrees_idle store.log opened.frames mid new opened.agrees idles; takes = takes; caches = none_held (pages store.cache) (log_area store.log) (log_generation store.log) (frames_bytes opened.frames) empty };
+  agrees = record {
+    frames = opened.frames;
+    logged = agrees_idle store.log opened.frames mid new opened.agrees idles;
+    takes = takes;
+    caches = none_held (pages store.cache) (log_area store.log) (log_generation store.log) (frames_bytes opened.frames) empty;
+  };
   has = contents_of opened.frames store.pages takes before (opened_frames store.log before mid opened);
   works = works;
 }
@@ -236,12 +280,16 @@ text_len bytes parts spelled = omega (arith, ap length spelled, length-append (f
 takes_of : (parts : List PartValue) (at : ℕ) (old new : Kept) → CanFrame parts → Puts parts at old new → Takes (parts_bytes parts) at old new
 takes_of parts at old new can puts = record { parts = parts; fit = can.fit; spelled = refl; lead = puts.lead; offsets = puts.offsets }
 
-module _ {C : Type 0} (pages : C → CachedPages) (store : Store C) (old : History) (agrees : Agrees pages store old) (parts : List PartValue) (can : CanFrame parts) where
+module _ {C : Type 0} (pages : C → CachedPages) (store : Store C) (old : History) (agrees : Agrees pages store old) (parts : List PartValue)
+    (can : CanFrame parts) where
   takes_more : (new : Kept) → Puts parts (log_end store.log + 9) store.pages new → TakesOn (agrees.frames ++ parts_bytes parts ∷ []) 0 nothing_kept new
-  takes_more new puts = one_frame_more agrees.frames (parts_bytes parts) 0 (log_end store.log) nothing_kept store.pages new agrees.takes (omega (arith, agrees.logged.end_is))
+  takes_more new puts =
+      one_frame_more agrees.frames (parts_bytes parts) 0 (log_end store.log) nothing_kept store.pages new agrees.takes
+      (omega (arith, agrees.logged.end_is))
       (takes_of parts (log_end store.log + 9) store.pages new can puts)
 
-  pub committed : (new : Store C) (history : History) → log.Agrees new.log (agrees.frames ++ parts_bytes parts ∷ []) history → Puts parts (log_end store.log + 9) store.pages new.pages
+  pub committed : (new : Store C) (history : History) → log.Agrees new.log (agrees.frames ++ parts_bytes parts ∷ []) history
+      → Puts parts (log_end store.log + 9) store.pages new.pages
       → log_area new.log ≡ log_area store.log → log_generation new.log ≡ log_generation store.log → new.cache ≡ store.cache → Agrees pages new history
   committed new history logged puts area generation cache = record {
     frames = agrees.frames ++ parts_bytes parts ∷ [];
@@ -255,10 +303,12 @@ module _ {C : Type 0} (pages : C → CachedPages) (store : Store C) (old : Histo
   }
 
   pub turns : (history : History) (new : Contents) → after_parts parts (store_contents store) ≡ Some new
-      → Turns old history (HasFrames agrees.frames) (HasFrames (agrees.frames ++ parts_bytes parts ∷ [])) → Turns old history (HasContents (store_contents store)) (HasContents new)
+      → Turns old history (HasFrames agrees.frames) (HasFrames (agrees.frames ++ parts_bytes parts ∷ []))
+      → Turns old history (HasContents (store_contents store)) (HasContents new)
   turns history new lead turn =
       let kept : Kept = record { contents = new; offsets = offsets_after_parts parts (log_end store.log + 9) store.pages.offsets; spare = 0; rooms = [] } in
-      turns_weaken old history (HasFrames agrees.frames) (HasContents (store_contents store)) (HasFrames (agrees.frames ++ parts_bytes parts ∷ [])) (HasContents new)
+      turns_weaken old history (HasFrames agrees.frames) (HasContents (store_contents store))
+      (HasFrames (agrees.frames ++ parts_bytes parts ∷ [])) (HasContents new)
       (contents_of agrees.frames store.pages agrees.takes)
       (contents_of (agrees.frames ++ parts_bytes parts ∷ []) kept (takes_more kept (record { lead = lead; offsets = refl })))
       turn

@@ -93,11 +93,15 @@ module _ (bytes : List ℕ) (at : ℕ) (old now : Kept) (rest : List ℕ) (taken
         done = taken.done + length (part_bytes part);
         len = omega (arith, longer, taken.len);
         takes = λ new t. taken.takes new (takes_more new t);
-        spoiled = λ within s. subst (λ n. IsSpoiled bytes old.contents n) (omega arith) (taken.spoiled (length (part_bytes part) + within) (spoiled_more within s));
+        spoiled = λ within s.
+            subst (λ n. IsSpoiled bytes old.contents n) (omega arith)
+            (taken.spoiled (length (part_bytes part) + within) (spoiled_more within s));
       }
 
 -- the same where the part's offset was counted by what is left
-pub one_more_here : (bytes : List ℕ) (at here : ℕ) (old now : Kept) (rest : List ℕ) (taken : IsTakenTo bytes at old now rest) (part : PartValue) (after : List ℕ) → BeginsWithPart rest part after → (next : Kept)
+pub one_more_here : (bytes : List ℕ) (at here : ℕ) (old now : Kept) (rest : List ℕ) (taken : IsTakenTo bytes at old now rest)
+    (part : PartValue) (after : List ℕ)
+    → BeginsWithPart rest part after → (next : Kept)
     → here ≡ at + (length bytes - length rest) → TakesPart part here now next → IsTakenTo bytes at old next after
 one_more_here bytes at here old now rest taken part after begins next is takes =
     one_more bytes at old now rest taken part after begins next (subst (λ n. TakesPart part n now next) {x = here} (omega (arith, is, taken.len)) takes)

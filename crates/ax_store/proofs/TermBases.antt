@@ -82,8 +82,11 @@ not_true true e = absurd (cc)
 not_true false e = refl
 
 -- a base of a page that is there has the page's low pair
-own_low : (key : ℕ) (payload : List ℕ) (pages : List TermPage) → key < length pages → is_base key payload pages ≡ true → low_at_front payload ≡ low_pair key pages
-own_low key payload pages h e = by_kind (either_true (is_own key low pages) (is_new key low pages) (both_true (is_some (low_in payload)) (is_own key low pages || is_new key low pages) e).1)
+own_low : (key : ℕ) (payload : List ℕ) (pages : List TermPage) → key < length pages → is_base key payload pages ≡ true
+    → low_at_front payload ≡ low_pair key pages
+own_low key payload pages h e =
+    by_kind (either_true (is_own key low pages) (is_new key low pages)
+    (both_true (is_some (low_in payload)) (is_own key low pages || is_new key low pages) e).1)
   where
     low : Pair
     low = low_at_front payload
@@ -92,7 +95,8 @@ own_low key payload pages h e = by_kind (either_true (is_own key low pages) (is_
     by_kind (inl own) = same_is low (low_pair key pages) (both_true (nat_lt key (length pages)) (is_same low (low_pair key pages)) own).1
     by_kind (inr new) =
         let last : key ≡ length pages = eqb-true key (length pages)
-        (both_true (key == length pages) (nat_lt key most_term_pages) (both_true ((key == length pages) && nat_lt key most_term_pages) (not (is_taken low pages)) new).0).0
+        (both_true (key == length pages) (nat_lt key most_term_pages)
+        (both_true ((key == length pages) && nat_lt key most_term_pages) (not (is_taken low pages)) new).0).0
         in absurd (omega (arith, last, h))
 
 -- the first base of a page has a low pair that no page has
@@ -101,7 +105,8 @@ pub record IsFirstBase (payload : List ℕ) (pages : List TermPage) : Type 0 whe
   pub few : length pages < most_term_pages
   pub other : is_taken (low_at_front payload) pages ≡ false
 
-pub first_base : (key : ℕ) (payload : List ℕ) (pages : List TermPage) → length pages ≤ key → is_base key payload pages ≡ true → (key ≡ length pages) × IsFirstBase payload pages
+pub first_base : (key : ℕ) (payload : List ℕ) (pages : List TermPage) → length pages ≤ key → is_base key payload pages ≡ true
+    → (key ≡ length pages) × IsFirstBase payload pages
 first_base key payload pages h e = by_kind (either_true (is_own key low pages) (is_new key low pages) parts.1)
   where
     low : Pair
@@ -118,7 +123,8 @@ first_base key payload pages h e = by_kind (either_true (is_own key low pages) (
         let front : (((key == length pages) && nat_lt key most_term_pages) ≡ true) × (not (is_taken low pages) ≡ true) =
         both_true ((key == length pages) && nat_lt key most_term_pages) (not (is_taken low pages)) new
         in
-        let numbers : ((key == length pages) ≡ true) × (nat_lt key most_term_pages ≡ true) = both_true (key == length pages) (nat_lt key most_term_pages) front.0 in
+        let numbers : ((key == length pages) ≡ true) × (nat_lt key most_term_pages ≡ true) =
+        both_true (key == length pages) (nat_lt key most_term_pages) front.0 in
         let same : key ≡ length pages = eqb-true key (length pages) numbers.0 in
         let few : key < most_term_pages = ltb-true key most_term_pages numbers.1 in
         (same, record { some = parts.0; few = omega (arith, same, few); other = not_true (is_taken low pages) front.1 })
@@ -154,6 +160,7 @@ order_with_delta order pages key payload is h =
     (λ number. delta_keeps key (with_delta payload (term_page key pages)) pages h refl number (cases_eq number key))
 
 pub order_with_page : (order : List ℕ) (pages : List TermPage) (at : ℕ) (payload : List ℕ) → IsOrderOf order pages
-    → IsFirstBase payload pages → IsCountUpTo (low_at_front payload) at order pages → IsOrderOf (insert order at (length pages)) (pages ++ with_base payload ∷ [])
+    → IsFirstBase payload pages → IsCountUpTo (low_at_front payload) at order pages
+    → IsOrderOf (insert order at (length pages)) (pages ++ with_base payload ∷ [])
 order_with_page order pages at payload is first place =
     order_inserted order pages is (with_base payload) at place (λ number h e. not_taken (low_at_front payload) pages first.other number h e) first.few

@@ -91,7 +91,8 @@ first_not_after (byte ∷ term) number e = cc
 
 -- ---- a search
 
-parted : (order : List ℕ) (pages : List TermPage) (pair : Pair) → IsOrderOf order pages → IsPartitionedBy (λ page. is_le (pair_cmp (low_pair page pages) pair)) order
+parted : (order : List ℕ) (pages : List TermPage) (pair : Pair) → IsOrderOf order pages
+    → IsPartitionedBy (λ page. is_le (pair_cmp (low_pair page pages) pair)) order
 parted order pages pair is i j d le in_range up = by_place (cases_lt i j)
   where
     at_zero : (k : ℕ) → k < length order → get_or order k d ≡ get_or order k 0
@@ -115,7 +116,9 @@ pub counted : (order : List ℕ) (pages : List TermPage) (pair : Pair) (count : 
     → IsCountUpTo pair count order pages
 counted order pages pair count is within point = record {
   within = within;
-  up_to = λ i lt greater. le_not_greater (pair_cmp (low_pair (get_or order i 0) pages) pair) ((point (parted order pages pair is)).0 i 0 (omega arith) lt) greater;
+  up_to = λ i lt greater.
+      le_not_greater (pair_cmp (low_pair (get_or order i 0) pages) pair) ((point (parted order pages pair is)).0 i 0 (omega arith) lt)
+      greater;
   behind = λ i le lt. not_le_greater (pair_cmp (low_pair (get_or order i 0) pages) pair) ((point (parted order pages pair is)).1 i 0 le lt);
 }
 
@@ -133,7 +136,8 @@ module _ (order : List ℕ) (pages : List TermPage) (is : IsOrderOf order pages)
           by_count (inl some) = some
           by_count (inr none) =
               absurd (first_not_after pair.term pair.number
-              (ap (λ (p : Pair). pair_cmp p pair) (sym is.first) ∙ ap (λ (page : ℕ). pair_cmp (low_pair page pages) pair) (sym same) ∙ at.behind i (omega (arith, none)) lt))
+              (ap (λ (p : Pair). pair_cmp p pair) (sym is.first) ∙ ap (λ (page : ℕ). pair_cmp (low_pair page pages) pair) (sym same)
+              ∙ at.behind i (omega (arith, none)) lt))
 
   pub page_found : (pair : Pair) (count : ℕ) → IsCountUpTo pair count order pages → IsPageOf pair (get_or order (count - 1) 0) pages
   page_found pair count at =
@@ -210,7 +214,9 @@ module _ (order : List ℕ) (pages : List TermPage) (is : IsOrderOf order pages)
       by_place (i, lt, is_other) = let behind : count ≤ i = later_behind page count other i at is_other less in absurd (omega (arith, behind, all, lt))
 
 -- the same of what a search for a page's own low pair finds
-module _ (order : List ℕ) (pages : List TermPage) (is : IsOrderOf order pages) (page count number : ℕ) (term : List ℕ) (first : term ≡ (low_pair page pages).term) (second : number ≡ (low_pair page pages).number) (at : IsCountUpTo (the_pair term number) count order pages) where
+module _ (order : List ℕ) (pages : List TermPage) (is : IsOrderOf order pages) (page count number : ℕ) (term : List ℕ)
+    (first : term ≡ (low_pair page pages).term) (second : number ≡ (low_pair page pages).number)
+    (at : IsCountUpTo (the_pair term number) count order pages) where
   own : IsCountUpTo (low_pair page pages) count order pages
   own = subst (λ (p : Pair). IsCountUpTo p count order pages) (of_parts (the_pair term number) (low_pair page pages) first second) at
 
@@ -258,7 +264,9 @@ first_order = record {
 
 -- ---- a new page in it
 
-module _ (order : List ℕ) (pages : List TermPage) (is : IsOrderOf order pages) (page : TermPage) (at : ℕ) (place : IsCountUpTo (low_of page) at order pages) (other : (number : ℕ) → number < length pages → low_pair number pages ≡ low_of page → ⊥) where
+module _ (order : List ℕ) (pages : List TermPage) (is : IsOrderOf order pages) (page : TermPage) (at : ℕ)
+    (place : IsCountUpTo (low_of page) at order pages)
+    (other : (number : ℕ) → number < length pages → low_pair number pages ≡ low_of page → ⊥) where
   abbrev order_after : List ℕ
   order_after = insert order at (length pages)
 
@@ -294,7 +302,8 @@ module _ (order : List ℕ) (pages : List TermPage) (is : IsOrderOf order pages)
       ap (λ (number : ℕ). low_pair number pages_after) (above k h) ∙ low_before (get_or order (k - 1) 0) (is.there (k - 1) (omega (arith, h, lt)))
 
   -- the new page is behind those before it
-  less_below : (k : ℕ) (o : Ordering) → k < at → pair_cmp (low_pair (get_or order k 0) pages) (low_of page) ≡ o → pair_cmp (low_pair (get_or order k 0) pages) (low_of page) ≡ Less
+  less_below : (k : ℕ) (o : Ordering) → k < at → pair_cmp (low_pair (get_or order k 0) pages) (low_of page) ≡ o
+      → pair_cmp (low_pair (get_or order k 0) pages) (low_of page) ≡ Less
   less_below k Less h e = e
   less_below k Equal h e =
       absurd (other (get_or order k 0) (is.there k (omega (arith, h, place.within))) (same_pair (low_pair (get_or order k 0) pages) (low_of page) e))
@@ -306,7 +315,8 @@ module _ (order : List ℕ) (pages : List TermPage) (is : IsOrderOf order pages)
   abbrev Rises : ℕ → ℕ → Type 0
   Rises i j = pair_cmp (low_pair (get_or order_after i 0) pages_after) (low_pair (get_or order_after j 0) pages_after) ≡ Less
 
-  by_lows : (i j : ℕ) (p q : Pair) → low_pair (get_or order_after i 0) pages_after ≡ p → low_pair (get_or order_after j 0) pages_after ≡ q → pair_cmp p q ≡ Less → Rises i j
+  by_lows : (i j : ℕ) (p q : Pair) → low_pair (get_or order_after i 0) pages_after ≡ p → low_pair (get_or order_after j 0) pages_after ≡ q
+      → pair_cmp p q ≡ Less → Rises i j
   by_lows i j p q first second less =
       ap (λ (p : Pair). pair_cmp p (low_pair (get_or order_after j 0) pages_after)) first ∙ ap (pair_cmp p) second ∙ less
 
@@ -334,7 +344,8 @@ module _ (order : List ℕ) (pages : List TermPage) (is : IsOrderOf order pages)
   all_above : (i j : ℕ) → at < i → i < j → j < length order + 1 → Rises i j
   all_above i j behind rise lt =
       let later : at < j = omega (arith, behind, rise) in
-      by_lows i j (low_pair (get_or order (i - 1) 0) pages) (low_pair (get_or order (j - 1) 0) pages) (low_above i behind (omega (arith, rise, lt))) (low_above j later lt)
+      by_lows i j (low_pair (get_or order (i - 1) 0) pages) (low_pair (get_or order (j - 1) 0) pages)
+      (low_above i behind (omega (arith, rise, lt))) (low_above j later lt)
       (is.rising (i - 1) (j - 1) (omega (arith, behind, rise)) (omega (arith, later, lt)))
 
   by_first : (i j : ℕ) → i < j → at < j → j < length order + 1 → (i ≡ at) ⊎ ((i < at) ⊎ (at < i)) → Rises i j
@@ -380,7 +391,9 @@ module _ (order : List ℕ) (pages : List TermPage) (is : IsOrderOf order pages)
     few = omega (arith, one_more, few);
     first = low_before 0 is.some ∙ is.first;
     count = length_after ∙ ap (λ (n : ℕ). n + 1) is.count ∙ sym one_more;
-    there = λ k lt. let h : get_or order_after k 0 < length pages + 1 = there_now k (omega (arith, lt, length_after)) (cases_order k at) in omega (arith, h, one_more);
+    there = λ k lt.
+        let h : get_or order_after k 0 < length pages + 1 = there_now k (omega (arith, lt, length_after)) (cases_order k at) in
+        omega (arith, h, one_more);
     rising = λ i j rise lt. by_second i j rise (omega (arith, lt, length_after)) (cases_order j at);
     all = λ number h. stands_now number (cases_lt number (length pages)) (omega (arith, h, one_more));
   }

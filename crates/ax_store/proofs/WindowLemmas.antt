@@ -11,7 +11,8 @@ shown n m items buf all start long wide read =
     same ∙ read ∙ ap (λ (k : ℕ). take k (drop start all)) size
 
 -- bytes within the window are those at their place
-pub part_shown : (items all : List ℕ) (start at len from n : ℕ) → items ≡ take (length items) (drop start all) → start ≤ at → at + len ≤ start + length items → from ≡ at - start → n ≡ len
+pub part_shown : (items all : List ℕ) (start at len from n : ℕ) → items ≡ take (length items) (drop start all) → start ≤ at
+    → at + len ≤ start + length items → from ≡ at - start → n ≡ len
     → take n (drop from items) ≡ take len (drop at all)
 part_shown items all start at len from n shows after within is wide =
     let more : ℕ = length items - from in

@@ -7,6 +7,7 @@ use Rattle.ax_pages.specs.Contents.{Contents, parts_of}
 use Rattle.ax_pool.specs.Frames.{Frames, IsTaken, bytes_at}
 use Rattle.ax_pool.specs.declared.slot.Slot.{Slot}
 use Rattle.ax_store.specs.declared.store.Store.{Store}
+use Rattle.ax_store.specs.declared.store.StoreFrames.{StoreFrames}
 use Rattle.ax_store.specs.Store.{store_slots}
 
 -- how many slots a store has
@@ -18,7 +19,7 @@ abbrev pub HasAllFree : {C : Type 0} → Store C → Type 0
 HasAllFree store = let slots = store_slots store in slots.taken ≡ replicate slot_count false
 
 -- the slot was taken from this store, and not given back
-abbrev pub IsSlotOf : {C : Type 0} → Store C → Slot → Type 0
+abbrev pub IsSlotOf : {C : Type 0} → Store C → Slot StoreFrames → Type 0
 IsSlotOf store slot = IsTaken (store_slots store) slot.number
 
 -- the frame of this number begins with the bytes

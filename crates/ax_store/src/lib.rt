@@ -51,7 +51,7 @@ pub use out_of_memory::Memory;
 pub use pages::Meta;
 pub use read_ahead::ReadAhead;
 pub use reads::Head;
-pub use store::Store;
+pub use store::{Store, StoreFrames, StoreSlot};
 
 #[cfg(test)]
 mod tests;

@@ -18,13 +18,13 @@ ghost use Rattle.ax_store.specs.Store.{AgreesUnlessFailed, SameButReads, store_c
 use crate::cached::read_bytes;
 use crate::fault::StoreFault;
 use crate::kept_part::KeptPart;
-use crate::store::Store;
+use crate::store::{Store, StoreFrames, StoreSlot};
 use ax_base::Steps;
 use ax_cache::PageCache;
 use ax_disk::{Disk, DiskFailed};
 use ax_log::Log;
 use ax_pages::Page;
-use ax_pool::{Pool, Slot};
+use ax_pool::Pool;
 use std::alloc::{AllocError, Global};
 use std::sync::ledger::Ledger;
 
@@ -40,7 +40,7 @@ impl<C: PageCache> Store<C> {
         disk: &mut D,
         page: Page,
         i: usize,
-        slot: &mut Slot,
+        slot: &mut StoreSlot,
         steps: &mut Steps<L>,
     ) -> Result<usize, StoreFault>
         requires part { i < length (parts_of page (store_contents self.old)) }
@@ -78,7 +78,7 @@ impl<C: PageCache> Store<C> {
         disk: &mut D,
         page: u32,
         i: usize,
-        slot: &mut Slot,
+        slot: &mut StoreSlot,
     ) -> Result<usize, StoreFault>
         requires part { i < length (parts_of (Page.Term page) (store_contents self.old)) }
         requires slot { IsSlotOf self.old slot.old }
@@ -113,7 +113,7 @@ impl<C: PageCache> Store<C> {
         disk: &mut D,
         page: Page,
         i: usize,
-        slot: &mut Slot,
+        slot: &mut StoreSlot,
     ) -> Result<usize, StoreFault>
         requires part { i < length (parts_of page (store_contents self.old)) }
         requires slot { IsSlotOf self.old slot.old }
@@ -168,7 +168,7 @@ impl<C: PageCache> Store<C> {
         &mut self,
         disk: &mut D,
         number: u32,
-        slot: &mut Slot,
+        slot: &mut StoreSlot,
         steps: &mut Steps<L>,
     ) -> Result<Option<usize>, StoreFault>
         requires slot { IsSlotOf self.old slot.old }
@@ -204,7 +204,7 @@ impl<C: PageCache> Store<C> {
         &mut self,
         disk: &mut D,
         number: u32,
-        slot: &mut Slot,
+        slot: &mut StoreSlot,
     ) -> Result<Option<usize>, StoreFault>
         requires slot { IsSlotOf self.old slot.old }
         requires agrees { AgreesUnlessFailed C.pages (D.is_honest disk.old) self.old
@@ -332,12 +332,12 @@ fn count<L: Ledger>(page: Page, steps: &mut Steps<L>)
 
 /// Reads so many bytes of the log's frames, from an offset on, into the front of a slot.
 fn load<D: Disk, C: PageCache>(
-    pool: &mut Pool,
+    pool: &mut Pool<StoreFrames>,
     log: &Log,
     cache: &mut C,
     disk: &mut D,
     from: u64,
-    slot: &mut Slot,
+    slot: &mut StoreSlot,
     len: usize,
 ) -> Result<(), DiskFailed>
     requires slot { IsTaken pool.old slot.old.number }

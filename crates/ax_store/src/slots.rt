@@ -5,12 +5,11 @@ ghost use Rattle.ax_pool.specs.Frames.{IsFree, bytes_at, frame_size, free_count}
 ghost use Rattle.ax_store.specs.Slots.{IsSlotOf};
 ghost use Rattle.ax_store.specs.Store.{SameButSlots, store_slots};
 
-use crate::store::Store;
-use ax_pool::Slot;
+use crate::store::{Store, StoreSlot};
 
 impl<C> Store<C> {
     /// Takes one of the 64 slots. `None` exactly where none is free.
-    pub fn take_slot(&mut self) -> Option<Slot>
+    pub fn take_slot(&mut self) -> Option<StoreSlot>
         ensures was_free { IfSome result (λ slot. IsFree (store_slots self.old) slot.number) }
         ensures is_taken { IfSome result (IsSlotOf self.new) }
         ensures taken { IfSome result (λ slot. (store_slots self.new).taken ≡ slice_set (store_slots self.old).taken slot.number true) }
@@ -24,7 +23,7 @@ impl<C> Store<C> {
     }
 
     /// Gives a slot back: it is free from then on.
-    pub fn give_slot(&mut self, slot: Slot)
+    pub fn give_slot(&mut self, slot: StoreSlot)
         requires { IsSlotOf self.old slot }
         ensures free { (store_slots self.new).taken ≡ slice_set (store_slots self.old).taken slot.number false }
         ensures one_more { free_count (store_slots self.new) ≡ free_count (store_slots self.old) + 1 }
@@ -35,7 +34,7 @@ impl<C> Store<C> {
     }
 
     /// The 65,536 bytes of a slot.
-    pub fn slot_bytes(&self, slot: &Slot) -> &[u8]
+    pub fn slot_bytes(&self, slot: &StoreSlot) -> &[u8]
         requires { IsSlotOf self.now slot.now }
         ensures value { result.now ≡ bytes_at (store_slots self.now) slot.now.number }
         ensures len { length result.now ≡ frame_size }

@@ -2,7 +2,13 @@
 
 use crate::pages::Pages;
 use ax_log::Log;
-use ax_pool::Pool;
+use ax_pool::{Pool, Slot};
+
+/// The marker of the pool of a store's slots, so that a slot of another pool is none of a store.
+pub struct StoreFrames;
+
+/// A slot of a store.
+pub type StoreSlot = Slot<StoreFrames>;
 
 /// The pages of a store that was opened on a disk.
 ///
@@ -13,7 +19,7 @@ pub struct Store<C> {
     pub(crate) log: Log,
     pub(crate) pages: Pages,
     // The slots into which callers read.
-    pub(crate) pool: Pool,
+    pub(crate) pool: Pool<StoreFrames>,
     // It is asked for a part before the disk is.
     pub(crate) cache: C,
     pub(crate) failed: bool,

@@ -1,5 +1,6 @@
 use Rattle.std.proofs.Common.{ap}
 use Rattle.ax_pool.specs.declared.slot.Slot.{Slot}
+use Rattle.ax_store.specs.declared.store.StoreFrames.{StoreFrames}
 use Rattle.ax_index.proofs.ReadsLaws.{agrees_taken, reserve_around}
 use Rattle.ax_index.proofs.Unmoved.{slots_back}
 use Rattle.ax_index.proofs.merging.merge_some.Goals as goal
@@ -13,4 +14,4 @@ returns-clause-reserves g c =
     reserve_around g.C.PageCache.pages _ c.args.store.now _ _ c.give_slot.new.self _ _ _ _ c.in-Some.ensures.same
     c.merge_by-merged.ensures.reserves c.give_slot.ensures.same
     (slots_back _ _ _ _ _ _ c.in-Some.ensures.was_free c.in-Some.ensures.taken c.merge_by-merged.ensures.reserves.same.taken
-    (ap (λ (slot : Slot). slot.number) c.merge_by-merged.ensures.slot) c.give_slot.ensures.free)
+    (ap (λ (slot : Slot StoreFrames). slot.number) c.merge_by-merged.ensures.slot) c.give_slot.ensures.free)

@@ -10,8 +10,11 @@ loop-at-preserved g c =
     let inv = c.loop-at.invariant in
     let more = c.in-Ok-load_frame.ensures in
     record {
-      loaded = λ honest frames agrees. more.tells (subst IsTrue (sym inv.honest) honest) frames (inv.agrees honest frames agrees) (inv.shows honest frames agrees) (inv.loaded honest frames agrees);
-      shows = λ honest frames agrees. more.shows (subst IsTrue (sym inv.honest) honest) frames (inv.agrees honest frames agrees) (inv.shows honest frames agrees);
+      loaded = λ honest frames agrees.
+          more.tells (subst IsTrue (sym inv.honest) honest) frames (inv.agrees honest frames agrees) (inv.shows honest frames agrees)
+          (inv.loaded honest frames agrees);
+      shows = λ honest frames agrees.
+          more.shows (subst IsTrue (sym inv.honest) honest) frames (inv.agrees honest frames agrees) (inv.shows honest frames agrees);
       agrees = λ honest frames agrees. more.agrees (subst IsTrue (sym inv.honest) honest) frames (inv.agrees honest frames agrees);
       idles = λ honest. idles_join _ _ _ (inv.idles honest) (more.lists (subst IsTrue (sym inv.honest) honest));
       within = more.within.1;
@@ -23,7 +26,9 @@ loop-at-preserved g c =
 pub returns-in-Err-clause-tells : goal.returns-in-Err-clause-tells
 returns-in-Err-clause-tells g c = λ honest frames agrees.
     let inv = c.loop-at.invariant in
-    refused_load c.in-Err.fault _ frames _ (c.in-Err.ensures.tells (subst IsTrue (sym inv.honest) honest) frames (inv.agrees honest frames agrees) (inv.shows honest frames agrees) (inv.loaded honest frames agrees))
+    refused_load c.in-Err.fault _ frames _
+    (c.in-Err.ensures.tells (subst IsTrue (sym inv.honest) honest) frames (inv.agrees honest frames agrees)
+    (inv.shows honest frames agrees) (inv.loaded honest frames agrees))
 
 pub returns-in-Err-clause-lists : goal.returns-in-Err-clause-lists
 returns-in-Err-clause-lists g c = λ honest.

@@ -9,10 +9,15 @@ use Rattle.ax_store.proofs.load.load.Given as goal
 
 abbrev pub invariant-loop-at : goal.invariant-loop-at
 invariant-loop-at g l = record {
-  loaded : IsTrue (g.D.Disk.is_honest l.fn.disk) → (frames : List (List ℕ)) → Agrees l.log frames (g.D.Disk.history l.fn.disk (g.D.Disk.attached l.fn.disk)) → IsLoadedTo frames l.at l.pages;
-  shows : IsTrue (g.D.Disk.is_honest l.fn.disk) → (frames : List (List ℕ)) → Agrees l.log frames (g.D.Disk.history l.fn.disk (g.D.Disk.attached l.fn.disk)) → Shows l.window frames;
-  agrees : IsTrue (g.D.Disk.is_honest l.fn.disk) → (frames : List (List ℕ)) → Agrees l.log frames (g.D.Disk.history l.fn.disk (g.D.Disk.attached l.fn.disk)) → Agrees l.log frames (g.D.Disk.history l.disk (g.D.Disk.attached l.disk));
-  idles : IsTrue (g.D.Disk.is_honest l.fn.disk) → Idles (g.D.Disk.history l.fn.disk (g.D.Disk.attached l.fn.disk)) (g.D.Disk.history l.disk (g.D.Disk.attached l.disk));
+  loaded : IsTrue (g.D.Disk.is_honest l.fn.disk) → (frames : List (List ℕ))
+      → Agrees l.log frames (g.D.Disk.history l.fn.disk (g.D.Disk.attached l.fn.disk)) → IsLoadedTo frames l.at l.pages;
+  shows : IsTrue (g.D.Disk.is_honest l.fn.disk) → (frames : List (List ℕ))
+      → Agrees l.log frames (g.D.Disk.history l.fn.disk (g.D.Disk.attached l.fn.disk)) → Shows l.window frames;
+  agrees : IsTrue (g.D.Disk.is_honest l.fn.disk) → (frames : List (List ℕ))
+      → Agrees l.log frames (g.D.Disk.history l.fn.disk (g.D.Disk.attached l.fn.disk))
+      → Agrees l.log frames (g.D.Disk.history l.disk (g.D.Disk.attached l.disk));
+  idles : IsTrue (g.D.Disk.is_honest l.fn.disk)
+      → Idles (g.D.Disk.history l.fn.disk (g.D.Disk.attached l.fn.disk)) (g.D.Disk.history l.disk (g.D.Disk.attached l.disk));
   within : l.at ≤ log_end l.log;
   count : g.D.Disk.faults l.fn.disk ≤ g.D.Disk.faults l.disk;
   attached : g.D.Disk.attached l.disk ≡ g.D.Disk.attached l.fn.disk;

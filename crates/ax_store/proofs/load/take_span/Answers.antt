@@ -24,10 +24,12 @@ loop-here-preserved g c =
     let more = c.in-Ok.ensures in
     record {
       taken = λ honest frames agrees shows.
-          step (frames_bytes frames) c.args.at c.args.len c.loop-here.here c.args.pages.now c.loop-here.pages inv.before inv.within (subst (λ n. c.args.at + c.args.len ≤ n) agrees.end_is c.requires)
+          step (frames_bytes frames) c.args.at c.args.len c.loop-here.here c.args.pages.now c.loop-here.pages inv.before inv.within
+          (subst (λ n. c.args.at + c.args.len ≤ n) agrees.end_is c.requires)
           (inv.taken honest frames agrees shows) c.in-Ok.size c.take_next.new.pages
           (more.tells (subst IsTrue (sym inv.honest) honest) frames (inv.agrees honest frames agrees) (inv.shows honest frames agrees shows));
-      shows = λ honest frames agrees shows. more.shows (subst IsTrue (sym inv.honest) honest) frames (inv.agrees honest frames agrees) (inv.shows honest frames agrees shows);
+      shows = λ honest frames agrees shows.
+          more.shows (subst IsTrue (sym inv.honest) honest) frames (inv.agrees honest frames agrees) (inv.shows honest frames agrees shows);
       agrees = λ honest frames agrees. more.agrees (subst IsTrue (sym inv.honest) honest) frames (inv.agrees honest frames agrees);
       idles = λ honest. idles_join _ _ _ (inv.idles honest) (more.lists (subst IsTrue (sym inv.honest) honest));
       before = omega (arith, inv.before);
@@ -40,6 +42,7 @@ loop-here-preserved g c =
 pub returns-in-Err-clause-tells : goal.returns-in-Err-clause-tells
 returns-in-Err-clause-tells g c = λ honest frames agrees shows.
     let inv = c.loop-here.invariant in
-    refused (frames_bytes frames) c.args.at c.args.len c.loop-here.here c.args.pages.now c.loop-here.pages inv.before inv.within (subst (λ n. c.args.at + c.args.len ≤ n) agrees.end_is c.requires)
+    refused (frames_bytes frames) c.args.at c.args.len c.loop-here.here c.args.pages.now c.loop-here.pages inv.before inv.within
+    (subst (λ n. c.args.at + c.args.len ≤ n) agrees.end_is c.requires)
     c.in-Err.fault _ c.take_next.new.pages (inv.taken honest frames agrees shows) c.loop-here-test.true
     (c.in-Err.ensures.tells (subst IsTrue (sym inv.honest) honest) frames (inv.agrees honest frames agrees) (inv.shows honest frames agrees shows))

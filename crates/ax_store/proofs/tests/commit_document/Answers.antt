@@ -21,22 +21,36 @@ both = record { kind = 1; key = 0; payload = 2 ∷ 0 ∷ 0 ∷ 0 ∷ 0 ∷ 0 ∷
 within : (contents : Contents) → map.len contents.documents ≤ 9
     → AreWithin both contents
 within contents few =
-    let new : Contents = record contents { meta = Some (2 ∷ 0 ∷ 0 ∷ 0 ∷ 0 ∷ 0 ∷ 0 ∷ 0 ∷ []); documents = map.insert contents.documents 1 (0 ∷ 123 ∷ 125 ∷ []) } in
-    let room = or_true (map.contains_key contents.documents 1) (nat_lt (map.len contents.documents) 1048576) (lt-ltb (map.len contents.documents) 1048576 (omega (arith, few))) in
+    let new : Contents = record contents {
+      meta = Some (2 ∷ 0 ∷ 0 ∷ 0 ∷ 0 ∷ 0 ∷ 0 ∷ 0 ∷ []);
+      documents = map.insert contents.documents 1 (0 ∷ 123 ∷ 125 ∷ []);
+    } in
+    let room =
+    or_true (map.contains_key contents.documents 1) (nat_lt (map.len contents.documents) 1048576)
+    (lt-ltb (map.len contents.documents) 1048576 (omega (arith, few))) in
     (new, ap (λ (b : Bool). option_and_then (after_parts []) (if b then Some new else None)) room)
 
 pub commit-requires-clause-agrees : goal.commit-requires-clause-agrees
-commit-requires-clause-agrees g c = λ honest works. agrees_same g.C.PageCache.pages c.args.store.now c.reserve.new.self _ c.reserve.ensures.same (c.requires.agrees honest)
+commit-requires-clause-agrees g c = λ honest works.
+    agrees_same g.C.PageCache.pages c.args.store.now c.reserve.new.self _ c.reserve.ensures.same (c.requires.agrees honest)
 
 pub commit-requires-clause-deltas : goal.commit-requires-clause-deltas
 commit-requires-clause-deltas g c =
-    let first = c.in-Ok.ensures.ok ∙ ap (λ parts. parts ++ record { kind = 1; key = 0; payload = 2 ∷ 0 ∷ 0 ∷ 0 ∷ 0 ∷ 0 ∷ 0 ∷ 0 ∷ [] } ∷ []) c.begin-batch.ensures.parts in
-    let parts = c.in-Ok-seal.ensures.parts ∙ c.in-Ok-add.ensures.ok ∙ ap (λ parts. parts ++ record { kind = 3; key = 1; payload = 0 ∷ 123 ∷ 125 ∷ [] } ∷ []) first in
+    let first =
+    c.in-Ok.ensures.ok
+    ∙ ap (λ parts. parts ++ record { kind = 1; key = 0; payload = 2 ∷ 0 ∷ 0 ∷ 0 ∷ 0 ∷ 0 ∷ 0 ∷ 0 ∷ [] } ∷ []) c.begin-batch.ensures.parts in
+    let parts =
+    c.in-Ok-seal.ensures.parts ∙ c.in-Ok-add.ensures.ok
+    ∙ ap (λ parts. parts ++ record { kind = 3; key = 1; payload = 0 ∷ 123 ∷ 125 ∷ [] } ∷ []) first in
     subst (λ parts. CanTake parts c.reserve.new.self.pages) (sym parts) (λ number. omega arith)
 
 pub commit-requires-clause-within : goal.commit-requires-clause-within
 commit-requires-clause-within g c =
-    let first = c.in-Ok.ensures.ok ∙ ap (λ parts. parts ++ record { kind = 1; key = 0; payload = 2 ∷ 0 ∷ 0 ∷ 0 ∷ 0 ∷ 0 ∷ 0 ∷ 0 ∷ [] } ∷ []) c.begin-batch.ensures.parts in
-    let parts = c.in-Ok-seal.ensures.parts ∙ c.in-Ok-add.ensures.ok ∙ ap (λ parts. parts ++ record { kind = 3; key = 1; payload = 0 ∷ 123 ∷ 125 ∷ [] } ∷ []) first in
+    let first =
+    c.in-Ok.ensures.ok
+    ∙ ap (λ parts. parts ++ record { kind = 1; key = 0; payload = 2 ∷ 0 ∷ 0 ∷ 0 ∷ 0 ∷ 0 ∷ 0 ∷ 0 ∷ [] } ∷ []) c.begin-batch.ensures.parts in
+    let parts =
+    c.in-Ok-seal.ensures.parts ∙ c.in-Ok-add.ensures.ok
+    ∙ ap (λ parts. parts ++ record { kind = 3; key = 1; payload = 0 ∷ 123 ∷ 125 ∷ [] } ∷ []) first in
     subst (λ parts. AreWithin parts (store_contents c.reserve.new.self)) (sym parts)
     (within (store_contents c.reserve.new.self) (omega (arith, c.if-documents-gt9.false, c.documents.ensures)))

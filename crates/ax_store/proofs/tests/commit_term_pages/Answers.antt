@@ -17,28 +17,40 @@ abbrev second_base : List ℕ
 second_base = 1 ∷ 98 ∷ 5 ∷ 8 ∷ []
 
 abbrev three : List PartValue
-three = record { kind = 5; key = 1; payload = second_base } ∷ record { kind = 6; key = 0; payload = 9 ∷ [] } ∷ record { kind = 6; key = 0; payload = 10 ∷ 11 ∷ [] } ∷ []
+three =
+    record { kind = 5; key = 1; payload = second_base } ∷ record { kind = 6; key = 0; payload = 9 ∷ [] }
+    ∷ record { kind = 6; key = 0; payload = 10 ∷ 11 ∷ [] } ∷ []
 
 abbrev four : List PartValue
 four = record { kind = 5; key = 0; payload = first_base } ∷ three
 
 -- a page without a base may have each pair
-base_fits : (base : Option (List ℕ)) (deltas : List (List ℕ)) → is_some base ≡ false → is_base 0 first_base (record { base = base; deltas = deltas } ∷ []) ≡ true
+base_fits : (base : Option (List ℕ)) (deltas : List (List ℕ)) → is_some base ≡ false
+    → is_base 0 first_base (record { base = base; deltas = deltas } ∷ []) ≡ true
 base_fits None deltas none = refl
 base_fits (Some payload) deltas none = absurd cc
 
 within_one : (contents : Contents) (page : TermPage) → contents.terms ≡ page ∷ [] → is_some page.base ≡ false → AreWithin four contents
 within_one contents page is none =
-    let new : Contents = record contents { terms = record { base = Some first_base; deltas = (9 ∷ []) ∷ (10 ∷ 11 ∷ []) ∷ [] } ∷ record { base = Some second_base; deltas = [] } ∷ [] } in (
+    let new : Contents = record contents {
+      terms =
+          record { base = Some first_base; deltas = (9 ∷ []) ∷ (10 ∷ 11 ∷ []) ∷ [] } ∷ record { base = Some second_base; deltas = [] } ∷ [];
+    } in (
       new,
-      ap (λ (terms : List TermPage). option_and_then (after_parts three) (if is_base 0 first_base terms then Some (record contents { terms = after_base 0 first_base terms }) else None)) is
-          ∙ ap (λ (b : Bool). option_and_then (after_parts three) (if b then Some (record contents { terms = after_base 0 first_base (page ∷ []) }) else None)) (base_fits page.base page.deltas none),
+      ap
+          (λ (terms : List TermPage). option_and_then (after_parts three)
+          (if is_base 0 first_base terms then Some (record contents { terms = after_base 0 first_base terms }) else None))
+          is
+          ∙ ap
+          (λ (b : Bool). option_and_then (after_parts three) (if b then Some (record contents { terms = after_base 0 first_base (page ∷ []) }) else None))
+          (base_fits page.base page.deltas none),
     )
 
 abbrev base_of : TermPage → Option (List ℕ)
 base_of page = page.base
 
-within : (contents : Contents) (terms : List TermPage) → contents.terms ≡ terms → length terms ≡ 1 → is_some (base_of (term_page 0 terms)) ≡ false → AreWithin four contents
+within : (contents : Contents) (terms : List TermPage) → contents.terms ≡ terms → length terms ≡ 1
+    → is_some (base_of (term_page 0 terms)) ≡ false → AreWithin four contents
 within contents [] is len none = absurd (omega (arith, len))
 within contents (page ∷ []) is len none = within_one contents page is none
 within contents (page ∷ other ∷ rest) is len none = absurd (omega (arith, len))

@@ -4,7 +4,7 @@ use Rattle.ax_pool.proofs.Counting.{number_within, shown_at, shown_written}
 use Rattle.ax_pool.proofs.pool.Pool.frame_mut.Goals as goal
 
 pub returns : goal.returns
-returns c =
+returns g c =
     let frames = c.self.inside.frames.items in
     let number = c.args.number in
     let frame = c.index_mut-frame.result.now in

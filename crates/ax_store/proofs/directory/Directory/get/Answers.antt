@@ -8,13 +8,15 @@ use Rattle.ax_store.proofs.directory.Directory.get.Goals as goal
 pub returns-in-Ok-clause-payload : goal.returns-in-Ok-clause-payload
 returns-in-Ok-clause-payload c =
     let at = rw c.deref.ensures.value at c.in-Ok.ensures.found in
-    shown_at payload_kept c.self.inside.rows.items c.self.invariant.0 c.args.number c.in-Ok.at c.index.result.now c.as_ref.result at c.index.ensures c.as_ref.ensures.value
+    shown_at payload_kept c.self.inside.rows.items c.self.invariant.0 c.args.number c.in-Ok.at c.index.result.now c.as_ref.result at
+    c.index.ensures c.as_ref.ensures.value
     ∙ ap (λ (listed : Listed). map.get listed.payloads c.args.number) c.self.view_is
 
 pub returns-in-Ok-clause-offset : goal.returns-in-Ok-clause-offset
 returns-in-Ok-clause-offset c =
     let at = rw c.deref.ensures.value at c.in-Ok.ensures.found in
-    shown_at offset_kept c.self.inside.rows.items c.self.invariant.0 c.args.number c.in-Ok.at c.index.result.now c.as_ref.result at c.index.ensures c.as_ref.ensures.value
+    shown_at offset_kept c.self.inside.rows.items c.self.invariant.0 c.args.number c.in-Ok.at c.index.result.now c.as_ref.result at
+    c.index.ensures c.as_ref.ensures.value
     ∙ ap (λ (listed : Listed). map.get listed.offsets c.args.number) c.self.view_is
 
 pub returns-in-Err-clause-payload : goal.returns-in-Err-clause-payload

@@ -13,7 +13,8 @@ pub invariant_of-self : goal.invariant_of-self
 invariant_of-self c = (
   c.put_row.ensures.rising,
   ap (λ n. n + 1) c.self.invariant.1
-      ∙ sym (len_put (map_of payload_kept c.self.inside.rows.items) c.args.number (payload_kept c.args.part) false (sym c.if-not-put_row.true ∙ c.put_row.ensures.held))
+      ∙ sym (len_put (map_of payload_kept c.self.inside.rows.items) c.args.number (payload_kept c.args.part) false
+      (sym c.if-not-put_row.true ∙ c.put_row.ensures.held))
       ∙ ap map.len (sym c.put_row.ensures.payloads),
 )
 
@@ -21,6 +22,7 @@ pub invariant_of-self-else-not-put_row : goal.invariant_of-self-else-not-put_row
 invariant_of-self-else-not-put_row c = (
   c.put_row.ensures.rising,
   c.self.invariant.1
-      ∙ sym (len_put (map_of payload_kept c.self.inside.rows.items) c.args.number (payload_kept c.args.part) true (sym c.if-not-put_row.false ∙ c.put_row.ensures.held))
+      ∙ sym (len_put (map_of payload_kept c.self.inside.rows.items) c.args.number (payload_kept c.args.part) true
+      (sym c.if-not-put_row.false ∙ c.put_row.ensures.held))
       ∙ ap map.len (sym c.put_row.ensures.payloads),
 )

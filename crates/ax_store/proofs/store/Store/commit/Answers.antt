@@ -12,7 +12,8 @@ returns-in_default-clause-any_moment g c = λ honest works new lead.
     let can = can_from c.args.batch.text (c.args.batch.can c.requires.sealed) in
     let text = text_of c.args.batch.frame.items c.args.batch.text can (c.args.batch.spelled c.requires.sealed) in
     turns g.C.PageCache.pages c.args.self.now _ agrees c.args.batch.text can _ new lead
-    (c.commit.ensures.any_moment honest agrees.frames (parts_bytes c.args.batch.text) agrees.logged (subst (λ bytes. IsCommitSpelling bytes (parts_bytes c.args.batch.text)) (sym c.deref.ensures.value) text))
+    (c.commit.ensures.any_moment honest agrees.frames (parts_bytes c.args.batch.text) agrees.logged
+    (subst (λ bytes. IsCommitSpelling bytes (parts_bytes c.args.batch.text)) (sym c.deref.ensures.value) text))
 
 pub put_changes-requires-clause-within : goal.put_changes-requires-clause-within
 put_changes-requires-clause-within g c = subst (λ parts. AreWithin parts c.args.self.now.pages.contents) c.args.batch.same c.requires.within
@@ -25,7 +26,9 @@ returns-clause-agrees g c = λ honest.
     let agrees = c.requires.agrees honest c.if-self.false in
     let can = can_from c.args.batch.text (c.args.batch.can c.requires.sealed) in
     let text = text_of c.args.batch.frame.items c.args.batch.text can (c.args.batch.spelled c.requires.sealed) in
-    let logged = c.in-Ok.ensures.acknowledged honest agrees.frames (parts_bytes c.args.batch.text) agrees.logged (subst (λ bytes. IsCommitSpelling bytes (parts_bytes c.args.batch.text)) (sym c.deref.ensures.value) text) in
+    let logged =
+    c.in-Ok.ensures.acknowledged honest agrees.frames (parts_bytes c.args.batch.text) agrees.logged
+    (subst (λ bytes. IsCommitSpelling bytes (parts_bytes c.args.batch.text)) (sym c.deref.ensures.value) text) in
     let puts = subst (λ parts. Puts parts (c.end-at.result + 9) c.args.self.now.pages c.put_changes.new.pages) (sym c.args.batch.same) c.put_changes.ensures in
     committed g.C.PageCache.pages c.args.self.now _ agrees c.args.batch.text can _ _ logged
     (subst (λ end. Puts c.args.batch.text (end + 9) c.args.self.now.pages c.put_changes.new.pages) c.end-at.ensures puts)
@@ -37,7 +40,8 @@ returns-clause-any_moment g c = λ honest works new lead.
     let can = can_from c.args.batch.text (c.args.batch.can c.requires.sealed) in
     let text = text_of c.args.batch.frame.items c.args.batch.text can (c.args.batch.spelled c.requires.sealed) in
     turns g.C.PageCache.pages c.args.self.now _ agrees c.args.batch.text can _ new lead
-    (c.commit.ensures.any_moment honest agrees.frames (parts_bytes c.args.batch.text) agrees.logged (subst (λ bytes. IsCommitSpelling bytes (parts_bytes c.args.batch.text)) (sym c.deref.ensures.value) text))
+    (c.commit.ensures.any_moment honest agrees.frames (parts_bytes c.args.batch.text) agrees.logged
+    (subst (λ bytes. IsCommitSpelling bytes (parts_bytes c.args.batch.text)) (sym c.deref.ensures.value) text))
 
 pub returns-in_default-clause-frames : goal.returns-in_default-clause-frames
 returns-in_default-clause-frames g c = λ honest works frames has.
@@ -46,7 +50,8 @@ returns-in_default-clause-frames g c = λ honest works frames has.
     let text = text_of c.args.batch.frame.items c.args.batch.text can (c.args.batch.spelled c.requires.sealed) in
     turned_frames g.C.PageCache.pages c.args.self.now _ _ agrees
     (g.met.D.Disk.reads_may_stay c.args.disk.now (g.D.Disk.attached c.args.disk.now) honest) frames (parts_bytes c.args.batch.text) has
-    (c.commit.ensures.any_moment honest agrees.frames (parts_bytes c.args.batch.text) agrees.logged (subst (λ bytes. IsCommitSpelling bytes (parts_bytes c.args.batch.text)) (sym c.deref.ensures.value) text))
+    (c.commit.ensures.any_moment honest agrees.frames (parts_bytes c.args.batch.text) agrees.logged
+    (subst (λ bytes. IsCommitSpelling bytes (parts_bytes c.args.batch.text)) (sym c.deref.ensures.value) text))
 
 pub returns-in_default-clause-fit : goal.returns-in_default-clause-fit
 returns-in_default-clause-fit g c = (can_from c.args.batch.text (c.args.batch.can c.requires.sealed)).fit
@@ -58,7 +63,8 @@ returns-clause-frames g c = λ honest works frames has.
     let text = text_of c.args.batch.frame.items c.args.batch.text can (c.args.batch.spelled c.requires.sealed) in
     turned_frames g.C.PageCache.pages c.args.self.now _ _ agrees
     (g.met.D.Disk.reads_may_stay c.args.disk.now (g.D.Disk.attached c.args.disk.now) honest) frames (parts_bytes c.args.batch.text) has
-    (c.commit.ensures.any_moment honest agrees.frames (parts_bytes c.args.batch.text) agrees.logged (subst (λ bytes. IsCommitSpelling bytes (parts_bytes c.args.batch.text)) (sym c.deref.ensures.value) text))
+    (c.commit.ensures.any_moment honest agrees.frames (parts_bytes c.args.batch.text) agrees.logged
+    (subst (λ bytes. IsCommitSpelling bytes (parts_bytes c.args.batch.text)) (sym c.deref.ensures.value) text))
 
 pub returns-clause-fit : goal.returns-clause-fit
 returns-clause-fit g c = (can_from c.args.batch.text (c.args.batch.can c.requires.sealed)).fit

@@ -9,12 +9,17 @@ pub returns-clause-text : goal.returns-clause-text
 returns-clause-text g c = λ honest.
     let agrees = c.requires.agrees honest c.if-self.false in
     let part = c.in-Some.part.now in
-    let is = text_readable g.C.PageCache.pages c.args.self.now _ agrees c.args.self.now.log.small (offset_kept part) c.text_place-from.result.0 c.text_place-from.result.1 (payload_kept part) c.args.number
+    let is = text_readable g.C.PageCache.pages c.args.self.now _ agrees c.args.self.now.log.small
+    (offset_kept part) c.text_place-from.result.0 c.text_place-from.result.1 (payload_kept part) c.args.number
     c.in-Some.ensures.payload c.in-Some.ensures.offset c.text_place-from.ensures.from c.text_place-from.ensures.len in
     let frame = c.read_bytes.new.frame in
-    let long : length frame ≡ c.in-Ok.text.len = omega (arith, c.read_bytes.auto.frame, ap length c.deref_mut.ensures.value, c.in-Ok.text.ok.0, c.in-Ok.ensures) in
-    let same : length frame ≡ length (drop 1 (payload_kept part)) = omega (arith, c.read_bytes.auto.frame, ap length c.deref_mut.ensures.value, c.in-Ok.text.ok.0, c.in-Ok.ensures, is.len_is) in
-    let whole : frame ≡ drop 1 (payload_kept part) = whole_frame frame (drop 1 (payload_kept part)) same (is.begins frame (c.in-Ok-read_bytes.ensures.read honest agrees.frames agrees.logged agrees.caches is.within)) in
+    let long : length frame ≡ c.in-Ok.text.len =
+    omega (arith, c.read_bytes.auto.frame, ap length c.deref_mut.ensures.value, c.in-Ok.text.ok.0, c.in-Ok.ensures) in
+    let same : length frame ≡ length (drop 1 (payload_kept part)) =
+    omega (arith, c.read_bytes.auto.frame, ap length c.deref_mut.ensures.value, c.in-Ok.text.ok.0, c.in-Ok.ensures, is.len_is) in
+    let whole : frame ≡ drop 1 (payload_kept part) =
+    whole_frame frame (drop 1 (payload_kept part)) same
+    (is.begins frame (c.in-Ok-read_bytes.ensures.read honest agrees.frames agrees.logged agrees.caches is.within)) in
     ap (λ (bytes : List ℕ). Some bytes) (take_at frame (drop (length frame) c.in-Ok.text.items) c.in-Ok.text.len long ∙ whole)
     ∙ ap (option_map (λ (payload : List ℕ). drop 1 payload)) c.in-Some.ensures.payload
 
@@ -22,6 +27,8 @@ pub returns-clause-agrees : goal.returns-clause-agrees
 returns-clause-agrees g c = λ honest works.
     let agrees = c.requires.agrees honest works in
     let part = c.in-Some.part.now in
-    let is = text_readable g.C.PageCache.pages c.args.self.now _ agrees c.args.self.now.log.small (offset_kept part) c.text_place-from.result.0 c.text_place-from.result.1 (payload_kept part) c.args.number
+    let is = text_readable g.C.PageCache.pages c.args.self.now _ agrees c.args.self.now.log.small
+    (offset_kept part) c.text_place-from.result.0 c.text_place-from.result.1 (payload_kept part) c.args.number
     c.in-Some.ensures.payload c.in-Some.ensures.offset c.text_place-from.ensures.from c.text_place-from.ensures.len in
-    agrees_read g.C.PageCache.pages c.args.self.now _ _ _ agrees refl refl (c.read_bytes.ensures.caches honest agrees.frames agrees.logged agrees.caches is.within) (c.read_bytes.ensures.lists honest)
+    agrees_read g.C.PageCache.pages c.args.self.now _ _ _ agrees refl refl
+    (c.read_bytes.ensures.caches honest agrees.frames agrees.logged agrees.caches is.within) (c.read_bytes.ensures.lists honest)

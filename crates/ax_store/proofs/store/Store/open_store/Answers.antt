@@ -11,7 +11,8 @@ pub returns-in-Ok-make-clause-tells : goal.returns-in-Ok-make-clause-tells
 returns-in-Ok-make-clause-tells g c = λ honest.
     let opened = c.in-Ok.ensures.tells honest in
     let still = subst IsTrue (sym c.open_log.ensures.honest) honest in
-    load_opened g.C.PageCache.pages _ _ _ _ opened (c.in-Ok-load.ensures.tells still opened.frames opened.agrees) (c.load.ensures.lists still) c.requires.empty refl
+    load_opened g.C.PageCache.pages _ _ _ _ opened (c.in-Ok-load.ensures.tells still opened.frames opened.agrees)
+    (c.load.ensures.lists still) c.requires.empty refl
 
 pub returns-in-Ok-make-clause-any_moment : goal.returns-in-Ok-make-clause-any_moment
 returns-in-Ok-make-clause-any_moment g c = λ honest contents has.
@@ -29,7 +30,8 @@ pub returns-in-Err-load-clause-refused : goal.returns-in-Err-load-clause-refused
 returns-in-Err-load-clause-refused g c = λ honest refused.
     let opened = c.in-Ok.ensures.tells honest in
     let still = subst IsTrue (sym c.open_log.ensures.honest) honest in
-    load_keeps c.in-Err-load.fault c.in-Ok.log _ _ _ opened (c.in-Err-load.ensures.tells still opened.frames opened.agrees) (c.open_log.ensures.unchanged honest) (c.load.ensures.lists still) refused
+    load_keeps c.in-Err-load.fault c.in-Ok.log _ _ _ opened (c.in-Err-load.ensures.tells still opened.frames opened.agrees)
+    (c.open_log.ensures.unchanged honest) (c.load.ensures.lists still) refused
 
 pub returns-in-Err-load-clause-any_moment : goal.returns-in-Err-load-clause-any_moment
 returns-in-Err-load-clause-any_moment g c = λ honest contents has.

@@ -10,7 +10,8 @@ pub returns-clause-text : goal.returns-clause-text
 returns-clause-text g c = λ honest.
     let agrees = c.requires.agrees honest c.if-self.false in
     let part = c.in-Some.part.now in
-    let is = text_readable g.C.PageCache.pages c.args.self.now _ agrees c.args.self.now.log.small (offset_kept part) c.text_place-from.result.0 c.text_place-from.result.1 (payload_kept part) c.args.number
+    let is = text_readable g.C.PageCache.pages c.args.self.now _ agrees c.args.self.now.log.small
+    (offset_kept part) c.text_place-from.result.0 c.text_place-from.result.1 (payload_kept part) c.args.number
     c.in-Some.ensures.payload c.in-Some.ensures.offset c.text_place-from.ensures.from c.text_place-from.ensures.len in
     subst (λ held. IsFetched held c.load.new.pool c.args.slot.now.number (Some c.text_place-from.result.1)) c.in-Some.ensures.payload
     (record {
@@ -22,6 +23,8 @@ pub returns-clause-agrees : goal.returns-clause-agrees
 returns-clause-agrees g c = λ honest works.
     let agrees = c.requires.agrees honest works in
     let part = c.in-Some.part.now in
-    let is = text_readable g.C.PageCache.pages c.args.self.now _ agrees c.args.self.now.log.small (offset_kept part) c.text_place-from.result.0 c.text_place-from.result.1 (payload_kept part) c.args.number
+    let is = text_readable g.C.PageCache.pages c.args.self.now _ agrees c.args.self.now.log.small
+    (offset_kept part) c.text_place-from.result.0 c.text_place-from.result.1 (payload_kept part) c.args.number
     c.in-Some.ensures.payload c.in-Some.ensures.offset c.text_place-from.ensures.from c.text_place-from.ensures.len in
-    agrees_read g.C.PageCache.pages c.args.self.now _ _ _ agrees refl refl (c.load.ensures.caches honest agrees.frames agrees.logged agrees.caches is.within) (c.load.ensures.lists honest)
+    agrees_read g.C.PageCache.pages c.args.self.now _ _ _ agrees refl refl
+    (c.load.ensures.caches honest agrees.frames agrees.logged agrees.caches is.within) (c.load.ensures.lists honest)
