@@ -29,11 +29,11 @@ use Rattle.ax_pairs.proofs.PairOrder.{NotAfter, both_ways, not_after_then, not_b
 use Rattle.ax_pairs.proofs.Leading.{lead_nothing, lead_then}
 use Rattle.ax_store.specs.Kept.{deltas_of}
 use Rattle.ax_index.specs.Bare.{has_deltas, with_deltas}
-use Rattle.ax_index.specs.Carried.{HasLowPair, HasSome}
-use Rattle.ax_index.specs.Merging.{IsStuck, IsMergePlan, IsPassed, IsReady, IsBehind, IsMergedTo}
+use Rattle.ax_index.specs.Carried.{HasLowPair, HasSome, bases_put}
+use Rattle.ax_index.specs.Merging.{IsStuck, IsMergePlan, IsPassed, IsReady, IsBehind, IsMergedTo, bases_due}
 use Rattle.ax_index.specs.PageSizes.{NeedsTooMany}
 use Rattle.ax_index.specs.Planning.{IsUpTo, IsPageDone, IsPagePlanned}
-use Rattle.ax_index.proofs.CarriedLemmas.{same_bases}
+use Rattle.ax_index.proofs.CarriedLemmas.{later_bases, same_bases}
 use Rattle.ax_index.proofs.DeltaRunLemmas.{carry_nothing}
 use Rattle.ax_index.proofs.Lists.{deltas_more}
 use Rattle.ax_index.proofs.PlanningLemmas.{as_number, done_by_deltas, of_now, up_behind}
@@ -175,6 +175,33 @@ merged_one {honest = honest} page at before merged next later old here new behin
             (planned.done.bare refl) planned.done.same planned.done.new_bare,
       );
       next_is = planned.next_is;
+      each = λ n h.
+          ⊎_elim
+          (λ (e : n ≡ page).
+          subst
+          (λ (k : ℕ). length (bases_put k (is.parts ++ planned.parts))
+          ≡ bases_due (has_deltas (term_page k before)) (has_deltas (term_page k planned.after)))
+          (sym e) (here_due up planned there))
+          (λ (apart : n ≡ page → ⊥).
+          ap (λ (ps : List (List ℕ)). length ps)
+          (same_bases n is.parts planned.parts (planned.done.elsewhere n (omega (arith, h, is.longer)) apart))
+          ∙ is.each n h
+          ∙ ap (λ (t : TermPage). bases_due (has_deltas (term_page n before)) (has_deltas t))
+          (sym (planned.done.same n (omega (arith, h, is.longer)) apart)))
+          (cases_eq n page);
+      new_own = λ n from below.
+          ⊎_elim
+          (λ (l : n < length is.now).
+          ap (λ (ps : List (List ℕ)). length ps)
+          (same_bases n is.parts planned.parts (planned.done.elsewhere n l (λ e. omega (arith, e, from, there))))
+          ∙ is.new_own n from l)
+          (λ (l : length is.now ≤ n).
+          ap (λ (ps : List (List ℕ)). length ps) (later_bases n is.parts planned.parts (is.none_past n l))
+          ∙ planned.done.new_own n l below)
+          (cases_lt n (length is.now));
+      none_past = λ n past.
+          later_bases n is.parts planned.parts (is.none_past n (omega (arith, past, planned.done.longer)))
+          ∙ planned.done.none_past n past;
       new_with = λ n from below.
           ⊎_elim
           (λ (l : n < length is.now).
@@ -195,7 +222,8 @@ merged_one {honest = honest} page at before merged next later old here new behin
           (omega (
             arith,
             based,
-            ap (λ (ps : List (List ℕ)). length ps) (same_bases n is.parts planned.parts (planned.done.elsewhere n h apart)),
+            ap (λ (ps : List (List ℕ)). length ps)
+                (same_bases n is.parts planned.parts (planned.done.elsewhere n (omega (arith, h, is.longer)) apart)),
           ))
           p of member))
           (cases_eq n page);
@@ -218,6 +246,17 @@ merged_one {honest = honest} page at before merged next later old here new behin
         (λ (apart : number ≡ page → ⊥). planned.done.deltas number apart)
         (cases_eq number page)
 
+    -- of the page that is merged: one base, and no deltas then
+    here_due : (up : IsUpTo (low_pair page before) before is.now is.parts)
+        → (planned : IsPagePlanned honest page [] before is.now true later (λ number. 0) here new) → page < length before
+        → length (bases_put page (is.parts ++ planned.parts)) ≡ bases_due (has_deltas (term_page page before)) (has_deltas (term_page page planned.after))
+    here_due up planned there =
+        ap (λ (ps : List (List ℕ)). length ps)
+        (later_bases page is.parts planned.parts
+        (up.no_bases page there (λ less. less_apart (low_pair page before) (low_pair page before) less refl)))
+        ∙ planned.done.put.0
+        ∙ sym (ap (λ (b : Bool). bases_due b (has_deltas (term_page page planned.after))) deltas ∙ ap (bases_due true) (planned.done.bare refl))
+
     not_still : {b : Bool} → b ≡ false → b ≡ true → ⊥
     not_still none so = absurd (cc)
 
@@ -237,6 +276,9 @@ left_one {honest = honest} page at before merged next old here behind is stuck_h
       no_deltas = is.no_deltas;
       fewer = is.fewer;
       next_is = is.next_is;
+      each = is.each;
+      new_own = is.new_own;
+      none_past = is.none_past;
       new_with = is.new_with;
       filled = is.filled;
       ready = subst (λ (ps : List PartValue). IsReady at before is.now ps) (append-nil is.parts)
@@ -253,6 +295,11 @@ left_one {honest = honest} page at before merged next old here behind is stuck_h
 
 -- ---- at the beginning and at the end
 
+-- a page that is as it was is due no base
+none_due : (b : Bool) → 0 ≡ bases_due b b
+none_due true = refl
+none_due false = refl
+
 pub merged_none : {honest : Bool} (page : ℕ) (before : List TermPage) (next : ℕ) (old : List PartValue) → IsPageOf first_pair page before → next ≡ length before → IsMergedTo honest (Some page) before 0 next old old
 merged_none page before next old of next_is = record {
   parts = [];
@@ -264,6 +311,9 @@ merged_none page before next old of next_is = record {
   no_deltas = λ number. refl;
   fewer = omega arith;
   next_is = next_is;
+  each = λ n h. none_due (has_deltas (term_page n before));
+  new_own = λ n from below. absurd (omega arith);
+  none_past = λ n past. refl;
   new_with = λ n from below. absurd (omega arith);
   filled = λ told set index n h some p of member. absurd (omega (arith, some));
   ready = (
@@ -293,6 +343,9 @@ merged_all before asked merged next old new is most = record {
   fewer = is.fewer;
   at_most = most;
   finished = λ less number h. is.stuck number h tt;
+  each = is.each;
+  new_own = is.new_own;
+  none_past = is.none_past;
   new_with = is.new_with;
   filled = is.filled;
 }

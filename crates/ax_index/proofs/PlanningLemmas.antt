@@ -125,7 +125,9 @@ done_by_deltas page changes before now after parts belong there carry few = reco
   same = λ n h apart. carry.same n apart;
   deltas = carry.deltas;
   bases = carry.no_bases (length before);
-  elsewhere = λ n h apart. no_bases_put n (length before) parts h (carry.no_bases (length before));
+  elsewhere = λ n h apart. none_put n;
+  new_own = λ n from below. absurd (omega (arith, carry.lows.many));
+  none_past = λ n past. none_put n;
   put = (
     no_bases_put page (length before) parts there (carry.no_bases (length before)),
     record { are = carry.are; one = λ more. few (omega (arith, more, many_deltas page parts)) },
@@ -136,6 +138,9 @@ done_by_deltas page changes before now after parts belong there carry few = reco
   new_bare = λ n from below. absurd (omega (arith, carry.lows.many));
   holds = λ told set is. carry.holds set is belong;
 }
+  where
+    none_put : (n : ℕ) → bases_put n parts ≡ []
+    none_put n = no_bases_put n (n + 1) parts (omega arith) (carry.no_bases (n + 1))
 
 pub done_by_bases : {honest : Bool} (page : ℕ) (changes : List Change) (before now after : List TermPage) (parts earlier : List PartValue) (pairs list : List Pair)
     → page < length before → IsUpTo (low_pair page before) before now earlier → Rise (changed_pairs changes) → AllBelong (changed_pairs changes) page now
@@ -150,7 +155,9 @@ done_by_bases {honest = honest} page changes before now after parts earlier pair
   same = is.same;
   deltas = λ n apart. is.no_deltas n;
   bases = is.one_base (length before) there up.longer;
-  elsewhere = λ n h apart. is.elsewhere n (omega (arith, up.longer)) apart;
+  elsewhere = is.elsewhere;
+  new_own = is.new_own;
+  none_past = is.none_past;
   put = (is.own, no_deltas_put page parts (is.no_deltas page));
   new_with = is.new_with;
   filled = λ merged told set index p of member.
@@ -199,7 +206,10 @@ planned_none changes before room old = record {
   enough = λ number. omega arith;
   passed = λ page first p h. absurd (cc);
   each = λ apart number h. settled_none number before;
+  longer = omega arith;
   new_without = λ number from. refl;
+  new_own = λ number from below. absurd (omega arith);
+  none_past = λ number past. refl;
   new_with = λ number from below. absurd (omega arith);
   filled = λ told set index number h some p of member. absurd (omega (arith, some));
 }
@@ -233,7 +243,7 @@ up_behind page after other changes before now new parts more merged up done behi
       none = λ n h from. omega (arith, deltas_more n parts more, up.none n h (lower n from), done.deltas n (apart n from));
       no_bases = λ n h from.
           bases_put_more n parts more
-          ∙ ap (λ (ps : List (List ℕ)). ps ++ bases_put n more) (up.no_bases n h (lower n from)) ∙ done.elsewhere n h (apart n from);
+          ∙ ap (λ (ps : List (List ℕ)). ps ++ bases_put n more) (up.no_bases n h (lower n from)) ∙ done.elsewhere n (omega (arith, h, up.longer)) (apart n from);
     }
 
 abbrev pub as_number : Bool → ℕ
@@ -305,7 +315,7 @@ module _ {honest : Bool} (changes run behind : List Change) (before : List TermP
       (up.no_bases page there same_page) (no_deltas_put page is.parts (up.none page there same_page)) planned.done.put))
       (λ (apart : number ≡ page → ⊥).
       settled_other page before is.done run is.parts planned.parts belong number are apart
-      (planned.done.elsewhere number h apart) (no_deltas_put number planned.parts (planned.done.deltas number apart)) (is.each are number h))
+      (planned.done.elsewhere number (omega (arith, h, up.longer)) apart) (no_deltas_put number planned.parts (planned.done.deltas number apart)) (is.each are number h))
       (cases_eq number page)
 
   filled_now : IsTrue honest → (set : PairSet) → IsIndex before set → (number : ℕ) → number < length before
@@ -328,7 +338,7 @@ module _ {honest : Bool} (changes run behind : List Change) (before : List TermP
       twice))
       (λ (apart : number ≡ page → ⊥).
       let bases : bases_put number (is.parts ++ planned.parts) ≡ bases_put number is.parts =
-      same_bases number is.parts planned.parts (planned.done.elsewhere number h apart)
+      same_bases number is.parts planned.parts (planned.done.elsewhere number (omega (arith, h, up.longer)) apart)
       in
       subst HasSome (sym (planned.done.same number (omega (arith, h, up.longer)) apart))
       (is.filled told set index number h (omega (arith, based, ap (λ (ps : List (List ℕ)). length ps) bases)) p of
@@ -337,6 +347,19 @@ module _ {honest : Bool} (changes run behind : List Change) (before : List TermP
 
   not_page : (number : ℕ) → length before ≤ number → number ≢ page
   not_page number from e = omega (arith, e, from, there)
+
+  -- a new page has one base: of the parts that were put before, or of these
+  new_own_now : (number : ℕ) → length before ≤ number → number < length planned.after → length (bases_put number (is.parts ++ planned.parts)) ≡ 1
+  new_own_now number from below =
+      ⊎_elim
+      (λ (l : number < length is.now).
+      ap (λ (ps : List (List ℕ)). length ps)
+      (same_bases number is.parts planned.parts (planned.done.elsewhere number l (not_page number from)))
+      ∙ is.new_own number from l)
+      (λ (l : length is.now ≤ number).
+      ap (λ (ps : List (List ℕ)). length ps) (later_bases number is.parts planned.parts (is.none_past number l))
+      ∙ planned.done.new_own number l below)
+      (cases_lt number (length is.now))
 
   pub planned_more : IsPlannedTo honest changes behind before (merged + as_number is_merged) later more old new
   planned_more = record {
@@ -357,6 +380,11 @@ module _ {honest : Bool} (changes run behind : List Change) (before : List TermP
     passed = passed_behind;
     each = each_now;
     filled = filled_now;
+    longer = omega (arith, is.longer, planned.done.longer);
+    new_own = new_own_now;
+    none_past = λ number past.
+        later_bases number is.parts planned.parts (is.none_past number (omega (arith, past, planned.done.longer)))
+        ∙ planned.done.none_past number past;
     new_without = λ number from.
         omega (arith, deltas_more number is.parts planned.parts, is.new_without number from, planned.done.deltas number (not_page number from));
     new_with = λ number from below.
@@ -381,6 +409,8 @@ planned_all changes before merged next room old new is few = record {
   each = λ apart number h.
       subst (λ (made : List Change). IsSettled number before made is.parts) (sym (is.whole ∙ append-nil is.done)) (is.each apart number h);
   new_without = λ number from. no_deltas_put number is.parts (is.new_without number from);
+  new_own = is.new_own;
+  none_past = is.none_past;
   new_with = is.new_with;
   filled = λ told set index number h some p of member.
       is.filled told set index number h some p of (subst (λ (made : List Change). with_changes made set p ≡ true) (is.whole ∙ append-nil is.done) member);

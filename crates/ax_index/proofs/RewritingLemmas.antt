@@ -29,7 +29,7 @@ use Rattle.ax_pairs.proofs.SplitOff.{with_list, split_off}
 use Rattle.ax_index.specs.Bare.{has_deltas}
 use Rattle.ax_index.specs.Carried.{HasLowPair, HasSome, bases_put}
 use Rattle.ax_index.specs.Rewriting.{without, Replaces, Rewrites}
-use Rattle.ax_index.proofs.CarriedLemmas.{bases_put_more, no_base_of, one_base_put}
+use Rattle.ax_index.proofs.CarriedLemmas.{bases_put_more, later_bases, no_base_of, one_base_put, same_bases}
 use Rattle.ax_index.proofs.Lists.{deltas_more, bases_more, has_more, in_first, in_second, not_in_first, first_of_list, rises_back, one_before, not_in_both, not_in_other, first_least}
 
 -- ---- the base of the page itself
@@ -83,6 +83,8 @@ module _ (page : ℕ) (first rest : List Pair) (now : List TermPage) (payload : 
     one_base = λ count below within. ap (λ (b : Bool). cond b 1 0 + 0) (lt-ltb page count below);
     own = ap (λ (ps : List (List ℕ)). length ps) (one_base_put page payload);
     elsewhere = λ n h apart. no_base_of page n payload apart;
+    new_own = λ n from below. absurd (omega (arith, lows_first.many));
+    none_past = λ n past. no_base_of page n payload (λ e. omega (arith, e, past, lows_first.many, there));
     new_with = λ n from below. absurd (omega (arith, lows_first.many));
     filled = λ h.
         subst HasSome
@@ -205,6 +207,21 @@ module _ (page : ℕ) (list : List Pair) (q : Pair) (piece rest : List Pair) (no
         bases_put_more n parts (base_part (length old) payload ∷ [])
         ∙ ap (λ (ps : List (List ℕ)). bases_put n parts ++ ps) (no_base_of (length old) n payload (λ e. omega (arith, e, h, is.longer)))
         ∙ append-nil (bases_put n parts) ∙ is.elsewhere n h apart;
+    new_own = λ n from below.
+        ⊎_elim
+        (λ (e : n ≡ length old).
+        subst (λ (k : ℕ). length (bases_put k (parts ++ base_part (length old) payload ∷ [])) ≡ 1) (sym e)
+        (ap (λ (ps : List (List ℕ)). length ps)
+        (later_bases (length old) parts (base_part (length old) payload ∷ []) (is.none_past (length old) (omega arith))
+        ∙ one_base_put (length old) payload)))
+        (λ (l : n < length old).
+        ap (λ (ps : List (List ℕ)). length ps)
+        (same_bases n parts (base_part (length old) payload ∷ []) (no_base_of (length old) n payload (λ e. omega (arith, e, l))))
+        ∙ is.new_own n from l)
+        (last_or_before n below);
+    none_past = λ n past.
+        later_bases n parts (base_part (length old) payload ∷ []) (is.none_past n (omega (arith, past, one_more old new_page)))
+        ∙ no_base_of (length old) n payload (λ e. omega (arith, e, past, one_more old new_page));
     new_with = λ n from below.
         ⊎_elim
         (λ (e : n ≡ length old).

@@ -62,7 +62,9 @@ pub record IsPageDone (honest : Bool) (page : ℕ) (changes : List Change) (befo
   pub same : (n : ℕ) → n < length now → n ≢ page → term_page n after ≡ term_page n now
   pub deltas : (n : ℕ) → n ≢ page → deltas_of n parts ≡ 0
   pub bases : bases_below (length before) parts ≡ (if merged then 1 else 0)
-  pub elsewhere : (n : ℕ) → n < length before → n ≢ page → bases_put n parts ≡ []
+  pub elsewhere : (n : ℕ) → n < length now → n ≢ page → bases_put n parts ≡ []
+  pub new_own : (n : ℕ) → length now ≤ n → n < length after → length (bases_put n parts) ≡ 1
+  pub none_past : (n : ℕ) → length after ≤ n → bases_put n parts ≡ []
   pub put : IsPutBy merged changes (bases_put page parts) (deltas_put page parts)
   pub new_with : (n : ℕ) → length now ≤ n → n < length after → HasLowPair (term_page n after)
   pub filled : merged ≡ true → IsTrue honest → (set : PairSet) → IsIndex now set → (p : Pair) → IsPageOf p page now
@@ -100,7 +102,10 @@ pub record IsPlannedTo (honest : Bool) (changes rest : List Change) (before : Li
   pub enough : (number : ℕ) → deltas_of number parts ≤ room number
   pub passed : (page : ℕ) → IsFirstOf rest page before → AreBefore (changed_pairs done) (low_pair page before)
   pub each : AreApart before → (number : ℕ) → number < length before → IsSettled number before done parts
+  pub longer : length before ≤ length now
   pub new_without : (number : ℕ) → length before ≤ number → deltas_of number parts ≡ 0
+  pub new_own : (number : ℕ) → length before ≤ number → number < length now → length (bases_put number parts) ≡ 1
+  pub none_past : (number : ℕ) → length now ≤ number → bases_put number parts ≡ []
   pub new_with : (number : ℕ) → length before ≤ number → number < length now → HasLowPair (term_page number now)
   pub filled : IsTrue honest → (set : PairSet) → IsIndex before set → (number : ℕ) → number < length before
       → 0 < length (bases_put number parts) → (p : Pair) → IsPageOf p number before → with_changes done set p ≡ true
