@@ -13,12 +13,12 @@ ghost use Rattle.ax_pairs.specs.PagePairs.{HasPairs};
 ghost use Rattle.ax_pairs.specs.PairSets.{PairSet};
 ghost use Rattle.ax_pool.specs.Frames.{free_count};
 ghost use Rattle.ax_store.specs.Faults.{HasDiskCause};
-ghost use Rattle.ax_store.specs.Slots.{IsSlotOf};
+ghost use Rattle.ax_store.specs.Slots.{AreOthersSame, IsSlotOf};
 ghost use Rattle.ax_store.specs.Store.{AgreesUnlessFailed, store_contents, store_slots, store_failed};
 ghost use Rattle.ax_term.specs.Ranges.{is_in_range};
 ghost use Rattle.ax_index.specs.Damage.{FailsBy, TellsPart};
 ghost use Rattle.ax_index.specs.Reading.{Gathers, IsAhead, numbers_of, pages_after};
-ghost use Rattle.ax_index.specs.Reads.{Reads};
+ghost use Rattle.ax_index.specs.Reads.{KeepsTaken, Reads};
 ghost use Rattle.ax_index.specs.Wanted.{AreNumbersIn, HasIn};
 
 use crate::folding::folded;
@@ -52,6 +52,7 @@ pub fn pairs_in<D: Disk, C: PageCache>(
     ensures reads { Reads C.pages (D.is_honest disk.old) store.old store.new
         (D.history disk.old (D.attached disk.old)) (D.history disk.new (D.attached disk.new))
         (D.faults disk.old) (D.faults disk.new) }
+    ensures others { KeepsTaken (store_slots store.old) (store_slots store.new) }
     ensures fails { FailsBy result (store_failed store.old) (store_failed store.new) }
     ensures cause { store_failed store.old ≡ false → HasDiskCause result (D.faults disk.old) (D.faults disk.new) }
     ensures attached { D.attached disk.new ≡ D.attached disk.old }
@@ -81,6 +82,7 @@ fn numbers_by<D: Disk, C: PageCache>(
     ensures rising { IfOk result (λ numbers. IsRisingList numbers.items) }
     ensures told { IsTrue (D.is_honest disk.old) → IfErr result (TellsPart store.old) }
     ensures slot { slot.new ≡ slot.old }
+    ensures others { AreOthersSame slot.old.number (store_slots store.old) (store_slots store.new) }
     ensures reads { Reads C.pages (D.is_honest disk.old) store.old store.new
         (D.history disk.old (D.attached disk.old)) (D.history disk.new (D.attached disk.new))
         (D.faults disk.old) (D.faults disk.new) }
@@ -121,6 +123,7 @@ fn gathered<D: Disk, C: PageCache>(
         → IfOk result (λ numbers. (number : ℕ) → (has_number number numbers.items ≡ true) ↔ HasIn range.now set number) }
     ensures told { IsTrue (D.is_honest disk.old) → IfErr result (TellsPart store.old) }
     ensures slot { slot.new ≡ slot.old }
+    ensures others { AreOthersSame slot.old.number (store_slots store.old) (store_slots store.new) }
     ensures reads { Reads C.pages (D.is_honest disk.old) store.old store.new
         (D.history disk.old (D.attached disk.old)) (D.history disk.new (D.attached disk.new))
         (D.faults disk.old) (D.faults disk.new) }
@@ -190,6 +193,7 @@ fn gather<D: Disk, C: PageCache>(
         → OnOk result (Gathers range.now pairs numbers.old.items numbers.new.items) }
     ensures told { IsTrue (D.is_honest disk.old) → IfErr result (TellsPart store.old) }
     ensures slot { slot.new ≡ slot.old }
+    ensures others { AreOthersSame slot.old.number (store_slots store.old) (store_slots store.new) }
     ensures reads { Reads C.pages (D.is_honest disk.old) store.old store.new
         (D.history disk.old (D.attached disk.old)) (D.history disk.new (D.attached disk.new))
         (D.faults disk.old) (D.faults disk.new) }

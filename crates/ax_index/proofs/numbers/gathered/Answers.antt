@@ -4,8 +4,9 @@ use Rattle.ax_pages.specs.Contents.{Contents, TermPage}
 use Rattle.ax_store.specs.Store.{store_contents}
 use Rattle.ax_index.proofs.CallLemmas.{fails_as, rose_later}
 use Rattle.ax_index.proofs.Gathering.{IsGathered, step_by, stop}
-use Rattle.ax_index.proofs.ReadsLaws.{agrees_told, nothing_read, of_honest, read_then}
+use Rattle.ax_index.proofs.ReadsLaws.{agrees_told, nothing_read, of_honest, others_itself, others_then, read_then}
 use Rattle.ax_index.proofs.Unmoved.{same_contents}
+use Rattle.ax_pool.specs.declared.slot.Slot.{Slot}
 use Rattle.ax_index.proofs.numbers.gathered.Goals as goal
 
 pub loop-next-init : goal.loop-next-init
@@ -15,6 +16,7 @@ loop-next-init g c = record {
   reads = nothing_read g.C.PageCache.pages _ c.args.store.now _ _ c.requires.agrees;
   failed = refl;
   slot = search rules;
+  others = others_itself _ _;
   attached = search rules;
   honest = search rules;
 }
@@ -43,6 +45,7 @@ loop-next-preserved g c =
           (of_honest g.C.PageCache.pages _ _ inv.honest _ _ _ _ _ _ more.reads);
       failed = more.fails ∙ inv.failed;
       slot = more.slot ∙ inv.slot;
+      others = others_then _ _ _ _ _ (ap (λ (slot : Slot). slot.number) inv.slot) inv.others more.others;
       attached = more.attached ∙ inv.attached;
       honest = more.honest ∙ inv.honest;
     }
@@ -63,3 +66,7 @@ pub returns-clause-numbers : goal.returns-clause-numbers
 returns-clause-numbers g c = λ told set is.
     stop c.args.range.now set (store_contents c.args.store.now).terms c.loop-next.next c.loop-next.numbers.items c.in_default.is
     (c.loop-next.invariant.gathered told set is)
+
+pub returns-in-Err-clause-others : goal.returns-in-Err-clause-others
+returns-in-Err-clause-others g c =
+    others_then _ _ _ _ _ (ap (λ (slot : Slot). slot.number) c.loop-next.invariant.slot) c.loop-next.invariant.others c.in-Err.ensures.others

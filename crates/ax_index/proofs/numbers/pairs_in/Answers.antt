@@ -1,6 +1,6 @@
 use Rattle.std.proofs.Common.{ap}
 use Rattle.ax_pool.specs.declared.slot.Slot.{Slot}
-use Rattle.ax_index.proofs.ReadsLaws.{agrees_taken, read_around}
+use Rattle.ax_index.proofs.ReadsLaws.{agrees_taken, keeps_around, read_around}
 use Rattle.ax_index.proofs.Unmoved.{slots_back}
 use Rattle.ax_index.proofs.numbers.pairs_in.Goals as goal
 
@@ -14,3 +14,7 @@ returns-clause-reads g c =
     c.numbers_by-found.ensures.reads c.give_slot.ensures.same
     (slots_back _ _ _ _ _ _ c.in-Some.ensures.was_free c.in-Some.ensures.taken c.numbers_by-found.ensures.reads.same.taken
     (ap (λ (slot : Slot). slot.number) c.numbers_by-found.ensures.slot) c.give_slot.ensures.free)
+
+pub returns-clause-others : goal.returns-clause-others
+returns-clause-others g c =
+    keeps_around _ _ _ _ _ c.in-Some.ensures.was_free c.in-Some.ensures.bytes c.numbers_by-found.ensures.others c.give_slot.ensures.bytes
