@@ -15,6 +15,7 @@ pub mod Postings
 pub mod PutLemmas
 pub mod RewritingLemmas
 pub mod RunLemmas
+pub mod SomeRanges
 pub mod Unmoved
 pub mod MergingLemmas
 pub mod ReadsLaws
