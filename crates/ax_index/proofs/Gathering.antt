@@ -28,7 +28,8 @@ start ranges set pages next reaches = record {
   missed = λ p within member. inr (reaches p within);
 }
 
-pub stop : (ranges : List TermRange) (set : PairSet) (pages : List TermPage) (next : Option ℕ) (numbers : List ℕ) → next ≡ None → IsGathered ranges set pages next numbers
+pub stop : (ranges : List TermRange) (set : PairSet) (pages : List TermPage) (next : Option ℕ) (numbers : List ℕ) → next ≡ None
+    → IsGathered ranges set pages next numbers
     → (n : ℕ) → (has_number n numbers ≡ true) ↔ HasWithin ranges set n
 stop ranges set pages None numbers e is n = (
   λ h. is.found n h,
@@ -36,7 +37,8 @@ stop ranges set pages None numbers e is n = (
 )
 stop ranges set pages (Some page) numbers e is n = absurd (cc)
 
-module _ (ranges : List TermRange) (set : PairSet) (pages : List TermPage) (page : ℕ) (next : Option ℕ) (old new : List ℕ) (is : IsIndex pages set) (there : page < length pages)
+module _ (ranges : List TermRange) (set : PairSet) (pages : List TermPage) (page : ℕ) (next : Option ℕ) (old new : List ℕ) (is : IsIndex pages set)
+    (there : page < length pages)
     (was : IsGathered ranges set pages (Some page) old) (gathers : Gathers ranges (is.pairs page) old new)
     (reaches : (p : Pair) (other : ℕ) → is_in_some ranges p.term ≡ true → other < length pages
     → pair_cmp (low_pair page pages) (low_pair other pages) ≡ Less → NotAfter (low_pair other pages) p → IsAhead next p pages) where
@@ -71,7 +73,8 @@ module _ (ranges : List TermRange) (set : PairSet) (pages : List TermPage) (page
   }
 
 -- the same by what calls say of pages that are these
-pub step_by : (ranges : List TermRange) (set : PairSet) (pages now after : List TermPage) (page : ℕ) (next : Option ℕ) (old new : List ℕ) → now ≡ pages → after ≡ pages
+pub step_by : (ranges : List TermRange) (set : PairSet) (pages now after : List TermPage) (page : ℕ) (next : Option ℕ) (old new : List ℕ)
+    → now ≡ pages → after ≡ pages
     → ((pairs : List Pair) → HasPairs (term_page page now) pairs → Gathers ranges pairs old new)
     → ((p : Pair) (other : ℕ) → is_in_some ranges p.term ≡ true → other < length after
     → pair_cmp (low_pair page after) (low_pair other after) ≡ Less → NotAfter (low_pair other after) p → IsAhead next p after)

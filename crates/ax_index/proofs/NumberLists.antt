@@ -74,7 +74,8 @@ among ranges (q ∷ pairs) n h =
     (true_or_false (is_in_some ranges q.term))
 
 -- a number among the rest is among all
-number_more : (ranges : List TermRange) (q : Pair) (pairs : List Pair) (n : ℕ) → has_number n (numbers_of ranges pairs) ≡ true → has_number n (numbers_of ranges (q ∷ pairs)) ≡ true
+number_more : (ranges : List TermRange) (q : Pair) (pairs : List Pair) (n : ℕ) → has_number n (numbers_of ranges pairs) ≡ true
+    → has_number n (numbers_of ranges (q ∷ pairs)) ≡ true
 number_more ranges q pairs n h =
     ⊎_elim
     (λ (s : is_in_some ranges q.term ≡ true).

@@ -181,7 +181,8 @@ no_more_after : (a b : Pair) (pages : List TermPage) → pair_cmp a b ≡ Less �
 no_more_after a b [] less = omega arith
 no_more_after a b (page ∷ pages) less = omega (arith, one_fewer a b (low_of page) less, no_more_after a b pages less)
 
-fewer_from : (a b : Pair) (pages : List TermPage) (k : ℕ) → k < length pages → b ≡ low_pair k pages → pair_cmp a b ≡ Less → pages_after b pages < pages_after a pages
+fewer_from : (a b : Pair) (pages : List TermPage) (k : ℕ) → k < length pages → b ≡ low_pair k pages → pair_cmp a b ≡ Less
+    → pages_after b pages < pages_after a pages
 fewer_from a b [] k h e less = absurd (omega arith)
 fewer_from a b (page ∷ pages) zero h e less =
     let none : one_if (pair_cmp b (low_of page)) ≡ 0 = ap one_if (ap (pair_cmp b) (sym e) ∙ tied_itself pair_cmp_total b) in
@@ -190,7 +191,8 @@ fewer_from a b (page ∷ pages) zero h e less =
 fewer_from a b (page ∷ pages) (suc k) h e less =
     omega (arith, one_fewer a b (low_of page) less, fewer_from a b pages k (omega arith) e less)
 
-pub fewer_behind : (page next : ℕ) (pages : List TermPage) → IsNextPage page next pages → pages_after (low_pair next pages) pages < pages_after (low_pair page pages) pages
+pub fewer_behind : (page next : ℕ) (pages : List TermPage) → IsNextPage page next pages
+    → pages_after (low_pair next pages) pages < pages_after (low_pair page pages) pages
 fewer_behind page next pages is = fewer_from (low_pair page pages) (low_pair next pages) pages next is.there refl is.after
 
 -- the same of a page that is not before the next one: that of a term behind its first

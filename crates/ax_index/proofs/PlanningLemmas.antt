@@ -47,7 +47,8 @@ within_page pages page next p there is from before = record {
       (order_cases (low_pair other pages) (low_pair page pages));
 }
 
-pub within_last : (pages : List TermPage) (page : ℕ) (p : Pair) → page < length pages → IsLastPage page pages → NotAfter (low_pair page pages) p → IsPageOf p page pages
+pub within_last : (pages : List TermPage) (page : ℕ) (p : Pair) → page < length pages → IsLastPage page pages → NotAfter (low_pair page pages) p
+    → IsPageOf p page pages
 within_last pages page p there last from = record {
   there = there;
   below = from;
@@ -59,7 +60,8 @@ within_last pages page p there last from = record {
 }
 
 -- and a pair of the page is before the next one
-pub before_next : (pages : List TermPage) (page next : ℕ) (p : Pair) → IsNextPage page next pages → IsPageOf p page pages → pair_cmp p (low_pair next pages) ≡ Less
+pub before_next : (pages : List TermPage) (page next : ℕ) (p : Pair) → IsNextPage page next pages → IsPageOf p page pages
+    → pair_cmp p (low_pair next pages) ≡ Less
 before_next pages page next p is of =
     ⊎_elim
     (λ (not_after : NotAfter (low_pair next pages) p).
@@ -68,7 +70,8 @@ before_next pages page next p is of =
     (order_cases (low_pair next pages) p)
 
 -- pairs between two of one page are of it
-pub between : (pages : List TermPage) (page : ℕ) (first p last : Pair) → IsPageOf first page pages → IsPageOf last page pages → NotAfter first p → NotAfter p last → IsPageOf p page pages
+pub between : (pages : List TermPage) (page : ℕ) (first p last : Pair) → IsPageOf first page pages → IsPageOf last page pages → NotAfter first p
+    → NotAfter p last → IsPageOf p page pages
 between pages page first p last of_first of_last from to = record {
   there = of_first.there;
   below = not_after_then (low_pair page pages) first p of_first.below from;
@@ -76,7 +79,8 @@ between pages page first p last of_first of_last from to = record {
 }
 
 -- the changes up to the end of the page of the first are of it
-pub run_belongs : (pages : List TermPage) (page : ℕ) (change : Change) (run behind : List Change) → IsPageOf change.pair page pages → RiseAfter change.pair (changed_pairs run)
+pub run_belongs : (pages : List TermPage) (page : ℕ) (change : Change) (run behind : List Change) → IsPageOf change.pair page pages
+    → RiseAfter change.pair (changed_pairs run)
     → IsPartedAt page (change ∷ run) behind pages → AllBelong (changed_pairs (change ∷ run)) page pages
 run_belongs pages page change run behind of rise parted p h =
     let from : NotAfter (low_pair page pages) p =
@@ -114,7 +118,8 @@ all_now before now parts pairs page is belong p h =
 
 -- ---- one page
 
-pub done_by_deltas : {honest : Bool} (page : ℕ) (changes : List Change) (before now after : List TermPage) (parts : List PartValue) → AllBelong (changed_pairs changes) page now
+pub done_by_deltas : {honest : Bool} (page : ℕ) (changes : List Change) (before now after : List TermPage) (parts : List PartValue)
+    → AllBelong (changed_pairs changes) page now
     → page < length before → CarryChanges page changes now parts after → AreFew changes (deltas_of page parts)
     → IsPageDone honest page changes before now parts after false
 done_by_deltas page changes before now after parts belong there carry few = record {
@@ -142,7 +147,8 @@ done_by_deltas page changes before now after parts belong there carry few = reco
     none_put : (n : ℕ) → bases_put n parts ≡ []
     none_put n = no_bases_put n (n + 1) parts (omega arith) (carry.no_bases (n + 1))
 
-pub done_by_bases : {honest : Bool} (page : ℕ) (changes : List Change) (before now after : List TermPage) (parts earlier : List PartValue) (pairs list : List Pair)
+pub done_by_bases : {honest : Bool} (page : ℕ) (changes : List Change) (before now after : List TermPage) (parts earlier : List PartValue)
+    (pairs list : List Pair)
     → page < length before → IsUpTo (low_pair page before) before now earlier → Rise (changed_pairs changes) → AllBelong (changed_pairs changes) page now
     → AllBelong list page before → (IsTrue honest → (some : List Pair) → HasPairs (term_page page before) some → (p : Pair) → has p pairs ≡ has p some)
     → ((p : Pair) → has p list ≡ unwrap_or (said_by p changes) (has p pairs))
@@ -161,7 +167,9 @@ done_by_bases {honest = honest} page changes before now after parts earlier pair
   put = (is.own, no_deltas_put page parts (is.no_deltas page));
   new_with = is.new_with;
   filled = λ merged told set index p of member.
-      is.filled (some_in p list (here_merged now set page changes (index.pairs page) list index rise (index.have page (now_there up)) (made_now told set index) p of ∙ member));
+      is.filled
+      (some_in p list
+      (here_merged now set page changes (index.pairs page) list index rise (index.have page (now_there up)) (made_now told set index) p of ∙ member));
   bare = λ merged. is.bare;
   new_bare = is.new_bare;
   holds = λ told set index.
@@ -177,14 +185,17 @@ done_by_bases {honest = honest} page changes before now after parts earlier pair
 
     made_now : IsTrue honest → (set : PairSet) (index : IsIndex now set) → (p : Pair) → has p list ≡ unwrap_or (said_by p changes) (has p (index.pairs page))
     made_now told set index p =
-        let same : term_page page now ≡ term_page page before = up.same page there (λ less. less_apart (low_pair page before) (low_pair page before) less refl) in
+        let same : term_page page now ≡ term_page page before =
+        up.same page there (λ less. less_apart (low_pair page before) (low_pair page before) less refl)
+        in
         let mine : HasPairs (term_page page now) (index.pairs page) = index.have page (now_there up) in
         let was : HasPairs (term_page page before) (index.pairs page) = subst (λ (x : TermPage). HasPairs x (index.pairs page)) same mine in
         made p ∙ ap (unwrap_or (said_by p changes)) (has_pairs told (index.pairs page) was p)
 
 -- ---- all pages
 
-pub planned_none : {honest : Bool} (changes : List Change) (before : List TermPage) (room : ℕ → ℕ) (old : List PartValue) → IsPlannedTo honest changes changes before 0 (length before) room old old
+pub planned_none : {honest : Bool} (changes : List Change) (before : List TermPage) (room : ℕ → ℕ) (old : List PartValue)
+    → IsPlannedTo honest changes changes before 0 (length before) room old old
 planned_none changes before room old = record {
   parts = [];
   added = sym (append-nil old);
@@ -215,7 +226,8 @@ planned_none changes before room old = record {
 }
 
 -- from the page behind one that is done on, pages are as they were
-pub up_behind : {honest : Bool} (page after other : ℕ) (changes : List Change) (before now new : List TermPage) (parts more : List PartValue) (merged : Bool) → IsUpTo (low_pair page before) before now parts
+pub up_behind : {honest : Bool} (page after other : ℕ) (changes : List Change) (before now new : List TermPage) (parts more : List PartValue)
+    (merged : Bool) → IsUpTo (low_pair page before) before now parts
     → IsPageDone honest page changes before now more new merged → IsNextPage page after before → NotAfter (low_pair after before) (low_pair other before)
     → IsUpTo (low_pair other before) before new (parts ++ more)
 up_behind page after other changes before now new parts more merged up done behind_it up_to =
@@ -243,13 +255,15 @@ up_behind page after other changes before now new parts more merged up done behi
       none = λ n h from. omega (arith, deltas_more n parts more, up.none n h (lower n from), done.deltas n (apart n from));
       no_bases = λ n h from.
           bases_put_more n parts more
-          ∙ ap (λ (ps : List (List ℕ)). ps ++ bases_put n more) (up.no_bases n h (lower n from)) ∙ done.elsewhere n (omega (arith, h, up.longer)) (apart n from);
+          ∙ ap (λ (ps : List (List ℕ)). ps ++ bases_put n more) (up.no_bases n h (lower n from))
+          ∙ done.elsewhere n (omega (arith, h, up.longer)) (apart n from);
     }
 
 abbrev pub as_number : Bool → ℕ
 as_number merged = cond merged 1 0
 
-module _ {honest : Bool} (changes run behind : List Change) (before : List TermPage) (merged next : ℕ) (room more : ℕ → ℕ) (old here new : List PartValue) (page : ℕ) (is_merged : Bool) (later : ℕ)
+module _ {honest : Bool} (changes run behind : List Change) (before : List TermPage) (merged next : ℕ) (room more : ℕ → ℕ)
+    (old here new : List PartValue) (page : ℕ) (is_merged : Bool) (later : ℕ)
     (is : IsPlannedTo honest changes (run ++ behind) before merged next room old here) (up : IsUpTo (low_pair page before) before is.now is.parts)
     (there : page < length before) (first_here : IsFirstOf (run ++ behind) page before) (some : 0 < length run)
     (belong : AllBelong (changed_pairs run) page before) (rise : Rise (changed_pairs run))
@@ -315,7 +329,8 @@ module _ {honest : Bool} (changes run behind : List Change) (before : List TermP
       (up.no_bases page there same_page) (no_deltas_put page is.parts (up.none page there same_page)) planned.done.put))
       (λ (apart : number ≡ page → ⊥).
       settled_other page before is.done run is.parts planned.parts belong number are apart
-      (planned.done.elsewhere number (omega (arith, h, up.longer)) apart) (no_deltas_put number planned.parts (planned.done.deltas number apart)) (is.each are number h))
+      (planned.done.elsewhere number (omega (arith, h, up.longer)) apart)
+      (no_deltas_put number planned.parts (planned.done.deltas number apart)) (is.each are number h))
       (cases_eq number page)
 
   filled_now : IsTrue honest → (set : PairSet) → IsIndex before set → (number : ℕ) → number < length before

@@ -79,7 +79,8 @@ module _ {C : Type 0} (pages : C → CachedPages) (honest : Bool) where
     never_falls = reads.never_falls;
   }
 
-  agrees_roomy : (old new : Store C) (history : History) → SameButRoom old new → AgreesUnlessFailed pages honest old history → AgreesUnlessFailed pages honest new history
+  agrees_roomy : (old new : Store C) (history : History) → SameButRoom old new → AgreesUnlessFailed pages honest old history
+      → AgreesUnlessFailed pages honest new history
   agrees_roomy old new history same agrees = λ is works. agrees_same pages old new history same (agrees is (sym same.failed ∙ works))
 
   -- a call that reads nothing and makes room
@@ -106,7 +107,8 @@ module _ {C : Type 0} (pages : C → CachedPages) (honest : Bool) where
       → AgreesUnlessFailed pages honest took history
   agrees_taken old took history same agrees = λ is works. agrees_slots pages old took history same (agrees is (sym same.failed ∙ works))
 
-  pub read_around : (old took read new : Store C) (x y : History) (l m : ℕ) → SameButSlots old took → Reads pages honest took read x y l m → SameButSlots read new
+  pub read_around : (old took read new : Store C) (x y : History) (l m : ℕ) → SameButSlots old took → Reads pages honest took read x y l m
+      → SameButSlots read new
       → (store_slots new).taken ≡ (store_slots old).taken → Reads pages honest old new x y l m
   read_around old took read new x y l m first reads last taken = record {
     same = record {
@@ -118,7 +120,8 @@ module _ {C : Type 0} (pages : C → CachedPages) (honest : Bool) where
     never_falls = reads.never_falls;
   }
 
-  pub reserve_around : (old took planned new : Store C) (x y : History) (l m : ℕ) → SameButSlots old took → Reserves pages honest took planned x y l m → SameButSlots planned new
+  pub reserve_around : (old took planned new : Store C) (x y : History) (l m : ℕ) → SameButSlots old took → Reserves pages honest took planned x y l m
+      → SameButSlots planned new
       → (store_slots new).taken ≡ (store_slots old).taken → Reserves pages honest old new x y l m
   reserve_around old took planned new x y l m first planned_so last taken = record {
     same = record {

@@ -46,7 +46,8 @@ module _ (page : ℕ) (first rest : List Pair) (now : List TermPage) (payload : 
       (set_lows page (with_base payload) now there (base_low payload (low_pair page now) first spelled))
 
   -- of the pairs of the page, the base has those that are not in the rest
-  here_first : (set : PairSet) → ((p : Pair) → IsPageOf p page now → has p (first ++ rest) ≡ set p) → (p : Pair) → IsPageOf p page now → has p first ≡ without rest set p
+  here_first : (set : PairSet) → ((p : Pair) → IsPageOf p page now → has p (first ++ rest) ≡ set p) → (p : Pair) → IsPageOf p page now
+      → has p first ≡ without rest set p
   here_first set here p of =
       ⊎_elim
       (λ (in_rest : has p rest ≡ true).
@@ -78,7 +79,8 @@ module _ (page : ℕ) (first rest : List Pair) (now : List TermPage) (payload : 
         ap (term_page n) (put_within page (with_base payload) now there) ∙ set_other page (with_base payload) now n apart;
     no_deltas = λ n. refl;
     there = there;
-    bare = ap has_deltas (ap (term_page page) (put_within page (with_base payload) now there) ∙ get_or-set_same now page (with_base payload) no_term_page there);
+    bare = ap has_deltas
+        (ap (term_page page) (put_within page (with_base payload) now there) ∙ get_or-set_same now page (with_base payload) no_term_page there);
     new_bare = λ n from below. absurd (omega (arith, lows_first.many));
     one_base = λ count below within. ap (λ (b : Bool). cond b 1 0 + 0) (lt-ltb page count below);
     own = ap (λ (ps : List (List ℕ)). length ps) (one_base_put page payload);
@@ -104,7 +106,8 @@ module _ (page : ℕ) (first rest : List Pair) (now : List TermPage) (payload : 
 
 -- ---- the first base of a new page
 
-module _ (page : ℕ) (list : List Pair) (q : Pair) (piece rest : List Pair) (now : List TermPage) (parts : List PartValue) (old : List TermPage) (payload : List ℕ)
+module _ (page : ℕ) (list : List Pair) (q : Pair) (piece rest : List Pair) (now : List TermPage) (parts : List PartValue) (old : List TermPage)
+    (payload : List ℕ)
     (is : Rewrites page list ((q ∷ piece) ++ rest) now parts old) (rise : Rise list) (all : AllBelong list page now)
     (few : length old < most_term_pages) (spelled : IsLeaf payload q (postings_of (q ∷ piece))) where
   abbrev new_page : TermPage
@@ -157,7 +160,8 @@ module _ (page : ℕ) (list : List Pair) (q : Pair) (piece rest : List Pair) (no
       (true_or_false (has p left))
 
   -- with the pairs of the piece the set is without the rest alone
-  with_piece : (set with_it : PairSet) → Replaces page list now set with_it → (p : Pair) → with_list (q ∷ piece) (without left with_it) p ≡ without rest with_it p
+  with_piece : (set with_it : PairSet) → Replaces page list now set with_it → (p : Pair)
+      → with_list (q ∷ piece) (without left with_it) p ≡ without rest with_it p
   with_piece set with_it replaces p =
       ⊎_elim
       (λ (in_piece : has p (q ∷ piece) ≡ true).

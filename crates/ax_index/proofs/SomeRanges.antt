@@ -22,7 +22,8 @@ in_one (first ∷ ranges) range term (zero, l, e) h =
     ap (λ (b : Bool). cond b true (is_in_some ranges term)) (ap (λ (r : TermRange). is_in_range r term) e ∙ h)
 in_one (first ∷ ranges) range term (suc k, l, e) h = in_more first ranges term (in_one ranges range term (k, omega (arith, l), e) h)
 
-which : (ranges : List TermRange) (term : List ℕ) → is_in_some ranges term ≡ true → (range : TermRange) × Contains ranges range × (is_in_range range term ≡ true)
+which : (ranges : List TermRange) (term : List ℕ) → is_in_some ranges term ≡ true
+    → (range : TermRange) × Contains ranges range × (is_in_range range term ≡ true)
 which [] term h = absurd (cc)
 which (first ∷ ranges) term h =
     ⊎_elim
@@ -55,8 +56,10 @@ pub numbers_in_one : (ranges : List TermRange) (range : TermRange) (set : PairSe
     → AreNumbersInSome ranges set numbers → AreNumbersIn range set numbers
 numbers_in_one ranges range set numbers one found = record {
   rising = found.rising;
-  are = λ n. (λ h. there n (subst (λ (rs : List TermRange). HasInSome rs set n) one ((found.are n).0 h)),
-      λ h. (found.are n).1 (subst (λ (rs : List TermRange). HasInSome rs set n) (sym one) (range, (0, omega arith, refl), h)));
+  are = λ n. (
+    λ h. there n (subst (λ (rs : List TermRange). HasInSome rs set n) one ((found.are n).0 h)),
+    λ h. (found.are n).1 (subst (λ (rs : List TermRange). HasInSome rs set n) (sym one) (range, (0, omega arith, refl), h)),
+  );
 }
   where
     there : (n : ℕ) → HasInSome (range ∷ []) set n → HasIn range set n

@@ -53,7 +53,8 @@ IsPutBy false changes bases deltas = (bases ≡ []) × AreCarriedBy changes delt
 
 -- What the parts put for one page and the changes of it make of the pages as they are now: new pages have
 -- low pairs before the page that was next.
-pub record IsPageDone (honest : Bool) (page : ℕ) (changes : List Change) (before now : List TermPage) (parts : List PartValue) (after : List TermPage) (merged : Bool) : Type 0 where
+pub record IsPageDone (honest : Bool) (page : ℕ) (changes : List Change) (before now : List TermPage) (parts : List PartValue) (after : List TermPage)
+    (merged : Bool) : Type 0 where
   pub lead : LeadTo parts now after
   pub longer : length now ≤ length after
   pub lows : (n : ℕ) → n < length now → low_pair n after ≡ low_pair n now
@@ -74,7 +75,8 @@ pub record IsPageDone (honest : Bool) (page : ℕ) (changes : List Change) (befo
   pub holds : IsTrue honest → (set : PairSet) → IsIndex now set → IsIndex after (with_changes changes set)
 
 -- Behind the parts that a batch had such parts were put.
-pub record IsPagePlanned (honest : Bool) (page : ℕ) (changes : List Change) (before now : List TermPage) (merged : Bool) (next : ℕ) (room : ℕ → ℕ) (old new : List PartValue) : Type 0 where
+pub record IsPagePlanned (honest : Bool) (page : ℕ) (changes : List Change) (before now : List TermPage) (merged : Bool) (next : ℕ) (room : ℕ → ℕ)
+    (old new : List PartValue) : Type 0 where
   pub parts : List PartValue
   pub added : new ≡ old ++ parts
   pub after : List TermPage
@@ -88,7 +90,8 @@ IsFirstOf [] page pages = ⊥
 IsFirstOf (change ∷ changes) page pages = IsPageOf change.pair page pages
 
 -- The changes but for the rest are planned.
-pub record IsPlannedTo (honest : Bool) (changes rest : List Change) (before : List TermPage) (merged next : ℕ) (room : ℕ → ℕ) (old new : List PartValue) : Type 0 where
+pub record IsPlannedTo (honest : Bool) (changes rest : List Change) (before : List TermPage) (merged next : ℕ) (room : ℕ → ℕ)
+    (old new : List PartValue) : Type 0 where
   pub parts : List PartValue
   pub added : new ≡ old ++ parts
   pub done : List Change

@@ -246,7 +246,11 @@ fn gather<D: Disk, C: PageCache>(
 }
 
 /// Puts the numbers of the pairs whose terms are in the ranges at the end.
-fn put_numbers(numbers: &mut Vec<u32>, pairs: &[Pair], ranges: &[TermRange]) -> Result<(), AllocError>
+fn put_numbers(
+    numbers: &mut Vec<u32>,
+    pairs: &[Pair],
+    ranges: &[TermRange],
+) -> Result<(), AllocError>
     ensures { OnOk result (numbers.new.items ≡ numbers.old.items ++ numbers_of ranges.now pairs.now) }
 {
     for pair in pairs {

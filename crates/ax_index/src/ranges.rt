@@ -41,11 +41,7 @@ pub(crate) fn least_start<'a>(ranges: &'a [TermRange], term: &[u8]) -> Option<&'
 
 /// The lesser of two starts: the one so far, where there is one, and that of a range which has terms from
 /// this one on.
-fn earlier_start<'a>(
-    start: Option<&'a [u8]>,
-    range: &'a TermRange,
-    term: &[u8],
-) -> Option<&'a [u8]>
+fn earlier_start<'a>(start: Option<&'a [u8]>, range: &'a TermRange, term: &[u8]) -> Option<&'a [u8]>
     ensures kept { (other : List ℕ) → StartsUpTo (option_copied start.entry) other → StartsUpTo (option_copied result) other }
     ensures own { (other : List ℕ) → is_in_range range.now other ≡ true → IsTermUpTo term.now other
         → StartsUpTo (option_copied result) other }
