@@ -1,5 +1,7 @@
 -- Terms that are in one of several ranges.
 use Rattle.std.proofs.Common.{◌≡◌, ◌↔◌, ℕ, zero, suc, ◌<◌, List, [], ◌∷◌, length, arith, refl, sym, ap, ◌∙◌, subst, Bool, true, false, cond, ⊎_elim, Contains}
+use Rattle.std.specs.Prelude.{IfOk, Result, Ok, Err}
+use Rattle.ax_store.specs.declared.fault.StoreFault.{StoreFault}
 use Rattle.ax_gap.specs.Gaps.{IsRisingList}
 use Rattle.ax_delta.specs.Said.{has_number}
 use Rattle.ax_delta.proofs.SamePair.{true_or_false}
@@ -64,3 +66,8 @@ numbers_in_one ranges range set numbers one found = record {
   where
     there : (n : ℕ) → HasInSome (range ∷ []) set n → HasIn range set n
     there n (other, is, h) = subst (λ (r : TermRange). HasIn r set n) (sym (the_one range other is)) h
+
+pub in_one_by : {V : Type 0} (result : Result V StoreFault) (items : V → List ℕ) (ranges : List TermRange) (range : TermRange) (set : PairSet)
+    → ranges ≡ range ∷ [] → IfOk result (λ numbers. AreNumbersInSome ranges set (items numbers)) → IfOk result (λ numbers. AreNumbersIn range set (items numbers))
+in_one_by (Ok numbers) items ranges range set one found = numbers_in_one ranges range set (items numbers) one found
+in_one_by (Err fault) items ranges range set one found = tt

@@ -1,6 +1,7 @@
 //! The numbers with a term in a range, or in one of several.
 
 ghost use Rattle.std.specs.Prelude.{◌≡◌, ◌↔◌, ◌<◌, ◌≤◌, ℕ, List, ◌++◌, IsTrue, IfOk, IfErr, IfSome, OnOk, true, false, length};
+ghost use Rattle.std.specs.Option.{option_copied};
 ghost use Rattle.std.specs.declared.cmp.Ordering.TheVariants.{Less, Greater};
 ghost use Rattle.ax_gap.specs.Gaps.{IsRisingList};
 ghost use Rattle.ax_pair.specs.declared.pair.Pair.{Pair};
@@ -16,7 +17,7 @@ ghost use Rattle.ax_store.specs.Faults.{HasDiskCause};
 ghost use Rattle.ax_store.specs.Slots.{AreOthersSame, IsSlotOf};
 ghost use Rattle.ax_store.specs.Store.{AgreesUnlessFailed, store_contents, store_slots, store_failed};
 ghost use Rattle.ax_index.specs.Damage.{FailsBy, TellsPart};
-ghost use Rattle.ax_index.specs.Reading.{Gathers, HasWithin, IsAhead, numbers_of, pages_after};
+ghost use Rattle.ax_index.specs.Reading.{Gathers, HasWithin, IsAhead, IsTermUpTo, StartsUpTo, numbers_of, pages_after};
 ghost use Rattle.ax_index.specs.Reads.{KeepsTaken, Reads};
 ghost use Rattle.ax_index.specs.Wanted.{AreNumbersIn, AreNumbersInSome, is_in_some};
 
@@ -198,13 +199,25 @@ fn page_behind<C>(store: &Store<C>, page: u32, ranges: &[TermRange]) -> Option<u
         → IsAhead result p (store_contents store.now).terms }
 {
     let next = store.next_page(page)?;
+    let Some(start) = start_from(store, next, ranges) else {
+        return None;
+    };
     let (term, _) = store.low(next);
-    let start = least_start(ranges, term)?;
     if start.cmp(term).is_le() {
         Some(next)
     } else {
         Some(store.page_of(start, 0))
     }
+}
+
+/// The least start of those ranges that have terms from the first of a page on.
+fn start_from<'a, C>(store: &Store<C>, page: u32, ranges: &'a [TermRange]) -> Option<&'a [u8]>
+    requires { page < length (store_contents store.now).terms }
+    ensures { (other : List ℕ) → is_in_some ranges.now other ≡ true → IsTermUpTo (low_pair page (store_contents store.now).terms).term other
+        → StartsUpTo (option_copied result) other }
+{
+    let (term, _) = store.low(page);
+    least_start(ranges, term)
 }
 
 /// Puts the numbers of a page's pairs whose terms are in the ranges at the end.

@@ -41,6 +41,7 @@ pub(crate) fn least_start<'a>(ranges: &'a [TermRange], term: &[u8]) -> Option<&'
 
 /// The lesser of two starts: the one so far, where there is one, and that of a range which has terms from
 /// this one on.
+#[tactic(auto, using(crate::proofs::PageWalk::term_then, crate::proofs::PageWalk::has_terms, crate::proofs::PageWalk::within_from))]
 fn earlier_start<'a>(start: Option<&'a [u8]>, range: &'a TermRange, term: &[u8]) -> Option<&'a [u8]>
     ensures kept { (other : List ℕ) → StartsUpTo (option_copied start.entry) other → StartsUpTo (option_copied result) other }
     ensures own { (other : List ℕ) → is_in_range range.now other ≡ true → IsTermUpTo term.now other
@@ -64,6 +65,7 @@ fn has_some_from(range: &TermRange, term: &[u8]) -> bool
 }
 
 /// Of two terms the one that is not after the other.
+#[tactic(auto, using(crate::proofs::PageWalk::term_itself, crate::proofs::PageWalk::term_by_test, crate::proofs::PageWalk::other_by_test))]
 fn lesser<'a>(term: &'a [u8], other: &'a [u8]) -> &'a [u8]
     ensures first { IsTermUpTo result.now term.now }
     ensures second { IsTermUpTo result.now other.now }

@@ -34,12 +34,12 @@ loop-next-preserved g c =
     let after : (store_contents c.gather.new.store).terms ≡ terms = ap (λ (k : Contents). k.terms) (same_contents _ _ more.reads.same.same) ∙ now in
     record {
       gathered = λ told set is.
-          step_by c.args.range.now set terms (store_contents c.loop-next.store).terms (store_contents c.gather.new.store).terms
+          step_by c.args.ranges.now set terms (store_contents c.loop-next.store).terms (store_contents c.gather.new.store).terms
           c.in-Some.page c.page_behind-next.result c.loop-next.numbers.items c.gather.new.numbers.items now after
           (more.numbers (subst IsTrue (sym inv.honest) told)) c.page_behind-next.ensures.reaches
           (subst (λ (o : Option ℕ). IfSome o (λ page. page < length terms)) c.in-Some.is inv.there)
           is
-          (subst (λ (o : Option ℕ). IsGathered c.args.range.now set terms o c.loop-next.numbers.items) c.in-Some.is (inv.gathered told set is));
+          (subst (λ (o : Option ℕ). IsGathered c.args.ranges.now set terms o c.loop-next.numbers.items) c.in-Some.is (inv.gathered told set is));
       there = subst (λ (ts : List TermPage). IfSome c.page_behind-next.result (λ page. page < length ts)) after c.page_behind-next.ensures.there;
       reads = read_then g.C.PageCache.pages _ _ _ _ _ _ _ _ _ _ inv.reads
           (of_honest g.C.PageCache.pages _ _ inv.honest _ _ _ _ _ _ more.reads);
@@ -64,7 +64,7 @@ returns-in-Err-clause-cause g c = λ works.
 
 pub returns-clause-numbers : goal.returns-clause-numbers
 returns-clause-numbers g c = λ told set is.
-    stop c.args.range.now set (store_contents c.args.store.now).terms c.loop-next.next c.loop-next.numbers.items c.in_default.is
+    stop c.args.ranges.now set (store_contents c.args.store.now).terms c.loop-next.next c.loop-next.numbers.items c.in_default.is
     (c.loop-next.invariant.gathered told set is)
 
 pub returns-in-Err-clause-others : goal.returns-in-Err-clause-others

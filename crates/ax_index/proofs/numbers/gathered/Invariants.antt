@@ -12,7 +12,7 @@ use Rattle.ax_index.proofs.numbers.gathered.Given as goal
 abbrev pub invariant-loop-next : goal.invariant-loop-next
 invariant-loop-next g l = record {
   gathered : IsTrue (g.D.Disk.is_honest l.fn.disk) → (set : PairSet) → IsIndex (store_contents l.fn.store).terms set
-      → IsGathered l.range set (store_contents l.fn.store).terms l.next l.numbers.items;
+      → IsGathered l.ranges set (store_contents l.fn.store).terms l.next l.numbers.items;
   there : IfSome l.next (λ page. page < length (store_contents l.fn.store).terms);
   reads : Reads g.C.PageCache.pages (g.D.Disk.is_honest l.fn.disk) l.fn.store l.store
       (g.D.Disk.history l.fn.disk (g.D.Disk.attached l.fn.disk)) (g.D.Disk.history l.disk (g.D.Disk.attached l.disk))
