@@ -1,12 +1,12 @@
 -- Calls that read, one after another.
-use Rattle.std.proofs.Common.{◌≡◌, ℕ, zero, suc, ◌≤◌, Bool, true, false, refl, sym, ap, ◌∙◌, subst, List, [], ◌∷◌, arith}
+use Rattle.std.proofs.Common.{◌≡◌, ℕ, zero, suc, Bool, true, false, refl, sym, ap, ◌∙◌, subst, List, [], ◌∷◌, arith}
 use Rattle.std.specs.Prelude.{IsTrue, slice_index_or}
 use Rattle.ax_disk.specs.laws.StaysLaws.{idles_start, idles_join}
 use Rattle.ax_disk.specs.model.Moments.{History}
 use Rattle.ax_cache.specs.Pages.{CachedPages}
 use Rattle.ax_store.specs.Kept.{Kept}
 use Rattle.ax_store.specs.declared.store.Store.{Store}
-use Rattle.ax_store.specs.Store.{AgreesUnlessFailed, SameButRoom, SameButSlots, store_contents, store_failed, store_offsets, store_slots}
+use Rattle.ax_store.specs.Store.{AgreesUnlessFailed, SameButRoom, SameButSlots, store_slots}
 use Rattle.ax_store.proofs.StoreLemmas.{agrees_same, agrees_slots}
 use Rattle.ax_pool.specs.Frames.{Frames, IsFree}
 use Rattle.ax_store.specs.Slots.{AreOthersSame}

@@ -1,5 +1,5 @@
 -- Terms that are in one of several ranges.
-use Rattle.std.proofs.Common.{◌≡◌, ◌↔◌, ℕ, zero, suc, ◌<◌, List, [], ◌∷◌, length, arith, refl, sym, ap, ◌∙◌, subst, Bool, true, false, cond, ⊎_elim, Contains}
+use Rattle.std.proofs.Common.{◌≡◌, ◌↔◌, ℕ, zero, suc, List, [], ◌∷◌, arith, refl, sym, ap, ◌∙◌, subst, Bool, true, false, cond, ⊎_elim, Contains}
 use Rattle.std.specs.Prelude.{IfOk, Result, Ok, Err}
 use Rattle.ax_store.specs.declared.fault.StoreFault.{StoreFault}
 use Rattle.ax_gap.specs.Gaps.{IsRisingList}

@@ -1,4 +1,4 @@
-use Rattle.std.proofs.Common.{◌≡◌, ap, refl, ◌∙◌}
+use Rattle.std.proofs.Common.{ap, refl, ◌∙◌}
 use Rattle.std.specs.Ordering.{is_le}
 use Rattle.ax_index.proofs.PageWalk.{ahead_term, fewer_behind, fewer_past, next_ahead, start_ahead}
 use Rattle.ax_index.proofs.numbers.page_behind.Goals as goal
