@@ -1,3 +1,4 @@
+pub mod BarePages
 pub mod CallLemmas
 pub mod DeltaParts
 pub mod CarriedLemmas

@@ -7,6 +7,7 @@
 //! pair.
 #![tactic(auto)]
 
+mod base_numbers;
 mod bases;
 mod choice;
 mod damage;

@@ -190,7 +190,7 @@ fn merge_one<D: Disk, C: PageCache>(
 }
 
 /// Whether a page has deltas.
-fn has_deltas<C>(store: &Store<C>, page: u32) -> bool
+pub(crate) fn has_deltas<C>(store: &Store<C>, page: u32) -> bool
     ensures { result ≡ does_have_deltas (term_page page (store_contents store.now).terms) }
 {
     store.parts(Page::Term(page)) > oldest_delta(store, page)

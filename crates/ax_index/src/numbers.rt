@@ -21,7 +21,9 @@ ghost use Rattle.ax_index.specs.Reading.{Gathers, HasWithin, IsAhead, IsTermUpTo
 ghost use Rattle.ax_index.specs.Reads.{KeepsTaken, Reads};
 ghost use Rattle.ax_index.specs.Wanted.{AreNumbersIn, AreNumbersInSome, is_in_some};
 
+use crate::base_numbers::gather_base;
 use crate::folding::folded;
+use crate::merging::has_deltas;
 use crate::ranges::{is_within_some, least_start};
 use crate::wanted::Wanted;
 use ax_cache::PageCache;
@@ -247,6 +249,9 @@ fn gather<D: Disk, C: PageCache>(
     ensures attached { D.attached disk.new ≡ D.attached disk.old }
     ensures honest { D.is_honest disk.new ≡ D.is_honest disk.old }
 {
+    if !has_deltas(store, page) {
+        return gather_base(alloc, store, disk, slot, page, ranges, numbers);
+    }
     let wanted = Wanted::In(ranges);
     let pairs = match folded(alloc, store, disk, slot, page, &wanted) {
         Ok(pairs) => pairs,
