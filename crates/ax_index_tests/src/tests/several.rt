@@ -50,7 +50,7 @@ struct Found {
 }
 
 /// What is found in the ranges between these numbers.
-fn found(alloc: Global, disk: &mut MemDisk, ends: &[(u32, u32)]) -> Result<Found, Fail> {
+fn look_between(alloc: Global, disk: &mut MemDisk, ends: &[(u32, u32)]) -> Result<Found, Fail> {
     let ranges = ranges_of(alloc, ends)?;
     let mut store = open(alloc, disk, NoPages)?;
     let before = disk.reads();
@@ -59,23 +59,26 @@ fn found(alloc: Global, disk: &mut MemDisk, ends: &[(u32, u32)]) -> Result<Found
     Ok(Found { numbers, reads })
 }
 
+impl Found {
+    /// Whether these numbers were found, by so many reads.
+    fn is(&self, numbers: &[u32], reads: u64) -> bool {
+        self.numbers.as_slice() == numbers && self.reads == Some(reads)
+    }
+}
+
 #[test]
 fn each_page_of_some_ranges_is_read_once(rt: HostRuntime) -> Result<(), Fail> {
     let alloc = rt.alloc();
     let mut disk = fresh_disk(alloc, 1 << 20)?;
     assert!(rt; filled(alloc, &mut disk)? > 4);
 
-    let far = found(alloc, &mut disk, &[(1500, 1503), (10, 12)])?;
-    assert!(rt; far.numbers.as_slice() == &[10, 11, 1500, 1501, 1502]);
-    assert_eq!(rt; far.reads, Some(2));
-
-    let near = found(alloc, &mut disk, &[(14, 17), (10, 12), (11, 15)])?;
-    assert!(rt; near.numbers.as_slice() == &[10, 11, 12, 13, 14, 15, 16]);
-    assert_eq!(rt; near.reads, Some(1));
-
-    let none = found(alloc, &mut disk, &[])?;
-    assert!(rt; none.numbers.len() == 0 && none.reads == Some(0));
-    let empty = found(alloc, &mut disk, &[(20, 10)])?;
-    assert!(rt; empty.numbers.len() == 0 && empty.reads == Some(0));
+    let far = look_between(alloc, &mut disk, &[(1500, 1503), (10, 12)])?;
+    assert!(rt; far.is(&[10, 11, 1500, 1501, 1502], 2));
+    let near = look_between(alloc, &mut disk, &[(14, 17), (10, 12), (11, 15)])?;
+    assert!(rt; near.is(&[10, 11, 12, 13, 14, 15, 16], 1));
+    let empty = look_between(alloc, &mut disk, &[(20, 10)])?;
+    assert!(rt; empty.is(&[], 0));
+    let none = look_between(alloc, &mut disk, &[])?;
+    assert!(rt; none.is(&[], 0));
     Ok(())
 }
