@@ -11,7 +11,7 @@ use Rattle.ax_pages.specs.declared.page.Kind.{Kind}
 use Rattle.ax_pages.specs.declared.page.Kind.TheVariants as kind
 use Rattle.ax_pages.specs.AfterPart.{kind_of}
 use Rattle.ax_pages.specs.Contents.{TermPage}
-use Rattle.ax_pages.specs.TermPages.{AreApart, IsPageOf, low_pair}
+use Rattle.ax_pages.specs.TermPages.{AreApart, low_pair}
 use Rattle.ax_pair.specs.declared.pair.Pair.{Pair}
 use Rattle.ax_pairs.specs.Index.{AllBelong}
 use Rattle.ax_pairs.specs.TermParts.{bases_below, bases_by_kind}
@@ -19,7 +19,7 @@ use Rattle.ax_pairs.proofs.Belonging.{one_page}
 use Rattle.ax_pairs.proofs.Leading.{base_part, delta_part}
 use Rattle.ax_pairs.proofs.PairOrder.{not_both}
 use Rattle.ax_store.specs.Kept.{deltas_by_kind, deltas_of}
-use Rattle.ax_index.specs.Carried.{AreCarriedBy, AreDeltasOf, IsPut, IsSettled, bases_put, deltas_put, is_base_kind, is_delta_kind}
+use Rattle.ax_index.specs.Carried.{AreDeltasOf, IsPut, IsSettled, bases_put, deltas_put, is_base_kind, is_delta_kind}
 use Rattle.ax_index.specs.Planning.{AreBefore, IsPutBy}
 use Rattle.ax_index.proofs.Lists.{changed_more, not_in_first}
 

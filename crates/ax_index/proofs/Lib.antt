@@ -1,3 +1,4 @@
+pub mod BarePages
 pub mod CallLemmas
 pub mod DeltaParts
 pub mod CarriedLemmas
@@ -15,6 +16,7 @@ pub mod Postings
 pub mod PutLemmas
 pub mod RewritingLemmas
 pub mod RunLemmas
+pub mod SomeRanges
 pub mod Unmoved
 pub mod MergingLemmas
 pub mod ReadsLaws

@@ -29,11 +29,11 @@ use Rattle.ax_pairs.proofs.PairOrder.{NotAfter, both_ways, not_after_then, not_b
 use Rattle.ax_pairs.proofs.Leading.{lead_nothing, lead_then}
 use Rattle.ax_store.specs.Kept.{deltas_of}
 use Rattle.ax_index.specs.Bare.{has_deltas, with_deltas}
-use Rattle.ax_index.specs.Carried.{HasLowPair, HasSome}
-use Rattle.ax_index.specs.Merging.{IsStuck, IsMergePlan, IsPassed, IsReady, IsBehind, IsMergedTo}
+use Rattle.ax_index.specs.Carried.{HasLowPair, HasSome, bases_put}
+use Rattle.ax_index.specs.Merging.{IsStuck, IsMergePlan, IsPassed, IsReady, IsBehind, IsMergedTo, bases_due}
 use Rattle.ax_index.specs.PageSizes.{NeedsTooMany}
 use Rattle.ax_index.specs.Planning.{IsUpTo, IsPageDone, IsPagePlanned}
-use Rattle.ax_index.proofs.CarriedLemmas.{same_bases}
+use Rattle.ax_index.proofs.CarriedLemmas.{later_bases, same_bases}
 use Rattle.ax_index.proofs.DeltaRunLemmas.{carry_nothing}
 use Rattle.ax_index.proofs.Lists.{deltas_more}
 use Rattle.ax_index.proofs.PlanningLemmas.{as_number, done_by_deltas, of_now, up_behind}
@@ -93,8 +93,10 @@ counted_to pages (suc k) h =
 counted : (pages : List TermPage) → with_deltas pages ≡ count_below (length pages) (λ n. has_deltas (term_page n pages))
 counted pages = ap (count_by has_deltas) (sym (take_all (length pages) pages (omega arith))) ∙ counted_to pages (length pages) (omega arith)
 
-pub one_fewer : (page : ℕ) (now after : List TermPage) → page < length now → length now ≤ length after → has_deltas (term_page page now) ≡ true → has_deltas (term_page page after) ≡ false
-    → ((n : ℕ) → n < length now → n ≢ page → term_page n after ≡ term_page n now) → ((n : ℕ) → length now ≤ n → n < length after → has_deltas (term_page n after) ≡ false)
+pub one_fewer : (page : ℕ) (now after : List TermPage) → page < length now → length now ≤ length after → has_deltas (term_page page now) ≡ true
+    → has_deltas (term_page page after) ≡ false
+    → ((n : ℕ) → n < length now → n ≢ page → term_page n after ≡ term_page n now)
+    → ((n : ℕ) → length now ≤ n → n < length after → has_deltas (term_page n after) ≡ false)
     → with_deltas after + 1 ≡ with_deltas now
 one_fewer page now after there longer was is same none =
     let f : ℕ → Bool = λ n. has_deltas (term_page n now) in
@@ -103,7 +105,9 @@ one_fewer page now after there longer was is same none =
     let tail : count_below (length after) g ≡ count_below (length now) g =
     ap (λ (n : ℕ). count_below n g) (sym more.1) ∙ none_more (length now) more.0 g (λ n from h. none n from (omega (arith, more.1)))
     in
-    let less : count_below (length now) g + 1 ≡ count_below (length now) f = one_less (length now) page f g there was is (λ n h apart. sym (ap has_deltas (same n h apart))) in
+    let less : count_below (length now) g + 1 ≡ count_below (length now) f =
+    one_less (length now) page f g there was is (λ n h apart. sym (ap has_deltas (same n h apart)))
+    in
     omega (arith, counted after, counted now, tail, less)
 
 -- ---- which pages are passed
@@ -129,12 +133,14 @@ passed_or_here page at pages n behind h passed =
         (λ (less : pair_cmp (low_pair page pages) (low_pair n pages) ≡ Less). absurd (is.least n h less passed))
         (order_cases (low_pair n pages) (low_pair page pages))
 
-stuck_still : {honest : Bool} (n : ℕ) (before now after : List TermPage) → term_page n after ≡ term_page n now → length now ≤ length after → IsStuck honest n before now → IsStuck honest n before after
+stuck_still : {honest : Bool} (n : ℕ) (before now after : List TermPage) → term_page n after ≡ term_page n now → length now ≤ length after
+    → IsStuck honest n before now → IsStuck honest n before after
 stuck_still n before now after same longer stuck told set index deltas pairs has_pairs =
     let (count, take, over) = stuck told set index (ap has_deltas (sym same) ∙ deltas) pairs has_pairs in
     (count, take, omega (arith, over, longer))
 
-stuck_by_number : {honest : Bool} (n page : ℕ) (before after : List TermPage) → n < length before → page < length before → low_pair n before ≡ low_pair page before → IsStuck honest page before after → IsStuck honest n before after
+stuck_by_number : {honest : Bool} (n page : ℕ) (before after : List TermPage) → n < length before → page < length before
+    → low_pair n before ≡ low_pair page before → IsStuck honest page before after → IsStuck honest n before after
 stuck_by_number n page before after h there same stuck told set index =
     let one : n ≡ page = index.apart.apart n page h there same in
     subst
@@ -143,7 +149,8 @@ stuck_by_number n page before after h there same stuck told set index =
 
 -- ---- a page is merged, or left
 
-ready_by : {honest : Bool} (page : ℕ) (at : Option ℕ) (before now after : List TermPage) (parts more : List PartValue) (merged : Bool) → IsBehind page at before → IsUpTo (low_pair page before) before now parts
+ready_by : {honest : Bool} (page : ℕ) (at : Option ℕ) (before now after : List TermPage) (parts more : List PartValue) (merged : Bool)
+    → IsBehind page at before → IsUpTo (low_pair page before) before now parts
     → IsPageDone honest page [] before now more after merged → IsReady at before after (parts ++ more)
 ready_by page None before now after parts more merged behind up done = tt
 ready_by page (Some next) before now after parts more merged behind up done = (
@@ -151,15 +158,19 @@ ready_by page (Some next) before now after parts more merged behind up done = (
   up_behind page next next [] before now after parts more merged up done behind (same_not_after (low_pair next before) (low_pair next before) refl),
 )
 
-pub merged_one : {honest : Bool} (page : ℕ) (at : Option ℕ) (before : List TermPage) (merged next later : ℕ) (old here new : List PartValue) → IsBehind page at before → IsMergedTo honest (Some page) before merged next old here
+pub merged_one : {honest : Bool} (page : ℕ) (at : Option ℕ) (before : List TermPage) (merged next later : ℕ) (old here new : List PartValue)
+    → IsBehind page at before → IsMergedTo honest (Some page) before merged next old here
     → has_deltas (term_page page before) ≡ true
-    → ((now : List TermPage) (earlier : List PartValue) → IsUpTo (low_pair page before) before now earlier → next ≡ length now → IsPagePlanned honest page [] before now true later (λ number. 0) here new)
+    → ((now : List TermPage) (earlier : List PartValue) → IsUpTo (low_pair page before) before now earlier → next ≡ length now
+    → IsPagePlanned honest page [] before now true later (λ number. 0) here new)
     → IsMergedTo honest at before (merged + 1) later old new
 merged_one {honest = honest} page at before merged next later old here new behind is deltas planned_by =
     let up : IsUpTo (low_pair page before) before is.now is.parts = is.ready.1 in
     let there : page < length before = is.ready.0 in
     let planned : IsPagePlanned honest page [] before is.now true later (λ number. 0) here new = planned_by is.now is.parts up is.next_is in
-    let same : term_page page is.now ≡ term_page page before = up.same page there (λ less. less_apart (low_pair page before) (low_pair page before) less refl) in
+    let same : term_page page is.now ≡ term_page page before =
+    up.same page there (λ less. less_apart (low_pair page before) (low_pair page before) less refl)
+    in
     record {
       parts = is.parts ++ planned.parts;
       added = planned.added ∙ ap (λ (ps : List PartValue). ps ++ planned.parts) is.added ∙ append_assoc old is.parts planned.parts;
@@ -175,6 +186,33 @@ merged_one {honest = honest} page at before merged next later old here new behin
             (planned.done.bare refl) planned.done.same planned.done.new_bare,
       );
       next_is = planned.next_is;
+      each = λ n h.
+          ⊎_elim
+          (λ (e : n ≡ page).
+          subst
+          (λ (k : ℕ). length (bases_put k (is.parts ++ planned.parts))
+          ≡ bases_due (has_deltas (term_page k before)) (has_deltas (term_page k planned.after)))
+          (sym e) (here_due up planned there))
+          (λ (apart : n ≡ page → ⊥).
+          ap (λ (ps : List (List ℕ)). length ps)
+          (same_bases n is.parts planned.parts (planned.done.elsewhere n (omega (arith, h, is.longer)) apart))
+          ∙ is.each n h
+          ∙ ap (λ (t : TermPage). bases_due (has_deltas (term_page n before)) (has_deltas t))
+          (sym (planned.done.same n (omega (arith, h, is.longer)) apart)))
+          (cases_eq n page);
+      new_own = λ n from below.
+          ⊎_elim
+          (λ (l : n < length is.now).
+          ap (λ (ps : List (List ℕ)). length ps)
+          (same_bases n is.parts planned.parts (planned.done.elsewhere n l (λ e. omega (arith, e, from, there))))
+          ∙ is.new_own n from l)
+          (λ (l : length is.now ≤ n).
+          ap (λ (ps : List (List ℕ)). length ps) (later_bases n is.parts planned.parts (is.none_past n l))
+          ∙ planned.done.new_own n l below)
+          (cases_lt n (length is.now));
+      none_past = λ n past.
+          later_bases n is.parts planned.parts (is.none_past n (omega (arith, past, planned.done.longer)))
+          ∙ planned.done.none_past n past;
       new_with = λ n from below.
           ⊎_elim
           (λ (l : n < length is.now).
@@ -195,7 +233,8 @@ merged_one {honest = honest} page at before merged next later old here new behin
           (omega (
             arith,
             based,
-            ap (λ (ps : List (List ℕ)). length ps) (same_bases n is.parts planned.parts (planned.done.elsewhere n h apart)),
+            ap (λ (ps : List (List ℕ)). length ps)
+                (same_bases n is.parts planned.parts (planned.done.elsewhere n (omega (arith, h, is.longer)) apart)),
           ))
           p of member))
           (cases_eq n page);
@@ -204,7 +243,8 @@ merged_one {honest = honest} page at before merged next later old here new behin
           ⊎_elim
           (λ (less : pair_cmp (low_pair n before) (low_pair page before) ≡ Less).
           stuck_still n before is.now planned.after
-          (planned.done.same n (omega (arith, is.longer)) (λ e. less_apart (low_pair n before) (low_pair page before) less (ap (λ (k : ℕ). low_pair k before) (sym e))))
+          (planned.done.same n (omega (arith, is.longer))
+          (λ e. less_apart (low_pair n before) (low_pair page before) less (ap (λ (k : ℕ). low_pair k before) (sym e))))
           planned.done.longer (is.stuck n h less))
           (λ (low : low_pair n before ≡ low_pair page before).
           stuck_by_number n page before planned.after h there low (λ told set index still. absurd (not_still (planned.done.bare refl) still)))
@@ -218,15 +258,30 @@ merged_one {honest = honest} page at before merged next later old here new behin
         (λ (apart : number ≡ page → ⊥). planned.done.deltas number apart)
         (cases_eq number page)
 
+    -- of the page that is merged: one base, and no deltas then
+    here_due : (up : IsUpTo (low_pair page before) before is.now is.parts)
+        → (planned : IsPagePlanned honest page [] before is.now true later (λ number. 0) here new) → page < length before
+        → length (bases_put page (is.parts ++ planned.parts)) ≡ bases_due (has_deltas (term_page page before)) (has_deltas (term_page page planned.after))
+    here_due up planned there =
+        ap (λ (ps : List (List ℕ)). length ps)
+        (later_bases page is.parts planned.parts
+        (up.no_bases page there (λ less. less_apart (low_pair page before) (low_pair page before) less refl)))
+        ∙ planned.done.put.0
+        ∙ sym (ap (λ (b : Bool). bases_due b (has_deltas (term_page page planned.after))) deltas ∙ ap (bases_due true) (planned.done.bare refl))
+
     not_still : {b : Bool} → b ≡ false → b ≡ true → ⊥
     not_still none so = absurd (cc)
 
-pub left_one : {honest : Bool} (page : ℕ) (at : Option ℕ) (before : List TermPage) (merged next : ℕ) (old here : List PartValue) → IsBehind page at before → IsMergedTo honest (Some page) before merged next old here
-    → ((now : List TermPage) → next ≡ length now → has_deltas (term_page page now) ≡ has_deltas (term_page page before) → IsStuck honest page before now) → IsMergedTo honest at before merged next old here
+pub left_one : {honest : Bool} (page : ℕ) (at : Option ℕ) (before : List TermPage) (merged next : ℕ) (old here : List PartValue)
+    → IsBehind page at before → IsMergedTo honest (Some page) before merged next old here
+    → ((now : List TermPage) → next ≡ length now → has_deltas (term_page page now) ≡ has_deltas (term_page page before)
+    → IsStuck honest page before now) → IsMergedTo honest at before merged next old here
 left_one {honest = honest} page at before merged next old here behind is stuck_here =
     let up : IsUpTo (low_pair page before) before is.now is.parts = is.ready.1 in
     let there : page < length before = is.ready.0 in
-    let same : term_page page is.now ≡ term_page page before = up.same page there (λ less. less_apart (low_pair page before) (low_pair page before) less refl) in
+    let same : term_page page is.now ≡ term_page page before =
+    up.same page there (λ less. less_apart (low_pair page before) (low_pair page before) less refl)
+    in
     record {
       parts = is.parts;
       added = is.added;
@@ -237,6 +292,9 @@ left_one {honest = honest} page at before merged next old here behind is stuck_h
       no_deltas = is.no_deltas;
       fewer = is.fewer;
       next_is = is.next_is;
+      each = is.each;
+      new_own = is.new_own;
+      none_past = is.none_past;
       new_with = is.new_with;
       filled = is.filled;
       ready = subst (λ (ps : List PartValue). IsReady at before is.now ps) (append-nil is.parts)
@@ -253,7 +311,13 @@ left_one {honest = honest} page at before merged next old here behind is stuck_h
 
 -- ---- at the beginning and at the end
 
-pub merged_none : {honest : Bool} (page : ℕ) (before : List TermPage) (next : ℕ) (old : List PartValue) → IsPageOf first_pair page before → next ≡ length before → IsMergedTo honest (Some page) before 0 next old old
+-- a page that is as it was is due no base
+none_due : (b : Bool) → 0 ≡ bases_due b b
+none_due true = refl
+none_due false = refl
+
+pub merged_none : {honest : Bool} (page : ℕ) (before : List TermPage) (next : ℕ) (old : List PartValue) → IsPageOf first_pair page before
+    → next ≡ length before → IsMergedTo honest (Some page) before 0 next old old
 merged_none page before next old of next_is = record {
   parts = [];
   added = sym (append-nil old);
@@ -264,6 +328,9 @@ merged_none page before next old of next_is = record {
   no_deltas = λ number. refl;
   fewer = omega arith;
   next_is = next_is;
+  each = λ n h. none_due (has_deltas (term_page n before));
+  new_own = λ n from below. absurd (omega arith);
+  none_past = λ n past. refl;
   new_with = λ n from below. absurd (omega arith);
   filled = λ told set index n h some p of member. absurd (omega (arith, some));
   ready = (
@@ -282,7 +349,8 @@ merged_none page before next old of next_is = record {
       (not_after_then (low_pair page before) first_pair (low_pair n before) of.below (first_not_after (low_pair n before))));
 }
 
-pub merged_all : {honest : Bool} (before : List TermPage) (asked merged next : ℕ) (old new : List PartValue) → IsMergedTo honest None before merged next old new → merged ≤ asked → IsMergePlan honest asked merged old new before
+pub merged_all : {honest : Bool} (before : List TermPage) (asked merged next : ℕ) (old new : List PartValue)
+    → IsMergedTo honest None before merged next old new → merged ≤ asked → IsMergePlan honest asked merged old new before
 merged_all before asked merged next old new is most = record {
   parts = is.parts;
   added = is.added;
@@ -293,6 +361,9 @@ merged_all before asked merged next old new is most = record {
   fewer = is.fewer;
   at_most = most;
   finished = λ less number h. is.stuck number h tt;
+  each = is.each;
+  new_own = is.new_own;
+  none_past = is.none_past;
   new_with = is.new_with;
   filled = is.filled;
 }
@@ -310,14 +381,18 @@ all_of_page pages set page pairs index there same p h =
 
 -- ---- steps of the walk
 
-pub behind_by : (page : ℕ) (at : Option ℕ) (pages : List TermPage) → IfSome at (λ next. IsNextPage page next pages) → IfNone at (IsLastPage page pages) → IsBehind page at pages
+pub behind_by : (page : ℕ) (at : Option ℕ) (pages : List TermPage) → IfSome at (λ next. IsNextPage page next pages)
+    → IfNone at (IsLastPage page pages) → IsBehind page at pages
 behind_by page None pages found none = none
 behind_by page (Some next) pages found none = found
 
-merge_step : {honest : Bool} (page : ℕ) (here at : Option ℕ) (before loop after : List TermPage) (merged next later extra : ℕ) (done : Bool) (old mid new : List PartValue) → here ≡ Some page → loop ≡ before → after ≡ before
+merge_step : {honest : Bool} (page : ℕ) (here at : Option ℕ) (before loop after : List TermPage) (merged next later extra : ℕ) (done : Bool)
+    (old mid new : List PartValue) → here ≡ Some page → loop ≡ before → after ≡ before
     → extra ≡ as_number done
-    → ((count : ℕ) (first : List PartValue) (to : Option ℕ) → IsBehind page to loop → IsMergedTo honest (Some page) loop count next first mid → IsMergedTo honest to loop (count + as_number done) later first new)
-    → IfSome at (λ behind. IsNextPage page behind after) → IfNone at (IsLastPage page after) → IsMergedTo honest here before merged next old mid → IsMergedTo honest at before (merged + extra) later old new
+    → ((count : ℕ) (first : List PartValue) (to : Option ℕ) → IsBehind page to loop → IsMergedTo honest (Some page) loop count next first mid
+    → IsMergedTo honest to loop (count + as_number done) later first new)
+    → IfSome at (λ behind. IsNextPage page behind after) → IfNone at (IsLastPage page after) → IsMergedTo honest here before merged next old mid
+    → IsMergedTo honest at before (merged + extra) later old new
 merge_step {honest = honest} page here at before loop after merged next later extra done old mid new here_is same again extra_is step found none is =
     let behind : IsBehind page at loop = subst (IsBehind page at) (again ∙ sym same) (behind_by page at after found none) in
     let mine : IsMergedTo honest (Some page) loop merged next old mid =
@@ -328,7 +403,8 @@ merge_step {honest = honest} page here at before loop after merged next later ex
     (subst (λ (ts : List TermPage). IsMergedTo honest at ts (merged + as_number done) later old new) same (step merged old at behind mine))
 
 -- the same of a later moment of one honesty
-pub merge_step_on : (now then : Bool) (page : ℕ) (here at : Option ℕ) (before loop after : List TermPage) (merged next later extra : ℕ) (done : Bool) (old mid new : List PartValue)
+pub merge_step_on : (now then : Bool) (page : ℕ) (here at : Option ℕ) (before loop after : List TermPage) (merged next later extra : ℕ) (done : Bool)
+    (old mid new : List PartValue)
     → now ≡ then → here ≡ Some page → loop ≡ before → after ≡ before → extra ≡ as_number done
     → ((count : ℕ) (first : List PartValue) (to : Option ℕ) → IsBehind page to loop → IsMergedTo now (Some page) loop count next first mid
     → IsMergedTo now to loop (count + as_number done) later first new)
@@ -340,18 +416,21 @@ merge_step_on now then page here at before loop after merged next later extra do
     alike
     (merge_step page here at before loop after merged next later extra done old mid new here_is same again extra_is step found none)
 
-pub merged_end : {honest : Bool} (at : Option ℕ) (before : List TermPage) (asked merged next : ℕ) (old new : List PartValue) → at ≡ None → IsMergedTo honest at before merged next old new → merged ≤ asked
+pub merged_end : {honest : Bool} (at : Option ℕ) (before : List TermPage) (asked merged next : ℕ) (old new : List PartValue) → at ≡ None
+    → IsMergedTo honest at before merged next old new → merged ≤ asked
     → IsMergePlan honest asked merged old new before
 merged_end {honest = honest} at before asked merged next old new none is most =
     merged_all before asked merged next old new (subst (λ (o : Option ℕ). IsMergedTo honest o before merged next old new) none is) most
 
 -- what a page's merging answers, as a step
-pub step_done : {honest : Bool} (page : ℕ) (at : Option ℕ) (before : List TermPage) (merged next later : ℕ) (old here new : List PartValue) (done : Bool) → IsBehind page at before
+pub step_done : {honest : Bool} (page : ℕ) (at : Option ℕ) (before : List TermPage) (merged next later : ℕ) (old here new : List PartValue)
+    (done : Bool) → IsBehind page at before
     → IsMergedTo honest (Some page) before merged next old here → has_deltas (term_page page before) ≡ true
     → ((now : List TermPage) (earlier : List PartValue) → IsUpTo (low_pair page before) before now earlier → next ≡ length now
     → done ≡ true → IsPagePlanned honest page [] before now true later (λ number. 0) here new)
     → (done ≡ false → (new ≡ here) × (later ≡ next))
-    → (IsTrue honest → (set : PairSet) → IsIndex before set → done ≡ false → (pairs : List Pair) → HasPairs (term_page page before) pairs → NeedsTooMany next pairs)
+    → (IsTrue honest → (set : PairSet) → IsIndex before set → done ≡ false → (pairs : List Pair) → HasPairs (term_page page before) pairs
+    → NeedsTooMany next pairs)
     → IsMergedTo honest at before (merged + as_number done) later old new
 step_done {honest = honest} page at before merged next later old here new true behind is deltas planned left stuck =
     merged_one page at before merged next later old here new behind is deltas (λ now earlier up next_is. planned now earlier up next_is refl)
@@ -367,7 +446,8 @@ step_done {honest = honest} page at before merged next later old here new false 
     (subst (λ (ps : List PartValue). IsMergedTo honest at before merged next old ps) (sym same.0) kept))
 
 pub step_none : {honest : Bool} (page : ℕ) (at : Option ℕ) (before : List TermPage) (merged next : ℕ) (old here : List PartValue) → IsBehind page at before
-    → IsMergedTo honest (Some page) before merged next old here → has_deltas (term_page page before) ≡ false → IsMergedTo honest at before (merged + as_number false) next old here
+    → IsMergedTo honest (Some page) before merged next old here → has_deltas (term_page page before) ≡ false
+    → IsMergedTo honest at before (merged + as_number false) next old here
 step_none {honest = honest} page at before merged next old here behind is none =
     subst (λ (n : ℕ). IsMergedTo honest at before n next old here) (omega arith)
     (left_one page at before merged next old here behind is
@@ -378,7 +458,8 @@ step_none {honest = honest} page at before merged next old here behind is none =
 
 -- ---- a whole page
 
-pub whole_planned : {honest : Bool} (page : ℕ) (before here now : List TermPage) (earlier old new : List PartValue) (next later : ℕ) (pairs list : List Pair) → page < length before
+pub whole_planned : {honest : Bool} (page : ℕ) (before here now : List TermPage) (earlier old new : List PartValue) (next later : ℕ)
+    (pairs list : List Pair) → page < length before
     → IsUpTo (low_pair page before) before now earlier → next ≡ length now → here ≡ before → list ≡ pairs
     → (IsTrue honest → (some : List Pair) → HasPairs (term_page page before) some → (p : Pair) → has p pairs ≡ has p some) → AllBelong list page here
     → (page < length now → low_pair page now ≡ low_pair page here → AllBelong list page now → IsRewritten page list now later old new)
@@ -386,9 +467,12 @@ pub whole_planned : {honest : Bool} (page : ℕ) (before here now : List TermPag
 whole_planned page before here now earlier old new next later pairs list there up next_is same list_is has_pairs belong rewritten =
     planned_by_bases page [] before now earlier old new next later pairs list there up next_is tt (λ p h. absurd (cc))
     (subst (λ (ts : List TermPage). AllBelong list page ts) same belong) has_pairs (λ p. ap (has p) list_is)
-    (subst (λ (ts : List TermPage). page < length now → low_pair page now ≡ low_pair page ts → AllBelong list page now → IsRewritten page list now later old new) same rewritten)
+    (subst (λ (ts : List TermPage). page < length now → low_pair page now ≡ low_pair page ts → AllBelong list page now
+    → IsRewritten page list now later old new)
+    same rewritten)
 
-pub stuck_whole : (before here : List TermPage) (set : PairSet) (page next : ℕ) (pairs list some : List Pair) → IsIndex before set → page < length before → here ≡ before → list ≡ pairs → Rise pairs
+pub stuck_whole : (before here : List TermPage) (set : PairSet) (page next : ℕ) (pairs list some : List Pair) → IsIndex before set
+    → page < length before → here ≡ before → list ≡ pairs → Rise pairs
     → ((any : List Pair) → HasPairs (term_page page before) any → (p : Pair) → has p pairs ≡ has p any) → HasPairs (term_page page before) some
     → (AllBelong list page here → NeedsTooMany next list) → NeedsTooMany next some
 stuck_whole before here set page next pairs list some index there same list_is rise has_pairs has_some full =
@@ -400,7 +484,8 @@ stuck_whole before here set page next pairs list some index there same list_is r
 
 -- ---- a step, by what merging answers
 
-pub step_by : {honest : Bool} (result : Result Bool StoreFault) (page : ℕ) (at : Option ℕ) (before : List TermPage) (merged next later : ℕ) (old here new : List PartValue) → IsBehind page at before
+pub step_by : {honest : Bool} (result : Result Bool StoreFault) (page : ℕ) (at : Option ℕ) (before : List TermPage) (merged next later : ℕ)
+    (old here new : List PartValue) → IsBehind page at before
     → IsMergedTo honest (Some page) before merged next old here → has_deltas (term_page page before) ≡ true
     → ((now : List TermPage) (earlier : List PartValue) → IsUpTo (low_pair page before) before now earlier → next ≡ length now
     → IfOk result (λ done. done ≡ true → IsPagePlanned honest page [] before now true later (λ number. 0) here new))
@@ -414,7 +499,8 @@ step_by (Err fault) page at before merged next later old here new behind is delt
 
 -- ---- the walk ends
 
-pub walk_shorter : (at : Option ℕ) (next : Option ℕ) (page : ℕ) (before after : List TermPage) → at ≡ Some page → after ≡ before → IfSome next (λ behind. IsNextPage page behind after)
+pub walk_shorter : (at : Option ℕ) (next : Option ℕ) (page : ℕ) (before after : List TermPage) → at ≡ Some page → after ≡ before
+    → IfSome next (λ behind. IsNextPage page behind after)
     → steps_left next before < steps_left at before
 walk_shorter at next page before after is same found =
     subst (λ (o : Option ℕ). steps_left next before < steps_left o before) (sym is)

@@ -1,12 +1,12 @@
--- Numbers that are sorted and of which repeats are dropped; and the numbers of pairs whose terms are in a range.
+-- Numbers that are sorted and of which repeats are dropped; and the numbers of pairs whose terms are in one of some ranges.
 use Rattle.std.proofs.Common.{◌≡◌, ℕ, zero, suc, List, [], ◌∷◌, ◌++◌, arith, refl, ap, ◌∙◌, sym, Bool, true, false, cond, ◌⊎◌, inl, inr, ⊎_elim, Contains}
 use Rattle.std.proofs.lemmas.Bool.{eq-eqb, ne_eqb, cases_eq}
 use Rattle.ax_pair.specs.declared.pair.Pair.{Pair}
 use Rattle.ax_delta.specs.Said.{has, has_number, is_same}
 use Rattle.ax_delta.proofs.SamePair.{the_pair, true_or_false, same_from, same_to}
-use Rattle.ax_term.specs.Ranges.{is_in_range}
 use Rattle.ax_term.specs.declared.range.TermRange.{TermRange}
 use Rattle.ax_index.specs.Reading.{Gathers, HasAmong, numbers_of}
+use Rattle.ax_index.specs.Wanted.{is_in_some}
 
 has_more : (n m : ℕ) (list : List ℕ) → has_number n list ≡ true → has_number n (m ∷ list) ≡ true
 has_more n m list h = ⊎_elim (λ (e : m ≡ n). rw (eq-eqb m n e) refl) (λ (e : m ≡ n → ⊥). rw (ne_eqb m n e) h) (cases_eq m n)
@@ -40,8 +40,8 @@ same_numbers xs ys there back n =
 
 -- ---- numbers of pairs
 
-among_more : (range : TermRange) (q : Pair) (pairs : List Pair) (n : ℕ) → HasAmong range pairs n → HasAmong range (q ∷ pairs) n
-among_more range q pairs n (term, within, is) = (
+among_more : (ranges : List TermRange) (q : Pair) (pairs : List Pair) (n : ℕ) → HasAmong ranges pairs n → HasAmong ranges (q ∷ pairs) n
+among_more ranges q pairs n (term, within, is) = (
   term,
   within,
   ⊎_elim
@@ -50,56 +50,57 @@ among_more range q pairs n (term, within, is) = (
       (true_or_false (is_same q (the_pair term n))),
 )
 
-among_first : (range : TermRange) (q : Pair) (pairs : List Pair) (n : ℕ) → is_in_range range q.term ≡ true → q.number ≡ n → HasAmong range (q ∷ pairs) n
-among_first range q pairs n within e =
+among_first : (ranges : List TermRange) (q : Pair) (pairs : List Pair) (n : ℕ) → is_in_some ranges q.term ≡ true → q.number ≡ n → HasAmong ranges (q ∷ pairs) n
+among_first ranges q pairs n within e =
     (q.term, within, ap (λ (b : Bool). cond b true (has (the_pair q.term n) pairs)) (same_to q (the_pair q.term n) (ap (the_pair q.term) e)))
 
-among : (range : TermRange) (pairs : List Pair) (n : ℕ) → has_number n (numbers_of range pairs) ≡ true → HasAmong range pairs n
-among range [] n h = absurd (cc)
-among range (q ∷ pairs) n h =
+among : (ranges : List TermRange) (pairs : List Pair) (n : ℕ) → has_number n (numbers_of ranges pairs) ≡ true → HasAmong ranges pairs n
+among ranges [] n h = absurd (cc)
+among ranges (q ∷ pairs) n h =
     ⊎_elim
-    (λ (s : is_in_range range q.term ≡ true).
-    let here : has_number n (q.number ∷ numbers_of range pairs) ≡ true =
-    sym (ap (λ (b : Bool). has_number n (cond b (q.number ∷ numbers_of range pairs) (numbers_of range pairs))) s) ∙ h
+    (λ (s : is_in_some ranges q.term ≡ true).
+    let here : has_number n (q.number ∷ numbers_of ranges pairs) ≡ true =
+    sym (ap (λ (b : Bool). has_number n (cond b (q.number ∷ numbers_of ranges pairs) (numbers_of ranges pairs))) s) ∙ h
     in
     ⊎_elim
-    (λ (e : q.number ≡ n). among_first range q pairs n s e)
+    (λ (e : q.number ≡ n). among_first ranges q pairs n s e)
     (λ (e : q.number ≡ n → ⊥).
-    among_more range q pairs n
-    (among range pairs n (sym (ap (λ (b : Bool). cond b true (has_number n (numbers_of range pairs))) (ne_eqb q.number n e)) ∙ here)))
+    among_more ranges q pairs n
+    (among ranges pairs n (sym (ap (λ (b : Bool). cond b true (has_number n (numbers_of ranges pairs))) (ne_eqb q.number n e)) ∙ here)))
     (cases_eq q.number n))
-    (λ (s : is_in_range range q.term ≡ false).
-    among_more range q pairs n
-    (among range pairs n (sym (ap (λ (b : Bool). has_number n (cond b (q.number ∷ numbers_of range pairs) (numbers_of range pairs))) s) ∙ h)))
-    (true_or_false (is_in_range range q.term))
+    (λ (s : is_in_some ranges q.term ≡ false).
+    among_more ranges q pairs n
+    (among ranges pairs n (sym (ap (λ (b : Bool). has_number n (cond b (q.number ∷ numbers_of ranges pairs) (numbers_of ranges pairs))) s) ∙ h)))
+    (true_or_false (is_in_some ranges q.term))
 
 -- a number among the rest is among all
-number_more : (range : TermRange) (q : Pair) (pairs : List Pair) (n : ℕ) → has_number n (numbers_of range pairs) ≡ true → has_number n (numbers_of range (q ∷ pairs)) ≡ true
-number_more range q pairs n h =
+number_more : (ranges : List TermRange) (q : Pair) (pairs : List Pair) (n : ℕ) → has_number n (numbers_of ranges pairs) ≡ true
+    → has_number n (numbers_of ranges (q ∷ pairs)) ≡ true
+number_more ranges q pairs n h =
     ⊎_elim
-    (λ (s : is_in_range range q.term ≡ true).
-    ap (λ (b : Bool). has_number n (cond b (q.number ∷ numbers_of range pairs) (numbers_of range pairs))) s
-    ∙ has_more n q.number (numbers_of range pairs) h)
-    (λ (s : is_in_range range q.term ≡ false).
-    ap (λ (b : Bool). has_number n (cond b (q.number ∷ numbers_of range pairs) (numbers_of range pairs))) s ∙ h)
-    (true_or_false (is_in_range range q.term))
+    (λ (s : is_in_some ranges q.term ≡ true).
+    ap (λ (b : Bool). has_number n (cond b (q.number ∷ numbers_of ranges pairs) (numbers_of ranges pairs))) s
+    ∙ has_more n q.number (numbers_of ranges pairs) h)
+    (λ (s : is_in_some ranges q.term ≡ false).
+    ap (λ (b : Bool). has_number n (cond b (q.number ∷ numbers_of ranges pairs) (numbers_of ranges pairs))) s ∙ h)
+    (true_or_false (is_in_some ranges q.term))
 
-number_first : (range : TermRange) (q : Pair) (pairs : List Pair) (term : List ℕ) (n : ℕ) → is_in_range range term ≡ true → q ≡ the_pair term n
-    → has_number n (numbers_of range (q ∷ pairs)) ≡ true
-number_first range q pairs term n within e =
-    let here : is_in_range range q.term ≡ true = ap (λ (x : Pair). is_in_range range x.term) e ∙ within in
-    ap (λ (b : Bool). has_number n (cond b (q.number ∷ numbers_of range pairs) (numbers_of range pairs))) here
-    ∙ ap (λ (b : Bool). cond b true (has_number n (numbers_of range pairs))) (eq-eqb q.number n (ap (λ (x : Pair). x.number) e))
+number_first : (ranges : List TermRange) (q : Pair) (pairs : List Pair) (term : List ℕ) (n : ℕ) → is_in_some ranges term ≡ true → q ≡ the_pair term n
+    → has_number n (numbers_of ranges (q ∷ pairs)) ≡ true
+number_first ranges q pairs term n within e =
+    let here : is_in_some ranges q.term ≡ true = ap (λ (x : Pair). is_in_some ranges x.term) e ∙ within in
+    ap (λ (b : Bool). has_number n (cond b (q.number ∷ numbers_of ranges pairs) (numbers_of ranges pairs))) here
+    ∙ ap (λ (b : Bool). cond b true (has_number n (numbers_of ranges pairs))) (eq-eqb q.number n (ap (λ (x : Pair). x.number) e))
 
-from_among : (range : TermRange) (pairs : List Pair) (term : List ℕ) (n : ℕ) → is_in_range range term ≡ true → has (the_pair term n) pairs ≡ true
-    → has_number n (numbers_of range pairs) ≡ true
-from_among range [] term n within h = absurd (cc)
-from_among range (q ∷ pairs) term n within h =
+from_among : (ranges : List TermRange) (pairs : List Pair) (term : List ℕ) (n : ℕ) → is_in_some ranges term ≡ true → has (the_pair term n) pairs ≡ true
+    → has_number n (numbers_of ranges pairs) ≡ true
+from_among ranges [] term n within h = absurd (cc)
+from_among ranges (q ∷ pairs) term n within h =
     ⊎_elim
-    (λ (s : is_same q (the_pair term n) ≡ true). number_first range q pairs term n within (same_from q (the_pair term n) s))
+    (λ (s : is_same q (the_pair term n) ≡ true). number_first ranges q pairs term n within (same_from q (the_pair term n) s))
     (λ (s : is_same q (the_pair term n) ≡ false).
-    number_more range q pairs n
-    (from_among range pairs term n within (sym (ap (λ (b : Bool). cond b true (has (the_pair term n) pairs)) s) ∙ h)))
+    number_more ranges q pairs n
+    (from_among ranges pairs term n within (sym (ap (λ (b : Bool). cond b true (has (the_pair term n) pairs)) s) ∙ h)))
     (true_or_false (is_same q (the_pair term n)))
 
 -- ---- one list behind another
@@ -130,20 +131,20 @@ either (x ∷ xs) ys n h =
     (cases_eq x n)
 
 -- the numbers of pairs that have the same pairs of the range as others
-pub gathers : (range : TermRange) (pairs kept : List Pair) (old new : List ℕ)
-    → ((p : Pair) → is_in_range range p.term ≡ true → has p kept ≡ has p pairs) → new ≡ old ++ numbers_of range kept → Gathers range pairs old new
-gathers range pairs kept old new same e n = (
+pub gathers : (ranges : List TermRange) (pairs kept : List Pair) (old new : List ℕ)
+    → ((p : Pair) → is_in_some ranges p.term ≡ true → has p kept ≡ has p pairs) → new ≡ old ++ numbers_of ranges kept → Gathers ranges pairs old new
+gathers ranges pairs kept old new same e n = (
   λ h.
       ⊎_elim
       (λ (there : has_number n old ≡ true). inl there)
-      (λ (there : has_number n (numbers_of range kept) ≡ true).
-      let (term, within, is) = among range kept n there in inr (term, within, sym (same (the_pair term n) within) ∙ is))
-      (either old (numbers_of range kept) n (ap (has_number n) (sym e) ∙ h)),
+      (λ (there : has_number n (numbers_of ranges kept) ≡ true).
+      let (term, within, is) = among ranges kept n there in inr (term, within, sym (same (the_pair term n) within) ∙ is))
+      (either old (numbers_of ranges kept) n (ap (has_number n) (sym e) ∙ h)),
   λ h.
       ap (has_number n) e
       ∙ ⊎_elim
-      (λ (there : has_number n old ≡ true). before old (numbers_of range kept) n there)
-      (λ (there : HasAmong range pairs n).
-      behind old (numbers_of range kept) n (from_among range kept there.0 n there.1 (same (the_pair there.0 n) there.1 ∙ there.2)))
+      (λ (there : has_number n old ≡ true). before old (numbers_of ranges kept) n there)
+      (λ (there : HasAmong ranges pairs n).
+      behind old (numbers_of ranges kept) n (from_among ranges kept there.0 n there.1 (same (the_pair there.0 n) there.1 ∙ there.2)))
       h,
 )

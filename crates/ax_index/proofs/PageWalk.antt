@@ -16,10 +16,10 @@ use Rattle.ax_pair.proofs.PairOrder.{pair_cmp_total}
 use Rattle.ax_delta.proofs.SamePair.{the_pair}
 use Rattle.ax_pages.specs.Contents.{TermPage, low_of}
 use Rattle.ax_pages.specs.TermPages.{IsPageOf, IsNextPage, low_pair}
-use Rattle.ax_pairs.proofs.PairOrder.{NotAfter, order_cases, not_after_then}
+use Rattle.ax_pairs.proofs.PairOrder.{NotAfter, less_then, order_cases, not_after_then}
 use Rattle.ax_term.specs.Ranges.{is_in_range}
 use Rattle.ax_term.specs.declared.range.TermRange.{TermRange}
-use Rattle.ax_index.specs.Reading.{IsAhead, pages_after}
+use Rattle.ax_index.specs.Reading.{IsAhead, IsTermUpTo, StartsUpTo, has_terms_from, pages_after}
 
 -- ---- terms of a range
 
@@ -54,17 +54,57 @@ le_apart Less h e = cc
 le_apart Equal h e = cc
 le_apart Greater h e = cc
 
--- a range whose end is not after its beginning has no term
-pub none_within : (range : TermRange) (order : Bool) → order ≡ is_le (slice_cmp nat_cmp range.below range.from) → order ≡ true
-    → (term : List ℕ) → is_in_range range term ≡ true → ⊥
-none_within range order e le term h =
-    let less : slice_cmp nat_cmp range.from range.below ≡ Less =
-    up_to range.from term range.below (le_apart (slice_cmp nat_cmp range.from term) (from_start range term h)) (below_end range term h)
-    in
-    let greater : slice_cmp nat_cmp range.below range.from ≡ Greater =
-    nat_list_cmp_total.antisymm range.below range.from ∙ ap ordering_reverse less
-    in
-    le_apart (slice_cmp nat_cmp range.below range.from) (sym e ∙ le) greater
+pub term_then : (a b c : List ℕ) → IsTermUpTo a b → IsTermUpTo b c → IsTermUpTo a c
+term_then a b c h k = by_order (slice_cmp nat_cmp b c) refl
+  where
+    by_order : (o : Ordering) → slice_cmp nat_cmp b c ≡ o → IsTermUpTo a c
+    by_order Less e = λ greater. let less : slice_cmp nat_cmp a c ≡ Less = up_to a b c h e in cc
+    by_order Equal e = subst (IsTermUpTo a) (slice_cmp-IsAntisymmetric nat_cmp-IsAntisymmetric b c e) h
+    by_order Greater e = absurd (k e)
+
+pub term_itself : (a : List ℕ) → IsTermUpTo a a
+term_itself a greater = let equal : slice_cmp nat_cmp a a ≡ Equal = tied_itself nat_list_cmp_total a in cc
+
+-- of two terms the first is not after the second, or the second not after the first
+pub term_by_test : (a b : List ℕ) (test : Bool) → test ≡ is_le (slice_cmp nat_cmp a b) → test ≡ true → IsTermUpTo a b
+term_by_test a b test e is = le_apart (slice_cmp nat_cmp a b) (sym e ∙ is)
+
+greater_of : (o : Ordering) → is_le o ≡ false → o ≡ Greater
+greater_of Less h = absurd (cc)
+greater_of Equal h = absurd (cc)
+greater_of Greater h = refl
+
+before_by_test : (a b : List ℕ) (test : Bool) → test ≡ is_le (slice_cmp nat_cmp a b) → test ≡ false → slice_cmp nat_cmp b a ≡ Less
+before_by_test a b test e is =
+    nat_list_cmp_total.antisymm b a ∙ ap ordering_reverse (greater_of (slice_cmp nat_cmp a b) (sym e ∙ is))
+
+pub other_by_test : (a b : List ℕ) (test : Bool) → test ≡ is_le (slice_cmp nat_cmp a b) → test ≡ false → IsTermUpTo b a
+other_by_test a b test e is greater =
+    let less : slice_cmp nat_cmp b a ≡ Less = before_by_test a b test e is in cc
+
+-- ---- where ranges begin
+
+pub within_from : (range : TermRange) (term : List ℕ) → is_in_range range term ≡ true → IsTermUpTo range.from term
+within_from range term h = le_apart (slice_cmp nat_cmp range.from term) (from_start range term h)
+
+both_so : (a b : Bool) → a ≡ true → b ≡ true → (a && b) ≡ true
+both_so true b e f = f
+both_so false b e f = absurd (cc)
+
+-- a range that has a term from another on is one of those that are looked at
+pub has_terms : (range : TermRange) (term other : List ℕ) → is_in_range range other ≡ true → IsTermUpTo term other → has_terms_from range term ≡ true
+has_terms range term other h up =
+    both_so (is_lt (slice_cmp nat_cmp term range.below)) (is_lt (slice_cmp nat_cmp range.from range.below))
+    (ap is_lt (up_to term other range.below up (below_end range other h)))
+    (ap is_lt (up_to range.from other range.below (within_from range other h) (below_end range other h)))
+
+-- a start that is not after another one is not after what that one is not after
+pub starts_then : (lesser start term : List ℕ) → IsTermUpTo lesser start → IsTermUpTo start term → StartsUpTo (Some lesser) term
+starts_then lesser start term up from = term_then lesser start term up from
+
+pub nothing_first : (term : List ℕ) → IsTermUpTo [] term
+nothing_first [] e = cc
+nothing_first (byte ∷ term) e = cc
 
 -- ---- the first page
 
@@ -80,18 +120,14 @@ then_apart Less r h k e = cc
 then_apart Equal r h k e = k e
 then_apart Greater r h k e = h refl
 
-from_first : (range : TermRange) (p : Pair) → is_in_range range p.term ≡ true → NotAfter (the_pair range.from 0) p
-from_first range p h =
-    then_apart (slice_cmp nat_cmp range.from p.term) (nat_cmp 0 p.number)
-    (le_apart (slice_cmp nat_cmp range.from p.term) (from_start range p.term h)) (zero_first p.number)
+from_first : (start : List ℕ) (p : Pair) → IsTermUpTo start p.term → NotAfter (the_pair start 0) p
+from_first start p up = then_apart (slice_cmp nat_cmp start p.term) (nat_cmp 0 p.number) up (zero_first p.number)
 
-pub first_ahead : (range : TermRange) (from : List ℕ) (page : ℕ) (pages : List TermPage) → from ≡ range.from → IsPageOf (the_pair from 0) page pages
-    → (p : Pair) → is_in_range range p.term ≡ true → IsAhead (Some page) p pages
-first_ahead range from page pages e is p h = (
-  is.there,
-  not_after_then (low_pair page pages) (the_pair from 0) p is.below
-      (subst (λ (term : List ℕ). NotAfter (the_pair term 0) p) (sym e) (from_first range p h)),
-)
+-- the page of the least start
+pub start_ahead : (start : List ℕ) (page : ℕ) (pages : List TermPage) → IsPageOf (the_pair start 0) page pages
+    → (p : Pair) → IsTermUpTo start p.term → IsAhead (Some page) p pages
+start_ahead start page pages is p up =
+    (is.there, not_after_then (low_pair page pages) (the_pair start 0) p is.below (from_first start p up))
 
 -- ---- the next page
 
@@ -112,20 +148,16 @@ next_ahead page next pages is p other h less not_after = (is.there, next_not_aft
 term_not_after : (a b : Pair) → NotAfter a b → slice_cmp nat_cmp a.term b.term ≡ Greater → ⊥
 term_not_after a b h e = h (ap (λ (o : Ordering). ordering_then o (nat_cmp a.number b.number)) e)
 
--- the next page begins behind the range
-pub none_ahead : (range : TermRange) (page next : ℕ) (pages : List TermPage) (before : Bool) (term : List ℕ) → IsNextPage page next pages
-    → term ≡ (low_pair next pages).term → before ≡ is_lt (slice_cmp nat_cmp term range.below) → before ≡ false
-    → (p : Pair) (other : ℕ) → is_in_range range p.term ≡ true → other < length pages
-    → pair_cmp (low_pair page pages) (low_pair other pages) ≡ Less → NotAfter (low_pair other pages) p → ⊥
-none_ahead range page next pages before term is e b out p other within h less not_after =
-    let up : NotAfter (low_pair next pages) p = next_not_after page next other pages p is h less not_after in
-    let ends : slice_cmp nat_cmp (low_pair next pages).term range.below ≡ Less =
-    up_to (low_pair next pages).term p.term range.below (term_not_after (low_pair next pages) p up) (below_end range p.term within)
-    in
-    let there : is_lt (slice_cmp nat_cmp term range.below) ≡ true =
-    ap (λ (t : List ℕ). is_lt (slice_cmp nat_cmp t range.below)) e ∙ ap is_lt ends
-    in
-    let clash : true ≡ false = sym there ∙ sym b ∙ out in cc
+-- a pair that is ahead has a term that is not before the first of the next page
+pub ahead_term : (page next other : ℕ) (pages : List TermPage) (term : List ℕ) (p : Pair) → IsNextPage page next pages → term ≡ (low_pair next pages).term
+    → other < length pages → pair_cmp (low_pair page pages) (low_pair other pages) ≡ Less → NotAfter (low_pair other pages) p → IsTermUpTo term p.term
+ahead_term page next other pages term p is e h less not_after =
+    subst (λ (t : List ℕ). IsTermUpTo t p.term) (sym e)
+    (term_not_after (low_pair next pages) p (next_not_after page next other pages p is h less not_after))
+
+less_first : (a b : Pair) → slice_cmp nat_cmp a.term b.term ≡ Less → NotAfter a b
+less_first a b less greater =
+    let before : pair_cmp a b ≡ Less = ap (λ (o : Ordering). ordering_then o (nat_cmp a.number b.number)) less in cc
 
 -- ---- how many pages are left
 
@@ -149,7 +181,8 @@ no_more_after : (a b : Pair) (pages : List TermPage) → pair_cmp a b ≡ Less �
 no_more_after a b [] less = omega arith
 no_more_after a b (page ∷ pages) less = omega (arith, one_fewer a b (low_of page) less, no_more_after a b pages less)
 
-fewer_from : (a b : Pair) (pages : List TermPage) (k : ℕ) → k < length pages → b ≡ low_pair k pages → pair_cmp a b ≡ Less → pages_after b pages < pages_after a pages
+fewer_from : (a b : Pair) (pages : List TermPage) (k : ℕ) → k < length pages → b ≡ low_pair k pages → pair_cmp a b ≡ Less
+    → pages_after b pages < pages_after a pages
 fewer_from a b [] k h e less = absurd (omega arith)
 fewer_from a b (page ∷ pages) zero h e less =
     let none : one_if (pair_cmp b (low_of page)) ≡ 0 = ap one_if (ap (pair_cmp b) (sym e) ∙ tied_itself pair_cmp_total b) in
@@ -158,8 +191,21 @@ fewer_from a b (page ∷ pages) zero h e less =
 fewer_from a b (page ∷ pages) (suc k) h e less =
     omega (arith, one_fewer a b (low_of page) less, fewer_from a b pages k (omega arith) e less)
 
-pub fewer_behind : (page next : ℕ) (pages : List TermPage) → IsNextPage page next pages → pages_after (low_pair next pages) pages < pages_after (low_pair page pages) pages
+pub fewer_behind : (page next : ℕ) (pages : List TermPage) → IsNextPage page next pages
+    → pages_after (low_pair next pages) pages < pages_after (low_pair page pages) pages
 fewer_behind page next pages is = fewer_from (low_pair page pages) (low_pair next pages) pages next is.there refl is.after
+
+-- the same of a page that is not before the next one: that of a term behind its first
+pub fewer_past : (page next at : ℕ) (pages : List TermPage) (term start : List ℕ) (test : Bool) → IsNextPage page next pages → term ≡ (low_pair next pages).term
+    → test ≡ is_le (slice_cmp nat_cmp start term) → test ≡ false → IsPageOf (the_pair start 0) at pages
+    → pages_after (low_pair at pages) pages < pages_after (low_pair page pages) pages
+fewer_past page next at pages term start test is low e out of =
+    let before : slice_cmp nat_cmp (low_pair next pages).term start ≡ Less =
+    ap (λ (t : List ℕ). slice_cmp nat_cmp t start) (sym low) ∙ before_by_test start term test e out
+    in
+    fewer_from (low_pair page pages) (low_pair at pages) pages at of.there refl
+    (less_then (low_pair page pages) (low_pair next pages) (low_pair at pages) is.after
+    (of.greatest next is.there (less_first (low_pair next pages) (the_pair start 0) before)))
 
 -- how often a walk goes on that comes to this page next
 abbrev pub steps_left : Option ℕ → List TermPage → ℕ

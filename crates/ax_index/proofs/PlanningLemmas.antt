@@ -47,7 +47,8 @@ within_page pages page next p there is from before = record {
       (order_cases (low_pair other pages) (low_pair page pages));
 }
 
-pub within_last : (pages : List TermPage) (page : ℕ) (p : Pair) → page < length pages → IsLastPage page pages → NotAfter (low_pair page pages) p → IsPageOf p page pages
+pub within_last : (pages : List TermPage) (page : ℕ) (p : Pair) → page < length pages → IsLastPage page pages → NotAfter (low_pair page pages) p
+    → IsPageOf p page pages
 within_last pages page p there last from = record {
   there = there;
   below = from;
@@ -59,7 +60,8 @@ within_last pages page p there last from = record {
 }
 
 -- and a pair of the page is before the next one
-pub before_next : (pages : List TermPage) (page next : ℕ) (p : Pair) → IsNextPage page next pages → IsPageOf p page pages → pair_cmp p (low_pair next pages) ≡ Less
+pub before_next : (pages : List TermPage) (page next : ℕ) (p : Pair) → IsNextPage page next pages → IsPageOf p page pages
+    → pair_cmp p (low_pair next pages) ≡ Less
 before_next pages page next p is of =
     ⊎_elim
     (λ (not_after : NotAfter (low_pair next pages) p).
@@ -68,7 +70,8 @@ before_next pages page next p is of =
     (order_cases (low_pair next pages) p)
 
 -- pairs between two of one page are of it
-pub between : (pages : List TermPage) (page : ℕ) (first p last : Pair) → IsPageOf first page pages → IsPageOf last page pages → NotAfter first p → NotAfter p last → IsPageOf p page pages
+pub between : (pages : List TermPage) (page : ℕ) (first p last : Pair) → IsPageOf first page pages → IsPageOf last page pages → NotAfter first p
+    → NotAfter p last → IsPageOf p page pages
 between pages page first p last of_first of_last from to = record {
   there = of_first.there;
   below = not_after_then (low_pair page pages) first p of_first.below from;
@@ -76,7 +79,8 @@ between pages page first p last of_first of_last from to = record {
 }
 
 -- the changes up to the end of the page of the first are of it
-pub run_belongs : (pages : List TermPage) (page : ℕ) (change : Change) (run behind : List Change) → IsPageOf change.pair page pages → RiseAfter change.pair (changed_pairs run)
+pub run_belongs : (pages : List TermPage) (page : ℕ) (change : Change) (run behind : List Change) → IsPageOf change.pair page pages
+    → RiseAfter change.pair (changed_pairs run)
     → IsPartedAt page (change ∷ run) behind pages → AllBelong (changed_pairs (change ∷ run)) page pages
 run_belongs pages page change run behind of rise parted p h =
     let from : NotAfter (low_pair page pages) p =
@@ -114,7 +118,8 @@ all_now before now parts pairs page is belong p h =
 
 -- ---- one page
 
-pub done_by_deltas : {honest : Bool} (page : ℕ) (changes : List Change) (before now after : List TermPage) (parts : List PartValue) → AllBelong (changed_pairs changes) page now
+pub done_by_deltas : {honest : Bool} (page : ℕ) (changes : List Change) (before now after : List TermPage) (parts : List PartValue)
+    → AllBelong (changed_pairs changes) page now
     → page < length before → CarryChanges page changes now parts after → AreFew changes (deltas_of page parts)
     → IsPageDone honest page changes before now parts after false
 done_by_deltas page changes before now after parts belong there carry few = record {
@@ -125,7 +130,9 @@ done_by_deltas page changes before now after parts belong there carry few = reco
   same = λ n h apart. carry.same n apart;
   deltas = carry.deltas;
   bases = carry.no_bases (length before);
-  elsewhere = λ n h apart. no_bases_put n (length before) parts h (carry.no_bases (length before));
+  elsewhere = λ n h apart. none_put n;
+  new_own = λ n from below. absurd (omega (arith, carry.lows.many));
+  none_past = λ n past. none_put n;
   put = (
     no_bases_put page (length before) parts there (carry.no_bases (length before)),
     record { are = carry.are; one = λ more. few (omega (arith, more, many_deltas page parts)) },
@@ -136,8 +143,12 @@ done_by_deltas page changes before now after parts belong there carry few = reco
   new_bare = λ n from below. absurd (omega (arith, carry.lows.many));
   holds = λ told set is. carry.holds set is belong;
 }
+  where
+    none_put : (n : ℕ) → bases_put n parts ≡ []
+    none_put n = no_bases_put n (n + 1) parts (omega arith) (carry.no_bases (n + 1))
 
-pub done_by_bases : {honest : Bool} (page : ℕ) (changes : List Change) (before now after : List TermPage) (parts earlier : List PartValue) (pairs list : List Pair)
+pub done_by_bases : {honest : Bool} (page : ℕ) (changes : List Change) (before now after : List TermPage) (parts earlier : List PartValue)
+    (pairs list : List Pair)
     → page < length before → IsUpTo (low_pair page before) before now earlier → Rise (changed_pairs changes) → AllBelong (changed_pairs changes) page now
     → AllBelong list page before → (IsTrue honest → (some : List Pair) → HasPairs (term_page page before) some → (p : Pair) → has p pairs ≡ has p some)
     → ((p : Pair) → has p list ≡ unwrap_or (said_by p changes) (has p pairs))
@@ -150,11 +161,15 @@ done_by_bases {honest = honest} page changes before now after parts earlier pair
   same = is.same;
   deltas = λ n apart. is.no_deltas n;
   bases = is.one_base (length before) there up.longer;
-  elsewhere = λ n h apart. is.elsewhere n (omega (arith, up.longer)) apart;
+  elsewhere = is.elsewhere;
+  new_own = is.new_own;
+  none_past = is.none_past;
   put = (is.own, no_deltas_put page parts (is.no_deltas page));
   new_with = is.new_with;
   filled = λ merged told set index p of member.
-      is.filled (some_in p list (here_merged now set page changes (index.pairs page) list index rise (index.have page (now_there up)) (made_now told set index) p of ∙ member));
+      is.filled
+      (some_in p list
+      (here_merged now set page changes (index.pairs page) list index rise (index.have page (now_there up)) (made_now told set index) p of ∙ member));
   bare = λ merged. is.bare;
   new_bare = is.new_bare;
   holds = λ told set index.
@@ -170,14 +185,17 @@ done_by_bases {honest = honest} page changes before now after parts earlier pair
 
     made_now : IsTrue honest → (set : PairSet) (index : IsIndex now set) → (p : Pair) → has p list ≡ unwrap_or (said_by p changes) (has p (index.pairs page))
     made_now told set index p =
-        let same : term_page page now ≡ term_page page before = up.same page there (λ less. less_apart (low_pair page before) (low_pair page before) less refl) in
+        let same : term_page page now ≡ term_page page before =
+        up.same page there (λ less. less_apart (low_pair page before) (low_pair page before) less refl)
+        in
         let mine : HasPairs (term_page page now) (index.pairs page) = index.have page (now_there up) in
         let was : HasPairs (term_page page before) (index.pairs page) = subst (λ (x : TermPage). HasPairs x (index.pairs page)) same mine in
         made p ∙ ap (unwrap_or (said_by p changes)) (has_pairs told (index.pairs page) was p)
 
 -- ---- all pages
 
-pub planned_none : {honest : Bool} (changes : List Change) (before : List TermPage) (room : ℕ → ℕ) (old : List PartValue) → IsPlannedTo honest changes changes before 0 (length before) room old old
+pub planned_none : {honest : Bool} (changes : List Change) (before : List TermPage) (room : ℕ → ℕ) (old : List PartValue)
+    → IsPlannedTo honest changes changes before 0 (length before) room old old
 planned_none changes before room old = record {
   parts = [];
   added = sym (append-nil old);
@@ -199,13 +217,17 @@ planned_none changes before room old = record {
   enough = λ number. omega arith;
   passed = λ page first p h. absurd (cc);
   each = λ apart number h. settled_none number before;
+  longer = omega arith;
   new_without = λ number from. refl;
+  new_own = λ number from below. absurd (omega arith);
+  none_past = λ number past. refl;
   new_with = λ number from below. absurd (omega arith);
   filled = λ told set index number h some p of member. absurd (omega (arith, some));
 }
 
 -- from the page behind one that is done on, pages are as they were
-pub up_behind : {honest : Bool} (page after other : ℕ) (changes : List Change) (before now new : List TermPage) (parts more : List PartValue) (merged : Bool) → IsUpTo (low_pair page before) before now parts
+pub up_behind : {honest : Bool} (page after other : ℕ) (changes : List Change) (before now new : List TermPage) (parts more : List PartValue)
+    (merged : Bool) → IsUpTo (low_pair page before) before now parts
     → IsPageDone honest page changes before now more new merged → IsNextPage page after before → NotAfter (low_pair after before) (low_pair other before)
     → IsUpTo (low_pair other before) before new (parts ++ more)
 up_behind page after other changes before now new parts more merged up done behind_it up_to =
@@ -233,13 +255,15 @@ up_behind page after other changes before now new parts more merged up done behi
       none = λ n h from. omega (arith, deltas_more n parts more, up.none n h (lower n from), done.deltas n (apart n from));
       no_bases = λ n h from.
           bases_put_more n parts more
-          ∙ ap (λ (ps : List (List ℕ)). ps ++ bases_put n more) (up.no_bases n h (lower n from)) ∙ done.elsewhere n h (apart n from);
+          ∙ ap (λ (ps : List (List ℕ)). ps ++ bases_put n more) (up.no_bases n h (lower n from))
+          ∙ done.elsewhere n (omega (arith, h, up.longer)) (apart n from);
     }
 
 abbrev pub as_number : Bool → ℕ
 as_number merged = cond merged 1 0
 
-module _ {honest : Bool} (changes run behind : List Change) (before : List TermPage) (merged next : ℕ) (room more : ℕ → ℕ) (old here new : List PartValue) (page : ℕ) (is_merged : Bool) (later : ℕ)
+module _ {honest : Bool} (changes run behind : List Change) (before : List TermPage) (merged next : ℕ) (room more : ℕ → ℕ)
+    (old here new : List PartValue) (page : ℕ) (is_merged : Bool) (later : ℕ)
     (is : IsPlannedTo honest changes (run ++ behind) before merged next room old here) (up : IsUpTo (low_pair page before) before is.now is.parts)
     (there : page < length before) (first_here : IsFirstOf (run ++ behind) page before) (some : 0 < length run)
     (belong : AllBelong (changed_pairs run) page before) (rise : Rise (changed_pairs run))
@@ -305,7 +329,8 @@ module _ {honest : Bool} (changes run behind : List Change) (before : List TermP
       (up.no_bases page there same_page) (no_deltas_put page is.parts (up.none page there same_page)) planned.done.put))
       (λ (apart : number ≡ page → ⊥).
       settled_other page before is.done run is.parts planned.parts belong number are apart
-      (planned.done.elsewhere number h apart) (no_deltas_put number planned.parts (planned.done.deltas number apart)) (is.each are number h))
+      (planned.done.elsewhere number (omega (arith, h, up.longer)) apart)
+      (no_deltas_put number planned.parts (planned.done.deltas number apart)) (is.each are number h))
       (cases_eq number page)
 
   filled_now : IsTrue honest → (set : PairSet) → IsIndex before set → (number : ℕ) → number < length before
@@ -328,7 +353,7 @@ module _ {honest : Bool} (changes run behind : List Change) (before : List TermP
       twice))
       (λ (apart : number ≡ page → ⊥).
       let bases : bases_put number (is.parts ++ planned.parts) ≡ bases_put number is.parts =
-      same_bases number is.parts planned.parts (planned.done.elsewhere number h apart)
+      same_bases number is.parts planned.parts (planned.done.elsewhere number (omega (arith, h, up.longer)) apart)
       in
       subst HasSome (sym (planned.done.same number (omega (arith, h, up.longer)) apart))
       (is.filled told set index number h (omega (arith, based, ap (λ (ps : List (List ℕ)). length ps) bases)) p of
@@ -337,6 +362,19 @@ module _ {honest : Bool} (changes run behind : List Change) (before : List TermP
 
   not_page : (number : ℕ) → length before ≤ number → number ≢ page
   not_page number from e = omega (arith, e, from, there)
+
+  -- a new page has one base: of the parts that were put before, or of these
+  new_own_now : (number : ℕ) → length before ≤ number → number < length planned.after → length (bases_put number (is.parts ++ planned.parts)) ≡ 1
+  new_own_now number from below =
+      ⊎_elim
+      (λ (l : number < length is.now).
+      ap (λ (ps : List (List ℕ)). length ps)
+      (same_bases number is.parts planned.parts (planned.done.elsewhere number l (not_page number from)))
+      ∙ is.new_own number from l)
+      (λ (l : length is.now ≤ number).
+      ap (λ (ps : List (List ℕ)). length ps) (later_bases number is.parts planned.parts (is.none_past number l))
+      ∙ planned.done.new_own number l below)
+      (cases_lt number (length is.now))
 
   pub planned_more : IsPlannedTo honest changes behind before (merged + as_number is_merged) later more old new
   planned_more = record {
@@ -357,6 +395,11 @@ module _ {honest : Bool} (changes run behind : List Change) (before : List TermP
     passed = passed_behind;
     each = each_now;
     filled = filled_now;
+    longer = omega (arith, is.longer, planned.done.longer);
+    new_own = new_own_now;
+    none_past = λ number past.
+        later_bases number is.parts planned.parts (is.none_past number (omega (arith, past, planned.done.longer)))
+        ∙ planned.done.none_past number past;
     new_without = λ number from.
         omega (arith, deltas_more number is.parts planned.parts, is.new_without number from, planned.done.deltas number (not_page number from));
     new_with = λ number from below.
@@ -381,6 +424,8 @@ planned_all changes before merged next room old new is few = record {
   each = λ apart number h.
       subst (λ (made : List Change). IsSettled number before made is.parts) (sym (is.whole ∙ append-nil is.done)) (is.each apart number h);
   new_without = λ number from. no_deltas_put number is.parts (is.new_without number from);
+  new_own = is.new_own;
+  none_past = is.none_past;
   new_with = is.new_with;
   filled = λ told set index number h some p of member.
       is.filled told set index number h some p of (subst (λ (made : List Change). with_changes made set p ≡ true) (is.whole ∙ append-nil is.done) member);

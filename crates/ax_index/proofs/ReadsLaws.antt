@@ -1,17 +1,18 @@
 -- Calls that read, one after another.
-use Rattle.std.proofs.Common.{◌≡◌, ℕ, ◌≤◌, Bool, false, refl, sym, ap, ◌∙◌, subst, List, arith}
-use Rattle.std.specs.Prelude.{IsTrue}
+use Rattle.std.proofs.Common.{◌≡◌, ℕ, zero, suc, Bool, true, false, refl, sym, ap, ◌∙◌, subst, List, [], ◌∷◌, arith}
+use Rattle.std.specs.Prelude.{IsTrue, slice_index_or}
 use Rattle.ax_disk.specs.laws.StaysLaws.{idles_start, idles_join}
 use Rattle.ax_disk.specs.model.Moments.{History}
 use Rattle.ax_cache.specs.Pages.{CachedPages}
 use Rattle.ax_store.specs.Kept.{Kept}
 use Rattle.ax_store.specs.declared.store.Store.{Store}
-use Rattle.ax_store.specs.Store.{AgreesUnlessFailed, SameButRoom, SameButSlots, store_contents, store_failed, store_offsets, store_slots}
+use Rattle.ax_store.specs.Store.{AgreesUnlessFailed, SameButRoom, SameButSlots, store_slots}
 use Rattle.ax_store.proofs.StoreLemmas.{agrees_same, agrees_slots}
-use Rattle.ax_pool.specs.Frames.{Frames}
+use Rattle.ax_pool.specs.Frames.{Frames, IsFree}
+use Rattle.ax_store.specs.Slots.{AreOthersSame}
 use Rattle.ax_index.specs.Plans.{SameButRoomAndBytes}
 use Rattle.ax_index.specs.Reading.{SameButBytes}
-use Rattle.ax_index.specs.Reads.{Reads, Reserves}
+use Rattle.ax_index.specs.Reads.{KeepsTaken, Reads, Reserves}
 use Rattle.ax_index.proofs.CallLemmas.{same_itself, same_then}
 use Rattle.ax_index.proofs.Unmoved.{same_contents, same_offsets, unmoved, unmoved_then}
 
@@ -78,7 +79,8 @@ module _ {C : Type 0} (pages : C → CachedPages) (honest : Bool) where
     never_falls = reads.never_falls;
   }
 
-  agrees_roomy : (old new : Store C) (history : History) → SameButRoom old new → AgreesUnlessFailed pages honest old history → AgreesUnlessFailed pages honest new history
+  agrees_roomy : (old new : Store C) (history : History) → SameButRoom old new → AgreesUnlessFailed pages honest old history
+      → AgreesUnlessFailed pages honest new history
   agrees_roomy old new history same agrees = λ is works. agrees_same pages old new history same (agrees is (sym same.failed ∙ works))
 
   -- a call that reads nothing and makes room
@@ -105,7 +107,8 @@ module _ {C : Type 0} (pages : C → CachedPages) (honest : Bool) where
       → AgreesUnlessFailed pages honest took history
   agrees_taken old took history same agrees = λ is works. agrees_slots pages old took history same (agrees is (sym same.failed ∙ works))
 
-  pub read_around : (old took read new : Store C) (x y : History) (l m : ℕ) → SameButSlots old took → Reads pages honest took read x y l m → SameButSlots read new
+  pub read_around : (old took read new : Store C) (x y : History) (l m : ℕ) → SameButSlots old took → Reads pages honest took read x y l m
+      → SameButSlots read new
       → (store_slots new).taken ≡ (store_slots old).taken → Reads pages honest old new x y l m
   read_around old took read new x y l m first reads last taken = record {
     same = record {
@@ -117,7 +120,8 @@ module _ {C : Type 0} (pages : C → CachedPages) (honest : Bool) where
     never_falls = reads.never_falls;
   }
 
-  pub reserve_around : (old took planned new : Store C) (x y : History) (l m : ℕ) → SameButSlots old took → Reserves pages honest took planned x y l m → SameButSlots planned new
+  pub reserve_around : (old took planned new : Store C) (x y : History) (l m : ℕ) → SameButSlots old took → Reserves pages honest took planned x y l m
+      → SameButSlots planned new
       → (store_slots new).taken ≡ (store_slots old).taken → Reserves pages honest old new x y l m
   reserve_around old took planned new x y l m first planned_so last taken = record {
     same = record {
@@ -130,6 +134,36 @@ module _ {C : Type 0} (pages : C → CachedPages) (honest : Bool) where
     lists = planned_so.lists;
     never_falls = planned_so.never_falls;
   }
+
+-- ---- the bytes of other slots
+
+pub others_itself : (number : ℕ) (frames : Frames) → AreOthersSame number frames frames
+others_itself number frames = record { taken = refl; count = refl; bytes = λ other apart. refl }
+
+pub others_then : (number here : ℕ) (old mid new : Frames) → here ≡ number → AreOthersSame number old mid → AreOthersSame here mid new
+    → AreOthersSame number old new
+others_then number here old mid new same first second = record {
+  taken = second.taken ∙ first.taken;
+  count = second.count ∙ first.count;
+  bytes = λ other apart. second.bytes other (λ e. apart (e ∙ same)) ∙ first.bytes other apart;
+}
+
+pub others_still : (number : ℕ) (old mid new : Frames) → new ≡ mid → AreOthersSame number old mid → AreOthersSame number old new
+others_still number old mid new same others = subst (AreOthersSame number old) (sym same) others
+
+not_both : (taken : List Bool) (n : ℕ) → slice_index_or taken n false ≡ true → slice_index_or taken n true ≡ false → ⊥
+not_both [] n is free = absurd (cc)
+not_both (x ∷ taken) zero is free = absurd (cc)
+not_both (x ∷ taken) (suc n) is free = not_both taken n is free
+
+-- between a slot that is taken and given back
+pub keeps_around : (number : ℕ) (old took read new : Frames) → IsFree old number → took.bytes ≡ old.bytes → AreOthersSame number took read
+    → new.bytes ≡ read.bytes → KeepsTaken old new
+keeps_around number old took read new free first others last other taken =
+    ap (λ (frames : List (List ℕ)). slice_index_or frames other []) last
+    ∙ others.bytes other
+    (λ e. not_both old.taken number (subst (λ (n : ℕ). slice_index_or old.taken n false ≡ true) e taken) free)
+    ∙ ap (λ (frames : List (List ℕ)). slice_index_or frames other []) first
 
 -- told of the same honesty
 module _ {C : Type 0} (pages : C → CachedPages) (now then : Bool) (same : now ≡ then) where

@@ -29,7 +29,7 @@ use Rattle.ax_pairs.proofs.SplitOff.{with_list, split_off}
 use Rattle.ax_index.specs.Bare.{has_deltas}
 use Rattle.ax_index.specs.Carried.{HasLowPair, HasSome, bases_put}
 use Rattle.ax_index.specs.Rewriting.{without, Replaces, Rewrites}
-use Rattle.ax_index.proofs.CarriedLemmas.{bases_put_more, no_base_of, one_base_put}
+use Rattle.ax_index.proofs.CarriedLemmas.{bases_put_more, later_bases, no_base_of, one_base_put, same_bases}
 use Rattle.ax_index.proofs.Lists.{deltas_more, bases_more, has_more, in_first, in_second, not_in_first, first_of_list, rises_back, one_before, not_in_both, not_in_other, first_least}
 
 -- ---- the base of the page itself
@@ -46,7 +46,8 @@ module _ (page : ℕ) (first rest : List Pair) (now : List TermPage) (payload : 
       (set_lows page (with_base payload) now there (base_low payload (low_pair page now) first spelled))
 
   -- of the pairs of the page, the base has those that are not in the rest
-  here_first : (set : PairSet) → ((p : Pair) → IsPageOf p page now → has p (first ++ rest) ≡ set p) → (p : Pair) → IsPageOf p page now → has p first ≡ without rest set p
+  here_first : (set : PairSet) → ((p : Pair) → IsPageOf p page now → has p (first ++ rest) ≡ set p) → (p : Pair) → IsPageOf p page now
+      → has p first ≡ without rest set p
   here_first set here p of =
       ⊎_elim
       (λ (in_rest : has p rest ≡ true).
@@ -78,11 +79,14 @@ module _ (page : ℕ) (first rest : List Pair) (now : List TermPage) (payload : 
         ap (term_page n) (put_within page (with_base payload) now there) ∙ set_other page (with_base payload) now n apart;
     no_deltas = λ n. refl;
     there = there;
-    bare = ap has_deltas (ap (term_page page) (put_within page (with_base payload) now there) ∙ get_or-set_same now page (with_base payload) no_term_page there);
+    bare = ap has_deltas
+        (ap (term_page page) (put_within page (with_base payload) now there) ∙ get_or-set_same now page (with_base payload) no_term_page there);
     new_bare = λ n from below. absurd (omega (arith, lows_first.many));
     one_base = λ count below within. ap (λ (b : Bool). cond b 1 0 + 0) (lt-ltb page count below);
     own = ap (λ (ps : List (List ℕ)). length ps) (one_base_put page payload);
     elsewhere = λ n h apart. no_base_of page n payload apart;
+    new_own = λ n from below. absurd (omega (arith, lows_first.many));
+    none_past = λ n past. no_base_of page n payload (λ e. omega (arith, e, past, lows_first.many, there));
     new_with = λ n from below. absurd (omega (arith, lows_first.many));
     filled = λ h.
         subst HasSome
@@ -102,7 +106,8 @@ module _ (page : ℕ) (first rest : List Pair) (now : List TermPage) (payload : 
 
 -- ---- the first base of a new page
 
-module _ (page : ℕ) (list : List Pair) (q : Pair) (piece rest : List Pair) (now : List TermPage) (parts : List PartValue) (old : List TermPage) (payload : List ℕ)
+module _ (page : ℕ) (list : List Pair) (q : Pair) (piece rest : List Pair) (now : List TermPage) (parts : List PartValue) (old : List TermPage)
+    (payload : List ℕ)
     (is : Rewrites page list ((q ∷ piece) ++ rest) now parts old) (rise : Rise list) (all : AllBelong list page now)
     (few : length old < most_term_pages) (spelled : IsLeaf payload q (postings_of (q ∷ piece))) where
   abbrev new_page : TermPage
@@ -155,7 +160,8 @@ module _ (page : ℕ) (list : List Pair) (q : Pair) (piece rest : List Pair) (no
       (true_or_false (has p left))
 
   -- with the pairs of the piece the set is without the rest alone
-  with_piece : (set with_it : PairSet) → Replaces page list now set with_it → (p : Pair) → with_list (q ∷ piece) (without left with_it) p ≡ without rest with_it p
+  with_piece : (set with_it : PairSet) → Replaces page list now set with_it → (p : Pair)
+      → with_list (q ∷ piece) (without left with_it) p ≡ without rest with_it p
   with_piece set with_it replaces p =
       ⊎_elim
       (λ (in_piece : has p (q ∷ piece) ≡ true).
@@ -205,6 +211,21 @@ module _ (page : ℕ) (list : List Pair) (q : Pair) (piece rest : List Pair) (no
         bases_put_more n parts (base_part (length old) payload ∷ [])
         ∙ ap (λ (ps : List (List ℕ)). bases_put n parts ++ ps) (no_base_of (length old) n payload (λ e. omega (arith, e, h, is.longer)))
         ∙ append-nil (bases_put n parts) ∙ is.elsewhere n h apart;
+    new_own = λ n from below.
+        ⊎_elim
+        (λ (e : n ≡ length old).
+        subst (λ (k : ℕ). length (bases_put k (parts ++ base_part (length old) payload ∷ [])) ≡ 1) (sym e)
+        (ap (λ (ps : List (List ℕ)). length ps)
+        (later_bases (length old) parts (base_part (length old) payload ∷ []) (is.none_past (length old) (omega arith))
+        ∙ one_base_put (length old) payload)))
+        (λ (l : n < length old).
+        ap (λ (ps : List (List ℕ)). length ps)
+        (same_bases n parts (base_part (length old) payload ∷ []) (no_base_of (length old) n payload (λ e. omega (arith, e, l))))
+        ∙ is.new_own n from l)
+        (last_or_before n below);
+    none_past = λ n past.
+        later_bases n parts (base_part (length old) payload ∷ []) (is.none_past n (omega (arith, past, one_more old new_page)))
+        ∙ no_base_of (length old) n payload (λ e. omega (arith, e, past, one_more old new_page));
     new_with = λ n from below.
         ⊎_elim
         (λ (e : n ≡ length old).

@@ -1,6 +1,6 @@
 -- What merging pages makes: the same set, in fewer pages with deltas.
 -- It is this project's own; it comes from no public document.
-use Rattle.std.specs.Prelude.{◌≡◌, ℕ, ◌+◌, ◌<◌, ◌≤◌, Bool, true, List, ◌++◌, length, Option, Some, None, IsTrue}
+use Rattle.std.specs.Prelude.{◌≡◌, ℕ, ◌+◌, ◌<◌, ◌≤◌, Bool, true, not, ◌&&◌, if◌then◌else◌, List, [], ◌++◌, length, Option, Some, None, IsTrue}
 use Rattle.std.specs.declared.cmp.Ordering.TheVariants.{Less}
 use Rattle.ax_frame.specs.Part.{PartValue}
 use Rattle.ax_pair.specs.declared.pair.Pair.{Pair}
@@ -24,9 +24,14 @@ IsStuck honest number before after =
     IsTrue honest → (set : PairSet) → IsIndex before set → has_deltas (term_page number after) ≡ true → (pairs : List Pair)
     → HasPairs (term_page number before) pairs → NeedsTooMany (length after) pairs
 
+-- how many bases are put of a page that was there, by whether it had deltas and whether it has some then
+abbrev pub bases_due : Bool → Bool → ℕ
+bases_due had has = if had && not has then 1 else 0
+
 -- Behind the parts that a batch had, parts were put that change no pair. So many pages fewer have deltas: as
--- many as were asked for, or else no page has deltas but those that are stuck. A new page has a pair, and one
--- that is merged is left without pairs only where it has none.
+-- many as were asked for, or else no page has deltas but those that are stuck. Each page that had deltas and has
+-- none then got one base, each other page that was there got none, and a new page has one base and a pair; of a page
+-- that there is not then there is no part. One that is merged is left without pairs only where it has none.
 pub record IsMergePlan (honest : Bool) (asked merged : ℕ) (old new : List PartValue) (before : List TermPage) : Type 0 where
   pub parts : List PartValue
   pub added : new ≡ old ++ parts
@@ -37,6 +42,10 @@ pub record IsMergePlan (honest : Bool) (asked merged : ℕ) (old new : List Part
   pub fewer : with_deltas after + merged ≡ with_deltas before
   pub at_most : merged ≤ asked
   pub finished : merged < asked → (number : ℕ) → number < length before → IsStuck honest number before after
+  pub each : (number : ℕ) → number < length before
+      → length (bases_put number parts) ≡ bases_due (has_deltas (term_page number before)) (has_deltas (term_page number after))
+  pub new_own : (number : ℕ) → length before ≤ number → number < length after → length (bases_put number parts) ≡ 1
+  pub none_past : (number : ℕ) → length after ≤ number → bases_put number parts ≡ []
   pub new_with : (number : ℕ) → length before ≤ number → number < length after → HasLowPair (term_page number after)
   pub filled : IsTrue honest → (set : PairSet) → IsIndex before set → (number : ℕ) → number < length before
       → 0 < length (bases_put number parts) → (p : Pair) → IsPageOf p number before → set p ≡ true → HasSome (term_page number after)
@@ -67,6 +76,10 @@ pub record IsMergedTo (honest : Bool) (at : Option ℕ) (before : List TermPage)
   pub no_deltas : (number : ℕ) → deltas_of number parts ≡ 0
   pub fewer : with_deltas now + merged ≡ with_deltas before
   pub next_is : next ≡ length now
+  pub each : (number : ℕ) → number < length before
+      → length (bases_put number parts) ≡ bases_due (has_deltas (term_page number before)) (has_deltas (term_page number now))
+  pub new_own : (number : ℕ) → length before ≤ number → number < length now → length (bases_put number parts) ≡ 1
+  pub none_past : (number : ℕ) → length now ≤ number → bases_put number parts ≡ []
   pub new_with : (number : ℕ) → length before ≤ number → number < length now → HasLowPair (term_page number now)
   pub filled : IsTrue honest → (set : PairSet) → IsIndex before set → (number : ℕ) → number < length before
       → 0 < length (bases_put number parts) → (p : Pair) → IsPageOf p number before → set p ≡ true → HasSome (term_page number now)

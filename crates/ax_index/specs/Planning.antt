@@ -53,7 +53,8 @@ IsPutBy false changes bases deltas = (bases ≡ []) × AreCarriedBy changes delt
 
 -- What the parts put for one page and the changes of it make of the pages as they are now: new pages have
 -- low pairs before the page that was next.
-pub record IsPageDone (honest : Bool) (page : ℕ) (changes : List Change) (before now : List TermPage) (parts : List PartValue) (after : List TermPage) (merged : Bool) : Type 0 where
+pub record IsPageDone (honest : Bool) (page : ℕ) (changes : List Change) (before now : List TermPage) (parts : List PartValue) (after : List TermPage)
+    (merged : Bool) : Type 0 where
   pub lead : LeadTo parts now after
   pub longer : length now ≤ length after
   pub lows : (n : ℕ) → n < length now → low_pair n after ≡ low_pair n now
@@ -62,7 +63,9 @@ pub record IsPageDone (honest : Bool) (page : ℕ) (changes : List Change) (befo
   pub same : (n : ℕ) → n < length now → n ≢ page → term_page n after ≡ term_page n now
   pub deltas : (n : ℕ) → n ≢ page → deltas_of n parts ≡ 0
   pub bases : bases_below (length before) parts ≡ (if merged then 1 else 0)
-  pub elsewhere : (n : ℕ) → n < length before → n ≢ page → bases_put n parts ≡ []
+  pub elsewhere : (n : ℕ) → n < length now → n ≢ page → bases_put n parts ≡ []
+  pub new_own : (n : ℕ) → length now ≤ n → n < length after → length (bases_put n parts) ≡ 1
+  pub none_past : (n : ℕ) → length after ≤ n → bases_put n parts ≡ []
   pub put : IsPutBy merged changes (bases_put page parts) (deltas_put page parts)
   pub new_with : (n : ℕ) → length now ≤ n → n < length after → HasLowPair (term_page n after)
   pub filled : merged ≡ true → IsTrue honest → (set : PairSet) → IsIndex now set → (p : Pair) → IsPageOf p page now
@@ -72,7 +75,8 @@ pub record IsPageDone (honest : Bool) (page : ℕ) (changes : List Change) (befo
   pub holds : IsTrue honest → (set : PairSet) → IsIndex now set → IsIndex after (with_changes changes set)
 
 -- Behind the parts that a batch had such parts were put.
-pub record IsPagePlanned (honest : Bool) (page : ℕ) (changes : List Change) (before now : List TermPage) (merged : Bool) (next : ℕ) (room : ℕ → ℕ) (old new : List PartValue) : Type 0 where
+pub record IsPagePlanned (honest : Bool) (page : ℕ) (changes : List Change) (before now : List TermPage) (merged : Bool) (next : ℕ) (room : ℕ → ℕ)
+    (old new : List PartValue) : Type 0 where
   pub parts : List PartValue
   pub added : new ≡ old ++ parts
   pub after : List TermPage
@@ -86,7 +90,8 @@ IsFirstOf [] page pages = ⊥
 IsFirstOf (change ∷ changes) page pages = IsPageOf change.pair page pages
 
 -- The changes but for the rest are planned.
-pub record IsPlannedTo (honest : Bool) (changes rest : List Change) (before : List TermPage) (merged next : ℕ) (room : ℕ → ℕ) (old new : List PartValue) : Type 0 where
+pub record IsPlannedTo (honest : Bool) (changes rest : List Change) (before : List TermPage) (merged next : ℕ) (room : ℕ → ℕ)
+    (old new : List PartValue) : Type 0 where
   pub parts : List PartValue
   pub added : new ≡ old ++ parts
   pub done : List Change
@@ -100,7 +105,10 @@ pub record IsPlannedTo (honest : Bool) (changes rest : List Change) (before : Li
   pub enough : (number : ℕ) → deltas_of number parts ≤ room number
   pub passed : (page : ℕ) → IsFirstOf rest page before → AreBefore (changed_pairs done) (low_pair page before)
   pub each : AreApart before → (number : ℕ) → number < length before → IsSettled number before done parts
+  pub longer : length before ≤ length now
   pub new_without : (number : ℕ) → length before ≤ number → deltas_of number parts ≡ 0
+  pub new_own : (number : ℕ) → length before ≤ number → number < length now → length (bases_put number parts) ≡ 1
+  pub none_past : (number : ℕ) → length now ≤ number → bases_put number parts ≡ []
   pub new_with : (number : ℕ) → length before ≤ number → number < length now → HasLowPair (term_page number now)
   pub filled : IsTrue honest → (set : PairSet) → IsIndex before set → (number : ℕ) → number < length before
       → 0 < length (bases_put number parts) → (p : Pair) → IsPageOf p number before → with_changes done set p ≡ true

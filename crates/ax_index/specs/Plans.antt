@@ -21,7 +21,8 @@ most_merged = 16
 -- Behind the parts that a batch had, parts were put that make the changes in the set which the pages hold, where
 -- the disk from which parts were read is honest. So many of them are bases of pages that were there, and those are
 -- few. A page that was there and is not merged gets just the changes of the list that are of it, and a new page has
--- no deltas and a pair. A page that is merged is left without pairs only where the changes leave it none.
+-- one base, no deltas and a pair; of a page that there is not then there is no part. A page that is merged is left
+-- without pairs only where the changes leave it none.
 pub record IsPlan (honest : Bool) (changes : List Change) (merged : ℕ) (old new : List PartValue) (before : List TermPage) : Type 0 where
   pub parts : List PartValue
   pub added : new ≡ old ++ parts
@@ -32,6 +33,8 @@ pub record IsPlan (honest : Bool) (changes : List Change) (merged : ℕ) (old ne
   pub few : merged ≤ most_merged
   pub each : AreApart before → (number : ℕ) → number < length before → IsSettled number before changes parts
   pub new_without : (number : ℕ) → length before ≤ number → deltas_put number parts ≡ []
+  pub new_own : (number : ℕ) → length before ≤ number → number < length after → length (bases_put number parts) ≡ 1
+  pub none_past : (number : ℕ) → length after ≤ number → bases_put number parts ≡ []
   pub new_with : (number : ℕ) → length before ≤ number → number < length after → HasLowPair (term_page number after)
   pub filled : IsTrue honest → (set : PairSet) → IsIndex before set → (number : ℕ) → number < length before
       → 0 < length (bases_put number parts) → (p : Pair) → IsPageOf p number before → with_changes changes set p ≡ true

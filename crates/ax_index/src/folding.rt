@@ -9,8 +9,8 @@ ghost use Rattle.ax_delta.specs.Payload.{IsDelta};
 ghost use Rattle.ax_pages.specs.Contents.{parts_of, term_page};
 ghost use Rattle.ax_pairs.specs.PagePairs.{AreOfBase, HasPairs, IsBase};
 ghost use Rattle.ax_store.specs.Faults.{HasDiskCause};
-ghost use Rattle.ax_store.specs.Slots.{IsSlotOf, part_at};
-ghost use Rattle.ax_store.specs.Store.{AgreesUnlessFailed, store_contents, store_failed};
+ghost use Rattle.ax_store.specs.Slots.{AreOthersSame, IsSlotOf, part_at};
+ghost use Rattle.ax_store.specs.Store.{AgreesUnlessFailed, store_contents, store_failed, store_slots};
 ghost use Rattle.ax_index.specs.Reads.{Reads};
 ghost use Rattle.ax_index.specs.Damage.{FailsBy, TellsPart, is_base_at};
 ghost use Rattle.ax_index.specs.Reading.{wanted_of};
@@ -50,6 +50,7 @@ pub(crate) fn folded<D: Disk, C: PageCache>(
         (D.faults disk.old) (D.faults disk.new) }
     ensures fails { FailsBy result (store_failed store.old) (store_failed store.new) }
     ensures slot { slot.new ≡ slot.old }
+    ensures others { AreOthersSame slot.old.number (store_slots store.old) (store_slots store.new) }
     ensures cause { store_failed store.old ≡ false → HasDiskCause result (D.faults disk.old) (D.faults disk.new) }
     ensures attached { D.attached disk.new ≡ D.attached disk.old }
     ensures honest { D.is_honest disk.new ≡ D.is_honest disk.old }
@@ -90,6 +91,7 @@ fn base_pairs<D: Disk, C: PageCache>(
         (D.faults disk.old) (D.faults disk.new) }
     ensures fails { FailsBy result (store_failed store.old) (store_failed store.new) }
     ensures slot { slot.new ≡ slot.old }
+    ensures others { AreOthersSame slot.old.number (store_slots store.old) (store_slots store.new) }
     ensures cause { store_failed store.old ≡ false → HasDiskCause result (D.faults disk.old) (D.faults disk.new) }
     ensures attached { D.attached disk.new ≡ D.attached disk.old }
     ensures honest { D.is_honest disk.new ≡ D.is_honest disk.old }
@@ -182,6 +184,7 @@ fn merge_at<D: Disk, C: PageCache>(
         (D.faults disk.old) (D.faults disk.new) }
     ensures fails { FailsBy result (store_failed store.old) (store_failed store.new) }
     ensures slot { slot.new ≡ slot.old }
+    ensures others { AreOthersSame slot.old.number (store_slots store.old) (store_slots store.new) }
     ensures cause { store_failed store.old ≡ false → HasDiskCause result (D.faults disk.old) (D.faults disk.new) }
     ensures attached { D.attached disk.new ≡ D.attached disk.old }
     ensures honest { D.is_honest disk.new ≡ D.is_honest disk.old }

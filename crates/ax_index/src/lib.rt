@@ -2,11 +2,12 @@
 //!
 //! Stands on `ax_store` for the pages and their parts, on `ax_leaf` and `ax_delta` for what the parts
 //! say, on `ax_term` for ranges of terms, and on `ax_pairs` for what the set is. Its one contract: where
-//! term pages hold a set (`IsIndex`), `has` and `pairs_in` answer what is in it, the parts of
-//! `plan_changes` make exactly the changes that were asked for, and those of `merge_some` change no
+//! term pages hold a set (`IsIndex`), `has`, `pairs_in` and `pairs_in_some` answer what is in it, the parts
+//! of `plan_changes` make exactly the changes that were asked for, and those of `merge_some` change no
 //! pair.
 #![tactic(auto)]
 
+mod base_numbers;
 mod bases;
 mod choice;
 mod damage;
@@ -19,6 +20,7 @@ mod out_of_memory;
 mod parts;
 mod payload;
 mod plan;
+mod ranges;
 mod runs;
 mod sizes;
 mod wanted;
@@ -29,6 +31,6 @@ pub use ax_store::StoreFault;
 pub use ax_term::TermRange;
 pub use looking::has;
 pub use merging::merge_some;
-pub use numbers::pairs_in;
+pub use numbers::{pairs_in, pairs_in_some};
 pub use plan::plan_changes;
 pub use sizes::have_short_terms;

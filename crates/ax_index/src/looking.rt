@@ -11,11 +11,11 @@ ghost use Rattle.ax_pairs.specs.PagePairs.{AreDeltas, AreOfBase, IsBase};
 ghost use Rattle.ax_pairs.specs.PairSets.{PairSet};
 ghost use Rattle.ax_pool.specs.Frames.{free_count};
 ghost use Rattle.ax_store.specs.Faults.{HasDiskCause};
-ghost use Rattle.ax_store.specs.Slots.{IsSlotOf, part_at};
+ghost use Rattle.ax_store.specs.Slots.{AreOthersSame, IsSlotOf, part_at};
 ghost use Rattle.ax_store.specs.Store.{AgreesUnlessFailed, store_contents, store_slots, store_failed};
 ghost use Rattle.ax_index.specs.Damage.{TellsPart, FailsBy, is_base_at};
 ghost use Rattle.ax_index.specs.Reading.{first_delta};
-ghost use Rattle.ax_index.specs.Reads.{Reads};
+ghost use Rattle.ax_index.specs.Reads.{KeepsTaken, Reads};
 
 use crate::damage::damaged_at;
 use crate::number_lookup::has_one;
@@ -46,6 +46,7 @@ pub fn has<D: Disk, C: PageCache>(
     ensures reads { Reads C.pages (D.is_honest disk.old) store.old store.new
         (D.history disk.old (D.attached disk.old)) (D.history disk.new (D.attached disk.new))
         (D.faults disk.old) (D.faults disk.new) }
+    ensures others { KeepsTaken (store_slots store.old) (store_slots store.new) }
     ensures fails { FailsBy result (store_failed store.old) (store_failed store.new) }
     ensures cause { store_failed store.old ≡ false → HasDiskCause result (D.faults disk.old) (D.faults disk.new) }
     ensures attached { D.attached disk.new ≡ D.attached disk.old }
@@ -73,6 +74,7 @@ fn has_by<D: Disk, C: PageCache>(
     ensures told { IsTrue (D.is_honest disk.old) → IfErr result (TellsPart store.old) }
     ensures no_memory { result ≡ Err StoreFault.Memory → ⊥ }
     ensures slot { slot.new ≡ slot.old }
+    ensures others { AreOthersSame slot.old.number (store_slots store.old) (store_slots store.new) }
     ensures reads { Reads C.pages (D.is_honest disk.old) store.old store.new
         (D.history disk.old (D.attached disk.old)) (D.history disk.new (D.attached disk.new))
         (D.faults disk.old) (D.faults disk.new) }
@@ -112,6 +114,7 @@ fn look_back<D: Disk, C: PageCache>(
         (D.faults disk.old) (D.faults disk.new) }
     ensures fails { FailsBy result (store_failed store.old) (store_failed store.new) }
     ensures slot { slot.new ≡ slot.old }
+    ensures others { AreOthersSame slot.old.number (store_slots store.old) (store_slots store.new) }
     ensures cause { store_failed store.old ≡ false → HasDiskCause result (D.faults disk.old) (D.faults disk.new) }
     ensures attached { D.attached disk.new ≡ D.attached disk.old }
     ensures honest { D.is_honest disk.new ≡ D.is_honest disk.old }
@@ -161,6 +164,7 @@ fn look_at<D: Disk, C: PageCache>(
         (D.faults disk.old) (D.faults disk.new) }
     ensures fails { FailsBy result (store_failed store.old) (store_failed store.new) }
     ensures slot { slot.new ≡ slot.old }
+    ensures others { AreOthersSame slot.old.number (store_slots store.old) (store_slots store.new) }
     ensures cause { store_failed store.old ≡ false → HasDiskCause result (D.faults disk.old) (D.faults disk.new) }
     ensures attached { D.attached disk.new ≡ D.attached disk.old }
     ensures honest { D.is_honest disk.new ≡ D.is_honest disk.old }
@@ -200,6 +204,7 @@ fn base_has<D: Disk, C: PageCache>(
     ensures told { IsTrue (D.is_honest disk.old) → IfErr result (TellsPart store.old) }
     ensures no_memory { result ≡ Err StoreFault.Memory → ⊥ }
     ensures slot { slot.new ≡ slot.old }
+    ensures others { AreOthersSame slot.old.number (store_slots store.old) (store_slots store.new) }
     ensures reads { Reads C.pages (D.is_honest disk.old) store.old store.new
         (D.history disk.old (D.attached disk.old)) (D.history disk.new (D.attached disk.new))
         (D.faults disk.old) (D.faults disk.new) }

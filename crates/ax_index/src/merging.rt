@@ -11,7 +11,7 @@ ghost use Rattle.ax_pairs.specs.PairSets.{PairSet};
 ghost use Rattle.ax_pool.specs.Frames.{free_count};
 ghost use Rattle.ax_store.specs.Batch.{batch_parts};
 ghost use Rattle.ax_store.specs.Faults.{HasDiskCause};
-ghost use Rattle.ax_store.specs.Slots.{IsSlotOf};
+ghost use Rattle.ax_store.specs.Slots.{AreOthersSame, IsSlotOf};
 ghost use Rattle.ax_store.specs.Store.{AgreesUnlessFailed, store_contents, store_failed, store_slots, store_spare};
 ghost use Rattle.ax_index.specs.Bare.{has_deltas as does_have_deltas};
 ghost use Rattle.ax_index.specs.Damage.{FailsBy, TellsPart};
@@ -19,7 +19,7 @@ ghost use Rattle.ax_index.specs.Merging.{IsBehind, IsMergePlan, IsMergedTo};
 ghost use Rattle.ax_index.specs.PageSizes.{NeedsTooMany};
 ghost use Rattle.ax_index.specs.Planning.{IsUpTo, IsPagePlanned};
 ghost use Rattle.ax_index.specs.Plans.{HasNoDeltas};
-ghost use Rattle.ax_index.specs.Reads.{Reads, Reserves};
+ghost use Rattle.ax_index.specs.Reads.{KeepsTaken, Reads, Reserves};
 
 use crate::bases::rewrite;
 use crate::folding::folded;
@@ -57,6 +57,7 @@ pub fn merge_some<D: Disk, C: PageCache>(
     ensures reserves { Reserves C.pages (D.is_honest disk.old) store.old store.new
         (D.history disk.old (D.attached disk.old)) (D.history disk.new (D.attached disk.new))
         (D.faults disk.old) (D.faults disk.new) }
+    ensures others { KeepsTaken (store_slots store.old) (store_slots store.new) }
     ensures fails { FailsBy result (store_failed store.old) (store_failed store.new) }
     ensures cause { store_failed store.old ≡ false → HasDiskCause result (D.faults disk.old) (D.faults disk.new) }
     ensures attached { D.attached disk.new ≡ D.attached disk.old }
@@ -86,6 +87,7 @@ fn merge_by<D: Disk, C: PageCache>(
     ensures room { OnOk result (length (batch_parts batch.new) ≤ store_spare store.new) }
     ensures told { IsTrue (D.is_honest disk.old) → IfErr result (TellsPart store.old) }
     ensures slot { slot.new ≡ slot.old }
+    ensures others { AreOthersSame slot.old.number (store_slots store.old) (store_slots store.new) }
     ensures reserves { Reserves C.pages (D.is_honest disk.old) store.old store.new
         (D.history disk.old (D.attached disk.old)) (D.history disk.new (D.attached disk.new))
         (D.faults disk.old) (D.faults disk.new) }
@@ -119,6 +121,7 @@ fn merge_pages<D: Disk, C: PageCache>(
     ensures merged { IfOk result (λ merged. IsMergePlan (D.is_honest disk.old) n merged (batch_parts batch.old) (batch_parts batch.new) (store_contents store.old).terms) }
     ensures told { IsTrue (D.is_honest disk.old) → IfErr result (TellsPart store.old) }
     ensures slot { slot.new ≡ slot.old }
+    ensures others { AreOthersSame slot.old.number (store_slots store.old) (store_slots store.new) }
     ensures reads { Reads C.pages (D.is_honest disk.old) store.old store.new
         (D.history disk.old (D.attached disk.old)) (D.history disk.new (D.attached disk.new))
         (D.faults disk.old) (D.faults disk.new) }
@@ -170,6 +173,7 @@ fn merge_one<D: Disk, C: PageCache>(
         → IfOk result (λ done. IsMergedTo (D.is_honest disk.old) at (store_contents store.old).terms (merged + (if done then 1 else 0)) next.new old (batch_parts batch.new)) }
     ensures told { IsTrue (D.is_honest disk.old) → IfErr result (TellsPart store.old) }
     ensures slot { slot.new ≡ slot.old }
+    ensures others { AreOthersSame slot.old.number (store_slots store.old) (store_slots store.new) }
     ensures reads { Reads C.pages (D.is_honest disk.old) store.old store.new
         (D.history disk.old (D.attached disk.old)) (D.history disk.new (D.attached disk.new))
         (D.faults disk.old) (D.faults disk.new) }
@@ -185,7 +189,7 @@ fn merge_one<D: Disk, C: PageCache>(
 }
 
 /// Whether a page has deltas.
-fn has_deltas<C>(store: &Store<C>, page: u32) -> bool
+pub(crate) fn has_deltas<C>(store: &Store<C>, page: u32) -> bool
     ensures { result ≡ does_have_deltas (term_page page (store_contents store.now).terms) }
 {
     store.parts(Page::Term(page)) > oldest_delta(store, page)
@@ -215,6 +219,7 @@ fn merge_whole<D: Disk, C: PageCache>(
         → NeedsTooMany next.old pairs) }
     ensures told { IsTrue (D.is_honest disk.old) → IfErr result (TellsPart store.old) }
     ensures slot { slot.new ≡ slot.old }
+    ensures others { AreOthersSame slot.old.number (store_slots store.old) (store_slots store.new) }
     ensures reads { Reads C.pages (D.is_honest disk.old) store.old store.new
         (D.history disk.old (D.attached disk.old)) (D.history disk.new (D.attached disk.new))
         (D.faults disk.old) (D.faults disk.new) }

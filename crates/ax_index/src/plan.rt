@@ -16,14 +16,14 @@ ghost use Rattle.ax_pool.specs.Frames.{free_count};
 ghost use Rattle.ax_store.specs.Batch.{batch_parts};
 ghost use Rattle.ax_store.specs.Faults.{HasDiskCause};
 ghost use Rattle.ax_store.specs.Kept.{deltas_of};
-ghost use Rattle.ax_store.specs.Slots.{IsSlotOf};
+ghost use Rattle.ax_store.specs.Slots.{AreOthersSame, IsSlotOf};
 ghost use Rattle.ax_store.specs.Store.{AgreesUnlessFailed, SameButRoom, store_contents, store_failed, store_room, store_slots, store_spare};
 ghost use Rattle.ax_index.specs.Damage.{FailsBy, TellsPart};
 ghost use Rattle.ax_index.specs.DeltaRuns.{AreCarried};
 ghost use Rattle.ax_index.specs.DeltaSizes.{HaveShortTerms};
 ghost use Rattle.ax_index.specs.Planning.{IsUpTo, IsPagePlanned, IsPlannedTo};
 ghost use Rattle.ax_index.specs.Plans.{HasNoDeltas, IsPlan};
-ghost use Rattle.ax_index.specs.Reads.{Reads, Reserves};
+ghost use Rattle.ax_index.specs.Reads.{KeepsTaken, Reads, Reserves};
 ghost use Rattle.std.specs.Option.{unwrap_or};
 
 use crate::bases::rewrite;
@@ -72,6 +72,7 @@ pub fn plan_changes<D: Disk, C: PageCache>(
     ensures reserves { Reserves C.pages (D.is_honest disk.old) store.old store.new
         (D.history disk.old (D.attached disk.old)) (D.history disk.new (D.attached disk.new))
         (D.faults disk.old) (D.faults disk.new) }
+    ensures others { KeepsTaken (store_slots store.old) (store_slots store.new) }
     ensures fails { FailsBy result (store_failed store.old) (store_failed store.new) }
     ensures cause { store_failed store.old ≡ false → HasDiskCause result (D.faults disk.old) (D.faults disk.new) }
     ensures attached { D.attached disk.new ≡ D.attached disk.old }
@@ -115,6 +116,7 @@ fn plan_by<D: Disk, C: PageCache>(
     ensures deltas { OnOk result ((number : ℕ) → deltas_of number (batch_parts batch.new) ≤ store_room number store.new) }
     ensures told { IsTrue (D.is_honest disk.old) → IfErr result (TellsPart store.old) }
     ensures slot { slot.new ≡ slot.old }
+    ensures others { AreOthersSame slot.old.number (store_slots store.old) (store_slots store.new) }
     ensures reserves { Reserves C.pages (D.is_honest disk.old) store.old store.new
         (D.history disk.old (D.attached disk.old)) (D.history disk.new (D.attached disk.new))
         (D.faults disk.old) (D.faults disk.new) }
@@ -180,6 +182,7 @@ fn plan_first<'a, D: Disk, C: PageCache>(
     ensures few { plan.new.merged ≤ 16 }
     ensures told { IsTrue (D.is_honest disk.old) → IfErr result (TellsPart store.old) }
     ensures slot { slot.new ≡ slot.old }
+    ensures others { AreOthersSame slot.old.number (store_slots store.old) (store_slots store.new) }
     ensures reserves { Reserves C.pages (D.is_honest disk.old) store.old store.new
         (D.history disk.old (D.attached disk.old)) (D.history disk.new (D.attached disk.new))
         (D.faults disk.old) (D.faults disk.new) }
@@ -244,6 +247,7 @@ fn plan_page<D: Disk, C: PageCache>(
     ensures never_less { (number : ℕ) → store_room number store.old ≤ store_room number store.new }
     ensures told { IsTrue (D.is_honest disk.old) → IfErr result (TellsPart store.old) }
     ensures slot { slot.new ≡ slot.old }
+    ensures others { AreOthersSame slot.old.number (store_slots store.old) (store_slots store.new) }
     ensures reserves { Reserves C.pages (D.is_honest disk.old) store.old store.new
         (D.history disk.old (D.attached disk.old)) (D.history disk.new (D.attached disk.new))
         (D.faults disk.old) (D.faults disk.new) }
@@ -333,6 +337,7 @@ pub(crate) fn merge_page<D: Disk, C: PageCache>(
     ensures left { IfOk result (λ merged. merged ≡ false → (batch_parts batch.new ≡ batch_parts batch.old) × (next.new ≡ next.old)) }
     ensures told { IsTrue (D.is_honest disk.old) → IfErr result (TellsPart store.old) }
     ensures slot { slot.new ≡ slot.old }
+    ensures others { AreOthersSame slot.old.number (store_slots store.old) (store_slots store.new) }
     ensures reads { Reads C.pages (D.is_honest disk.old) store.old store.new
         (D.history disk.old (D.attached disk.old)) (D.history disk.new (D.attached disk.new))
         (D.faults disk.old) (D.faults disk.new) }

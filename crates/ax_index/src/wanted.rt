@@ -1,16 +1,17 @@
 //! Which pairs of a page are wanted.
 
 ghost use Rattle.std.specs.Prelude.{◌≡◌};
-ghost use Rattle.ax_term.specs.Ranges.{is_in_range};
 ghost use Rattle.ax_index.specs.Wanted.{is_wanted};
 
+use crate::ranges::is_within_some;
 use ax_term::TermRange;
 
 /// The terms whose pairs are wanted.
 #[derive(Clone, Copy)]
 pub(crate) enum Wanted<'a> {
     All,
-    In(&'a TermRange),
+    /// Those in one of the ranges.
+    In(&'a [TermRange]),
 }
 
 impl<'a> Wanted<'a> {
@@ -20,14 +21,7 @@ impl<'a> Wanted<'a> {
     {
         match self {
             Wanted::All => true,
-            Wanted::In(range) => is_within(range, term),
+            Wanted::In(ranges) => is_within_some(ranges, term),
         }
     }
-}
-
-/// Whether a term is in a range.
-pub(crate) fn is_within(range: &TermRange, term: &[u8]) -> bool
-    ensures { result ≡ is_in_range range.now term.now }
-{
-    range.from.as_slice().cmp(term).is_le() && term.cmp(range.below.as_slice()).is_lt()
 }

@@ -3,7 +3,7 @@
 ghost use Rattle.std.specs.Prelude.{◌≡◌, ◌≤◌, ◌+◌, ℕ, length, IfOk, IsTrue, OnErr, OnOk, Some};
 ghost use Rattle.std.specs.FinMap as map;
 ghost use Rattle.ax_index.specs.Bare.{with_deltas};
-ghost use Rattle.ax_index.specs.Wanted.{AreNumbersIn};
+ghost use Rattle.ax_index.specs.Wanted.{AreNumbersIn, AreNumbersInSome};
 ghost use Rattle.ax_index_support.specs.Ready.{IsReady};
 ghost use Rattle.ax_pages.specs.AfterPart.{after_parts};
 ghost use Rattle.ax_pairs.specs.Index.{IsIndex};
@@ -17,7 +17,8 @@ use ax_cache::PageCache;
 use ax_delta::are_in_order;
 use ax_disk::Disk;
 use ax_index::{
-    Change, Pair, StoreFault, TermRange, has, have_short_terms, merge_some, pairs_in, plan_changes,
+    Change, Pair, StoreFault, TermRange, has, have_short_terms, merge_some, pairs_in,
+    pairs_in_some, plan_changes,
 };
 use ax_store::{Batch, Store};
 use std::alloc::Global;
@@ -130,4 +131,20 @@ pub fn look<D: Disk, C: PageCache>(
     ensures ready { IsReady C.pages store.new (D.is_honest disk.new) (D.history disk.new (D.attached disk.new)) }
 {
     pairs_in(alloc, store, disk, range)
+}
+
+/// The numbers with a term in one of the ranges.
+pub fn look_in_some<D: Disk, C: PageCache>(
+    alloc: Global,
+    disk: &mut D,
+    store: &mut Store<C>,
+    ranges: &[TermRange],
+) -> Result<Vec<u32>, StoreFault>
+    requires { IsReady C.pages store.old (D.is_honest disk.old) (D.history disk.old (D.attached disk.old)) }
+    ensures found { IsTrue (D.is_honest disk.old) → (set : PairSet) → IsIndex (store_contents store.old).terms set
+        → IfOk result (λ numbers. AreNumbersInSome ranges.now set numbers.items) }
+    ensures same { store_contents store.new ≡ store_contents store.old }
+    ensures ready { IsReady C.pages store.new (D.is_honest disk.new) (D.history disk.new (D.attached disk.new)) }
+{
+    pairs_in_some(alloc, store, disk, ranges)
 }

@@ -9,4 +9,4 @@ mod changes;
 mod changing;
 
 pub use changes::{pair_of, put};
-pub use changing::{ask, change, look, merge, open};
+pub use changing::{ask, change, look, look_in_some, merge, open};

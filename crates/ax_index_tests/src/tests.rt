@@ -4,4 +4,5 @@ mod few;
 mod largest;
 mod many;
 mod random;
+mod several;
 mod worked_page;

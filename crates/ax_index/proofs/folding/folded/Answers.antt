@@ -1,13 +1,15 @@
-use Rattle.std.proofs.Common.{Bool, ◌+◌, ◌<◌, length, refl, sym, subst, ◌∙◌, arith}
+use Rattle.std.proofs.Common.{Bool, ◌+◌, ◌<◌, length, refl, sym, subst, ◌∙◌, arith, ap}
 use Rattle.std.specs.Prelude.{IsTrue}
 use Rattle.ax_pages.specs.Contents.{term_page, term_parts}
 use Rattle.ax_store.specs.Store.{store_contents}
 use Rattle.ax_index.proofs.DeltaParts.{count_parts, delta_there}
 use Rattle.ax_index.proofs.FoldedPairs.{folded_end, folded_start, folded_step}
 use Rattle.ax_index.proofs.Unmoved.{same_contents}
-use Rattle.ax_index.proofs.ReadsLaws.{read_then, of_honest}
+use Rattle.ax_index.proofs.ReadsLaws.{of_honest, others_then, read_then}
 use Rattle.ax_faults.specs.FaultLaws.{rose_since}
 use Rattle.ax_index.specs.Damage.{FailsWith}
+use Rattle.ax_pool.specs.declared.slot.Slot.{Slot}
+use Rattle.ax_store.specs.declared.store.StoreFrames.{StoreFrames}
 use Rattle.ax_index.proofs.folding.folded.Goals as goal
 
 pub loop-i-init : goal.loop-i-init
@@ -22,6 +24,7 @@ loop-i-init g c =
       reads = first.reads;
       failed = first.fails;
       slot = first.slot;
+      others = first.others;
       attached = first.attached;
       honest = first.honest;
     }
@@ -42,6 +45,7 @@ loop-i-preserved g c =
       reads = read_then g.C.PageCache.pages _ _ _ _ _ _ _ _ _ _ inv.reads (of_honest g.C.PageCache.pages _ _ inv.honest _ _ _ _ _ _ more.reads);
       failed = more.fails ∙ inv.failed;
       slot = more.slot ∙ inv.slot;
+      others = others_then _ _ _ _ _ (ap (λ (slot : Slot StoreFrames). slot.number) inv.slot) inv.others more.others;
       attached = more.attached ∙ inv.attached;
       honest = more.honest ∙ inv.honest;
     }
@@ -69,3 +73,7 @@ returns-in-Err-merge_at-clause-cause g c = λ works.
       never_falls = omega (arith, c.loop-i.invariant.reads.never_falls, cause.never_falls);
       failed = λ fails. rose_since _ _ _ _ c.loop-i.invariant.reads.never_falls (omega arith) (cause.failed fails);
     }
+
+pub returns-in-Err-merge_at-clause-others : goal.returns-in-Err-merge_at-clause-others
+returns-in-Err-merge_at-clause-others g c =
+    others_then _ _ _ _ _ (ap (λ (slot : Slot StoreFrames). slot.number) c.loop-i.invariant.slot) c.loop-i.invariant.others c.in-Err-merge_at.ensures.others

@@ -2,8 +2,10 @@ use Rattle.std.proofs.Common.{ap, sym, subst}
 use Rattle.std.specs.Prelude.{IsTrue}
 use Rattle.ax_pages.specs.Contents.{Contents}
 use Rattle.ax_index.proofs.IndexPages.{by_base, by_delta}
-use Rattle.ax_index.proofs.ReadsLaws.{agrees_told, of_honest, read_then}
+use Rattle.ax_index.proofs.ReadsLaws.{agrees_told, of_honest, others_then, read_then}
 use Rattle.ax_index.proofs.Unmoved.{same_contents}
+use Rattle.ax_pool.specs.declared.slot.Slot.{Slot}
+use Rattle.ax_store.specs.declared.store.StoreFrames.{StoreFrames}
 use Rattle.ax_index.proofs.looking.has_by.Goals as goal
 
 pub returns-in-Some-clause-has : goal.returns-in-Some-clause-has
@@ -27,3 +29,7 @@ pub returns-in-None-clause-reads : goal.returns-in-None-clause-reads
 returns-in-None-clause-reads g c =
     read_then g.C.PageCache.pages _ _ _ _ _ _ _ _ _ _ c.in-Ok.ensures.reads
     (of_honest g.C.PageCache.pages _ _ c.look_back.ensures.honest _ _ _ _ _ _ c.base_has.ensures.reads)
+
+pub returns-in-None-clause-others : goal.returns-in-None-clause-others
+returns-in-None-clause-others g c =
+    others_then _ _ _ _ _ (ap (λ (slot : Slot StoreFrames). slot.number) c.look_back.ensures.slot) c.in-Ok.ensures.others c.base_has.ensures.others

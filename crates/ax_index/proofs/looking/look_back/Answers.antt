@@ -1,4 +1,4 @@
-use Rattle.std.proofs.Common.{◌-◌, Bool, refl, sym, subst, ◌∙◌, arith, rules}
+use Rattle.std.proofs.Common.{◌-◌, Bool, refl, sym, subst, ◌∙◌, arith, rules, ap}
 use Rattle.std.specs.Prelude.{IsTrue}
 use Rattle.ax_faults.specs.FaultLaws.{rose_since}
 use Rattle.ax_index.specs.Damage.{FailsWith}
@@ -6,7 +6,9 @@ use Rattle.ax_pages.specs.Contents.{term_page}
 use Rattle.ax_store.specs.Store.{store_contents}
 use Rattle.ax_index.proofs.DeltaParts.{count_parts, delta_there, newest_says, quiet_before, quiet_end}
 use Rattle.ax_index.proofs.Unmoved.{same_contents}
-use Rattle.ax_index.proofs.ReadsLaws.{nothing_read, read_then, of_honest}
+use Rattle.ax_index.proofs.ReadsLaws.{nothing_read, of_honest, others_itself, others_then, read_then}
+use Rattle.ax_pool.specs.declared.slot.Slot.{Slot}
+use Rattle.ax_store.specs.declared.store.StoreFrames.{StoreFrames}
 use Rattle.ax_index.proofs.looking.look_back.Goals as goal
 
 pub loop-i-init : goal.loop-i-init
@@ -19,6 +21,7 @@ loop-i-init g c =
       reads = nothing_read g.C.PageCache.pages _ c.args.store.now _ _ c.requires.agrees;
       failed = refl;
       slot = search rules;
+      others = others_itself _ _;
       attached = search rules;
       honest = search rules;
     }
@@ -48,6 +51,7 @@ loop-i-preserved g c =
       reads = read_then g.C.PageCache.pages _ _ _ _ _ _ _ _ _ _ inv.reads (of_honest g.C.PageCache.pages _ _ inv.honest _ _ _ _ _ _ more.reads);
       failed = more.fails ∙ inv.failed;
       slot = more.slot ∙ inv.slot;
+      others = others_then _ _ _ _ _ (ap (λ (slot : Slot StoreFrames). slot.number) inv.slot) inv.others more.others;
       attached = more.attached ∙ inv.attached;
       honest = more.honest ∙ inv.honest;
     }
@@ -77,3 +81,11 @@ returns-then-is_some-clause-fails g c = c.in-Ok.ensures.fails ∙ c.loop-i.invar
 
 pub returns-clause-fails : goal.returns-clause-fails
 returns-clause-fails g c = c.loop-i.invariant.failed
+
+pub returns-in-Err-clause-others : goal.returns-in-Err-clause-others
+returns-in-Err-clause-others g c =
+    others_then _ _ _ _ _ (ap (λ (slot : Slot StoreFrames). slot.number) c.loop-i.invariant.slot) c.loop-i.invariant.others c.in-Err.ensures.others
+
+pub returns-then-is_some-clause-others : goal.returns-then-is_some-clause-others
+returns-then-is_some-clause-others g c =
+    others_then _ _ _ _ _ (ap (λ (slot : Slot StoreFrames). slot.number) c.loop-i.invariant.slot) c.loop-i.invariant.others c.in-Ok.ensures.others

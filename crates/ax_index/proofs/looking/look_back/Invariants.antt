@@ -1,13 +1,14 @@
-use Rattle.std.proofs.Common.{◌≡◌, ◌-◌, ◌≤◌, List, length, drop, false, None}
+use Rattle.std.proofs.Common.{◌≡◌, ◌-◌, ◌≤◌, List, length, drop, None}
 use Rattle.std.specs.Prelude.{IsTrue}
 use Rattle.ax_delta.specs.Changes.{TermChange}
 use Rattle.ax_delta.specs.Said.{last_said}
 use Rattle.ax_pages.specs.Contents.{parts_of, term_page}
 use Rattle.ax_pages.specs.declared.page.Page.TheVariants.{Term}
 use Rattle.ax_pairs.specs.PagePairs.{AreDeltas}
-use Rattle.ax_store.specs.Store.{store_contents, store_failed}
+use Rattle.ax_store.specs.Store.{store_contents, store_failed, store_slots}
 use Rattle.ax_index.specs.Reading.{first_delta}
 use Rattle.ax_index.specs.Reads.{Reads}
+use Rattle.ax_store.specs.Slots.{AreOthersSame}
 use Rattle.ax_index.proofs.looking.look_back.Given as goal
 
 abbrev pub invariant-loop-i : goal.invariant-loop-i
@@ -19,6 +20,7 @@ invariant-loop-i g l = record {
   reads : Reads g.C.PageCache.pages (g.D.Disk.is_honest l.fn.disk) l.fn.store l.store (g.D.Disk.history l.fn.disk (g.D.Disk.attached l.fn.disk)) (g.D.Disk.history l.disk (g.D.Disk.attached l.disk)) (g.D.Disk.faults l.fn.disk) (g.D.Disk.faults l.disk);
   failed : store_failed l.store ≡ store_failed l.fn.store;
   slot : l.slot ≡ l.fn.slot;
+  others : AreOthersSame l.fn.slot.number (store_slots l.fn.store) (store_slots l.store);
   attached : g.D.Disk.attached l.disk ≡ g.D.Disk.attached l.fn.disk;
   honest : g.D.Disk.is_honest l.disk ≡ g.D.Disk.is_honest l.fn.disk;
 }

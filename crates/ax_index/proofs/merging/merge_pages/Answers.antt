@@ -4,8 +4,10 @@ use Rattle.ax_pages.specs.Contents.{Contents}
 use Rattle.ax_store.specs.Store.{store_contents}
 use Rattle.ax_index.proofs.CallLemmas.{fails_as, rose_later}
 use Rattle.ax_index.proofs.MergingLemmas.{merge_step_on, merged_end, merged_none, number_small, walk_shorter}
-use Rattle.ax_index.proofs.ReadsLaws.{agrees_told, nothing_read, of_honest, read_then}
+use Rattle.ax_index.proofs.ReadsLaws.{agrees_told, nothing_read, of_honest, others_itself, others_then, read_then}
 use Rattle.ax_index.proofs.Unmoved.{same_contents, told_back}
+use Rattle.ax_pool.specs.declared.slot.Slot.{Slot}
+use Rattle.ax_store.specs.declared.store.StoreFrames.{StoreFrames}
 use Rattle.ax_index.proofs.merging.merge_pages.Goals as goal
 
 pub loop-at-init : goal.loop-at-init
@@ -15,6 +17,7 @@ loop-at-init g c = record {
   reads = nothing_read g.C.PageCache.pages _ c.args.store.now _ _ c.requires.agrees;
   failed = refl;
   slot = refl;
+  others = others_itself _ _;
   attached = refl;
   honest = refl;
 }
@@ -46,6 +49,7 @@ loop-at-preserved g c =
           (of_honest g.C.PageCache.pages _ _ inv.honest _ _ _ _ _ _ more.reads);
       failed = more.fails ∙ inv.failed;
       slot = more.slot ∙ inv.slot;
+      others = others_then _ _ _ _ _ (ap (λ (slot : Slot StoreFrames). slot.number) inv.slot) inv.others more.others;
       attached = more.attached ∙ inv.attached;
       honest = more.honest ∙ inv.honest;
     }
@@ -71,3 +75,7 @@ returns-in-Err-clause-cause g c = λ works.
 pub returns-clause-merged : goal.returns-clause-merged
 returns-clause-merged g c =
     merged_end c.loop-at.at (store_contents c.args.store.now).terms c.args.n c.loop-at.merged c.loop-at.next _ _ c.in_default.is c.loop-at.invariant.merging c.loop-at.invariant.most
+
+pub returns-in-Err-clause-others : goal.returns-in-Err-clause-others
+returns-in-Err-clause-others g c =
+    others_then _ _ _ _ _ (ap (λ (slot : Slot StoreFrames). slot.number) c.loop-at.invariant.slot) c.loop-at.invariant.others c.in-Err.ensures.others

@@ -1,9 +1,10 @@
 use Rattle.std.proofs.Common.{◌≡◌, ◌≤◌}
 use Rattle.ax_store.specs.Batch.{batch_parts}
-use Rattle.ax_store.specs.Store.{store_contents, store_failed}
+use Rattle.ax_store.specs.Store.{store_contents, store_failed, store_slots}
 use Rattle.ax_index.specs.Merging.{IsMergedTo}
 use Rattle.ax_index.specs.Reads.{Reads}
 use Rattle.ax_index.proofs.PageWalk.{steps_left}
+use Rattle.ax_store.specs.Slots.{AreOthersSame}
 use Rattle.ax_index.proofs.merging.merge_pages.Given as goal
 
 abbrev pub invariant-loop-at : goal.invariant-loop-at
@@ -15,6 +16,7 @@ invariant-loop-at g l = record {
       (g.D.Disk.faults l.fn.disk) (g.D.Disk.faults l.disk);
   failed : store_failed l.store ≡ store_failed l.fn.store;
   slot : l.slot ≡ l.fn.slot;
+  others : AreOthersSame l.fn.slot.number (store_slots l.fn.store) (store_slots l.store);
   attached : g.D.Disk.attached l.disk ≡ g.D.Disk.attached l.fn.disk;
   honest : g.D.Disk.is_honest l.disk ≡ g.D.Disk.is_honest l.fn.disk;
 }

@@ -1,7 +1,8 @@
 use Rattle.std.proofs.Common.{ap}
 use Rattle.ax_pool.specs.declared.slot.Slot.{Slot}
+use Rattle.ax_store.specs.Store.{store_slots}
 use Rattle.ax_store.specs.declared.store.StoreFrames.{StoreFrames}
-use Rattle.ax_index.proofs.ReadsLaws.{agrees_taken, reserve_around}
+use Rattle.ax_index.proofs.ReadsLaws.{agrees_taken, keeps_around, reserve_around}
 use Rattle.ax_index.proofs.Unmoved.{slots_back}
 use Rattle.ax_index.proofs.merging.merge_some.Goals as goal
 
@@ -15,3 +16,7 @@ returns-clause-reserves g c =
     c.merge_by-merged.ensures.reserves c.give_slot.ensures.same
     (slots_back _ _ _ _ _ _ c.in-Some.ensures.was_free c.in-Some.ensures.taken c.merge_by-merged.ensures.reserves.same.taken
     (ap (λ (slot : Slot StoreFrames). slot.number) c.merge_by-merged.ensures.slot) c.give_slot.ensures.free)
+
+pub returns-clause-others : goal.returns-clause-others
+returns-clause-others g c =
+    keeps_around _ _ _ _ (store_slots c.give_slot.new.self) c.in-Some.ensures.was_free c.in-Some.ensures.bytes c.merge_by-merged.ensures.others c.give_slot.ensures.bytes

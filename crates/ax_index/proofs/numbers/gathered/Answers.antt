@@ -4,8 +4,10 @@ use Rattle.ax_pages.specs.Contents.{Contents, TermPage}
 use Rattle.ax_store.specs.Store.{store_contents}
 use Rattle.ax_index.proofs.CallLemmas.{fails_as, rose_later}
 use Rattle.ax_index.proofs.Gathering.{IsGathered, step_by, stop}
-use Rattle.ax_index.proofs.ReadsLaws.{agrees_told, nothing_read, of_honest, read_then}
+use Rattle.ax_index.proofs.ReadsLaws.{agrees_told, nothing_read, of_honest, others_itself, others_then, read_then}
 use Rattle.ax_index.proofs.Unmoved.{same_contents}
+use Rattle.ax_pool.specs.declared.slot.Slot.{Slot}
+use Rattle.ax_store.specs.declared.store.StoreFrames.{StoreFrames}
 use Rattle.ax_index.proofs.numbers.gathered.Goals as goal
 
 pub loop-next-init : goal.loop-next-init
@@ -15,6 +17,7 @@ loop-next-init g c = record {
   reads = nothing_read g.C.PageCache.pages _ c.args.store.now _ _ c.requires.agrees;
   failed = refl;
   slot = search rules;
+  others = others_itself _ _;
   attached = search rules;
   honest = search rules;
 }
@@ -32,17 +35,18 @@ loop-next-preserved g c =
     let after : (store_contents c.gather.new.store).terms ≡ terms = ap (λ (k : Contents). k.terms) (same_contents _ _ more.reads.same.same) ∙ now in
     record {
       gathered = λ told set is.
-          step_by c.args.range.now set terms (store_contents c.loop-next.store).terms (store_contents c.gather.new.store).terms
+          step_by c.args.ranges.now set terms (store_contents c.loop-next.store).terms (store_contents c.gather.new.store).terms
           c.in-Some.page c.page_behind-next.result c.loop-next.numbers.items c.gather.new.numbers.items now after
           (more.numbers (subst IsTrue (sym inv.honest) told)) c.page_behind-next.ensures.reaches
           (subst (λ (o : Option ℕ). IfSome o (λ page. page < length terms)) c.in-Some.is inv.there)
           is
-          (subst (λ (o : Option ℕ). IsGathered c.args.range.now set terms o c.loop-next.numbers.items) c.in-Some.is (inv.gathered told set is));
+          (subst (λ (o : Option ℕ). IsGathered c.args.ranges.now set terms o c.loop-next.numbers.items) c.in-Some.is (inv.gathered told set is));
       there = subst (λ (ts : List TermPage). IfSome c.page_behind-next.result (λ page. page < length ts)) after c.page_behind-next.ensures.there;
       reads = read_then g.C.PageCache.pages _ _ _ _ _ _ _ _ _ _ inv.reads
           (of_honest g.C.PageCache.pages _ _ inv.honest _ _ _ _ _ _ more.reads);
       failed = more.fails ∙ inv.failed;
       slot = more.slot ∙ inv.slot;
+      others = others_then _ _ _ _ _ (ap (λ (slot : Slot StoreFrames). slot.number) inv.slot) inv.others more.others;
       attached = more.attached ∙ inv.attached;
       honest = more.honest ∙ inv.honest;
     }
@@ -61,5 +65,9 @@ returns-in-Err-clause-cause g c = λ works.
 
 pub returns-clause-numbers : goal.returns-clause-numbers
 returns-clause-numbers g c = λ told set is.
-    stop c.args.range.now set (store_contents c.args.store.now).terms c.loop-next.next c.loop-next.numbers.items c.in_default.is
+    stop c.args.ranges.now set (store_contents c.args.store.now).terms c.loop-next.next c.loop-next.numbers.items c.in_default.is
     (c.loop-next.invariant.gathered told set is)
+
+pub returns-in-Err-clause-others : goal.returns-in-Err-clause-others
+returns-in-Err-clause-others g c =
+    others_then _ _ _ _ _ (ap (λ (slot : Slot StoreFrames). slot.number) c.loop-next.invariant.slot) c.loop-next.invariant.others c.in-Err.ensures.others

@@ -1,11 +1,7 @@
-use Rattle.std.proofs.Common.{sym, ◌∙◌}
+use Rattle.ax_index.proofs.SomeRanges.{numbers_in_some}
 use Rattle.ax_index.proofs.numbers.numbers_by.Goals as goal
 
 pub returns-clause-numbers : goal.returns-clause-numbers
-returns-clause-numbers g c = λ told set is. record {
-  rising = c.put_in_order.ensures.rising;
-  are = λ n.
-      let same = c.put_in_order.ensures.same n in
-      let among = c.in-Ok.ensures.numbers told set is n in
-      (λ h. among.0 (sym same ∙ h), λ h. same ∙ among.1 h);
-}
+returns-clause-numbers g c = λ told set is.
+    numbers_in_some c.args.ranges.now set c.in-Ok.numbers.items _ c.put_in_order.ensures.rising c.put_in_order.ensures.same
+    (c.in-Ok.ensures.numbers told set is)

@@ -1,17 +1,7 @@
-use Rattle.std.proofs.Common.{ap}
-use Rattle.ax_pool.specs.declared.slot.Slot.{Slot}
-use Rattle.ax_store.specs.declared.store.StoreFrames.{StoreFrames}
-use Rattle.ax_index.proofs.ReadsLaws.{agrees_taken, read_around}
-use Rattle.ax_index.proofs.Unmoved.{slots_back}
+use Rattle.ax_index.proofs.SomeRanges.{in_one_by}
 use Rattle.ax_index.proofs.numbers.pairs_in.Goals as goal
 
-pub numbers_by-found-requires-clause-agrees : goal.numbers_by-found-requires-clause-agrees
-numbers_by-found-requires-clause-agrees g c =
-    agrees_taken g.C.PageCache.pages _ c.args.store.now _ _ c.in-Some.ensures.same c.requires.agrees
-
-pub returns-clause-reads : goal.returns-clause-reads
-returns-clause-reads g c =
-    read_around g.C.PageCache.pages _ c.args.store.now _ _ c.give_slot.new.self _ _ _ _ c.in-Some.ensures.same
-    c.numbers_by-found.ensures.reads c.give_slot.ensures.same
-    (slots_back _ _ _ _ _ _ c.in-Some.ensures.was_free c.in-Some.ensures.taken c.numbers_by-found.ensures.reads.same.taken
-    (ap (λ (slot : Slot StoreFrames). slot.number) c.numbers_by-found.ensures.slot) c.give_slot.ensures.free)
+pub returns-clause-numbers : goal.returns-clause-numbers
+returns-clause-numbers g c = λ told set is.
+    in_one_by c.pairs_in_some.result (λ numbers. numbers.items) c.from_ref.result.now c.args.range.now set c.from_ref.ensures.value
+    (c.pairs_in_some.ensures.numbers told set is)

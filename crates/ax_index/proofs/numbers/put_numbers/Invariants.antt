@@ -3,4 +3,4 @@ use Rattle.ax_index.specs.Reading.{numbers_of}
 use Rattle.ax_index.proofs.numbers.put_numbers.Given as goal
 
 abbrev pub invariant-loop-pair : goal.invariant-loop-pair
-invariant-loop-pair l = l.numbers.items ++ numbers_of l.range (drop l.pair-index l.pairs) ≡ l.fn.numbers.items ++ numbers_of l.range l.pairs
+invariant-loop-pair l = l.numbers.items ++ numbers_of l.ranges (drop l.pair-index l.pairs) ≡ l.fn.numbers.items ++ numbers_of l.ranges l.pairs

@@ -3,7 +3,9 @@ use Rattle.std.specs.Prelude.{IsTrue}
 use Rattle.ax_store.specs.Store.{store_contents}
 use Rattle.ax_index.proofs.CallLemmas.{fails_as, planned_begin, planned_end, planned_on, room_for_all, rose_later, told_planned}
 use Rattle.ax_index.proofs.PlanningLemmas.{planned_all}
-use Rattle.ax_index.proofs.ReadsLaws.{agrees_told, nothing_reserved, of_honest_too, reserve_then, room_behind}
+use Rattle.ax_index.proofs.ReadsLaws.{agrees_told, nothing_reserved, of_honest_too, others_itself, others_still, others_then, reserve_then, room_behind}
+use Rattle.ax_pool.specs.declared.slot.Slot.{Slot}
+use Rattle.ax_store.specs.declared.store.StoreFrames.{StoreFrames}
 use Rattle.ax_index.proofs.plan.plan_by.Goals as goal
 
 pub loop-rest-init : goal.loop-rest-init
@@ -15,6 +17,7 @@ loop-rest-init g c = record {
   reserves = nothing_reserved g.C.PageCache.pages _ c.args.store.now _ _ c.requires.agrees;
   failed = refl;
   slot = refl;
+  others = others_itself _ _;
   attached = refl;
   honest = refl;
 }
@@ -33,6 +36,7 @@ loop-rest-preserved g c =
           (of_honest_too g.C.PageCache.pages _ _ inv.honest _ _ _ _ _ _ more.reserves);
       failed = more.fails ∙ inv.failed;
       slot = more.slot ∙ inv.slot;
+      others = others_then _ _ _ _ _ (ap (λ (slot : Slot StoreFrames). slot.number) inv.slot) inv.others more.others;
       attached = more.attached ∙ inv.attached;
       honest = more.honest ∙ inv.honest;
     }
@@ -77,3 +81,13 @@ pub returns-in-Ok-reserve-clause-deltas : goal.returns-in-Ok-reserve-clause-delt
 returns-in-Ok-reserve-clause-deltas g c = λ number.
     let planned = c.loop-rest.invariant.planned in
     omega (arith, room_for_all _ planned.parts _ _ c.requires.none planned.added planned.enough number, c.in-Ok-reserve.ensures.deltas number)
+
+pub returns-in-Err-clause-others : goal.returns-in-Err-clause-others
+returns-in-Err-clause-others g c =
+    others_then _ _ _ _ _ (ap (λ (slot : Slot StoreFrames). slot.number) c.loop-rest.invariant.slot) c.loop-rest.invariant.others c.in-Err.ensures.others
+
+pub returns-in-Ok-reserve-clause-others : goal.returns-in-Ok-reserve-clause-others
+returns-in-Ok-reserve-clause-others g c = others_still _ _ _ _ c.reserve.ensures.same.slots c.loop-rest.invariant.others
+
+pub returns-in-Err-reserve-clause-others : goal.returns-in-Err-reserve-clause-others
+returns-in-Err-reserve-clause-others g c = others_still _ _ _ _ c.reserve.ensures.same.slots c.loop-rest.invariant.others

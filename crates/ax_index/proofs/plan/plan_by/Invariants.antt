@@ -2,10 +2,11 @@ use Rattle.std.proofs.Common.{◌≡◌, ◌≤◌, length}
 use Rattle.ax_delta.specs.Changes.{changed_pairs}
 use Rattle.ax_pair.specs.Order.{Rise}
 use Rattle.ax_store.specs.Batch.{batch_parts}
-use Rattle.ax_store.specs.Store.{store_contents, store_failed, store_room}
+use Rattle.ax_store.specs.Store.{store_contents, store_failed, store_room, store_slots}
 use Rattle.ax_index.specs.DeltaSizes.{HaveShortTerms}
 use Rattle.ax_index.specs.Planning.{IsPlannedTo}
 use Rattle.ax_index.specs.Reads.{Reserves}
+use Rattle.ax_store.specs.Slots.{AreOthersSame}
 use Rattle.ax_index.proofs.plan.plan_by.Given as goal
 
 abbrev pub invariant-loop-rest : goal.invariant-loop-rest
@@ -20,6 +21,7 @@ invariant-loop-rest g l = record {
       (g.D.Disk.faults l.fn.disk) (g.D.Disk.faults l.disk);
   failed : store_failed l.store ≡ store_failed l.fn.store;
   slot : l.slot ≡ l.fn.slot;
+  others : AreOthersSame l.fn.slot.number (store_slots l.fn.store) (store_slots l.store);
   attached : g.D.Disk.attached l.disk ≡ g.D.Disk.attached l.fn.disk;
   honest : g.D.Disk.is_honest l.disk ≡ g.D.Disk.is_honest l.fn.disk;
 }

@@ -1,6 +1,6 @@
 use Rattle.std.proofs.Common.{◌∙◌, refl}
 use Rattle.ax_index.proofs.CallLemmas.{deltas_planned, no_disk_fault, no_failure, with_room}
-use Rattle.ax_index.proofs.ReadsLaws.{reads_only, room_alone, room_behind}
+use Rattle.ax_index.proofs.ReadsLaws.{others_itself, others_still, reads_only, room_alone, room_behind}
 use Rattle.ax_index.proofs.plan.plan_page.Goals as goal
 
 pub returns-then-not-merge-clause-planned : goal.returns-then-not-merge-clause-planned
@@ -44,3 +44,9 @@ returns-in-Ok-false-clause-fails g c =
 
 pub returns-in-Err-clause-reserves : goal.returns-in-Err-clause-reserves
 returns-in-Err-clause-reserves g c = reads_only g.C.PageCache.pages _ _ _ _ _ _ _ c.in-Err.ensures.reads
+
+pub returns-then-not-merge-clause-others : goal.returns-then-not-merge-clause-others
+returns-then-not-merge-clause-others g c = others_still _ _ _ _ c.plan_deltas.ensures.same.slots (others_itself _ _)
+
+pub returns-in-Ok-false-clause-others : goal.returns-in-Ok-false-clause-others
+returns-in-Ok-false-clause-others g c = others_still _ _ _ _ c.plan_deltas-in-Ok-false.ensures.same.slots c.in-Ok-false.ensures.others

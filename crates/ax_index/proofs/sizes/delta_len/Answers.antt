@@ -1,5 +1,5 @@
 use Rattle.std.proofs.Common.{ℕ, List, length, arith, ap}
-use Rattle.ax_index.proofs.DeltaSizes.{counted_more, short_at}
+use Rattle.ax_index.proofs.DeltaSizes.{counted_more}
 use Rattle.ax_index.proofs.sizes.delta_len.Goals as goal
 
 pub loop-i-preserved : goal.loop-i-preserved
