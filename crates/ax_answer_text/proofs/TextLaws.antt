@@ -1,5 +1,5 @@
 -- One document more, the end of a walk, and the answer.
-use Rattle.std.proofs.Common.{◌≡◌, ◌≢◌, ◌≤◌, ◌+◌, ℕ, List, [], ◌∷◌, ◌++◌, length, map, Bool, true, false, Option, Some, None, refl, sym, ap, subst, ◌∙◌}
+use Rattle.std.proofs.Common.{◌≡◌, ◌≢◌, ◌≤◌, ◌+◌, ℕ, List, [], ◌∷◌, ◌++◌, length, map, Bool, true, false, Option, Some, None, inl, inr, refl, sym, ap, subst, ◌∙◌}
 use Rattle.std.proofs.lemmas.Bool.{false≢true}
 use Rattle.std.specs.Option.{IfSome}
 use Rattle.std.specs.List.Sorted.{IsStrictlySortedBy}
@@ -9,16 +9,17 @@ use Rattle.ax_mean.specs.declared.query.KeyedRow.{KeyedRow}
 use Rattle.ax_mean.specs.declared.query.Query.{Query}
 use Rattle.ax_mean.specs.Answer.{distinct_where}
 use Rattle.ax_excerpt.specs.declared.excerpt.Excerpt.{Excerpt}
+use Rattle.ax_excerpt.specs.declared.excerpt.Excerpt.TheVariants.{Whole}
 use Rattle.ax_excerpt.specs.Enough.{is_enough}
 use Rattle.ax_excerpt.specs.Plain.{are_plain}
-use Rattle.ax_excerpt_text.specs.Wholes.{tree_read}
+use Rattle.ax_excerpt_text.specs.Wholes.{IsNoMap, tree_read}
 use Rattle.ax_sieve.specs.Conditions.{is_dropped, DropsNothing}
 use Rattle.ax_result.specs.Answers.{answer_of}
 use Rattle.ax_answer.proofs.Rowless.{nothing_added}
 use Rattle.ax_answer.specs.Gathering.{Gathers, HasEnough}
 use Rattle.ax_answer_text.specs.declared.text_answer.TextAnswer.{TextAnswer}
 use Rattle.ax_answer_text.specs.Parts.{Suffices, AreReadWhole, is_plain, part_of, parts_of}
-use Rattle.ax_answer_text.specs.TextAnswers.{Answers}
+use Rattle.ax_answer_text.specs.TextAnswers.{Answers, IsTo}
 use Rattle.ax_answer_text.proofs.SameParts.{all_the_same, and_parts, no_envs, no_rows, same_answer, same_numbers}
 
 pub found_suffices : (found : Option Excerpt) (query : Query)
@@ -38,30 +39,36 @@ pub dropped : (held : TextAnswer) (query : Query) (entries : List (ℕ × Tree))
     → is_dropped held.sieve tree ≡ true → Answers held query entries
     → Answers held query (entries ++ (number, tree) ∷ [])
 dropped held query entries number tree is answers =
-    let none = answers.sifts tree is in
+    let none = answers.asked.sifts tree is in
     record {
-      sifts = answers.sifts;
-      nothing = answers.nothing;
-      enough = answers.enough;
+      asked = answers.asked;
       gathers = subst (Gathers held.answer query)
           (sym (and_parts held.excerpt entries ((number, tree) ∷ [])))
           (nothing_added query (parts_of held.excerpt entries) number (part_of held.excerpt tree)
-          (no_envs held.excerpt query tree answers.enough none.0)
-          (no_rows held.excerpt query number tree answers.enough (none.1 number))
+          (no_envs held.excerpt query tree answers.asked.enough none.0)
+          (no_rows held.excerpt query number tree answers.asked.enough (none.1 number))
           held.answer answers.gathers);
     }
 
+-- it is one to the same query
+pub asked_still : (old new : TextAnswer) → new.sieve ≡ old.sieve → new.excerpt ≡ old.excerpt
+    → new.is_limited ≡ old.is_limited → (query : Query) → IsTo old query → IsTo new query
+asked_still old new sieve excerpt limit query asked = record {
+  sifts = λ t dropped. asked.sifts t (ap (λ s. is_dropped s t) (sym sieve) ∙ dropped);
+  nothing = λ none. subst DropsNothing (sym sieve) (asked.nothing none);
+  enough = subst (λ e. Suffices e query) (sym excerpt) asked.enough;
+  limited = limit ∙ asked.limited;
+}
+
 -- what is read of a document is taken in
 pub taken : (old new : TextAnswer) (number : ℕ) (tree part : Tree) → new.sieve ≡ old.sieve
-    → new.excerpt ≡ old.excerpt → part ≡ part_of old.excerpt tree
+    → new.excerpt ≡ old.excerpt → new.is_limited ≡ old.is_limited → part ≡ part_of old.excerpt tree
     → ((query : Query) (entries : List (ℕ × Tree)) → Gathers old.answer query entries
     → Gathers new.answer query (entries ++ (number, part) ∷ []))
     → (query : Query) (entries : List (ℕ × Tree)) → Answers old query entries
     → Answers new query (entries ++ (number, tree) ∷ [])
-taken old new number tree part sieve excerpt is added query entries answers = record {
-  sifts = λ t dropped. answers.sifts t (ap (λ s. is_dropped s t) (sym sieve) ∙ dropped);
-  nothing = λ none. subst DropsNothing (sym sieve) (answers.nothing none);
-  enough = subst (λ e. Suffices e query) (sym excerpt) answers.enough;
+taken old new number tree part sieve excerpt limit is added query entries answers = record {
+  asked = asked_still old new sieve excerpt limit query answers.asked;
   gathers = subst (Gathers new.answer query)
       (ap (λ p. parts_of old.excerpt entries ++ (number, p) ∷ []) is
       ∙ sym (and_parts old.excerpt entries ((number, tree) ∷ []))
@@ -76,9 +83,7 @@ pub done : (held : TextAnswer)
     → (query : Query) (entries more : List (ℕ × Tree)) → Answers held query entries
     → Answers held query (entries ++ more)
 done held sound query entries more answers = record {
-  sifts = answers.sifts;
-  nothing = answers.nothing;
-  enough = answers.enough;
+  asked = answers.asked;
   gathers = subst (Gathers held.answer query) (sym (and_parts held.excerpt entries more))
       (sound query (parts_of held.excerpt entries) (parts_of held.excerpt more) answers.gathers);
 }
@@ -97,7 +102,7 @@ enough_is_told held done told query entries answers enough =
       limited = enough.limited;
       many = subst (λ (rows : List KeyedRow). query.skip + enough.limit
           ≤ length (distinct_where query.distinct rows))
-          (sym (all_the_same held.excerpt query entries answers.enough)) enough.many;
+          (sym (all_the_same held.excerpt query entries answers.asked.enough)) enough.many;
     })
 
 pub none_wanted_is_told : (held : TextAnswer) (done : Bool)
@@ -117,16 +122,22 @@ pub finished : (held : TextAnswer) (rows : List KeyedRow)
 finished held rows gives query entries answers rise =
     gives query (parts_of held.excerpt entries) answers.gathers
     (subst (IsStrictlySortedBy nat_cmp) (sym (same_numbers held.excerpt entries)) rise)
-    ∙ same_answer held.excerpt query entries answers.enough
+    ∙ same_answer held.excerpt query entries answers.asked.enough
+
+-- what an excerpt gives of bytes that are read whole
+pub whole_read : (excerpt : Excerpt) (text : List ℕ) (found : Option Tree) (tree : Tree) → found ≡ Some tree
+    → (excerpt ≡ Whole → found ≡ tree_read text) → (IsNoMap text → found ≡ tree_read text)
+    → AreReadWhole (Some excerpt) text → tree_read text ≡ Some tree
+whole_read excerpt text found tree is whole no_map (inl all) = sym (whole all) ∙ is
+whole_read excerpt text found tree is whole no_map (inr none) = sym (no_map none) ∙ is
 
 -- bytes that stand for a tree do not stand for none
 pub one_stands : (tree : Tree) (text : List ℕ) → tree_read text ≡ Some tree → tree_read text ≢ None
 one_stands tree text is none = absurd (cc)
 
--- they are not dropped, either, where the query has no condition
+-- they are not dropped, either, where nothing is
 pub not_passed_over : (held : TextAnswer) (text : List ℕ) (drops : Bool) → drops ≡ true
-    → (DropsNothing held.sieve → drops ≡ false)
-    → (query : Query) (entries : List (ℕ × Tree)) → Answers held query entries → query.condition ≡ None
+    → (DropsNothing held.sieve → drops ≡ false) → DropsNothing held.sieve
     → AreReadWhole held.excerpt text → tree_read text ≢ None
-not_passed_over held text drops is nothing query entries answers none whole =
-    absurd (false≢true (sym (nothing (answers.nothing none)) ∙ is))
+not_passed_over held text drops is nothing none whole =
+    absurd (false≢true (sym (nothing none) ∙ is))

@@ -1,8 +1,9 @@
 -- What is read of documents for a query: parts that are enough for it, or all of them.
-use Rattle.std.specs.Prelude.{◌≡◌, ℕ, List, map, Bool, true, Option, Some, None}
+use Rattle.std.specs.Prelude.{◌≡◌, ◌⊎◌, ℕ, List, map, Bool, true, Option, Some, None}
 use Rattle.ax_tree.specs.declared.tree.Tree.{Tree}
 use Rattle.ax_mean.specs.declared.query.Query.{Query}
 use Rattle.ax_excerpt.specs.declared.excerpt.Excerpt.{Excerpt}
+use Rattle.ax_excerpt.specs.declared.excerpt.Excerpt.TheVariants.{Whole}
 use Rattle.ax_excerpt.specs.Enough.{is_enough}
 use Rattle.ax_excerpt.specs.Excerpts.{excerpt_of}
 use Rattle.ax_excerpt.specs.Plain.{are_plain}
@@ -26,7 +27,17 @@ abbrev pub is_plain : Option Excerpt → Bool
 is_plain None = true
 is_plain (Some excerpt) = are_plain excerpt
 
--- bytes of which all is read: without an excerpt, and where they do not begin as a map does
+-- bytes of which all is read: without an excerpt, by one that asks for the whole document, and where
+-- they do not begin as a map does
 abbrev pub AreReadWhole : Option Excerpt → List ℕ → Type 0
 AreReadWhole None text = Unit {0}
-AreReadWhole (Some excerpt) text = IsNoMap text
+AreReadWhole (Some excerpt) text = (excerpt ≡ Whole) ⊎ IsNoMap text
+
+-- The query looks at all of each document: no part of one is enough for it.
+abbrev pub LooksAtAll : Query → Type 0
+LooksAtAll query = (excerpt : Excerpt) → is_enough excerpt query ≡ true → excerpt ≡ Whole
+
+-- The same bytes, told by the query: it looks at all of each document, or they do not begin as a map
+-- does.
+abbrev pub AreReadWholeFor : Query → List ℕ → Type 0
+AreReadWholeFor query text = LooksAtAll query ⊎ IsNoMap text

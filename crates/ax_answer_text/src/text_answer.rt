@@ -28,11 +28,13 @@ pub struct TextAnswer<'a> {
     excerpt: Option<Excerpt>,
     reader: TreeReader,
     answer: Answer<'a>,
+    /// Whether the query has a LIMIT or TOP. Without one each document is looked at.
+    is_limited: bool,
     ghost plain: { is_plain excerpt ≡ true },
 }
 
 impl<'a> TextAnswer<'a> {
-    ghost use Rattle.std.specs.Prelude.{◌≡◌, ◌≢◌, ◌≤◌, ◌+◌, ℕ, List, [], ◌∷◌, ◌++◌, map, true, Some, None, Err, IfOk, OnOk};
+    ghost use Rattle.std.specs.Prelude.{◌≡◌, ◌≢◌, ◌≤◌, ◌+◌, ℕ, List, [], ◌∷◌, ◌++◌, map, true, false, Some, None, Err, IfOk, OnOk};
     ghost use Rattle.std.specs.Ordering.{nat_cmp};
     ghost use Rattle.std.specs.List.Sorted.{IsStrictlySortedBy};
     ghost use Rattle.ax_tree.specs.CanonicalText.{canonical_text};
@@ -41,8 +43,9 @@ impl<'a> TextAnswer<'a> {
     ghost use Rattle.ax_result.specs.Answers.{answer_of};
     ghost use Rattle.ax_answer.specs.Gathering.{HasEnough};
     ghost use Rattle.ax_excerpt_text.specs.Wholes.{tree_read};
+    ghost use Rattle.ax_sieve.specs.Conditions.{DropsNothing};
     ghost use Rattle.ax_answer_text.specs.Parts.{AreReadWhole};
-    ghost use Rattle.ax_answer_text.specs.TextAnswers.{Answers};
+    ghost use Rattle.ax_answer_text.specs.TextAnswers.{Answers, IsTo};
 
     /// No document yet.
     #[tactic(auto, using(crate::proofs::TextLaws::found_suffices, crate::proofs::TextLaws::found_is_plain))]
@@ -66,13 +69,14 @@ impl<'a> TextAnswer<'a> {
             excerpt,
             reader: TreeReader::new(alloc),
             answer,
+            is_limited: query.limit.is_some(),
         })
     }
 
     /// Takes in a document: its number and its canonical text. It takes at most one step of work. After
     /// an error the answer is of no more use. Bytes that stand for no tree are `Outside` where they are
-    /// read whole and the query has no condition.
-    #[tactic(auto, using(crate::proofs::TextLaws::dropped, crate::proofs::TextLaws::taken, crate::proofs::TextLaws::one_stands, crate::proofs::TextLaws::not_passed_over))]
+    /// read whole and no document is dropped, as by a query without condition.
+    #[tactic(auto, using(crate::proofs::TextLaws::dropped, crate::proofs::TextLaws::taken, crate::proofs::TextLaws::asked_still, crate::proofs::TextLaws::one_stands, crate::proofs::TextLaws::not_passed_over))]
     pub fn add<L: Ledger>(
         &mut self,
         alloc: Global,
@@ -86,9 +90,9 @@ impl<'a> TextAnswer<'a> {
             → Answers self.new query (entries ++ (number, tree) ∷ [])) }
         ensures inside { (tree : TreeOf) → text.now ≡ canonical_text tree → IsReadable tree
             → result ≢ Err TextFault.Outside }
-        ensures outside { (query : queries.Query) → (entries : List (ℕ × TreeOf))
-            → Answers self.old query entries → query.condition ≡ None
-            → AreReadWhole self.old.excerpt text.now → OnOk result (tree_read text.now ≢ None) }
+        ensures outside { DropsNothing self.old.sieve → AreReadWhole self.old.excerpt text.now
+            → OnOk result (tree_read text.now ≢ None) }
+        ensures asked { (query : queries.Query) → IsTo self.old query → IsTo self.new query }
         ensures one { steps.new ≤ steps.old + 1 }
         ensures never_falls { steps.old ≤ steps.new }
     {
@@ -103,8 +107,9 @@ impl<'a> TextAnswer<'a> {
     }
 
     /// Whether no further document can change the answer, as `Answer::is_done` says it: also where
-    /// documents were passed over.
-    #[tactic(auto, using(crate::proofs::TextLaws::done, crate::proofs::TextLaws::none_wanted_is_told))]
+    /// documents were passed over. Never so without LIMIT and TOP: then each document is to be added, and a
+    /// text that is none of a document is met.
+    #[tactic(auto, using(crate::proofs::TextLaws::done))]
     pub fn is_done(&self) -> bool
         ensures sound { result ≡ true → (query : queries.Query)
             → (entries more : List (ℕ × TreeOf)) → Answers self.now query entries
@@ -113,8 +118,10 @@ impl<'a> TextAnswer<'a> {
             → Answers self.now query entries → HasEnough query entries → result ≡ true }
         ensures none_wanted { (query : queries.Query) → (entries : List (ℕ × TreeOf))
             → Answers self.now query entries → query.limit ≡ Some 0 → result ≡ true }
+        ensures unlimited { (query : queries.Query) → IsTo self.now query → query.limit ≡ None
+            → result ≡ false }
     {
-        self.answer.is_done()
+        self.is_limited && self.answer.is_done()
     }
 
     /// The rows of the answer, in their order.
@@ -129,6 +136,7 @@ impl<'a> TextAnswer<'a> {
             excerpt,
             reader,
             answer,
+            is_limited: _,
         } = self;
         drop(sieve);
         drop(excerpt);
@@ -141,6 +149,7 @@ impl<'a> TextAnswer<'a> {
 }
 
 /// What is read of the document of a canonical text.
+#[tactic(auto, using(crate::proofs::TextLaws::whole_read))]
 fn read_part(
     alloc: Global,
     reader: &mut TreeReader,

@@ -3,6 +3,7 @@ use Rattle.std.proofs.Common.{◌≡◌, ℕ, ◌≤◌, Bool, List, Some, None,
 use Rattle.std.specs.Prelude.{IfOk, IfErr, IsTrue}
 use Rattle.ax_cache.specs.declared.lru_pages.LruPages.{LruPages}
 use Rattle.ax_disk.specs.model.Calls.{Idles}
+use Rattle.ax_disk.specs.model.Image.{Image}
 use Rattle.ax_disk.specs.model.Moments.{History}
 use Rattle.ax_disk.specs.model.Pending.{MayLeave}
 use Rattle.ax_disk.specs.model.Stays.{Rests, Stays, Turns}
@@ -16,19 +17,23 @@ use Rattle.ax_tree.specs.Document.{document_id}
 use Rattle.ax_tree.specs.declared.tree.Tree.{Tree}
 use Rattle.ax_container.specs.Container.{Container}
 use Rattle.ax_container.specs.Upsert.{upserted}
+use Rattle.ax_grammar.specs.Query.{query_in}
 use Rattle.ax_lines.specs.declared.body.Body.{Body}
 use Rattle.ax_lines.specs.declared.line.Line.{Line}
 use Rattle.ax_lines.specs.declared.line.Line.TheVariants as line
 use Rattle.ax_lines.specs.declared.refusal.Refusal.TheVariants as refusal
+use Rattle.ax_mean.specs.declared.query.Query.{Query}
 use Rattle.ax_machine.specs.Querying.{query_reply}
 use Rattle.ax_machine.specs.Reply as reply
 use Rattle.ax_machine.specs.Run.{Served, OutOfMemory}
 use Rattle.ax_machine.specs.Step.{served, upsert_by, written}
-use Rattle.ax_engine.specs.Damage.{Meets}
-use Rattle.ax_engine.specs.Documents.{DocumentsHold, DocumentsWork, TellsUpsert, WorksAfterUpsert}
+use Rattle.ax_engine.specs.Damage.{Meets, MeetsNone, PassesOverNone}
+use Rattle.ax_engine.specs.Documents.{contents_in, DocumentsHold, DocumentsWork, TellsUpsert, WorksAfterUpsert}
 use Rattle.ax_engine.specs.Engine.{Applies, HoldsOver, Tells, Works, made_by}
 use Rattle.ax_image.specs.Readable.{TellsReadable}
-use Rattle.ax_engine.specs.Replies.{IsOfReading, IsReply, read_answer, upsert_answer}
+use Rattle.ax_pages.specs.Contents.{Contents}
+use Rattle.ax_pages.specs.HasContents.{HasContents}
+use Rattle.ax_engine.specs.Replies.{IsOfReading, IsReply, OnRows, read_answer, upsert_answer}
 use Rattle.ax_engine.specs.Scans.{Scanned, Scans}
 use Rattle.ax_engine.specs.Stores.{IsImageOf, Shows}
 use Rattle.ax_engine.specs.declared.documents.Documents.{Documents}
@@ -39,7 +44,7 @@ use Rattle.ax_engine.specs.declared.engine.Fault.{Fault}
 use Rattle.ax_engine.specs.declared.engine.Fault.TheVariants as fault
 use Rattle.ax_engine.specs.declared.reply.Reply.{Reply}
 use Rattle.ax_engine.specs.declared.reply.Reply.TheVariants as given
-use Rattle.ax_engine.proofs.Damaging.{met_outside, none_outside}
+use Rattle.ax_engine.proofs.Damaging.{met_outside, none_outside, on_rows}
 use Rattle.ax_engine.proofs.Holding.{holds_read, idled, images_rest, images_turn, rests_of, still}
 
 -- ---- an upsert
@@ -186,15 +191,32 @@ module _ (honest : Bool) (documents : Documents) (store : Store LruPages)
     stands_scanned scanned = holds_read documents store before scanned.same holds
 
     pub tells_read : (read : Result Reply StoreFault) → Scans honest read documents.store store ahead old new l m
+        → MayLeave new.unsynced new.reads → TellsReadable new.reads
         → IfOk read (λ reply. IsReply reply (query_reply body before)) → IsTrue honest
         → Tells (IsTrue honest) before (line.Query body) (read_answer read) after old new
-    tells_read (Ok made) scans is h = (Served, is, stands_scanned scans, turns_scanned scans)
-    tells_read (Err store_fault.Disk) scans is h =
+    tells_read (Ok made) scans may readable is h = (Served, is, stands_scanned scans, turns_scanned scans)
+    tells_read (Err store_fault.Disk) scans may readable is h =
         λ _. idled (IsTrue honest) documents old new before works holds (scans.lists h) h
-    tells_read (Err (store_fault.Damaged extent at)) scans is h =
-        none_outside store.pages before at (stands_scanned scans.0).stand (scans.1 h).1
-    tells_read (Err (store_fault.Newer version)) scans is h = absurd scans
-    tells_read (Err store_fault.Memory) scans is h = (OutOfMemory, refl, stands_scanned scans, turns_scanned scans)
+    tells_read (Err (store_fault.Damaged extent at)) scans may readable is h =
+        none_outside new.reads extent at readable
+        (met_outside store ahead new extent at (scans.0.ready.agrees h) may (scans.1 h))
+    tells_read (Err (store_fault.Newer version)) scans may readable is h = absurd scans
+    tells_read (Err store_fault.Memory) scans may readable is h = (OutOfMemory, refl, stands_scanned scans, turns_scanned scans)
+
+-- rows over documents among which the query meets none are so over the image that has them
+pub passes_read : (contents : Contents) (body : Body) (image : Image) → HasContents contents image
+    → (read : Result Reply StoreFault)
+    → ((query : Query) → query_in body.params body.text ≡ Some query
+    → IfOk read (λ reply. OnRows reply (MeetsNone query contents)))
+    → IfOk (read_answer read) (λ reply. PassesOverNone (line.Query body) reply image)
+passes_read contents body image has (Ok reply) met = λ query is.
+    on_rows reply (MeetsNone query contents)
+    ((there : Contents) × HasContents there image × MeetsNone query there)
+    (λ none. (contents, has, none)) (met query is)
+passes_read contents body image has (Err store_fault.Disk) met = tt
+passes_read contents body image has (Err (store_fault.Damaged extent at)) met = tt
+passes_read contents body image has (Err (store_fault.Newer version)) met = λ query is. tt
+passes_read contents body image has (Err store_fault.Memory) met = λ query is. tt
 
 pub of_reading : (honest : Bool) (read : Result Reply StoreFault) (old new : Store LruPages) (ahead : ReadAhead)
     (entry exit : History) (l m : ℕ) → Scans honest read old new ahead entry exit l m → IfErr read IsOfReading

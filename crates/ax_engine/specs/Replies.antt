@@ -30,6 +30,12 @@ IsReply (given.Rows rows) meant =
     (texts : List (List ℕ)) × AreRows rows texts × (meant ≡ reply.Rows texts reply.End)
 IsReply (given.Refused why) meant = meant ≡ reply.Refused why
 
+-- where the reply is rows, this is so
+abbrev pub OnRows : Reply → Type 0 → Type 0
+OnRows given.Ok Is = Unit {0}
+OnRows (given.Rows rows) Is = Is
+OnRows (given.Refused why) Is = Unit {0}
+
 -- the fault is one that reading an open store may answer: not that it is of a later version
 abbrev pub IsOfReading : StoreFault → Type 0
 IsOfReading store_fault.Disk = Unit {0}

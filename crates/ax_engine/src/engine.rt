@@ -11,7 +11,7 @@ ghost use Rattle.ax_image.specs.Readable.{TellsReadable};
 ghost use Rattle.ax_machine.specs.Needs.{most_steps_of};
 ghost use Rattle.ax_pages.specs.Contents.{Contents};
 ghost use Rattle.ax_pages.specs.HasContents.{HasContents};
-ghost use Rattle.ax_engine.specs.Damage.{Meets};
+ghost use Rattle.ax_engine.specs.Damage.{Meets, PassesOverNone};
 ghost use Rattle.ax_engine.specs.Documents.{DocumentsHold, DocumentsWork};
 ghost use Rattle.ax_engine.specs.Engine.{Applies, FindsFull, Holds, HoldsOver, IsOfLine, LeavesLists, Tells, Works};
 ghost use Rattle.ax_engine.specs.Opening.{RefusesBy};
@@ -101,7 +101,8 @@ impl Engine {
     ///
     /// `Disk` where a call on the disk failed. `Damaged` where the text of a document is none that a
     /// document can have, over an honest disk with the place at which its part stands; only a query
-    /// answers it, and it leaves the disk's lists as they were.
+    /// answers it, and it leaves the disk's lists as they were. A query without WHERE and LIMIT answers no
+    /// rows over such a text, where it reads it whole.
     pub fn apply<D: Disk, L: Ledger>(
         &mut self,
         disk: &mut D,
@@ -118,6 +119,8 @@ impl Engine {
             → result ≡ Ok (Reply.Refused Refusal.Full) }
         ensures met { IsTrue (D.is_honest disk.old) → self.old.fault ≡ None
             → IfErr result (λ fault. Meets fault (D.history disk.new (D.attached disk.new)).reads) }
+        ensures passes_over_none { IsTrue (D.is_honest disk.old) → self.old.fault ≡ None
+            → IfOk result (λ reply. PassesOverNone line reply (D.history disk.new (D.attached disk.new)).reads) }
         ensures lists { IsTrue (D.is_honest disk.old) → self.old.fault ≡ None
             → LeavesLists line (D.history disk.old (D.attached disk.old)) (D.history disk.new (D.attached disk.new)) }
         ensures of_line { self.old.fault ≡ None → IfErr result (λ fault. IsOfLine line fault) }
@@ -166,7 +169,9 @@ fn answer<D: Disk, L: Ledger>(
 ) -> Result<Reply, Fault>
     requires asked { IsAsked line.now }
     requires works { DocumentsWork (IsTrue (D.is_honest disk.old)) documents.old (D.history disk.old (D.attached disk.old)) }
-    ensures tells { IsTrue (D.is_honest disk.old) → (before : Container) → DocumentsHold documents.old before
+    ensures tells { IsTrue (D.is_honest disk.old)
+        → Rests (D.history disk.old (D.attached disk.old)) TellsReadable
+        → (before : Container) → DocumentsHold documents.old before
         → Tells (IsTrue (D.is_honest disk.old)) before line.now result documents.new
         (D.history disk.old (D.attached disk.old)) (D.history disk.new (D.attached disk.new)) }
     ensures full { (before : Container) → DocumentsHold documents.old before → FindsFull before line.now
@@ -176,6 +181,8 @@ fn answer<D: Disk, L: Ledger>(
     ensures of_line { IfErr result (λ fault. IsOfLine line.now fault) }
     ensures met { IsTrue (D.is_honest disk.old)
         → IfErr result (λ fault. Meets fault (D.history disk.new (D.attached disk.new)).reads) }
+    ensures passes_over_none { IsTrue (D.is_honest disk.old)
+        → IfOk result (λ reply. PassesOverNone line.now reply (D.history disk.new (D.attached disk.new)).reads) }
     ensures works { OnOk result (DocumentsWork (IsTrue (D.is_honest disk.old)) documents.new
         (D.history disk.new (D.attached disk.new))) }
     ensures readable { IsTrue (D.is_honest disk.old)
@@ -238,13 +245,17 @@ fn query<D: Disk, L: Ledger>(
     steps: &mut Steps<L>,
 ) -> Result<Reply, Fault>
     requires works { DocumentsWork (IsTrue (D.is_honest disk.old)) documents.old (D.history disk.old (D.attached disk.old)) }
-    ensures tells { IsTrue (D.is_honest disk.old) → (before : Container) → DocumentsHold documents.old before
+    ensures tells { IsTrue (D.is_honest disk.old)
+        → Rests (D.history disk.old (D.attached disk.old)) TellsReadable
+        → (before : Container) → DocumentsHold documents.old before
         → Tells (IsTrue (D.is_honest disk.old)) before (line.Query body.now) result documents.new
         (D.history disk.old (D.attached disk.old)) (D.history disk.new (D.attached disk.new)) }
     ensures lists { IsTrue (D.is_honest disk.old)
         → Idles (D.history disk.old (D.attached disk.old)) (D.history disk.new (D.attached disk.new)) }
     ensures met { IsTrue (D.is_honest disk.old)
         → IfErr result (λ fault. Meets fault (D.history disk.new (D.attached disk.new)).reads) }
+    ensures passes_over_none { IsTrue (D.is_honest disk.old)
+        → IfOk result (λ reply. PassesOverNone (line.Query body.now) reply (D.history disk.new (D.attached disk.new)).reads) }
     ensures works { OnOk result (DocumentsWork (IsTrue (D.is_honest disk.old)) documents.new
         (D.history disk.new (D.attached disk.new))) }
     ensures readable { IsTrue (D.is_honest disk.old)

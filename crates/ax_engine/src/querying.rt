@@ -2,8 +2,8 @@
 
 ghost use Rattle.std.specs.Prelude.{◌≡◌, ◌≢◌, ◌≤◌, ◌+◌, ℕ, List, [], ◌∷◌, ◌++◌, length, Some, None, IsTrue, IfOk, OnOk, true, drop, option_map};
 ghost use Rattle.std.specs.FinMap as map;
-ghost use Rattle.ax_answer_text.specs.Parts.{AreReadWhole};
-ghost use Rattle.ax_answer_text.specs.TextAnswers.{Answers};
+ghost use Rattle.ax_answer_text.specs.Parts.{AreReadWholeFor};
+ghost use Rattle.ax_answer_text.specs.TextAnswers.{Answers, IsTo};
 ghost use Rattle.ax_container.specs.Container.{Container};
 ghost use Rattle.ax_excerpt_text.specs.Left.{IsReadable};
 ghost use Rattle.ax_excerpt_text.specs.Wholes.{tree_read};
@@ -16,8 +16,9 @@ ghost use Rattle.ax_result.specs.Answers.{answer_of};
 ghost use Rattle.ax_store.specs.Store.{store_contents};
 ghost use Rattle.ax_tree.specs.CanonicalText.{canonical_text};
 ghost use Rattle.ax_tree.specs.declared.tree.Tree.{Tree as TreeOf};
+ghost use Rattle.ax_engine.specs.Damage.{AreTrees, LooksAtEach, MeetsNone};
 ghost use Rattle.ax_engine.specs.Printing.{IsPrinted};
-ghost use Rattle.ax_engine.specs.Replies.{AreRows, IsReply};
+ghost use Rattle.ax_engine.specs.Replies.{AreRows, IsReply, OnRows};
 ghost use Rattle.ax_engine.specs.Scans.{IsReady, Scans};
 
 use crate::reading::{next_held, read_document, text_fault};
@@ -55,6 +56,8 @@ pub(crate) fn reply_to_query<D: Disk, L: Ledger>(
     requires ready { IsReady (D.is_honest disk.old) store.old ahead.old (D.history disk.old (D.attached disk.old)) }
     ensures reply { IsTrue (D.is_honest disk.old) → (container : Container) → ContentsStandFor (store_contents store.old) container
         → IfOk result (λ reply. IsReply reply (query_reply body.now container)) }
+    ensures met { IsTrue (D.is_honest disk.old) → (query : queries.Query) → query_in body.now.params body.now.text ≡ Some query
+        → IfOk result (λ reply. OnRows reply (MeetsNone query (store_contents store.old))) }
     ensures bound { (container : Container) → ContentsStandFor (store_contents store.old) container
         → steps.new ≤ steps.old + query_need (rows_or_refusal (query_in body.now.params body.now.text) container) container }
     ensures never_falls { steps.old ≤ steps.new }
@@ -95,6 +98,8 @@ fn reply_to_read<D: Disk, L: Ledger>(
     requires ready { IsReady (D.is_honest disk.old) store.old ahead.old (D.history disk.old (D.attached disk.old)) }
     ensures reply { IsTrue (D.is_honest disk.old) → (container : Container) → ContentsStandFor (store_contents store.old) container
         → IfOk result (λ reply. IsReply reply (rows_reply (rows_or_refusal (Some query) container))) }
+    ensures met { IsTrue (D.is_honest disk.old)
+        → IfOk result (λ reply. OnRows reply (MeetsNone query (store_contents store.old))) }
     ensures bound { (container : Container) → ContentsStandFor (store_contents store.old) container
         → steps.new ≤ steps.old + query_need (rows_or_refusal (Some query) container) container }
     ensures never_falls { steps.old ≤ steps.new }
@@ -126,6 +131,7 @@ fn rows_of_query<D: Disk, L: Ledger>(
     requires ready { IsReady (D.is_honest disk.old) store.old ahead.old (D.history disk.old (D.attached disk.old)) }
     ensures rows { IsTrue (D.is_honest disk.old) → (container : Container) → ContentsStandFor (store_contents store.old) container
         → IfOk result (λ rows. AreRows rows (rows_of query container)) }
+    ensures met { IsTrue (D.is_honest disk.old) → OnOk result (MeetsNone query (store_contents store.old)) }
     ensures bound { (container : Container) → ContentsStandFor (store_contents store.old) container → steps.new ≤ steps.old + length container.entries }
     ensures never_falls { steps.old ≤ steps.new }
     ensures scans { Scans (D.is_honest disk.old) result store.old store.new ahead.new
@@ -185,6 +191,7 @@ fn rows_of_documents<D: Disk, L: Ledger>(
     requires ready { IsReady (D.is_honest disk.old) store.old ahead.old (D.history disk.old (D.attached disk.old)) }
     ensures rows { IsTrue (D.is_honest disk.old) → (container : Container) → ContentsStandFor (store_contents store.old) container
         → IfOk result (λ rows. AreRows rows (rows_of query container)) }
+    ensures met { IsTrue (D.is_honest disk.old) → OnOk result (MeetsNone query (store_contents store.old)) }
     ensures bound { (container : Container) → ContentsStandFor (store_contents store.old) container → steps.new ≤ steps.old + length container.entries }
     ensures never_falls { steps.old ≤ steps.new }
     ensures scans { Scans (D.is_honest disk.old) result store.old store.new ahead.new
@@ -216,6 +223,8 @@ fn answer_rows<D: Disk, L: Ledger>(
     requires ready { IsReady (D.is_honest disk.old) store.old ahead.old (D.history disk.old (D.attached disk.old)) }
     ensures rows { IsTrue (D.is_honest disk.old) → (container : Container) → ContentsStandFor (store_contents store.old) container
         → IfOk result (λ rows. rows.items ≡ answer_of query.now (numbered container)) }
+    ensures met { IsTrue (D.is_honest disk.old) → LooksAtEach query.now
+        → OnOk result (AreTrees (AreReadWholeFor query.now) (store_contents store.old)) }
     ensures bound { (container : Container) → ContentsStandFor (store_contents store.old) container → steps.new ≤ steps.old + length container.entries }
     ensures never_falls { steps.old ≤ steps.new }
     ensures scans { Scans (D.is_honest disk.old) result store.old store.new ahead.new
@@ -237,7 +246,9 @@ fn answer_rows<D: Disk, L: Ledger>(
     }
 }
 
-/// Takes documents into the answer in the order of their numbers, all or as many as can change it.
+/// Takes documents into the answer in the order of their numbers, all or as many as can change it. The
+/// first text of these that is none of a document is damage, where the query reads it: then nothing is
+/// answered.
 fn add_documents<D: Disk, L: Ledger>(
     alloc: Global,
     store: &mut Store<LruPages>,
@@ -250,6 +261,8 @@ fn add_documents<D: Disk, L: Ledger>(
     ensures added { IsTrue (D.is_honest disk.old) → (container : Container) → ContentsStandFor (store_contents store.old) container
         → (query : queries.Query) → Answers answer.old query []
         → OnOk result (Answers answer.new query (numbered container)) }
+    ensures met { IsTrue (D.is_honest disk.old) → (query : queries.Query) → IsTo answer.old query → LooksAtEach query
+        → OnOk result (AreTrees (AreReadWholeFor query) (store_contents store.old)) }
     ensures bound { (container : Container) → ContentsStandFor (store_contents store.old) container → steps.new ≤ steps.old + length container.entries }
     ensures never_falls { steps.old ≤ steps.new }
     ensures scans { Scans (D.is_honest disk.old) result store.old store.new ahead.new
@@ -292,8 +305,9 @@ fn add_document<D: Disk, L: Ledger>(
     // Bytes that are read whole and stand for no tree are never passed over, where the query has no condition.
     ensures outside { IsTrue (D.is_honest disk.old) → (text : List ℕ)
         → option_map (λ payload. drop 1 payload) (map.get (store_contents store.old).documents number) ≡ Some text
-        → (query : queries.Query) → (entries : List (ℕ × TreeOf)) → Answers answer.old query entries
-        → query.condition ≡ None → AreReadWhole answer.old.excerpt text → OnOk result (tree_read text ≢ None) }
+        → (query : queries.Query) → IsTo answer.old query → query.condition ≡ None
+        → AreReadWholeFor query text → OnOk result (tree_read text ≢ None) }
+    ensures asked { (query : queries.Query) → IsTo answer.old query → IsTo answer.new query }
     ensures one { steps.new ≤ steps.old + 1 }
     ensures never_falls { steps.old ≤ steps.new }
     ensures scans { Scans (D.is_honest disk.old) result store.old store.new ahead.new

@@ -1,17 +1,19 @@
 -- What reading answered, as the answer to the line.
 use Rattle.std.proofs.Common.{subst, sym, ◌∙◌}
-use Rattle.std.specs.Prelude.{IfErr, IsTrue, OnOk, Result}
+use Rattle.std.specs.Prelude.{IfErr, IfOk, IsTrue, OnOk, Result}
 use Rattle.ax_cache.specs.Held.{held}
 use Rattle.ax_lines.specs.declared.line.Line.TheVariants as line
+use Rattle.ax_pages.specs.HasContents.{HasContents}
 use Rattle.ax_store.proofs.AheadLemmas.{ahead_of_nothing}
-use Rattle.ax_disk.specs.laws.StaysLaws.{idles_stay}
+use Rattle.ax_store.proofs.StoreLemmas.{agrees_rests}
+use Rattle.ax_disk.specs.laws.StaysLaws.{idles_rest, idles_stay}
 use Rattle.ax_image.specs.Readable.{TellsReadable}
-use Rattle.ax_engine.specs.Damage.{Meets}
-use Rattle.ax_engine.specs.Documents.{DocumentsWork}
+use Rattle.ax_engine.specs.Damage.{Meets, PassesOverNone}
+use Rattle.ax_engine.specs.Documents.{contents_in, DocumentsWork}
 use Rattle.ax_engine.specs.Engine.{Tells}
 use Rattle.ax_engine.specs.declared.engine.Fault.{Fault}
 use Rattle.ax_engine.specs.declared.reply.Reply.{Reply}
-use Rattle.ax_engine.proofs.Applying.{lists_read, met_read, never_falls_read, of_reading, rose_read, tells_read, works_read}
+use Rattle.ax_engine.proofs.Applying.{lists_read, met_read, never_falls_read, of_reading, passes_read, rose_read, tells_read, works_read}
 use Rattle.ax_engine.proofs.engine.query.Goals as goal
 
 pub reply_to_query-read-requires : goal.reply_to_query-read-requires
@@ -27,7 +29,7 @@ answer_of_read-requires g c =
     of_reading _ c.reply_to_query-read.result _ _ _ _ _ _ _ c.reply_to_query-read.ensures.scans
 
 pub returns-clause-tells : goal.returns-clause-tells
-returns-clause-tells g c = λ honest before holds.
+returns-clause-tells g c = λ honest readable before holds.
     let P : Result Reply Fault → Type 0 = λ answer. Tells (IsTrue (g.D.Disk.is_honest c.args.disk.now)) before
     (line.Query c.args.body.now) answer (record c.args.documents.now { store = c.reply_to_query-read.new.store })
     (g.D.Disk.history c.args.disk.now (g.D.Disk.attached c.args.disk.now))
@@ -35,6 +37,12 @@ returns-clause-tells g c = λ honest before holds.
     subst P (sym c.answer_of_read.ensures)
     (tells_read _ c.args.documents.now _ _ _ _ _ _ before c.args.body.now c.requires.works holds
     c.reply_to_query-read.result c.reply_to_query-read.ensures.scans
+    (g.met.D.Disk.reads_may_stay c.reply_to_query-read.new.disk (g.D.Disk.attached c.reply_to_query-read.new.disk)
+    (subst IsTrue (sym c.reply_to_query-read.ensures.honest) honest))
+    ((idles_rest _ _ TellsReadable readable
+    (lists_read _ c.args.documents.now _ _ _ _ _ _ c.reply_to_query-read.result c.reply_to_query-read.ensures.scans honest)).each _
+    (g.met.D.Disk.reads_may_stay c.reply_to_query-read.new.disk (g.D.Disk.attached c.reply_to_query-read.new.disk)
+    (subst IsTrue (sym c.reply_to_query-read.ensures.honest) honest)))
     (c.reply_to_query-read.ensures.reply honest before holds.stand) honest)
 
 pub returns-clause-met : goal.returns-clause-met
@@ -45,6 +53,20 @@ returns-clause-met g c = λ honest.
     (met_read _ c.args.documents.now _ _ _ _ _ _ c.reply_to_query-read.result c.reply_to_query-read.ensures.scans
     (g.met.D.Disk.reads_may_stay c.reply_to_query-read.new.disk (g.D.Disk.attached c.reply_to_query-read.new.disk)
     (subst IsTrue (sym c.reply_to_query-read.ensures.honest) honest)) honest)
+
+pub returns-clause-passes_over_none : goal.returns-clause-passes_over_none
+returns-clause-passes_over_none g c = λ honest.
+    let contents = contents_in c.args.documents.now in
+    let P : Result Reply Fault → Type 0 = λ answer. IfOk answer (λ reply. PassesOverNone (line.Query c.args.body.now) reply
+    (g.D.Disk.history c.reply_to_query-read.new.disk (g.D.Disk.attached c.reply_to_query-read.new.disk)).reads) in
+    subst P (sym c.answer_of_read.ensures)
+    (passes_read contents c.args.body.now _
+    ((idles_rest _ _ (HasContents contents)
+    (agrees_rests held c.args.documents.now.store _ (c.requires.works.agrees honest))
+    (lists_read _ c.args.documents.now _ _ _ _ _ _ c.reply_to_query-read.result c.reply_to_query-read.ensures.scans honest)).each _
+    (g.met.D.Disk.reads_may_stay c.reply_to_query-read.new.disk (g.D.Disk.attached c.reply_to_query-read.new.disk)
+    (subst IsTrue (sym c.reply_to_query-read.ensures.honest) honest)))
+    c.reply_to_query-read.result (c.reply_to_query-read.ensures.met honest))
 
 pub returns-clause-works : goal.returns-clause-works
 returns-clause-works g c =

@@ -2,11 +2,11 @@
 use Rattle.std.proofs.Common.{ℕ, List, None, Err, sym, ap, subst, ◌∙◌}
 use Rattle.std.specs.Prelude.{◌≢◌, IsTrue}
 use Rattle.std.specs.FinMap as map
-use Rattle.ax_answer_text.specs.Parts.{AreReadWhole}
+use Rattle.ax_answer_text.specs.Parts.{AreReadWholeFor}
 use Rattle.ax_excerpt_text.specs.Wholes.{tree_read}
 use Rattle.ax_store.specs.Kept.{Kept}
 use Rattle.ax_store.specs.ReadAhead.{IsAhead, ahead_text}
-use Rattle.ax_engine.proofs.Damaging.{text_ahead, text_fails}
+use Rattle.ax_engine.proofs.Damaging.{read_whole, text_ahead, text_fails}
 use Rattle.ax_engine.proofs.querying.add_document.Goals as goal
 
 pub returns-in-Err-add-clause-scans : goal.returns-in-Err-add-clause-scans
@@ -27,8 +27,8 @@ returns-in-Ok-add-clause-added g c = λ honest tree is readable query entries an
     query entries answers
 
 pub returns-in-Ok-add-clause-outside : goal.returns-in-Ok-add-clause-outside
-returns-in-Ok-add-clause-outside g c = λ honest text is query entries answers none whole.
+returns-in-Ok-add-clause-outside g c = λ honest text is query asked none whole.
     let same = c.text.ensures ∙ text_ahead _ _ _ _ (c.in-Ok.ensures.text honest) is in
     subst (λ (bytes : List ℕ). tree_read bytes ≢ None) same
-    (c.in-Ok-add.ensures.outside query entries answers none
-    (subst (AreReadWhole c.args.answer.now.excerpt) (sym same) whole))
+    (c.in-Ok-add.ensures.outside (asked.nothing none)
+    (read_whole c.args.answer.now query _ asked (subst (AreReadWholeFor query) (sym same) whole)))

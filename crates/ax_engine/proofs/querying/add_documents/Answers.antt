@@ -1,9 +1,12 @@
 -- Each turn takes in the next document, for one step at most.
 use Rattle.std.proofs.Common.{◌++◌, ◌∙◌, [], ap, sym, subst, arith, length, refl}
+use Rattle.std.proofs.lemmas.Bool.{false≢true}
 use Rattle.std.proofs.lemmas.List.{append-nil}
 use Rattle.std.specs.Prelude.{IsTrue}
+use Rattle.ax_answer_text.specs.Parts.{AreReadWholeFor}
 use Rattle.ax_answer_text.specs.TextAnswers.{Answers}
 use Rattle.ax_store.specs.Store.{store_contents}
+use Rattle.ax_engine.proofs.Damaging.{all_trees, no_trees, one_tree_more}
 use Rattle.ax_engine.proofs.InOrder.{above, pairs, next_entry, next_same, stored_here, text_here, taken_on}
 use Rattle.ax_engine.proofs.InOrder.{one_less, at_the_end, at_the_start, none_same, text_same}
 use Rattle.ax_engine.proofs.Scanning.{fails_on, nothing_scanned, ready_now, scanned_on}
@@ -13,6 +16,8 @@ pub texts-init : goal.texts-init
 texts-init g c = record {
   added = λ honest container stand query answers.
       ([], ap pairs (at_the_start (store_contents c.args.store.now) container stand), answers);
+  asked = λ query asked. asked;
+  met = λ honest query asked each. no_trees (store_contents c.args.store.now) (AreReadWholeFor query);
   bound = λ container stand.
       omega (arith, ap length (at_the_start (store_contents c.args.store.now) container stand));
   never_falls = omega arith;
@@ -38,6 +43,12 @@ texts-preserved g c =
                 (text_here contents container stand c.texts.number c.in-Some.next next))
                 (stored.well_formed, stored.shallow) query before.0 before.2,
           );
+      asked = λ query asked. c.in-Ok.ensures.asked query (inv.asked query asked);
+      met = λ honest query asked each.
+          one_tree_more contents (AreReadWholeFor query) c.texts.number (inv.met honest query asked each) c.in-Some.next found
+          (λ text is whole. c.in-Ok.ensures.outside (subst IsTrue (sym inv.honest) honest) text
+          (text_same c.args.store.now c.texts.store c.in-Some.next text inv.scans.same is)
+          query (inv.asked query asked) each.0 whole);
       bound = λ container stand.
           let next = next_entry contents container stand c.texts.number c.in-Some.next found in
           omega (
@@ -62,6 +73,11 @@ returns-then-is_done-clause-added g c = λ honest container stand query answers.
     subst (Answers c.texts.answer query) all.1
     (c.is_done.ensures.sound c.if-is_done.true query all.0
     (pairs (above c.texts.number container.entries)) all.2)
+
+pub returns-then-is_done-clause-met : goal.returns-then-is_done-clause-met
+returns-then-is_done-clause-met g c = λ honest query asked each.
+    absurd (false≢true (sym (c.is_done.ensures.unlimited query (c.texts.invariant.asked query asked) each.1)
+    ∙ c.if-is_done.true))
 
 pub returns-in-Err-clause-bound : goal.returns-in-Err-clause-bound
 returns-in-Err-clause-bound g c = λ container stand.
@@ -88,3 +104,9 @@ returns-clause-added g c = λ honest container stand query answers.
     let all = inv.added honest container stand query answers in
     subst (λ entries. Answers c.texts.answer query entries)
     (sym (append-nil all.0) ∙ ap (λ es. all.0 ++ pairs es) (sym end) ∙ all.1) all.2
+
+pub returns-clause-met : goal.returns-clause-met
+returns-clause-met g c = λ honest query asked each.
+    let inv = c.texts.invariant in
+    all_trees (store_contents c.args.store.now) (AreReadWholeFor query) c.texts.number (inv.met honest query asked each)
+    (none_same c.args.store.now c.texts.store c.texts.number inv.scans.same c.in_default.ensures.none)

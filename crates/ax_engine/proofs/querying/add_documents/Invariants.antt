@@ -5,9 +5,12 @@ use Rattle.ax_tree.specs.declared.tree.Tree.{Tree}
 use Rattle.ax_mean.specs.declared.query.Query.{Query}
 use Rattle.ax_container.specs.Container.{Container}
 use Rattle.ax_image.specs.StandsFor.{ContentsStandFor}
-use Rattle.ax_answer_text.specs.TextAnswers.{Answers}
+use Rattle.ax_answer_text.specs.Parts.{AreReadWholeFor}
+use Rattle.ax_answer_text.specs.TextAnswers.{Answers, IsTo}
 use Rattle.ax_store.specs.Store.{store_contents}
+use Rattle.ax_engine.specs.Damage.{LooksAtEach}
 use Rattle.ax_engine.specs.Scans.{Scanned}
+use Rattle.ax_engine.proofs.Damaging.{AreTreesTo}
 use Rattle.ax_engine.proofs.InOrder.{above, pairs}
 use Rattle.ax_engine.proofs.querying.add_documents.Given as goal
 
@@ -21,6 +24,9 @@ invariant-texts g l = record {
       → Answers l.fn.answer query [] → (done : List (ℕ × Tree))
       × (done ++ pairs (above l.number container.entries) ≡ pairs container.entries)
       × Answers l.answer query done;
+  asked : (query : Query) → IsTo l.fn.answer query → IsTo l.answer query;
+  met : IsTrue (g.D.Disk.is_honest l.fn.disk) → (query : Query) → IsTo l.fn.answer query → LooksAtEach query
+      → AreTreesTo l.number (AreReadWholeFor query) (store_contents l.fn.store);
   bound : (container : Container) → ContentsStandFor (store_contents l.fn.store) container
       → l.steps + length (above l.number container.entries)
       ≤ l.fn.steps + length container.entries;

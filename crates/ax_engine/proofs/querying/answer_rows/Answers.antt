@@ -8,3 +8,7 @@ returns-in-Ok-finish-clause-rows g c = λ honest container stand.
     c.in-Ok-finish.ensures c.args.query.now (numbered container)
     (c.in_default-add_documents.ensures.added honest container stand c.args.query.now c.in-Ok.ensures)
     (numbers_rise container stand.sound)
+
+pub returns-in-Ok-finish-clause-met : goal.returns-in-Ok-finish-clause-met
+returns-in-Ok-finish-clause-met g c = λ honest each.
+    c.in_default-add_documents.ensures.met honest c.args.query.now c.in-Ok.ensures.asked each

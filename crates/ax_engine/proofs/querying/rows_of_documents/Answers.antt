@@ -6,6 +6,9 @@ use Rattle.ax_machine.specs.Querying.{numbered}
 use Rattle.ax_result.specs.Answers.{answer_of}
 use Rattle.ax_store.specs.Kept.{Kept}
 use Rattle.ax_engine.specs.Replies.{AreRows}
+use Rattle.ax_engine.specs.Damage.{MeetsNone}
+use Rattle.ax_store.specs.Store.{store_contents}
+use Rattle.ax_engine.proofs.Damaging.{keys_met, on_ok}
 use Rattle.ax_engine.proofs.Numbers.{shown_rows}
 use Rattle.ax_engine.proofs.Scanning.{scans_on}
 use Rattle.ax_engine.proofs.querying.rows_of_documents.Goals as goal
@@ -23,3 +26,9 @@ pub returns-in-Ok-rows-clause-scans : goal.returns-in-Ok-rows-clause-scans
 returns-in-Ok-rows-clause-scans g c =
     scans_on _ _ _ _ _ _ _ _ _ _ _ _ _ c.in-Ok-rows.ensures.honest c.in-Ok-rows.ensures.scans c.document_rows.result
     c.document_rows.ensures.scans
+
+pub returns-in-Ok-rows-clause-met : goal.returns-in-Ok-rows-clause-met
+returns-in-Ok-rows-clause-met g c = λ honest.
+    on_ok c.document_rows.result (MeetsNone c.args.query (store_contents c.args.store.now))
+    (keys_met c.args.query _ (store_contents c.args.store.now) c.in-Ok.ensures c.requires.printed
+    (c.in-Ok-rows.ensures.met honest))
