@@ -109,7 +109,7 @@ impl<'a> TextAnswer<'a> {
     /// Whether no further document can change the answer, as `Answer::is_done` says it: also where
     /// documents were passed over. Never so without LIMIT and TOP: then each document is to be added, and a
     /// text that is none of a document is met.
-    #[tactic(auto, using(crate::proofs::TextLaws::done))]
+    #[tactic(auto, using(crate::proofs::TextLaws::done, crate::proofs::TextLaws::none_wanted_is_told))]
     pub fn is_done(&self) -> bool
         ensures sound { result ≡ true → (query : queries.Query)
             → (entries more : List (ℕ × TreeOf)) → Answers self.now query entries

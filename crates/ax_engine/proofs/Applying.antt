@@ -28,7 +28,7 @@ use Rattle.ax_machine.specs.Reply as reply
 use Rattle.ax_machine.specs.Run.{Served, OutOfMemory}
 use Rattle.ax_machine.specs.Step.{served, upsert_by, written}
 use Rattle.ax_engine.specs.Damage.{Meets, MeetsNone, PassesOverNone}
-use Rattle.ax_engine.specs.Documents.{contents_in, DocumentsHold, DocumentsWork, TellsUpsert, WorksAfterUpsert}
+use Rattle.ax_engine.specs.Documents.{DocumentsHold, DocumentsWork, TellsUpsert, WorksAfterUpsert}
 use Rattle.ax_engine.specs.Engine.{Applies, HoldsOver, Tells, Works, made_by}
 use Rattle.ax_image.specs.Readable.{TellsReadable}
 use Rattle.ax_pages.specs.Contents.{Contents}
@@ -45,7 +45,7 @@ use Rattle.ax_engine.specs.declared.engine.Fault.TheVariants as fault
 use Rattle.ax_engine.specs.declared.reply.Reply.{Reply}
 use Rattle.ax_engine.specs.declared.reply.Reply.TheVariants as given
 use Rattle.ax_engine.proofs.Damaging.{met_outside, none_outside, on_rows}
-use Rattle.ax_engine.proofs.Holding.{holds_read, idled, images_rest, images_turn, rests_of, still}
+use Rattle.ax_engine.proofs.Holding.{holds_read, idled, images_rest, images_turn, rests_of}
 
 -- ---- an upsert
 
