@@ -7,6 +7,7 @@
 //! after a write, a cut or a sync that failed every later call fails.
 #![tactic(auto)]
 
+mod counted_files;
 mod file_disk;
 mod file_fault;
 mod judging;
