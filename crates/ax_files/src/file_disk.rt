@@ -1,5 +1,5 @@
 //! A disk over the files of the operating system: the edge that is trusted and not proved. It tells
-//! nothing of what the files hold, and counts each call that fails.
+//! nothing of what the files hold; all that it does but opening them is that of `CountedFiles`.
 ghost use Rattle.std.specs.Prelude.{◌≡◌, ◌≤◌, ◌^◌, ◌+◌, ◌<◌, ◌↔◌, Ok, false, [], length, IfOk, OnOk, IsOk, IsErr, IsSome, MatchResult, ◌⊎◌};
 ghost use Rattle.std.proofs.lemmas.Bool.{false≢true};
 ghost use Rattle.ax_faults.specs.Faults.{HasCause, CountsOnce};
