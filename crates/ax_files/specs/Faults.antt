@@ -1,7 +1,8 @@
 -- What a fault of a store's files says.
-use Rattle.std.specs.Prelude.{◌≡◌, ◌⊎◌}
+use Rattle.std.specs.Prelude.{◌≡◌, ◌⊎◌, IsTrue}
 use Rattle.std.specs.declared.io.Error.{Error}
 use Rattle.ax_disk.specs.declared.extent.Extent.{Extent}
+use Rattle.ax_files.specs.Marks.{Marks, is_marked}
 use Rattle.ax_files.specs.SystemCalls.{SystemCall}
 use Rattle.ax_files.specs.declared.file_fault.FileCall.{FileCall}
 use Rattle.ax_files.specs.declared.file_fault.FileCall.TheVariants.{Open, Lock, Length, Read, Write, Cut, Sync}
@@ -53,6 +54,41 @@ IsOfSomeCall (Arealess area) = ⊥
 IsOfSomeCall (Bound extent) = ⊥
 IsOfSomeCall Detached = ⊥
 IsOfSomeCall Stopped = ⊥
+
+-- that the system failed a call on a file that counts as unsynced
+abbrev pub IsOfMarked : Marks → FileFault → Type 0
+IsOfMarked marks (Call extent call error) = IsTrue (is_marked extent marks)
+IsOfMarked marks (Folder error) = ⊥
+IsOfMarked marks (Locked extent) = ⊥
+IsOfMarked marks (Rootless root area) = ⊥
+IsOfMarked marks Foreign = ⊥
+IsOfMarked marks (Arealess area) = ⊥
+IsOfMarked marks (Bound extent) = ⊥
+IsOfMarked marks Detached = ⊥
+IsOfMarked marks Stopped = ⊥
+
+-- a call that is made of a file while a store is opened
+abbrev pub IsOpeningCall : FileCall → Type 0
+IsOpeningCall Open = Unit {0}
+IsOpeningCall Lock = Unit {0}
+IsOpeningCall Length = Unit {0}
+IsOpeningCall Read = Unit {0}
+IsOpeningCall Write = ⊥
+IsOpeningCall Cut = ⊥
+IsOpeningCall Sync = ⊥
+
+-- why a store is not opened: that the system failed a call on a file of it or on their folder, that another program
+-- holds it, or that files of it have been lost
+abbrev pub IsOfOpening : FileFault → Type 0
+IsOfOpening (Call extent call error) = IsOpeningCall call
+IsOfOpening (Folder error) = Unit {0}
+IsOfOpening (Locked extent) = Unit {0}
+IsOfOpening (Rootless root area) = Unit {0}
+IsOfOpening Foreign = Unit {0}
+IsOfOpening (Arealess area) = Unit {0}
+IsOfOpening (Bound extent) = ⊥
+IsOfOpening Detached = ⊥
+IsOfOpening Stopped = ⊥
 
 -- with such an error one of the calls fails that are made of the system here, none of which opens or locks a file
 abbrev pub IsErrorOf : (SystemCall → Error → Type 0) → FileCall → Error → Type 0

@@ -4,4 +4,5 @@ pub mod Faults
 pub mod Lines
 pub mod Content
 pub mod Marks
+pub mod CountedFiles
 pub mod FileDisk

@@ -25,6 +25,12 @@ marked Root marks = record marks { root = true }
 marked A marks = record marks { a = true }
 marked B marks = record marks { b = true }
 
+-- whether the file of that extent counts as unsynced
+abbrev pub is_marked : Extent → Marks → Bool
+is_marked Root marks = marks.root
+is_marked A marks = marks.a
+is_marked B marks = marks.b
+
 -- the first of the files that count as unsynced, in the order in which they are synced; the root where no area does
 abbrev pub first_marked : Marks → Extent
 first_marked marks = if marks.a then A else if marks.b then B else Root

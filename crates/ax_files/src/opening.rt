@@ -4,7 +4,7 @@
 ghost use Rattle.std.specs.Prelude.{◌≡◌, ◌^◌, ◌<◌, ◌≤◌, ◌+◌, ◌⊎◌, length, take, drop, IsTrue, IsOk, IfOk, IfErr, OnOk, IsSomeAnd, option_map};
 ghost use Rattle.std.specs.Option.{ForSome};
 ghost use Rattle.ax_files.specs.Content.{at_extent};
-ghost use Rattle.ax_files.specs.Faults.{IsOfSomeCall, HasItsError};
+ghost use Rattle.ax_files.specs.Faults.{IsOfSomeCall, IsOfOpening, HasItsError};
 ghost use Rattle.ax_files.specs.Judging.{IsAtRoot, IsRootFile, IsSound, IsUnsound};
 ghost use Rattle.ax_files.specs.Marks.{marks, all_marked};
 ghost use Rattle.ax_frame.specs.RootSlot.{IsSlot};
@@ -27,8 +27,9 @@ const WHOLE_ROOT: u64 = 33;
 /// they are open; makes those that are absent, and syncs their folder, so that a crash keeps them. A
 /// store of which files have been lost is refused before anything is made. No byte of a file is changed.
 pub(crate) fn open_files(rt: &HostRuntime, name: &str) -> Result<StoreFiles<File>, FileFault>
-    ensures { IfOk result (λ files. marks files.root.is_unsynced files.a.is_unsynced files.b.is_unsynced
+    ensures unsynced { IfOk result (λ files. marks files.root.is_unsynced files.a.is_unsynced files.b.is_unsynced
         ≡ all_marked) }
+    ensures fault { IfErr result (λ fault. IsOfOpening fault) }
 {
     let root = find_file(rt, name, Extent::Root)?;
     let a = find_file(rt, name, Extent::A)?;
@@ -46,7 +47,9 @@ pub(crate) fn open_files(rt: &HostRuntime, name: &str) -> Result<StoreFiles<File
 }
 
 /// The file where there is one, locked.
-fn find_file(rt: &HostRuntime, name: &str, extent: Extent) -> Result<Option<File>, FileFault> {
+fn find_file(rt: &HostRuntime, name: &str, extent: Extent) -> Result<Option<File>, FileFault>
+    ensures { IfErr result (λ fault. IsOfOpening fault) }
+{
     match open_file(rt, name, extent, false) {
         Err(error) if error.kind() == ErrorKind::NotFound => Ok(None),
         outcome => {
@@ -63,7 +66,9 @@ fn found_or_made(
     name: &str,
     extent: Extent,
     found: Option<File>,
-) -> Result<File, FileFault> {
+) -> Result<File, FileFault>
+    ensures { IfErr result (λ fault. IsOfOpening fault) }
+{
     if let Some(file) = found {
         return Ok(file);
     }
@@ -88,7 +93,9 @@ fn file_path(rt: &HostRuntime, name: &str, extent: Extent) -> io::Result<String>
 }
 
 /// Locks a file for this program alone, without waiting.
-fn lock(file: &File, extent: Extent) -> Result<(), FileFault> {
+fn lock(file: &File, extent: Extent) -> Result<(), FileFault>
+    ensures { IfErr result (λ fault. IsOfOpening fault) }
+{
     match file.try_lock() {
         Ok(()) => Ok(()),
         Err(TryLockError::WouldBlock) => Err(FileFault::Locked { extent }),
@@ -129,6 +136,7 @@ pub(crate) fn refuse_lost<F: SystemFile>(
         → IfErr result (λ fault. ¬ IsOfSomeCall fault) }
     ensures error { IfErr result (λ fault. HasItsError (λ extent call error.
         IsSomeAnd (at_extent extent root.entry a.entry b.entry) (λ f. F.fails_with f.now call error)) fault) }
+    ensures kind { IfErr result (λ fault. IsOfOpening fault) }
 {
     let state = root_state(root)?;
     let a_len = area_len(a, Extent::A)?;
@@ -141,6 +149,7 @@ fn root_state<F: SystemFile>(root: Option<&F>) -> Result<RootState, FileFault>
     ensures state { ForSome root.entry (λ f. IsTrue (F.is_honest f.now) × (length (F.content f.now) < 2 ^ 63))
         → IfOk result (λ state. IsAtRoot (option_map (λ f. F.content f.now) root.entry) state) }
     ensures fault { IfErr result (λ fault. IsOfSomeCall fault) }
+    ensures kind { IfErr result (λ fault. IsOfOpening fault) }
     ensures error { IfErr result (λ fault. HasItsError
         (λ of call error. (of ≡ Extent.Root) × IsSomeAnd root.entry (λ f. F.fails_with f.now call error)) fault) }
     ensures works { ForSome root.entry (λ f. IsTrue (F.is_working f.now)) → IsOk result }
@@ -156,6 +165,7 @@ fn file_state<F: SystemFile>(root: &F) -> Result<RootState, FileFault>
     ensures state { IsTrue (F.is_honest root.now) → length (F.content root.now) < 2 ^ 63
         → IfOk result (λ state. IsRootFile (F.content root.now) state) }
     ensures fault { IfErr result (λ fault. IsOfSomeCall fault) }
+    ensures kind { IfErr result (λ fault. IsOfOpening fault) }
     ensures error { IfErr result (λ fault. HasItsError
         (λ extent call error. (extent ≡ Extent.Root) × F.fails_with root.now call error) fault) }
     ensures works { IsTrue (F.is_working root.now) → IsOk result }
@@ -173,6 +183,7 @@ fn slot_at<F: SystemFile>(root: &F, at: u64) -> Result<RootSlot, FileFault>
         → at + 16 ≤ length (F.content root.now)
         → IfOk result (λ slot. IsSlot (take 16 (drop at (F.content root.now))) slot) }
     ensures fault { IfErr result (λ fault. IsOfSomeCall fault) }
+    ensures kind { IfErr result (λ fault. IsOfOpening fault) }
     ensures error { IfErr result (λ fault. HasItsError
         (λ extent call error. (extent ≡ Extent.Root) × F.fails_with root.now call error) fault) }
     ensures works { IsTrue (F.is_working root.now) → IsOk result }
@@ -191,6 +202,7 @@ fn area_len<F: SystemFile>(area: Option<&F>, extent: Extent) -> Result<Option<u6
     ensures len { ForSome area.entry (λ f. IsTrue (F.is_honest f.now))
         → IfOk result (λ len. len ≡ option_map length (option_map (λ f. F.content f.now) area.entry)) }
     ensures fault { IfErr result (λ fault. IsOfSomeCall fault) }
+    ensures kind { IfErr result (λ fault. IsOfOpening fault) }
     ensures error { IfErr result (λ fault. HasItsError
         (λ of call error. (of ≡ extent) × IsSomeAnd area.entry (λ f. F.fails_with f.now call error)) fault) }
     ensures works { ForSome area.entry (λ f. IsTrue (F.is_working f.now)) → IsOk result }

@@ -1,5 +1,5 @@
 //! One file of a store, and whether it has to be synced.
-ghost use Rattle.std.specs.Prelude.{◌≡◌, ◌≤◌, ◌<◌, ◌+◌, ◌^◌, ◌↔◌, true, false, length, take, drop, IsTrue, IsOk, OnOk, IfOk, IfErr, ◌⊎◌};
+ghost use Rattle.std.specs.Prelude.{◌≡◌, ◌≤◌, ◌<◌, ◌+◌, ◌^◌, ◌↔◌, true, false, length, take, drop, IsTrue, IsOk, IsErr, OnOk, IfOk, IfErr, ◌⊎◌};
 ghost use Rattle.ax_disk.specs.model.Calls.{overwritten, bytes_from};
 ghost use Rattle.ax_files.specs.SystemCalls.{SystemCall};
 
@@ -89,6 +89,7 @@ impl<F: SystemFile> StoreFile<F> {
     /// Syncs the file where it counts as unsynced. After an error it counts as unsynced still.
     pub fn sync(&mut self) -> io::Result<()>
         ensures synced { IsOk result ↔ (self.new.is_unsynced ≡ false) }
+        ensures asked { IsErr result → self.old.is_unsynced ≡ true }
         ensures settled { IsTrue (F.is_honest self.old.file)
             → OnOk result (IsTrue (F.is_settled self.new.file)) }
         ensures content { IsTrue (F.is_honest self.old.file)

@@ -2,7 +2,7 @@
 ghost use Rattle.std.specs.Prelude.{◌≡◌, ◌≢◌, ◌≤◌, ◌<◌, ◌+◌, ◌^◌, ◌↔◌, ◌⊎◌, false, length, take, IsTrue, IsOk, OnOk, IfOk, IfErr, Err};
 ghost use Rattle.ax_disk.specs.model.Calls.{overwritten, bytes_from};
 ghost use Rattle.ax_files.specs.Content.{at_extent};
-ghost use Rattle.ax_files.specs.Faults.{IsOfCall, IsOfSomeCall, HasItsError};
+ghost use Rattle.ax_files.specs.Faults.{IsOfCall, IsOfSomeCall, IsOfMarked, HasItsError};
 ghost use Rattle.ax_files.specs.Marks.{marks, marked, none_marked, all_marked, first_marked};
 
 use crate::file_fault::{FileCall, FileFault};
@@ -97,6 +97,10 @@ impl<F: SystemFile> StoreFiles<F> {
         ensures fault { IfErr result (λ fault. IsOfCall extent FileCall.Write fault ⊎ (fault ≡ FileFault.Bound extent)) }
         ensures error { IfErr result (λ fault. HasItsError
             (λ extent. F.fails_with (at_extent extent self.old.root.file self.old.a.file self.old.b.file)) fault) }
+        ensures honest { F.is_honest (at_extent extent self.new.root.file self.new.a.file self.new.b.file)
+            ≡ F.is_honest (at_extent extent self.old.root.file self.old.a.file self.old.b.file) }
+        ensures working { F.is_working (at_extent extent self.new.root.file self.new.a.file self.new.b.file)
+            ≡ F.is_working (at_extent extent self.old.root.file self.old.a.file self.old.b.file) }
     {
         if !is_within(at, bytes.len() as u64) {
             return Err(FileFault::Bound { extent });
@@ -125,6 +129,10 @@ impl<F: SystemFile> StoreFiles<F> {
             (λ extent. F.fails_with (at_extent extent self.old.root.file self.old.a.file self.old.b.file)) fault) }
         ensures works { IsTrue (F.is_working (at_extent extent self.old.root.file self.old.a.file self.old.b.file))
             → IsOk result }
+        ensures honest { F.is_honest (at_extent extent self.new.root.file self.new.a.file self.new.b.file)
+            ≡ F.is_honest (at_extent extent self.old.root.file self.old.a.file self.old.b.file) }
+        ensures working { F.is_working (at_extent extent self.new.root.file self.new.a.file self.new.b.file)
+            ≡ F.is_working (at_extent extent self.old.root.file self.old.a.file self.old.b.file) }
     {
         let outcome = match extent {
             Extent::Root => self.root.cut(len),
@@ -140,6 +148,8 @@ impl<F: SystemFile> StoreFiles<F> {
         ensures fault { IfErr result (λ fault. IsOfCall
             (first_marked (marks self.new.root.is_unsynced self.new.a.is_unsynced self.new.b.is_unsynced))
             FileCall.Sync fault) }
+        ensures marked { IfErr result (λ fault. IsOfMarked
+            (marks self.old.root.is_unsynced self.old.a.is_unsynced self.old.b.is_unsynced) fault) }
         ensures error { IfErr result (λ fault. HasItsError
             (λ extent. F.fails_with (at_extent extent self.old.root.file self.old.a.file self.old.b.file)) fault) }
         ensures works { IsTrue (F.is_working self.old.root.file) → IsTrue (F.is_working self.old.a.file)
@@ -153,6 +163,15 @@ impl<F: SystemFile> StoreFiles<F> {
             → F.content self.new.a.file ≡ F.content self.old.a.file }
         ensures b_content { IsTrue (F.is_honest self.old.b.file)
             → F.content self.new.b.file ≡ F.content self.old.b.file }
+        ensures root_settled { IsTrue (F.is_honest self.old.root.file) → OnOk result (IsTrue (F.is_settled self.new.root.file)) }
+        ensures a_settled { IsTrue (F.is_honest self.old.a.file) → OnOk result (IsTrue (F.is_settled self.new.a.file)) }
+        ensures b_settled { IsTrue (F.is_honest self.old.b.file) → OnOk result (IsTrue (F.is_settled self.new.b.file)) }
+        ensures honest { (F.is_honest self.new.root.file ≡ F.is_honest self.old.root.file)
+            × (F.is_honest self.new.a.file ≡ F.is_honest self.old.a.file)
+            × (F.is_honest self.new.b.file ≡ F.is_honest self.old.b.file) }
+        ensures working { (F.is_working self.new.root.file ≡ F.is_working self.old.root.file)
+            × (F.is_working self.new.a.file ≡ F.is_working self.old.a.file)
+            × (F.is_working self.new.b.file ≡ F.is_working self.old.b.file) }
     {
         named(Extent::A, FileCall::Sync, self.a.sync())?;
         named(Extent::B, FileCall::Sync, self.b.sync())?;

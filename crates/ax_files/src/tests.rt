@@ -3,6 +3,7 @@ ghost use Rattle.std.specs.IoError.{error_kind};
 ghost use Rattle.std.specs.declared.io.ErrorKind.TheVariants.{Interrupted, StorageFull, Other};
 ghost use Rattle.ax_files.specs.SystemCalls.{SystemCall};
 
+use crate::counted_files::CountedFiles;
 use crate::file_fault::{Explained, FileCall, FileFault, RootState};
 use crate::opening::refuse_lost;
 use crate::store_file::fill_from;
@@ -284,6 +285,46 @@ fn nothing_fails_over_files_that_work(rt: HostRuntime) -> Result<(), Fail> {
     assert!(rt; files.cut(Extent::B, 0).is_ok() && files.sync().is_ok());
     let mut buf = [1; 3];
     assert!(rt; files.read(Extent::A, 5, &mut buf).is_ok() && buf == [0, 0, 0]);
+    Ok(())
+}
+
+fn fakes(rt: &impl AllocGlobal, failing_syncs: u32) -> Result<StoreFiles<FakeFile>, Fail> {
+    let root = fake(rt, 0, 0)?;
+    let a = fake(rt, 9, 0)?;
+    Ok(StoreFiles::new(root, a, fake(rt, 9, failing_syncs)?))
+}
+
+#[test]
+fn the_first_fault_is_kept_and_a_failed_sync_ends_all(rt: HostRuntime) -> Result<(), Fail> {
+    let mut files = CountedFiles::new();
+    let mut buf = [1; 4];
+    assert!(rt; files.read(Extent::A, 0, &mut buf).is_err());
+    assert!(rt; matches!(files.first_fault(), Some(FileFault::Detached)));
+    assert!(rt; files.attach(Ok(fakes(&rt, 1)?)).is_ok());
+    assert!(rt; matches!(files.len(Extent::A), Ok(9)));
+    assert!(rt; files.read(Extent::A, 7, &mut buf).is_ok() && buf == [7, 7, 0, 0]);
+    assert!(rt; files.sync().is_err() && files.len(Extent::A).is_err());
+    assert!(rt; files.attach(Ok(fakes(&rt, 0)?)).is_err());
+    assert!(rt; matches!(files.first_fault(), Some(FileFault::Detached)));
+    Ok(())
+}
+
+#[test]
+fn a_failed_change_is_told_with_its_file_and_its_call(rt: HostRuntime) -> Result<(), Fail> {
+    let mut files = CountedFiles::new();
+    assert!(rt; files.attach(Ok(fakes(&rt, 0)?)).is_ok() && files.first_fault().is_none());
+    assert!(rt; files.sync().is_ok() && files.cut(Extent::A, 9).is_ok());
+    assert!(rt; files.cut(Extent::B, 8).is_err());
+    assert!(rt;
+        matches!(
+            files.first_fault(),
+            Some(FileFault::Call {
+                extent: Extent::B,
+                call: FileCall::Cut,
+                ..
+            })
+        )
+    );
     Ok(())
 }
 

@@ -1,0 +1,342 @@
+//! The files of a store in use: each call that fails is counted, and why the first one did is kept. After
+//! a write, a cut or a sync that failed every later call fails.
+ghost use Rattle.std.specs.Prelude.{◌≡◌, ◌≢◌, ◌≤◌, ◌^◌, ◌+◌, ◌<◌, ◌↔◌, ◌⊎◌, length, take, IsTrue, IfOk, OnOk, OnErr, IfErr, IsOk, IsErr, IsOkAnd, IsSome, MatchResult};
+ghost use Rattle.ax_disk.specs.model.Calls.{overwritten, bytes_from};
+ghost use Rattle.ax_faults.specs.Faults.{HasCause, CountsOnce, raised};
+ghost use Rattle.ax_files.specs.Faults.{IsOfCall, IsOfCallOnAny, IsOfMarked, HasItsError};
+ghost use Rattle.ax_files.specs.Marks.{marks, none_marked, all_marked, marked};
+
+use crate::file_fault::{FileCall, FileFault};
+use crate::store_files::StoreFiles;
+use crate::system_file::SystemFile;
+use ax_disk::{DiskFailed, Extent};
+use ax_faults::FaultCount;
+
+/// What calls act on.
+#[derive(Drop)]
+pub(crate) enum State<F: SystemFile> {
+    /// No store is attached.
+    Detached,
+    /// The files of the store attached.
+    Attached(StoreFiles<F>),
+    /// A write, a cut or a sync has failed: what the files hold and what is on the device may differ.
+    Stopped,
+}
+
+/// The files of a store, once one is attached, how many calls on them have failed, and why the first did.
+#[derive(Drop)]
+pub(crate) struct CountedFiles<F: SystemFile> {
+    state: State<F>,
+    faults: FaultCount,
+    first_fault: Option<FileFault>,
+}
+
+impl<F: SystemFile> CountedFiles<F> {
+    ghost use Rattle.ax_files.specs.CountedFiles.{HasFiles, HasFilesThat, IfFiles, FilesBecome, IsAnswered, IsAnsweredBy, IsOfAttach, Keeps, file_at, first_of, state_marks};
+
+    /// With no files attached: until they are, each other call fails.
+    pub fn new() -> CountedFiles<F>
+        ensures detached { result.state ≡ State.Detached }
+        ensures no_fault { (result.faults ≡ 0) × (result.first_fault ≡ None) }
+    {
+        CountedFiles {
+            state: State::Detached,
+            faults: FaultCount::new(),
+            first_fault: None,
+        }
+    }
+
+    /// Why the first call failed of those that did.
+    pub fn first_fault(&self) -> Option<FileFault>
+        ensures { result ≡ self.now.first_fault }
+    {
+        self.first_fault
+    }
+
+    /// Counts a failure, and keeps why it came where it is the first.
+    fn count(&mut self, fault: FileFault)
+        ensures raised { self.new.faults ≡ raised self.old.faults }
+        ensures never_falls { self.old.faults ≤ self.new.faults }
+        ensures first { self.new.first_fault ≡ first_of self.old.first_fault fault }
+        ensures explained { IsSome self.new.first_fault }
+        ensures state { self.new.state ≡ self.old.state }
+    {
+        self.faults.raise();
+        if self.first_fault.is_none() {
+            self.first_fault = Some(fault);
+        }
+    }
+
+    /// Passes the outcome of a call on, and counts it where it is a failure.
+    fn counted<T: Drop>(&mut self, outcome: Result<T, FileFault>) -> Result<T, DiskFailed>
+        ensures cause { HasCause result self.old.faults self.new.faults }
+        ensures counts { CountsOnce result self.old.faults self.new.faults }
+        ensures same { IfOk result (λ value. outcome ≡ Ok value) }
+        ensures fails { IsErr result → IsErr outcome }
+        ensures first { MatchResult outcome (λ _. self.new.first_fault ≡ self.old.first_fault)
+            (λ fault. self.new.first_fault ≡ first_of self.old.first_fault fault) }
+        ensures explained { IsErr result → IsSome self.new.first_fault }
+        ensures state { self.new.state ≡ self.old.state }
+    {
+        match outcome {
+            Ok(value) => Ok(value),
+            Err(fault) => {
+                self.count(fault);
+                Err(DiskFailed)
+            }
+        }
+    }
+
+    /// Passes the outcome of a change or of a sync on. After a failure every later call fails.
+    fn lasting(&mut self, outcome: Result<(), FileFault>) -> Result<(), DiskFailed>
+        ensures cause { HasCause result self.old.faults self.new.faults }
+        ensures counts { CountsOnce result self.old.faults self.new.faults }
+        ensures same { IfOk result (λ value. outcome ≡ Ok value) }
+        ensures fails { IsErr result → IsErr outcome }
+        ensures first { MatchResult outcome (λ _. self.new.first_fault ≡ self.old.first_fault)
+            (λ fault. self.new.first_fault ≡ first_of self.old.first_fault fault) }
+        ensures explained { IsErr result → IsSome self.new.first_fault }
+        ensures stops { IsErr result → self.new.state ≡ State.Stopped }
+        ensures kept { OnOk result (self.new.state ≡ self.old.state) }
+    {
+        match outcome {
+            Ok(()) => Ok(()),
+            Err(fault) => {
+                self.count(fault);
+                self.state = State::Stopped;
+                Err(DiskFailed)
+            }
+        }
+    }
+
+    /// Lets go of the files attached, before others are opened. After a write, a cut or a sync that
+    /// failed it fails.
+    pub fn leave(&mut self) -> Result<(), DiskFailed>
+        ensures cause { HasCause result self.old.faults self.new.faults }
+        ensures counts { CountsOnce result self.old.faults self.new.faults }
+        ensures explained { IsErr result → IsSome self.new.first_fault }
+        ensures kept { MatchResult result (λ _. self.new.first_fault ≡ self.old.first_fault)
+            (λ _. Keeps (λ fault. fault ≡ FileFault.Stopped) self.old.first_fault self.new.first_fault) }
+        ensures stopped { IsErr result ↔ (self.old.state ≡ State.Stopped) }
+        ensures detached { MatchResult result (λ _. self.new.state ≡ State.Detached)
+            (λ _. self.new.state ≡ State.Stopped) }
+    {
+        if let State::Stopped = &self.state {
+            return self.counted(Err(FileFault::Stopped));
+        }
+        self.state = State::Detached;
+        Ok(())
+    }
+
+    /// Attaches files that were opened, or counts that they were not. After a write, a cut or a sync that
+    /// failed it fails.
+    pub fn attach(&mut self, opened: Result<StoreFiles<F>, FileFault>) -> Result<(), DiskFailed>
+        ensures cause { HasCause result self.old.faults self.new.faults }
+        ensures counts { CountsOnce result self.old.faults self.new.faults }
+        ensures explained { IsErr result → IsSome self.new.first_fault }
+        ensures kept { MatchResult result (λ _. self.new.first_fault ≡ self.old.first_fault)
+            (λ _. Keeps (IsOfAttach (λ fault. opened ≡ Err fault) self.old.state)
+            self.old.first_fault self.new.first_fault) }
+        ensures stopped { self.old.state ≡ State.Stopped → IsErr result }
+        ensures stays { (self.old.state ≡ State.Stopped) ↔ (self.new.state ≡ State.Stopped) }
+        ensures attached { OnOk result (IsOkAnd opened (λ files. self.new.state ≡ State.Attached files)) }
+        ensures works { IsErr result → (self.old.state ≡ State.Stopped) ⊎ IsErr opened }
+        ensures without { OnErr result ((HasFiles self.new.state → ⊥) × (state_marks self.new.state ≡ all_marked)) }
+    {
+        self.leave()?;
+        self.state = State::Attached(self.counted(opened)?);
+        Ok(())
+    }
+
+    /// The length of a file. One of more than 2^62 bytes is a failure.
+    pub fn len(&mut self, ext: Extent) -> Result<u64, DiskFailed>
+        ensures limit { IfOk result (λ n. n ≤ 2 ^ 62) }
+        ensures cause { HasCause result self.old.faults self.new.faults }
+        ensures counts { CountsOnce result self.old.faults self.new.faults }
+        ensures explained { IsErr result → IsSome self.new.first_fault }
+        ensures kept { MatchResult result (λ _. self.new.first_fault ≡ self.old.first_fault)
+            (λ _. Keeps (IsAnswered (λ fault. IsOfCall ext FileCall.Length fault ⊎ (fault ≡ FileFault.Bound ext)) self.old.state)
+            self.old.first_fault self.new.first_fault) }
+        ensures stopped { self.old.state ≡ State.Stopped → IsErr result }
+        ensures state { self.new.state ≡ self.old.state }
+        ensures length { IfOk result (λ n. HasFilesThat (λ files. IsTrue (F.is_honest (file_at ext files))
+            → n ≡ length (F.content (file_at ext files))) self.old.state) }
+        ensures error { OnErr result (Keeps (IsAnsweredBy
+            (λ files. HasItsError (λ extent. F.fails_with (file_at extent files))) self.old.state)
+            self.old.first_fault self.new.first_fault) }
+        ensures bound { OnErr result (Keeps (IsAnsweredBy (λ files fault. IsTrue (F.is_honest (file_at ext files))
+            → fault ≡ FileFault.Bound ext → 2 ^ 62 < length (F.content (file_at ext files))) self.old.state)
+            self.old.first_fault self.new.first_fault) }
+        ensures works { IfFiles (λ files. IsTrue (F.is_working (file_at ext files))
+            → OnErr result (Keeps (λ fault. fault ≡ FileFault.Bound ext) self.old.first_fault self.new.first_fault))
+            self.old.state }
+        ensures works_within { IfFiles (λ files. IsTrue (F.is_working (file_at ext files))
+            → IsTrue (F.is_honest (file_at ext files)) → length (F.content (file_at ext files)) ≤ 2 ^ 62
+            → IsOk result) self.old.state }
+    {
+        let outcome = match &self.state {
+            State::Attached(files) => files.len(ext),
+            State::Detached => Err(FileFault::Detached),
+            State::Stopped => Err(FileFault::Stopped),
+        };
+        self.counted(outcome)
+    }
+
+    /// Fills `buf` with the bytes at `at`, and with 0 past the end of the file.
+    pub fn read(&mut self, ext: Extent, at: u64, buf: &mut [u8]) -> Result<(), DiskFailed>
+        ensures cause { HasCause result self.old.faults self.new.faults }
+        ensures counts { CountsOnce result self.old.faults self.new.faults }
+        ensures explained { IsErr result → IsSome self.new.first_fault }
+        ensures kept { MatchResult result (λ _. self.new.first_fault ≡ self.old.first_fault)
+            (λ _. Keeps (IsAnswered (λ fault. IsOfCall ext FileCall.Read fault) self.old.state)
+            self.old.first_fault self.new.first_fault) }
+        ensures stopped { self.old.state ≡ State.Stopped → IsErr result }
+        ensures state { self.new.state ≡ self.old.state }
+        ensures bytes { OnOk result (HasFilesThat (λ files. IsTrue (F.is_honest (file_at ext files))
+            → length (F.content (file_at ext files)) < 2 ^ 63
+            → buf.new ≡ bytes_from (F.content (file_at ext files)) at (length buf.old)) self.old.state) }
+        ensures error { OnErr result (Keeps (IsAnsweredBy
+            (λ files. HasItsError (λ extent. F.fails_with (file_at extent files))) self.old.state)
+            self.old.first_fault self.new.first_fault) }
+        ensures works { IfFiles (λ files. IsTrue (F.is_working (file_at ext files)) → IsOk result) self.old.state }
+    {
+        let outcome = match &self.state {
+            State::Attached(files) => files.read(ext, at, buf),
+            State::Detached => Err(FileFault::Detached),
+            State::Stopped => Err(FileFault::Stopped),
+        };
+        self.counted(outcome)
+    }
+
+    /// Writes all the bytes at `at`. An end above 2^62 is a failure.
+    pub fn write(&mut self, ext: Extent, at: u64, bytes: &[u8]) -> Result<(), DiskFailed>
+        ensures limit { 2 ^ 62 < at + length bytes.now → IsErr result }
+        ensures cause { HasCause result self.old.faults self.new.faults }
+        ensures counts { CountsOnce result self.old.faults self.new.faults }
+        ensures explained { IsErr result → IsSome self.new.first_fault }
+        ensures kept { MatchResult result (λ _. self.new.first_fault ≡ self.old.first_fault)
+            (λ _. Keeps (IsAnswered (λ fault. IsOfCall ext FileCall.Write fault ⊎ (fault ≡ FileFault.Bound ext)) self.old.state)
+            self.old.first_fault self.new.first_fault) }
+        ensures stops { IsErr result ↔ (self.new.state ≡ State.Stopped) }
+        ensures marked { OnOk result (state_marks self.new.state ≡ marked ext (state_marks self.old.state)) }
+        ensures stopped { self.old.state ≡ State.Stopped → IsErr result }
+        ensures written { OnOk result (FilesBecome (λ old new. IsTrue (F.is_honest (file_at ext old))
+            → at ≤ length (F.content (file_at ext old))
+            → F.content (file_at ext new) ≡ overwritten (F.content (file_at ext old)) at bytes.now)
+            self.old.state self.new.state) }
+        ensures root_stays { OnOk result (FilesBecome (λ old new. ext ≢ Extent.Root → new.root ≡ old.root)
+            self.old.state self.new.state) }
+        ensures a_stays { OnOk result (FilesBecome (λ old new. ext ≢ Extent.A → new.a ≡ old.a)
+            self.old.state self.new.state) }
+        ensures b_stays { OnOk result (FilesBecome (λ old new. ext ≢ Extent.B → new.b ≡ old.b)
+            self.old.state self.new.state) }
+        ensures honest { OnOk result (FilesBecome (λ old new. F.is_honest (file_at ext new) ≡ F.is_honest (file_at ext old))
+            self.old.state self.new.state) }
+        ensures working { OnOk result (FilesBecome (λ old new. F.is_working (file_at ext new) ≡ F.is_working (file_at ext old))
+            self.old.state self.new.state) }
+        ensures error { OnErr result (Keeps (IsAnsweredBy
+            (λ files. HasItsError (λ extent. F.fails_with (file_at extent files))) self.old.state)
+            self.old.first_fault self.new.first_fault) }
+        ensures bound { OnErr result (Keeps (IsAnswered
+            (λ fault. (fault ≡ FileFault.Bound ext) ↔ (2 ^ 62 < at + length bytes.now)) self.old.state)
+            self.old.first_fault self.new.first_fault) }
+        ensures works { IfFiles (λ files. IsTrue (F.is_working (file_at ext files))
+            → at + length bytes.now ≤ 2 ^ 62 → IsOk result) self.old.state }
+    {
+        let outcome = match &mut self.state {
+            State::Attached(files) => files.write(ext, at, bytes),
+            State::Detached => Err(FileFault::Detached),
+            State::Stopped => Err(FileFault::Stopped),
+        };
+        self.lasting(outcome)
+    }
+
+    /// Shortens a file to `len` bytes, where it is longer.
+    pub fn cut(&mut self, ext: Extent, len: u64) -> Result<(), DiskFailed>
+        ensures cause { HasCause result self.old.faults self.new.faults }
+        ensures counts { CountsOnce result self.old.faults self.new.faults }
+        ensures explained { IsErr result → IsSome self.new.first_fault }
+        ensures kept { MatchResult result (λ _. self.new.first_fault ≡ self.old.first_fault)
+            (λ _. Keeps (IsAnswered (λ fault. IsOfCall ext FileCall.Cut fault) self.old.state)
+            self.old.first_fault self.new.first_fault) }
+        ensures stops { IsErr result ↔ (self.new.state ≡ State.Stopped) }
+        ensures marked { OnOk result (state_marks self.new.state ≡ marked ext (state_marks self.old.state)) }
+        ensures stopped { self.old.state ≡ State.Stopped → IsErr result }
+        ensures shortened { OnOk result (FilesBecome (λ old new. IsTrue (F.is_honest (file_at ext old))
+            → F.content (file_at ext new) ≡ take len (F.content (file_at ext old)))
+            self.old.state self.new.state) }
+        ensures root_stays { OnOk result (FilesBecome (λ old new. ext ≢ Extent.Root → new.root ≡ old.root)
+            self.old.state self.new.state) }
+        ensures a_stays { OnOk result (FilesBecome (λ old new. ext ≢ Extent.A → new.a ≡ old.a)
+            self.old.state self.new.state) }
+        ensures b_stays { OnOk result (FilesBecome (λ old new. ext ≢ Extent.B → new.b ≡ old.b)
+            self.old.state self.new.state) }
+        ensures honest { OnOk result (FilesBecome (λ old new. F.is_honest (file_at ext new) ≡ F.is_honest (file_at ext old))
+            self.old.state self.new.state) }
+        ensures working { OnOk result (FilesBecome (λ old new. F.is_working (file_at ext new) ≡ F.is_working (file_at ext old))
+            self.old.state self.new.state) }
+        ensures error { OnErr result (Keeps (IsAnsweredBy
+            (λ files. HasItsError (λ extent. F.fails_with (file_at extent files))) self.old.state)
+            self.old.first_fault self.new.first_fault) }
+        ensures works { IfFiles (λ files. IsTrue (F.is_working (file_at ext files)) → IsOk result) self.old.state }
+    {
+        let outcome = match &mut self.state {
+            State::Attached(files) => files.cut(ext, len),
+            State::Detached => Err(FileFault::Detached),
+            State::Stopped => Err(FileFault::Stopped),
+        };
+        self.lasting(outcome)
+    }
+
+    /// Syncs the files that count as unsynced. A failure is of one of them.
+    pub fn sync(&mut self) -> Result<(), DiskFailed>
+        ensures cause { HasCause result self.old.faults self.new.faults }
+        ensures counts { CountsOnce result self.old.faults self.new.faults }
+        ensures explained { IsErr result → IsSome self.new.first_fault }
+        ensures kept { MatchResult result (λ _. self.new.first_fault ≡ self.old.first_fault)
+            (λ _. Keeps (IsAnswered (λ fault. IsOfCallOnAny FileCall.Sync fault) self.old.state)
+            self.old.first_fault self.new.first_fault) }
+        ensures stops { IsErr result ↔ (self.new.state ≡ State.Stopped) }
+        ensures synced { IsOk result ↔ (state_marks self.new.state ≡ none_marked) }
+        ensures stopped { self.old.state ≡ State.Stopped → IsErr result }
+        ensures root_content { OnOk result (FilesBecome (λ old new. IsTrue (F.is_honest old.root.file)
+            → F.content new.root.file ≡ F.content old.root.file)
+            self.old.state self.new.state) }
+        ensures a_content { OnOk result (FilesBecome (λ old new. IsTrue (F.is_honest old.a.file)
+            → F.content new.a.file ≡ F.content old.a.file)
+            self.old.state self.new.state) }
+        ensures b_content { OnOk result (FilesBecome (λ old new. IsTrue (F.is_honest old.b.file)
+            → F.content new.b.file ≡ F.content old.b.file)
+            self.old.state self.new.state) }
+        ensures root_settled { OnOk result (FilesBecome (λ old new. IsTrue (F.is_honest old.root.file)
+            → IsTrue (F.is_settled new.root.file))
+            self.old.state self.new.state) }
+        ensures a_settled { OnOk result (FilesBecome (λ old new. IsTrue (F.is_honest old.a.file)
+            → IsTrue (F.is_settled new.a.file))
+            self.old.state self.new.state) }
+        ensures b_settled { OnOk result (FilesBecome (λ old new. IsTrue (F.is_honest old.b.file)
+            → IsTrue (F.is_settled new.b.file))
+            self.old.state self.new.state) }
+        ensures honest { OnOk result (FilesBecome (λ old new. (F.is_honest new.root.file ≡ F.is_honest old.root.file)
+            × (F.is_honest new.a.file ≡ F.is_honest old.a.file) × (F.is_honest new.b.file ≡ F.is_honest old.b.file))
+            self.old.state self.new.state) }
+        ensures working { OnOk result (FilesBecome (λ old new. (F.is_working new.root.file ≡ F.is_working old.root.file)
+            × (F.is_working new.a.file ≡ F.is_working old.a.file) × (F.is_working new.b.file ≡ F.is_working old.b.file))
+            self.old.state self.new.state) }
+        ensures error { OnErr result (Keeps (IsAnsweredBy
+            (λ files. HasItsError (λ extent. F.fails_with (file_at extent files))) self.old.state)
+            self.old.first_fault self.new.first_fault) }
+        ensures of_marked { OnErr result (Keeps
+            (IsAnswered (λ fault. IsOfMarked (state_marks self.old.state) fault) self.old.state)
+            self.old.first_fault self.new.first_fault) }
+        ensures works { IfFiles (λ files. IsTrue (F.is_working files.root.file) → IsTrue (F.is_working files.a.file)
+            → IsTrue (F.is_working files.b.file) → IsOk result) self.old.state }
+    {
+        let outcome = match &mut self.state {
+            State::Attached(files) => files.sync(),
+            State::Detached => Err(FileFault::Detached),
+            State::Stopped => Err(FileFault::Stopped),
+        };
+        self.lasting(outcome)
+    }
+}
