@@ -15,6 +15,7 @@ ghost use Rattle.ax_store.specs.Slots.{AreOthersSame, IsSlotOf};
 ghost use Rattle.ax_store.specs.Store.{AgreesUnlessFailed, store_contents, store_failed, store_slots, store_spare};
 ghost use Rattle.ax_index.specs.Bare.{has_deltas as does_have_deltas};
 ghost use Rattle.ax_index.specs.Damage.{FailsBy, TellsPart};
+ghost use Rattle.ax_index.specs.Grammar.{IsInGrammar};
 ghost use Rattle.ax_index.specs.Merging.{IsBehind, IsMergePlan, IsMergedTo};
 ghost use Rattle.ax_index.specs.PageSizes.{NeedsTooMany};
 ghost use Rattle.ax_index.specs.Planning.{IsUpTo, IsPagePlanned};
@@ -217,6 +218,7 @@ fn merge_whole<D: Disk, C: PageCache>(
     ensures stuck { IsTrue (D.is_honest disk.old) → (set : PairSet) → IsIndex (store_contents store.old).terms set
         → IfOk result (λ done. done ≡ false → (pairs : List Pair) → HasPairs (term_page page (store_contents store.old).terms) pairs
         → NeedsTooMany next.old pairs) }
+    ensures met { IsTrue (D.is_honest disk.old) → OnOk result (IsInGrammar (term_page page (store_contents store.old).terms)) }
     ensures told { IsTrue (D.is_honest disk.old) → IfErr result (TellsPart store.old) }
     ensures slot { slot.new ≡ slot.old }
     ensures others { AreOthersSame slot.old.number (store_slots store.old) (store_slots store.new) }
