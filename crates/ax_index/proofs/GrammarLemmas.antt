@@ -1,5 +1,5 @@
 -- Parts that were read and are in their grammar, put together to pages that have pairs.
-use Rattle.std.proofs.Common.{◌≡◌, ℕ, zero, suc, ◌+◌, ◌-◌, ◌<◌, ◌≤◌, List, [], ◌∷◌, ◌++◌, length, get_or, arith, refl, ap, ◌∙◌, sym, subst, Bool, true, false, ◌⊎◌, inl, inr, ⊎_elim, Option, Some, None}
+use Rattle.std.proofs.Common.{◌≡◌, ℕ, suc, ◌+◌, ◌-◌, ◌<◌, ◌≤◌, List, [], ◌∷◌, ◌++◌, length, get_or, arith, refl, ap, ◌∙◌, sym, subst, Bool, true, false, ◌⊎◌, inl, inr, ⊎_elim, Option, Some, None}
 use Rattle.std.proofs.lemmas.Bool.{cases_lt}
 use Rattle.std.specs.Option.{option_to_list, unwrap_or}
 use Rattle.std.specs.Prelude.{is_some, IfOk, OnOk, Result, Ok, Err}
@@ -25,7 +25,7 @@ use Rattle.ax_term.specs.declared.range.TermRange.{TermRange}
 use Rattle.ax_pairs.specs.PagePairs.{AreDeltas, AreOfBase, HasPairs, IsBase}
 use Rattle.ax_pairs.proofs.PairOrder.{NotAfter, order_cases, both_ways}
 use Rattle.ax_index.specs.Bare.{has_deltas}
-use Rattle.ax_index.specs.Grammar.{AreDeltasFrom, AreInGrammar, IsDeltaAt, IsInGrammar, IsLookedAt, IsLookedBack, IsSaidBy}
+use Rattle.ax_index.specs.Grammar.{AreDeltasFrom, AreInGrammar, IsDeltaAt, IsInGrammar, IsLookedAt, IsLookedBack}
 use Rattle.ax_index.specs.Reading.{IsAhead, first_delta}
 use Rattle.ax_index.specs.Wanted.{is_in_some}
 use Rattle.ax_index.proofs.BarePages.{none_there}
@@ -82,8 +82,7 @@ page_deltas page met = all_deltas page.deltas (λ k l. at k l)
         let from : first_delta page ≤ first_delta page + k = omega arith in
         let there : first_delta page + k < length (term_parts page) = omega (arith, l, count_parts page) in
         let (changes, is) = met (first_delta page + k) from there in
-        let back : first_delta page + k - first_delta page ≡ k = omega arith in
-        (
+        let back : first_delta page + k - first_delta page ≡ k = omega arith in (
           changes,
           subst (λ (bytes : List ℕ). IsDelta bytes changes)
               (delta_part page (first_delta page + k) from ∙ ap (λ (j : ℕ). get_or page.deltas j []) back) is,
@@ -195,8 +194,7 @@ base_says : (page : TermPage) (p : Pair) (found : Bool) → AreDeltasFrom page (
     → (pairs : List Pair) × HasPairs page pairs × (has p pairs ≡ found)
 base_says page p found met quiet (base, of) says =
     let (deltas, are) = page_deltas page met in
-    let (pairs, rest) = page_pairs page base deltas of are in
-    (
+    let (pairs, rest) = page_pairs page base deltas of are in (
       pairs,
       record { base = base; of_base = of; deltas = deltas; are_deltas = are; merged = rest },
       newest_counts base pairs deltas p rest
@@ -213,8 +211,7 @@ pub looked_by_base : (result : Result Bool StoreFault) (pages now : List TermPag
 looked_by_base (Err fault) pages now number p said of e same back quiet based says = tt
 looked_by_base (Ok found) pages now number p said of e same back quiet based says =
     let P : List TermPage → Type 0 = λ ts. (base : List Pair) × AreOfBase (term_page number ts).base base in
-    let Q : List TermPage → Type 0 = λ ts. (base : List Pair) → AreOfBase (term_page number ts).base base → found ≡ has p base in
-    (
+    let Q : List TermPage → Type 0 = λ ts. (base : List Pair) → AreOfBase (term_page number ts).base base → found ≡ has p base in (
       number,
       of,
       inr (base_says (term_page number pages) p found (subst (λ (o : Option Bool). IsLookedBack p o (term_page number pages)) e back)

@@ -30,7 +30,8 @@ use ax_pair::Pair;
 use ax_store::{Store, StoreFault, StoreSlot};
 
 /// Whether a pair is in the set that the term pages hold. It takes no memory, and reads the parts of
-/// the one page to which the pair belongs, from the newest to the first that says something of it.
+/// the one page to which the pair belongs, from the newest to the first that says something of it. Over an
+/// honest disk an answer tells that each part that was read is in its grammar, and is what these parts say.
 ///
 /// `Disk` where a read failed, and the disk's count of faults rose, or where the store had failed
 /// before; `Damaged` where the payload of a part that was read is outside its grammar, with its place.

@@ -36,8 +36,8 @@ use std::alloc::Global;
 /// Puts parts behind those of a batch that merge `n` term pages with deltas, from the least low pair on, and
 /// answers how many they are: fewer only where no page is left that has deltas, but for those whose fold
 /// needs so many new pages that the last would have a number from 2^31 on. No pair is changed, and no page
-/// is made without one. It makes the room that a commit of
-/// the batch needs.
+/// is made without one. Over an honest disk a page is merged only where each of its parts is in its grammar.
+/// It makes the room that a commit of the batch needs.
 ///
 /// `Disk`, `Damaged`: as `has`. `Memory` where there is no room; the store is then as before but for room,
 /// and the batch may hold further parts.

@@ -37,7 +37,8 @@ use std::slice;
 
 /// The rising numbers with a term in the range, of the set that the term pages hold. It reads the pages
 /// that may have a term of the range, each with its parts. The numbers rise whatever the pages hold and
-/// whatever the disk gives: it is `pairs_in_some` of the one range.
+/// whatever the disk gives: it is `pairs_in_some` of the one range. Over an honest disk numbers are answered only
+/// where each part of these pages is in its grammar.
 ///
 /// `Disk`, `Damaged`: as `has`. `Memory` where there is no room for the pairs of a page or for the numbers.
 pub fn pairs_in<D: Disk, C: PageCache>(
@@ -69,7 +70,8 @@ pub fn pairs_in<D: Disk, C: PageCache>(
 /// The rising numbers with a term in one of the ranges, of the set that the term pages hold. It reads each page
 /// that may have a term of one of them once, however many reach it, and no other. The ranges may stand in any
 /// order and have terms in common; of none there are no numbers. The numbers rise whatever the pages hold and
-/// whatever the disk gives.
+/// whatever the disk gives. Over an honest disk they are answered only where each part of these pages is in its
+/// grammar.
 ///
 /// `Disk`, `Damaged`: as `has`. `Memory` where there is no room for the pairs of a page or for the numbers.
 pub fn pairs_in_some<D: Disk, C: PageCache>(

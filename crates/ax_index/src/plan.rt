@@ -48,8 +48,8 @@ use std::alloc::Global;
 ///
 /// It answers how many term pages it merges, at most 16, and reads the parts of no other. Each other page
 /// gets just the changes of its pairs: one delta, but where it would be longer than a part may be, and none
-/// where nothing of it is changed. New pages have no deltas, and none is empty. It makes the room that a
-/// commit of the batch needs.
+/// where nothing of it is changed. New pages have no deltas, and none is empty. Over an honest disk a page is
+/// merged only where each of its parts is in its grammar. It makes the room that a commit of the batch needs.
 ///
 /// `Disk`, `Damaged`: as `has`. `Memory` where there is no room; the store is then as before but for room,
 /// and the batch may hold further parts.

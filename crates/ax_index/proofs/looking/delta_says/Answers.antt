@@ -1,4 +1,3 @@
-
 use Rattle.ax_index.proofs.looking.delta_says.Goals as goal
 
 pub returns-clause-met : goal.returns-clause-met
