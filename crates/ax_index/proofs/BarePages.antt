@@ -14,7 +14,7 @@ use Rattle.ax_index.specs.Bare.{has_deltas}
 use Rattle.ax_index.specs.Reading.{Gathers, numbers_of}
 use Rattle.ax_index.proofs.NumberLists.{gathers}
 
-none_there : (payloads : List (List ℕ)) → nat_lt 0 (length payloads) ≡ false → payloads ≡ []
+pub none_there : (payloads : List (List ℕ)) → nat_lt 0 (length payloads) ≡ false → payloads ≡ []
 none_there [] h = refl
 none_there (payload ∷ payloads) h = let some : nat_lt 0 (length (payload ∷ payloads)) ≡ true = lt-ltb 0 (length (payload ∷ payloads)) (omega arith) in absurd (cc)
 

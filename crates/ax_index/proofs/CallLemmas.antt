@@ -23,6 +23,7 @@ use Rattle.ax_store.specs.Faults.{IsDiskFault, FailsByDisk, HasDiskCause}
 use Rattle.ax_store.specs.declared.store.Store.{Store}
 use Rattle.ax_store.specs.Kept.{deltas_of}
 use Rattle.ax_index.specs.DeltaRuns.{AreCarried}
+use Rattle.ax_index.specs.Grammar.{IsInGrammar}
 use Rattle.ax_index.specs.Planning.{IsFirstOf, IsPartedAt, IsPlannedTo, IsUpTo, IsPagePlanned}
 use Rattle.ax_index.specs.Plans.{HasNoDeltas, SameButRoomAndBytes}
 use Rattle.ax_index.specs.Rewriting.{IsRewritten}
@@ -158,10 +159,11 @@ run_all_belong pages page changes (change ∷ run) behind whole some first rise 
 pub first_planned : {honest : Bool} (all changes run behind : List Change) (before : List TermPage) (merged next later extra : ℕ) (room more : ℕ → ℕ) (old here new : List PartValue) (page : ℕ) (is_merged : Bool)
     → changes ≡ run ++ behind → 0 < length run → Rise (changed_pairs changes) → IsFirstOf changes page before → IsPartedAt page run behind before
     → extra ≡ as_number is_merged → IsPlannedTo honest all changes before merged next room old here → ((number : ℕ) → room number ≤ more number)
+    → (is_merged ≡ true → IsTrue honest → IsInGrammar (term_page page before))
     → ((now : List TermPage) (earlier : List PartValue) → IsUpTo (low_pair page before) before now earlier → next ≡ length now → AllBelong (changed_pairs run) page before
     → IsPagePlanned honest page run before now is_merged later more here new)
     → IsPlannedTo honest all behind before (merged + extra) later more old new
-first_planned {honest = honest} all changes run behind before merged next later extra room more old here new page is_merged whole some rise first parted extra_is is never_less planned =
+first_planned {honest = honest} all changes run behind before merged next later extra room more old here new page is_merged whole some rise first parted extra_is is never_less met planned =
     let mine : IsPlannedTo honest all (run ++ behind) before merged next room old here =
     subst (λ (left : List Change). IsPlannedTo honest all left before merged next room old here) whole is
     in
@@ -170,7 +172,7 @@ first_planned {honest = honest} all changes run behind before merged next later 
     (planned_more all run behind before merged next room more old here new page is_merged later mine up (first_there changes page before first)
     (subst (λ (left : List Change). IsFirstOf left page before) whole first) some
     (run_all_belong before page changes run behind whole some first rise parted) (rise_parted changes run behind whole rise).0 parted
-    (planned mine.now mine.parts up mine.next_is (run_all_belong before page changes run behind whole some first rise parted)) never_less)
+    (planned mine.now mine.parts up mine.next_is (run_all_belong before page changes run behind whole some first rise parted)) never_less met)
 
 -- ---- stores
 

@@ -6,6 +6,7 @@ pub mod DeltaRunLemmas
 pub mod DeltaSizes
 pub mod FoldedPairs
 pub mod Gathering
+pub mod GrammarLemmas
 pub mod IndexPages
 pub mod Lists
 pub mod NumberLists

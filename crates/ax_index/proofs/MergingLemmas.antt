@@ -5,7 +5,7 @@ use Rattle.std.proofs.lemmas.Bool.{cases_eq, cases_lt}
 use Rattle.std.proofs.lemmas.List.{take_all}
 use Rattle.std.proofs.lemmas.List.Sums.{count_by_more_no, count_by_more_yes}
 use Rattle.std.specs.declared.cmp.Ordering.TheVariants.{Less}
-use Rattle.std.specs.Prelude.{IfOk, IfSome, IfNone, IsTrue}
+use Rattle.std.specs.Prelude.{IfOk, IfSome, IfNone, IsTrue, OnOk}
 use Rattle.ax_store.specs.declared.fault.StoreFault.{StoreFault}
 use Rattle.ax_index.specs.Rewriting.{IsRewritten}
 use Rattle.ax_index.proofs.CallLemmas.{planned_by_bases}
@@ -30,6 +30,7 @@ use Rattle.ax_pairs.proofs.Leading.{lead_nothing, lead_then}
 use Rattle.ax_store.specs.Kept.{deltas_of}
 use Rattle.ax_index.specs.Bare.{has_deltas, with_deltas}
 use Rattle.ax_index.specs.Carried.{HasLowPair, HasSome, bases_put}
+use Rattle.ax_index.specs.Grammar.{IsInGrammar}
 use Rattle.ax_index.specs.Merging.{IsStuck, IsMergePlan, IsPassed, IsReady, IsBehind, IsMergedTo, bases_due}
 use Rattle.ax_index.specs.PageSizes.{NeedsTooMany}
 use Rattle.ax_index.specs.Planning.{IsUpTo, IsPageDone, IsPagePlanned}
@@ -163,8 +164,9 @@ pub merged_one : {honest : Bool} (page : ℕ) (at : Option ℕ) (before : List T
     → has_deltas (term_page page before) ≡ true
     → ((now : List TermPage) (earlier : List PartValue) → IsUpTo (low_pair page before) before now earlier → next ≡ length now
     → IsPagePlanned honest page [] before now true later (λ number. 0) here new)
+    → (IsTrue honest → IsInGrammar (term_page page before))
     → IsMergedTo honest at before (merged + 1) later old new
-merged_one {honest = honest} page at before merged next later old here new behind is deltas planned_by =
+merged_one {honest = honest} page at before merged next later old here new behind is deltas planned_by met =
     let up : IsUpTo (low_pair page before) before is.now is.parts = is.ready.1 in
     let there : page < length before = is.ready.0 in
     let planned : IsPagePlanned honest page [] before is.now true later (λ number. 0) here new = planned_by is.now is.parts up is.next_is in
@@ -200,19 +202,19 @@ merged_one {honest = honest} page at before merged next later old here new behin
           ∙ ap (λ (t : TermPage). bases_due (has_deltas (term_page n before)) (has_deltas t))
           (sym (planned.done.same n (omega (arith, h, is.longer)) apart)))
           (cases_eq n page);
-      new_own = λ n from below.
+      new_once = λ n from below.
           ⊎_elim
           (λ (l : n < length is.now).
           ap (λ (ps : List (List ℕ)). length ps)
           (same_bases n is.parts planned.parts (planned.done.elsewhere n l (λ e. omega (arith, e, from, there))))
-          ∙ is.new_own n from l)
+          ∙ is.new_once n from l)
           (λ (l : length is.now ≤ n).
-          ap (λ (ps : List (List ℕ)). length ps) (later_bases n is.parts planned.parts (is.none_past n l))
-          ∙ planned.done.new_own n l below)
+          ap (λ (ps : List (List ℕ)). length ps) (later_bases n is.parts planned.parts (is.none_beyond n l))
+          ∙ planned.done.new_once n l below)
           (cases_lt n (length is.now));
-      none_past = λ n past.
-          later_bases n is.parts planned.parts (is.none_past n (omega (arith, past, planned.done.longer)))
-          ∙ planned.done.none_past n past;
+      none_beyond = λ n past.
+          later_bases n is.parts planned.parts (is.none_beyond n (omega (arith, past, planned.done.longer)))
+          ∙ planned.done.none_beyond n past;
       new_with = λ n from below.
           ⊎_elim
           (λ (l : n < length is.now).
@@ -237,6 +239,18 @@ merged_one {honest = honest} page at before merged next later old here new behin
                 (same_bases n is.parts planned.parts (planned.done.elsewhere n (omega (arith, h, is.longer)) apart)),
           ))
           p of member))
+          (cases_eq n page);
+      met = λ told n h based.
+          ⊎_elim
+          (λ (e : n ≡ page). subst (λ (k : ℕ). IsInGrammar (term_page k before)) (sym e) (met told))
+          (λ (apart : n ≡ page → ⊥).
+          is.met told n h
+          (omega (
+            arith,
+            based,
+            ap (λ (ps : List (List ℕ)). length ps)
+                (same_bases n is.parts planned.parts (planned.done.elsewhere n (omega (arith, h, is.longer)) apart)),
+          )))
           (cases_eq n page);
       ready = ready_by page at before is.now planned.after is.parts planned.parts true behind up planned.done;
       stuck = λ n h passed.
@@ -293,10 +307,11 @@ left_one {honest = honest} page at before merged next old here behind is stuck_h
       fewer = is.fewer;
       next_is = is.next_is;
       each = is.each;
-      new_own = is.new_own;
-      none_past = is.none_past;
+      new_once = is.new_once;
+      none_beyond = is.none_beyond;
       new_with = is.new_with;
       filled = is.filled;
+      met = is.met;
       ready = subst (λ (ps : List PartValue). IsReady at before is.now ps) (append-nil is.parts)
           (ready_by page at before is.now is.now is.parts [] false behind up
           (done_by_deltas {honest = true} page [] before is.now is.now [] (λ p h. absurd (cc)) there (carry_nothing page is.now)
@@ -329,10 +344,11 @@ merged_none page before next old of next_is = record {
   fewer = omega arith;
   next_is = next_is;
   each = λ n h. none_due (has_deltas (term_page n before));
-  new_own = λ n from below. absurd (omega arith);
-  none_past = λ n past. refl;
+  new_once = λ n from below. absurd (omega arith);
+  none_beyond = λ n past. refl;
   new_with = λ n from below. absurd (omega arith);
   filled = λ told set index n h some p of member. absurd (omega (arith, some));
+  met = λ told n h some. absurd (omega (arith, some));
   ready = (
     of.there,
     record {
@@ -362,10 +378,11 @@ merged_all before asked merged next old new is most = record {
   at_most = most;
   finished = λ less number h. is.stuck number h tt;
   each = is.each;
-  new_own = is.new_own;
-  none_past = is.none_past;
+  new_once = is.new_once;
+  none_beyond = is.none_beyond;
   new_with = is.new_with;
   filled = is.filled;
+  met = is.met;
 }
 
 -- ---- a page that can't be merged
@@ -431,10 +448,11 @@ pub step_done : {honest : Bool} (page : ℕ) (at : Option ℕ) (before : List Te
     → (done ≡ false → (new ≡ here) × (later ≡ next))
     → (IsTrue honest → (set : PairSet) → IsIndex before set → done ≡ false → (pairs : List Pair) → HasPairs (term_page page before) pairs
     → NeedsTooMany next pairs)
+    → (IsTrue honest → IsInGrammar (term_page page before))
     → IsMergedTo honest at before (merged + as_number done) later old new
-step_done {honest = honest} page at before merged next later old here new true behind is deltas planned left stuck =
-    merged_one page at before merged next later old here new behind is deltas (λ now earlier up next_is. planned now earlier up next_is refl)
-step_done {honest = honest} page at before merged next later old here new false behind is deltas planned left stuck =
+step_done {honest = honest} page at before merged next later old here new true behind is deltas planned left stuck met =
+    merged_one page at before merged next later old here new behind is deltas (λ now earlier up next_is. planned now earlier up next_is refl) met
+step_done {honest = honest} page at before merged next later old here new false behind is deltas planned left stuck met =
     let same = left refl in
     let kept : IsMergedTo honest at before merged next old here =
     left_one page at before merged next old here behind is
@@ -492,10 +510,11 @@ pub step_by : {honest : Bool} (result : Result Bool StoreFault) (page : ℕ) (at
     → IfOk result (λ done. done ≡ false → (new ≡ here) × (later ≡ next))
     → (IsTrue honest → (set : PairSet) → IsIndex before set
     → IfOk result (λ done. done ≡ false → (pairs : List Pair) → HasPairs (term_page page before) pairs → NeedsTooMany next pairs))
+    → (IsTrue honest → OnOk result (IsInGrammar (term_page page before)))
     → IfOk result (λ done. IsMergedTo honest at before (merged + as_number done) later old new)
-step_by (Ok done) page at before merged next later old here new behind is deltas planned left stuck =
-    step_done page at before merged next later old here new done behind is deltas planned left stuck
-step_by (Err fault) page at before merged next later old here new behind is deltas planned left stuck = tt
+step_by (Ok done) page at before merged next later old here new behind is deltas planned left stuck met =
+    step_done page at before merged next later old here new done behind is deltas planned left stuck met
+step_by (Err fault) page at before merged next later old here new behind is deltas planned left stuck met = tt
 
 -- ---- the walk ends
 

@@ -24,6 +24,7 @@ use Rattle.ax_pairs.proofs.Sets.{changed_twice, same_set}
 use Rattle.ax_store.specs.Kept.{deltas_of}
 use Rattle.ax_index.specs.Carried.{HasLowPair, HasSome, IsSettled, bases_put, deltas_put}
 use Rattle.ax_index.specs.DeltaRuns.{AreFew, CarryChanges}
+use Rattle.ax_index.specs.Grammar.{IsInGrammar}
 use Rattle.ax_index.specs.Planning.{AreBefore, IsPartedAt, IsUpTo, IsPageDone, IsPagePlanned, IsFirstOf, IsPlannedTo}
 use Rattle.ax_index.specs.Plans.{IsPlan, most_merged}
 use Rattle.ax_index.specs.Rewriting.{Rewrites}
@@ -131,8 +132,8 @@ done_by_deltas page changes before now after parts belong there carry few = reco
   deltas = carry.deltas;
   bases = carry.no_bases (length before);
   elsewhere = λ n h apart. none_put n;
-  new_own = λ n from below. absurd (omega (arith, carry.lows.many));
-  none_past = λ n past. none_put n;
+  new_once = λ n from below. absurd (omega (arith, carry.lows.many));
+  none_beyond = λ n past. none_put n;
   put = (
     no_bases_put page (length before) parts there (carry.no_bases (length before)),
     record { are = carry.are; one = λ more. few (omega (arith, more, many_deltas page parts)) },
@@ -162,8 +163,8 @@ done_by_bases {honest = honest} page changes before now after parts earlier pair
   deltas = λ n apart. is.no_deltas n;
   bases = is.one_base (length before) there up.longer;
   elsewhere = is.elsewhere;
-  new_own = is.new_own;
-  none_past = is.none_past;
+  new_once = is.new_once;
+  none_beyond = is.none_beyond;
   put = (is.own, no_deltas_put page parts (is.no_deltas page));
   new_with = is.new_with;
   filled = λ merged told set index p of member.
@@ -219,10 +220,11 @@ planned_none changes before room old = record {
   each = λ apart number h. settled_none number before;
   longer = omega arith;
   new_without = λ number from. refl;
-  new_own = λ number from below. absurd (omega arith);
-  none_past = λ number past. refl;
+  new_once = λ number from below. absurd (omega arith);
+  none_beyond = λ number past. refl;
   new_with = λ number from below. absurd (omega arith);
   filled = λ told set index number h some p of member. absurd (omega (arith, some));
+  met = λ told number h some. absurd (omega (arith, some));
 }
 
 -- from the page behind one that is done on, pages are as they were
@@ -268,7 +270,7 @@ module _ {honest : Bool} (changes run behind : List Change) (before : List TermP
     (there : page < length before) (first_here : IsFirstOf (run ++ behind) page before) (some : 0 < length run)
     (belong : AllBelong (changed_pairs run) page before) (rise : Rise (changed_pairs run))
     (parted : IsPartedAt page run behind before) (planned : IsPagePlanned honest page run before is.now is_merged later more here new)
-    (never_less : (number : ℕ) → room number ≤ more number) where
+    (never_less : (number : ℕ) → room number ≤ more number) (met : is_merged ≡ true → IsTrue honest → IsInGrammar (term_page page before)) where
   -- the page of what is behind is behind
   past : (other : ℕ) → IsFirstOf behind other before → (after : ℕ) × IsNextPage page after before × NotAfter (low_pair after before) (low_pair other before)
   past other first = by_changes behind first parted
@@ -360,20 +362,40 @@ module _ {honest : Bool} (changes run behind : List Change) (before : List TermP
       (others_same before (with_changes is.done set) page run index.apart rise belong p number apart of ∙ twice)))
       (cases_eq number page)
 
+  met_now : IsTrue honest → (number : ℕ) → number < length before → 0 < length (bases_put number (is.parts ++ planned.parts))
+      → IsInGrammar (term_page number before)
+  met_now told number h based =
+      ⊎_elim
+      (λ (e : number ≡ page).
+      let bases : bases_put number (is.parts ++ planned.parts) ≡ bases_put page planned.parts =
+      ap (λ (n : ℕ). bases_put n (is.parts ++ planned.parts)) e ∙ later_bases page is.parts planned.parts (up.no_bases page there same_page)
+      in
+      subst (λ (n : ℕ). IsInGrammar (term_page n before)) (sym e)
+      (met
+      (was_merged is_merged run (bases_put page planned.parts) (deltas_put page planned.parts) planned.done.put
+      (omega (arith, based, ap (λ (ps : List (List ℕ)). length ps) bases)))
+      told))
+      (λ (apart : number ≡ page → ⊥).
+      let bases : bases_put number (is.parts ++ planned.parts) ≡ bases_put number is.parts =
+      same_bases number is.parts planned.parts (planned.done.elsewhere number (omega (arith, h, up.longer)) apart)
+      in
+      is.met told number h (omega (arith, based, ap (λ (ps : List (List ℕ)). length ps) bases)))
+      (cases_eq number page)
+
   not_page : (number : ℕ) → length before ≤ number → number ≢ page
   not_page number from e = omega (arith, e, from, there)
 
   -- a new page has one base: of the parts that were put before, or of these
-  new_own_now : (number : ℕ) → length before ≤ number → number < length planned.after → length (bases_put number (is.parts ++ planned.parts)) ≡ 1
-  new_own_now number from below =
+  new_once_now : (number : ℕ) → length before ≤ number → number < length planned.after → length (bases_put number (is.parts ++ planned.parts)) ≡ 1
+  new_once_now number from below =
       ⊎_elim
       (λ (l : number < length is.now).
       ap (λ (ps : List (List ℕ)). length ps)
       (same_bases number is.parts planned.parts (planned.done.elsewhere number l (not_page number from)))
-      ∙ is.new_own number from l)
+      ∙ is.new_once number from l)
       (λ (l : length is.now ≤ number).
-      ap (λ (ps : List (List ℕ)). length ps) (later_bases number is.parts planned.parts (is.none_past number l))
-      ∙ planned.done.new_own number l below)
+      ap (λ (ps : List (List ℕ)). length ps) (later_bases number is.parts planned.parts (is.none_beyond number l))
+      ∙ planned.done.new_once number l below)
       (cases_lt number (length is.now))
 
   pub planned_more : IsPlannedTo honest changes behind before (merged + as_number is_merged) later more old new
@@ -395,11 +417,12 @@ module _ {honest : Bool} (changes run behind : List Change) (before : List TermP
     passed = passed_behind;
     each = each_now;
     filled = filled_now;
+    met = met_now;
     longer = omega (arith, is.longer, planned.done.longer);
-    new_own = new_own_now;
-    none_past = λ number past.
-        later_bases number is.parts planned.parts (is.none_past number (omega (arith, past, planned.done.longer)))
-        ∙ planned.done.none_past number past;
+    new_once = new_once_now;
+    none_beyond = λ number past.
+        later_bases number is.parts planned.parts (is.none_beyond number (omega (arith, past, planned.done.longer)))
+        ∙ planned.done.none_beyond number past;
     new_without = λ number from.
         omega (arith, deltas_more number is.parts planned.parts, is.new_without number from, planned.done.deltas number (not_page number from));
     new_with = λ number from below.
@@ -424,9 +447,10 @@ planned_all changes before merged next room old new is few = record {
   each = λ apart number h.
       subst (λ (made : List Change). IsSettled number before made is.parts) (sym (is.whole ∙ append-nil is.done)) (is.each apart number h);
   new_without = λ number from. no_deltas_put number is.parts (is.new_without number from);
-  new_own = is.new_own;
-  none_past = is.none_past;
+  new_once = is.new_once;
+  none_beyond = is.none_beyond;
   new_with = is.new_with;
   filled = λ told set index number h some p of member.
       is.filled told set index number h some p of (subst (λ (made : List Change). with_changes made set p ≡ true) (is.whole ∙ append-nil is.done) member);
+  met = is.met;
 }

@@ -85,8 +85,8 @@ module _ (page : ℕ) (first rest : List Pair) (now : List TermPage) (payload : 
     one_base = λ count below within. ap (λ (b : Bool). cond b 1 0 + 0) (lt-ltb page count below);
     own = ap (λ (ps : List (List ℕ)). length ps) (one_base_put page payload);
     elsewhere = λ n h apart. no_base_of page n payload apart;
-    new_own = λ n from below. absurd (omega (arith, lows_first.many));
-    none_past = λ n past. no_base_of page n payload (λ e. omega (arith, e, past, lows_first.many, there));
+    new_once = λ n from below. absurd (omega (arith, lows_first.many));
+    none_beyond = λ n past. no_base_of page n payload (λ e. omega (arith, e, past, lows_first.many, there));
     new_with = λ n from below. absurd (omega (arith, lows_first.many));
     filled = λ h.
         subst HasSome
@@ -144,8 +144,8 @@ module _ (page : ℕ) (list : List Pair) (q : Pair) (piece rest : List Pair) (no
   least p h = first_least q p (piece ++ rest) rises_left h
 
   -- a pair of the page that is not left has none from the low pair on
-  none_past : (set with_it : PairSet) → Replaces page list now set with_it → (p : Pair) → IsPageOf p is.last old → NotAfter q p → without left with_it p ≡ false
-  none_past set with_it replaces p of not_after =
+  none_beyond : (set with_it : PairSet) → Replaces page list now set with_it → (p : Pair) → IsPageOf p is.last old → NotAfter q p → without left with_it p ≡ false
+  none_beyond set with_it replaces p of not_after =
       ⊎_elim
       (λ (in_left : has p left ≡ true). ap (λ (b : Bool). cond b false (with_it p)) in_left)
       (λ (not_in : has p left ≡ false).
@@ -211,20 +211,20 @@ module _ (page : ℕ) (list : List Pair) (q : Pair) (piece rest : List Pair) (no
         bases_put_more n parts (base_part (length old) payload ∷ [])
         ∙ ap (λ (ps : List (List ℕ)). bases_put n parts ++ ps) (no_base_of (length old) n payload (λ e. omega (arith, e, h, is.longer)))
         ∙ append-nil (bases_put n parts) ∙ is.elsewhere n h apart;
-    new_own = λ n from below.
+    new_once = λ n from below.
         ⊎_elim
         (λ (e : n ≡ length old).
         subst (λ (k : ℕ). length (bases_put k (parts ++ base_part (length old) payload ∷ [])) ≡ 1) (sym e)
         (ap (λ (ps : List (List ℕ)). length ps)
-        (later_bases (length old) parts (base_part (length old) payload ∷ []) (is.none_past (length old) (omega arith))
+        (later_bases (length old) parts (base_part (length old) payload ∷ []) (is.none_beyond (length old) (omega arith))
         ∙ one_base_put (length old) payload)))
         (λ (l : n < length old).
         ap (λ (ps : List (List ℕ)). length ps)
         (same_bases n parts (base_part (length old) payload ∷ []) (no_base_of (length old) n payload (λ e. omega (arith, e, l))))
-        ∙ is.new_own n from l)
+        ∙ is.new_once n from l)
         (last_or_before n below);
-    none_past = λ n past.
-        later_bases n parts (base_part (length old) payload ∷ []) (is.none_past n (omega (arith, past, one_more old new_page)))
+    none_beyond = λ n past.
+        later_bases n parts (base_part (length old) payload ∷ []) (is.none_beyond n (omega (arith, past, one_more old new_page)))
         ∙ no_base_of (length old) n payload (λ e. omega (arith, e, past, one_more old new_page));
     new_with = λ n from below.
         ⊎_elim
@@ -260,7 +260,7 @@ module _ (page : ℕ) (list : List Pair) (q : Pair) (piece rest : List Pair) (no
         (of_payload payload q (q ∷ piece) spelled)
         (λ p h. is.belong p (in_first p (q ∷ piece) rest h))
         (λ p h. subst (λ (l : Pair). NotAfter l p) (sym low_is) (least p (in_first p (q ∷ piece) rest h)))
-        (λ p of not_after. none_past set after replaces p of (subst (λ (l : Pair). NotAfter l p) low_is not_after)));
+        (λ p of not_after. none_beyond set after replaces p of (subst (λ (l : Pair). NotAfter l p) low_is not_after)));
   }
 
 -- ---- at the end

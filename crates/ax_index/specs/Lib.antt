@@ -3,6 +3,7 @@ pub mod Carried
 pub mod Damage
 pub mod DeltaRuns
 pub mod DeltaSizes
+pub mod Grammar
 pub mod Merging
 pub mod PageSizes
 pub mod Planning

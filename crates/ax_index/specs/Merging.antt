@@ -13,6 +13,7 @@ use Rattle.ax_pairs.specs.PairSets.{PairSet}
 use Rattle.ax_pairs.specs.TermParts.{LeadTo}
 use Rattle.ax_store.specs.Kept.{deltas_of}
 use Rattle.ax_index.specs.Bare.{has_deltas, with_deltas}
+use Rattle.ax_index.specs.Grammar.{IsInGrammar}
 use Rattle.ax_index.specs.Carried.{HasLowPair, HasSome, bases_put}
 use Rattle.ax_index.specs.PageSizes.{NeedsTooMany}
 use Rattle.ax_index.specs.Planning.{IsUpTo}
@@ -31,7 +32,7 @@ bases_due had has = if had && not has then 1 else 0
 -- Behind the parts that a batch had, parts were put that change no pair. So many pages fewer have deltas: as
 -- many as were asked for, or else no page has deltas but those that are stuck. Each page that had deltas and has
 -- none then got one base, each other page that was there got none, and a new page has one base and a pair; of a page
--- that there is not then there is no part. One that is merged is left without pairs only where it has none.
+-- that there is not then there is no part. One that is merged is left without pairs only where it has none, and each of its parts was in its grammar.
 pub record IsMergePlan (honest : Bool) (asked merged : ℕ) (old new : List PartValue) (before : List TermPage) : Type 0 where
   pub parts : List PartValue
   pub added : new ≡ old ++ parts
@@ -44,11 +45,12 @@ pub record IsMergePlan (honest : Bool) (asked merged : ℕ) (old new : List Part
   pub finished : merged < asked → (number : ℕ) → number < length before → IsStuck honest number before after
   pub each : (number : ℕ) → number < length before
       → length (bases_put number parts) ≡ bases_due (has_deltas (term_page number before)) (has_deltas (term_page number after))
-  pub new_own : (number : ℕ) → length before ≤ number → number < length after → length (bases_put number parts) ≡ 1
-  pub none_past : (number : ℕ) → length after ≤ number → bases_put number parts ≡ []
+  pub new_once : (number : ℕ) → length before ≤ number → number < length after → length (bases_put number parts) ≡ 1
+  pub none_beyond : (number : ℕ) → length after ≤ number → bases_put number parts ≡ []
   pub new_with : (number : ℕ) → length before ≤ number → number < length after → HasLowPair (term_page number after)
   pub filled : IsTrue honest → (set : PairSet) → IsIndex before set → (number : ℕ) → number < length before
       → 0 < length (bases_put number parts) → (p : Pair) → IsPageOf p number before → set p ≡ true → HasSome (term_page number after)
+  pub met : IsTrue honest → (number : ℕ) → number < length before → 0 < length (bases_put number parts) → IsInGrammar (term_page number before)
 
 -- the page comes before the one that is next, in the order of low pairs
 abbrev pub IsPassed : Option ℕ → ℕ → List TermPage → Type 0
@@ -78,10 +80,11 @@ pub record IsMergedTo (honest : Bool) (at : Option ℕ) (before : List TermPage)
   pub next_is : next ≡ length now
   pub each : (number : ℕ) → number < length before
       → length (bases_put number parts) ≡ bases_due (has_deltas (term_page number before)) (has_deltas (term_page number now))
-  pub new_own : (number : ℕ) → length before ≤ number → number < length now → length (bases_put number parts) ≡ 1
-  pub none_past : (number : ℕ) → length now ≤ number → bases_put number parts ≡ []
+  pub new_once : (number : ℕ) → length before ≤ number → number < length now → length (bases_put number parts) ≡ 1
+  pub none_beyond : (number : ℕ) → length now ≤ number → bases_put number parts ≡ []
   pub new_with : (number : ℕ) → length before ≤ number → number < length now → HasLowPair (term_page number now)
   pub filled : IsTrue honest → (set : PairSet) → IsIndex before set → (number : ℕ) → number < length before
       → 0 < length (bases_put number parts) → (p : Pair) → IsPageOf p number before → set p ≡ true → HasSome (term_page number now)
+  pub met : IsTrue honest → (number : ℕ) → number < length before → 0 < length (bases_put number parts) → IsInGrammar (term_page number before)
   pub ready : IsReady at before now parts
   pub stuck : (number : ℕ) → number < length before → IsPassed at number before → IsStuck honest number before now

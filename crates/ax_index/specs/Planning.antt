@@ -15,6 +15,7 @@ use Rattle.ax_pairs.specs.PairSets.{PairSet, with_changes}
 use Rattle.ax_pairs.specs.TermParts.{LeadTo, bases_below}
 use Rattle.ax_store.specs.Kept.{deltas_of}
 use Rattle.ax_index.specs.Bare.{has_deltas}
+use Rattle.ax_index.specs.Grammar.{IsInGrammar}
 use Rattle.ax_index.specs.Carried.{AreCarriedBy, HasLowPair, HasSome, IsSettled, bases_put, deltas_put}
 
 -- each pair is before the bound
@@ -64,8 +65,8 @@ pub record IsPageDone (honest : Bool) (page : ℕ) (changes : List Change) (befo
   pub deltas : (n : ℕ) → n ≢ page → deltas_of n parts ≡ 0
   pub bases : bases_below (length before) parts ≡ (if merged then 1 else 0)
   pub elsewhere : (n : ℕ) → n < length now → n ≢ page → bases_put n parts ≡ []
-  pub new_own : (n : ℕ) → length now ≤ n → n < length after → length (bases_put n parts) ≡ 1
-  pub none_past : (n : ℕ) → length after ≤ n → bases_put n parts ≡ []
+  pub new_once : (n : ℕ) → length now ≤ n → n < length after → length (bases_put n parts) ≡ 1
+  pub none_beyond : (n : ℕ) → length after ≤ n → bases_put n parts ≡ []
   pub put : IsPutBy merged changes (bases_put page parts) (deltas_put page parts)
   pub new_with : (n : ℕ) → length now ≤ n → n < length after → HasLowPair (term_page n after)
   pub filled : merged ≡ true → IsTrue honest → (set : PairSet) → IsIndex now set → (p : Pair) → IsPageOf p page now
@@ -107,9 +108,10 @@ pub record IsPlannedTo (honest : Bool) (changes rest : List Change) (before : Li
   pub each : AreApart before → (number : ℕ) → number < length before → IsSettled number before done parts
   pub longer : length before ≤ length now
   pub new_without : (number : ℕ) → length before ≤ number → deltas_of number parts ≡ 0
-  pub new_own : (number : ℕ) → length before ≤ number → number < length now → length (bases_put number parts) ≡ 1
-  pub none_past : (number : ℕ) → length now ≤ number → bases_put number parts ≡ []
+  pub new_once : (number : ℕ) → length before ≤ number → number < length now → length (bases_put number parts) ≡ 1
+  pub none_beyond : (number : ℕ) → length now ≤ number → bases_put number parts ≡ []
   pub new_with : (number : ℕ) → length before ≤ number → number < length now → HasLowPair (term_page number now)
   pub filled : IsTrue honest → (set : PairSet) → IsIndex before set → (number : ℕ) → number < length before
       → 0 < length (bases_put number parts) → (p : Pair) → IsPageOf p number before → with_changes done set p ≡ true
       → HasSome (term_page number now)
+  pub met : IsTrue honest → (number : ℕ) → number < length before → 0 < length (bases_put number parts) → IsInGrammar (term_page number before)

@@ -46,8 +46,8 @@ pub record Rewrites (page : ℕ) (list rest : List Pair) (now : List TermPage) (
   pub one_base : (count : ℕ) → page < count → count ≤ length now → bases_below count parts ≡ 1
   pub own : length (bases_put page parts) ≡ 1
   pub elsewhere : (n : ℕ) → n < length now → n ≢ page → bases_put n parts ≡ []
-  pub new_own : (n : ℕ) → length now ≤ n → n < length after → length (bases_put n parts) ≡ 1
-  pub none_past : (n : ℕ) → length after ≤ n → bases_put n parts ≡ []
+  pub new_once : (n : ℕ) → length now ≤ n → n < length after → length (bases_put n parts) ≡ 1
+  pub none_beyond : (n : ℕ) → length after ≤ n → bases_put n parts ≡ []
   pub new_with : (n : ℕ) → length now ≤ n → n < length after → HasLowPair (term_page n after)
   pub filled : 0 < length list → HasSome (term_page page after)
   pub fresh : (n : ℕ) → length now ≤ n → n < length after → has (low_pair n after) list ≡ true

@@ -36,6 +36,7 @@ pub(crate) fn gather_base<D: Disk, C: PageCache>(
         (D.history disk.old (D.attached disk.old)) }
     ensures numbers { IsTrue (D.is_honest disk.old) → (base : List Pair) → AreOfBase (term_page page (store_contents store.old).terms).base base
         → OnOk result (numbers.new.items ≡ numbers.old.items ++ numbers_of ranges.now base) }
+    ensures met { IsTrue (D.is_honest disk.old) → OnOk result ((base : List Pair) × AreOfBase (term_page page (store_contents store.old).terms).base base) }
     ensures told { IsTrue (D.is_honest disk.old) → IfErr result (TellsPart store.old) }
     ensures slot { slot.new ≡ slot.old }
     ensures others { AreOthersSame slot.old.number (store_slots store.old) (store_slots store.new) }
@@ -72,6 +73,7 @@ fn put_leaf_numbers(
     ensures has { (base : List Pair) → IsBase payload.now base
         → IfOk result (λ is_base. (is_base ≡ true) × (numbers.new.items ≡ numbers.old.items ++ numbers_of ranges.now base)) }
     ensures none { IfOk result (λ is_base. is_base ≡ false → (base : List Pair) × IsBase payload.now base → ⊥) }
+    ensures met { IfOk result (λ is_base. is_base ≡ true → (base : List Pair) × IsBase payload.now base) }
 {
     let Some(leaf) = ax_leaf::check(payload) else {
         return Ok(false);

@@ -1,6 +1,6 @@
 //! The pairs of a term page: those of its base, merged with its deltas, the oldest first.
 
-ghost use Rattle.std.specs.Prelude.{◌≡◌, ◌<◌, List, [], ◌∷◌, ◌++◌, IsTrue, IfOk, IfErr, OnOk, MatchOption, false, length};
+ghost use Rattle.std.specs.Prelude.{◌≡◌, ◌<◌, List, [], ◌∷◌, ◌++◌, IsTrue, IfOk, IfErr, IfSome, OnOk, MatchOption, false, length};
 ghost use Rattle.ax_pair.specs.declared.pair.Pair.{Pair};
 ghost use Rattle.ax_pair.specs.Order.{Rise};
 ghost use Rattle.ax_delta.specs.Changes.{TermChange};
@@ -13,6 +13,7 @@ ghost use Rattle.ax_store.specs.Slots.{AreOthersSame, IsSlotOf, part_at};
 ghost use Rattle.ax_store.specs.Store.{AgreesUnlessFailed, store_contents, store_failed, store_slots};
 ghost use Rattle.ax_index.specs.Reads.{Reads};
 ghost use Rattle.ax_index.specs.Damage.{FailsBy, TellsPart, is_base_at};
+ghost use Rattle.ax_index.specs.Grammar.{IsInGrammar};
 ghost use Rattle.ax_index.specs.Reading.{wanted_of};
 ghost use Rattle.ax_index.specs.Wanted.{HaveWanted};
 
@@ -44,6 +45,7 @@ pub(crate) fn folded<D: Disk, C: PageCache>(
     ensures rise { IfOk result (λ kept. Rise kept.items) }
     ensures has { IsTrue (D.is_honest disk.old) → (pairs : List Pair) → HasPairs (term_page page (store_contents store.old).terms) pairs
         → IfOk result (λ kept. HaveWanted wanted.now pairs kept.items) }
+    ensures met { IsTrue (D.is_honest disk.old) → OnOk result (IsInGrammar (term_page page (store_contents store.old).terms)) }
     ensures told { IsTrue (D.is_honest disk.old) → IfErr result (TellsPart store.old) }
     ensures reads { Reads C.pages (D.is_honest disk.old) store.old store.new
         (D.history disk.old (D.attached disk.old)) (D.history disk.new (D.attached disk.new))
@@ -85,6 +87,7 @@ fn base_pairs<D: Disk, C: PageCache>(
     ensures rise { IfOk result (λ kept. Rise kept.items) }
     ensures has { IsTrue (D.is_honest disk.old) → (base : List Pair) → AreOfBase (term_page page (store_contents store.old).terms).base base
         → IfOk result (λ kept. kept.items ≡ wanted_of wanted.now base) }
+    ensures met { IsTrue (D.is_honest disk.old) → OnOk result ((base : List Pair) × AreOfBase (term_page page (store_contents store.old).terms).base base) }
     ensures told { IsTrue (D.is_honest disk.old) → IfErr result (TellsPart store.old) }
     ensures reads { Reads C.pages (D.is_honest disk.old) store.old store.new
         (D.history disk.old (D.attached disk.old)) (D.history disk.new (D.attached disk.new))
@@ -119,6 +122,7 @@ fn leaf_pairs(
 ) -> Result<Option<Vec<Pair>>, Memory>
     ensures has { (base : List Pair) → IsBase payload.now base
         → IfOk result (λ found. MatchOption found ⊥ (λ kept. kept.items ≡ wanted_of wanted.now base)) }
+    ensures met { IfOk result (λ found. IfSome found (λ kept. (base : List Pair) × IsBase payload.now base)) }
     ensures rise { IfOk result (λ found. MatchOption found
         ((base : List Pair) × IsBase payload.now base → ⊥)
         (λ kept. Rise kept.items)) }
@@ -178,6 +182,7 @@ fn merge_at<D: Disk, C: PageCache>(
     ensures rise { IfOk result (λ after. Rise after.items) }
     ensures merged { IsTrue (D.is_honest disk.old) → (changes : List TermChange) → IsDelta (part_at (Page.Term page) i (store_contents store.old)) changes
         → IfOk result (λ after. IsMerge pairs.items changes after.items) }
+    ensures met { IsTrue (D.is_honest disk.old) → OnOk result ((changes : List TermChange) × IsDelta (part_at (Page.Term page) i (store_contents store.old)) changes) }
     ensures told { IsTrue (D.is_honest disk.old) → IfErr result (TellsPart store.old) }
     ensures reads { Reads C.pages (D.is_honest disk.old) store.old store.new
         (D.history disk.old (D.attached disk.old)) (D.history disk.new (D.attached disk.new))
@@ -210,6 +215,7 @@ fn merge_payload(
     requires { Rise pairs.items }
     ensures merged { (changes : List TermChange) → IsDelta payload.now changes
         → IfOk result (λ found. MatchOption found ⊥ (λ after. IsMerge pairs.items changes after.items)) }
+    ensures met { IfOk result (λ found. IfSome found (λ after. (changes : List TermChange) × IsDelta payload.now changes)) }
     ensures rise { IfOk result (λ found. MatchOption found
         ((changes : List TermChange) × IsDelta payload.now changes → ⊥)
         (λ after. Rise after.items)) }

@@ -1,11 +1,12 @@
 //! Whether a pair is in the set: the newest part of its page that says something of it tells.
 
-ghost use Rattle.std.specs.Prelude.{◌≡◌, ◌<◌, ◌≤◌, List, IsTrue, IfOk, IfErr, IfNone, Some, Err, false, length};
+ghost use Rattle.std.specs.Prelude.{◌≡◌, ◌<◌, ◌≤◌, ℕ, List, IsTrue, IfOk, IfErr, IfNone, IfSome, OnOk, Some, Err, false, length};
 ghost use Rattle.ax_pair.specs.declared.pair.Pair.{Pair};
 ghost use Rattle.ax_delta.specs.Changes.{TermChange};
 ghost use Rattle.ax_delta.specs.Payload.{IsDelta};
 ghost use Rattle.ax_delta.specs.Said.{has as has_pair, last_said, said_of};
 ghost use Rattle.ax_pages.specs.Contents.{parts_of, term_page};
+ghost use Rattle.ax_pages.specs.TermPages.{IsPageOf};
 ghost use Rattle.ax_pairs.specs.Index.{IsIndex};
 ghost use Rattle.ax_pairs.specs.PagePairs.{AreDeltas, AreOfBase, IsBase};
 ghost use Rattle.ax_pairs.specs.PairSets.{PairSet};
@@ -14,6 +15,7 @@ ghost use Rattle.ax_store.specs.Faults.{HasDiskCause};
 ghost use Rattle.ax_store.specs.Slots.{AreOthersSame, IsSlotOf, part_at};
 ghost use Rattle.ax_store.specs.Store.{AgreesUnlessFailed, store_contents, store_slots, store_failed};
 ghost use Rattle.ax_index.specs.Damage.{TellsPart, FailsBy, is_base_at};
+ghost use Rattle.ax_index.specs.Grammar.{IsLookedAt, IsLookedBack};
 ghost use Rattle.ax_index.specs.Reading.{first_delta};
 ghost use Rattle.ax_index.specs.Reads.{KeepsTaken, Reads};
 
@@ -28,7 +30,8 @@ use ax_pair::Pair;
 use ax_store::{Store, StoreFault, StoreSlot};
 
 /// Whether a pair is in the set that the term pages hold. It takes no memory, and reads the parts of
-/// the one page to which the pair belongs, from the newest to the first that says something of it.
+/// the one page to which the pair belongs, from the newest to the first that says something of it. Over an
+/// honest disk an answer tells that each part that was read is in its grammar, and is what these parts say.
 ///
 /// `Disk` where a read failed, and the disk's count of faults rose, or where the store had failed
 /// before; `Damaged` where the payload of a part that was read is outside its grammar, with its place.
@@ -41,6 +44,8 @@ pub fn has<D: Disk, C: PageCache>(
     requires agrees { AgreesUnlessFailed C.pages (D.is_honest disk.old) store.old
         (D.history disk.old (D.attached disk.old)) }
     ensures has { IsTrue (D.is_honest disk.old) → (set : PairSet) → IsIndex (store_contents store.old).terms set → IfOk result (λ found. found ≡ set pair.now) }
+    ensures met { IsTrue (D.is_honest disk.old) → IfOk result (λ found. (page : ℕ) × IsPageOf pair.now page (store_contents store.old).terms
+        × IsLookedAt pair.now found (term_page page (store_contents store.old).terms)) }
     ensures told { IsTrue (D.is_honest disk.old) → IfErr result (TellsPart store.old) }
     ensures no_memory { result ≡ Err StoreFault.Memory → ⊥ }
     ensures reads { Reads C.pages (D.is_honest disk.old) store.old store.new
@@ -71,6 +76,8 @@ fn has_by<D: Disk, C: PageCache>(
     requires agrees { AgreesUnlessFailed C.pages (D.is_honest disk.old) store.old
         (D.history disk.old (D.attached disk.old)) }
     ensures has { IsTrue (D.is_honest disk.old) → (set : PairSet) → IsIndex (store_contents store.old).terms set → IfOk result (λ found. found ≡ set pair.now) }
+    ensures met { IsTrue (D.is_honest disk.old) → IfOk result (λ found. (page : ℕ) × IsPageOf pair.now page (store_contents store.old).terms
+        × IsLookedAt pair.now found (term_page page (store_contents store.old).terms)) }
     ensures told { IsTrue (D.is_honest disk.old) → IfErr result (TellsPart store.old) }
     ensures no_memory { result ≡ Err StoreFault.Memory → ⊥ }
     ensures slot { slot.new ≡ slot.old }
@@ -107,6 +114,7 @@ fn look_back<D: Disk, C: PageCache>(
         (D.history disk.old (D.attached disk.old)) }
     ensures said { IsTrue (D.is_honest disk.old) → (deltas : List (List TermChange)) → AreDeltas (term_page page (store_contents store.old).terms).deltas deltas
         → IfOk result (λ said. said ≡ last_said pair.now deltas) }
+    ensures met { IsTrue (D.is_honest disk.old) → IfOk result (λ said. IsLookedBack pair.now said (term_page page (store_contents store.old).terms)) }
     ensures told { IsTrue (D.is_honest disk.old) → IfErr result (TellsPart store.old) }
     ensures no_memory { result ≡ Err StoreFault.Memory → ⊥ }
     ensures reads { Reads C.pages (D.is_honest disk.old) store.old store.new
@@ -157,6 +165,7 @@ fn look_at<D: Disk, C: PageCache>(
         (D.history disk.old (D.attached disk.old)) }
     ensures said { IsTrue (D.is_honest disk.old) → (changes : List TermChange) → IsDelta (part_at (Page.Term page) i (store_contents store.old)) changes
         → IfOk result (λ said. said ≡ said_of pair.now changes) }
+    ensures met { IsTrue (D.is_honest disk.old) → OnOk result ((changes : List TermChange) × IsDelta (part_at (Page.Term page) i (store_contents store.old)) changes) }
     ensures told { IsTrue (D.is_honest disk.old) → IfErr result (TellsPart store.old) }
     ensures no_memory { result ≡ Err StoreFault.Memory → ⊥ }
     ensures reads { Reads C.pages (D.is_honest disk.old) store.old store.new
@@ -183,6 +192,7 @@ fn look_at<D: Disk, C: PageCache>(
 fn delta_says(payload: &[u8], pair: &Pair) -> Option<Option<bool>>
     ensures said { (changes : List TermChange) → IsDelta payload.now changes → result ≡ Some (said_of pair.now changes) }
     ensures none { IfNone result ((changes : List TermChange) × IsDelta payload.now changes → ⊥) }
+    ensures met { IfSome result (λ said. (changes : List TermChange) × IsDelta payload.now changes) }
 {
     let delta = ax_delta::check(payload)?;
     Some(delta.look(pair))
@@ -201,6 +211,7 @@ fn base_has<D: Disk, C: PageCache>(
         (D.history disk.old (D.attached disk.old)) }
     ensures has { IsTrue (D.is_honest disk.old) → (base : List Pair) → AreOfBase (term_page page (store_contents store.old).terms).base base
         → IfOk result (λ found. found ≡ has_pair pair.now base) }
+    ensures met { IsTrue (D.is_honest disk.old) → OnOk result ((base : List Pair) × AreOfBase (term_page page (store_contents store.old).terms).base base) }
     ensures told { IsTrue (D.is_honest disk.old) → IfErr result (TellsPart store.old) }
     ensures no_memory { result ≡ Err StoreFault.Memory → ⊥ }
     ensures slot { slot.new ≡ slot.old }
@@ -231,6 +242,7 @@ fn base_has<D: Disk, C: PageCache>(
 fn leaf_has(payload: &[u8], pair: &Pair) -> Option<bool>
     ensures found { (pairs : List Pair) → IsBase payload.now pairs → result ≡ Some (has_pair pair.now pairs) }
     ensures none { IfNone result ((pairs : List Pair) × IsBase payload.now pairs → ⊥) }
+    ensures met { IfSome result (λ found. (pairs : List Pair) × IsBase payload.now pairs) }
 {
     let leaf = ax_leaf::check(payload)?;
     match leaf.find(pair.term.as_slice()) {

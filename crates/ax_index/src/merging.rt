@@ -15,6 +15,7 @@ ghost use Rattle.ax_store.specs.Slots.{AreOthersSame, IsSlotOf};
 ghost use Rattle.ax_store.specs.Store.{AgreesUnlessFailed, store_contents, store_failed, store_slots, store_spare};
 ghost use Rattle.ax_index.specs.Bare.{has_deltas as does_have_deltas};
 ghost use Rattle.ax_index.specs.Damage.{FailsBy, TellsPart};
+ghost use Rattle.ax_index.specs.Grammar.{IsInGrammar};
 ghost use Rattle.ax_index.specs.Merging.{IsBehind, IsMergePlan, IsMergedTo};
 ghost use Rattle.ax_index.specs.PageSizes.{NeedsTooMany};
 ghost use Rattle.ax_index.specs.Planning.{IsUpTo, IsPagePlanned};
@@ -35,8 +36,8 @@ use std::alloc::Global;
 /// Puts parts behind those of a batch that merge `n` term pages with deltas, from the least low pair on, and
 /// answers how many they are: fewer only where no page is left that has deltas, but for those whose fold
 /// needs so many new pages that the last would have a number from 2^31 on. No pair is changed, and no page
-/// is made without one. It makes the room that a commit of
-/// the batch needs.
+/// is made without one. Over an honest disk a page is merged only where each of its parts is in its grammar.
+/// It makes the room that a commit of the batch needs.
 ///
 /// `Disk`, `Damaged`: as `has`. `Memory` where there is no room; the store is then as before but for room,
 /// and the batch may hold further parts.
@@ -217,6 +218,7 @@ fn merge_whole<D: Disk, C: PageCache>(
     ensures stuck { IsTrue (D.is_honest disk.old) → (set : PairSet) → IsIndex (store_contents store.old).terms set
         → IfOk result (λ done. done ≡ false → (pairs : List Pair) → HasPairs (term_page page (store_contents store.old).terms) pairs
         → NeedsTooMany next.old pairs) }
+    ensures met { IsTrue (D.is_honest disk.old) → OnOk result (IsInGrammar (term_page page (store_contents store.old).terms)) }
     ensures told { IsTrue (D.is_honest disk.old) → IfErr result (TellsPart store.old) }
     ensures slot { slot.new ≡ slot.old }
     ensures others { AreOthersSame slot.old.number (store_slots store.old) (store_slots store.new) }

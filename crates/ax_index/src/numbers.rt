@@ -1,6 +1,6 @@
 //! The numbers with a term in a range, or in one of several.
 
-ghost use Rattle.std.specs.Prelude.{◌≡◌, ◌↔◌, ◌<◌, ◌≤◌, ℕ, List, ◌++◌, IsTrue, IfOk, IfErr, IfSome, OnOk, true, false, length};
+ghost use Rattle.std.specs.Prelude.{◌≡◌, ◌↔◌, ◌<◌, ◌≤◌, ℕ, List, [], ◌∷◌, ◌++◌, IsTrue, IfOk, IfErr, IfSome, OnOk, true, false, length};
 ghost use Rattle.std.specs.Option.{option_copied};
 ghost use Rattle.std.specs.declared.cmp.Ordering.TheVariants.{Less, Greater};
 ghost use Rattle.ax_gap.specs.Gaps.{IsRisingList};
@@ -17,6 +17,7 @@ ghost use Rattle.ax_store.specs.Faults.{HasDiskCause};
 ghost use Rattle.ax_store.specs.Slots.{AreOthersSame, IsSlotOf};
 ghost use Rattle.ax_store.specs.Store.{AgreesUnlessFailed, store_contents, store_slots, store_failed};
 ghost use Rattle.ax_index.specs.Damage.{FailsBy, TellsPart};
+ghost use Rattle.ax_index.specs.Grammar.{AreInGrammar, IsInGrammar};
 ghost use Rattle.ax_index.specs.Reading.{Gathers, HasWithin, IsAhead, IsTermUpTo, StartsUpTo, numbers_of, pages_after};
 ghost use Rattle.ax_index.specs.Reads.{KeepsTaken, Reads};
 ghost use Rattle.ax_index.specs.Wanted.{AreNumbersIn, AreNumbersInSome, is_in_some};
@@ -36,7 +37,8 @@ use std::slice;
 
 /// The rising numbers with a term in the range, of the set that the term pages hold. It reads the pages
 /// that may have a term of the range, each with its parts. The numbers rise whatever the pages hold and
-/// whatever the disk gives: it is `pairs_in_some` of the one range.
+/// whatever the disk gives: it is `pairs_in_some` of the one range. Over an honest disk numbers are answered only
+/// where each part of these pages is in its grammar.
 ///
 /// `Disk`, `Damaged`: as `has`. `Memory` where there is no room for the pairs of a page or for the numbers.
 pub fn pairs_in<D: Disk, C: PageCache>(
@@ -51,6 +53,7 @@ pub fn pairs_in<D: Disk, C: PageCache>(
     ensures numbers { IsTrue (D.is_honest disk.old) → (set : PairSet) → IsIndex (store_contents store.old).terms set
         → IfOk result (λ numbers. AreNumbersIn range.now set numbers.items) }
     ensures rising { IfOk result (λ numbers. IsRisingList numbers.items) }
+    ensures met { IsTrue (D.is_honest disk.old) → OnOk result (AreInGrammar (range.now ∷ []) (store_contents store.old).terms) }
     ensures told { IsTrue (D.is_honest disk.old) → IfErr result (TellsPart store.old) }
     ensures reads { Reads C.pages (D.is_honest disk.old) store.old store.new
         (D.history disk.old (D.attached disk.old)) (D.history disk.new (D.attached disk.new))
@@ -67,7 +70,8 @@ pub fn pairs_in<D: Disk, C: PageCache>(
 /// The rising numbers with a term in one of the ranges, of the set that the term pages hold. It reads each page
 /// that may have a term of one of them once, however many reach it, and no other. The ranges may stand in any
 /// order and have terms in common; of none there are no numbers. The numbers rise whatever the pages hold and
-/// whatever the disk gives.
+/// whatever the disk gives. Over an honest disk they are answered only where each part of these pages is in its
+/// grammar.
 ///
 /// `Disk`, `Damaged`: as `has`. `Memory` where there is no room for the pairs of a page or for the numbers.
 pub fn pairs_in_some<D: Disk, C: PageCache>(
@@ -82,6 +86,7 @@ pub fn pairs_in_some<D: Disk, C: PageCache>(
     ensures numbers { IsTrue (D.is_honest disk.old) → (set : PairSet) → IsIndex (store_contents store.old).terms set
         → IfOk result (λ numbers. AreNumbersInSome ranges.now set numbers.items) }
     ensures rising { IfOk result (λ numbers. IsRisingList numbers.items) }
+    ensures met { IsTrue (D.is_honest disk.old) → OnOk result (AreInGrammar ranges.now (store_contents store.old).terms) }
     ensures told { IsTrue (D.is_honest disk.old) → IfErr result (TellsPart store.old) }
     ensures reads { Reads C.pages (D.is_honest disk.old) store.old store.new
         (D.history disk.old (D.attached disk.old)) (D.history disk.new (D.attached disk.new))
@@ -114,6 +119,7 @@ fn numbers_by<D: Disk, C: PageCache>(
     ensures numbers { IsTrue (D.is_honest disk.old) → (set : PairSet) → IsIndex (store_contents store.old).terms set
         → IfOk result (λ numbers. AreNumbersInSome ranges.now set numbers.items) }
     ensures rising { IfOk result (λ numbers. IsRisingList numbers.items) }
+    ensures met { IsTrue (D.is_honest disk.old) → OnOk result (AreInGrammar ranges.now (store_contents store.old).terms) }
     ensures told { IsTrue (D.is_honest disk.old) → IfErr result (TellsPart store.old) }
     ensures slot { slot.new ≡ slot.old }
     ensures others { AreOthersSame slot.old.number (store_slots store.old) (store_slots store.new) }
@@ -155,6 +161,7 @@ fn gathered<D: Disk, C: PageCache>(
         (D.history disk.old (D.attached disk.old)) }
     ensures numbers { IsTrue (D.is_honest disk.old) → (set : PairSet) → IsIndex (store_contents store.old).terms set
         → IfOk result (λ numbers. (number : ℕ) → (has_number number numbers.items ≡ true) ↔ HasWithin ranges.now set number) }
+    ensures met { IsTrue (D.is_honest disk.old) → OnOk result (AreInGrammar ranges.now (store_contents store.old).terms) }
     ensures told { IsTrue (D.is_honest disk.old) → IfErr result (TellsPart store.old) }
     ensures slot { slot.new ≡ slot.old }
     ensures others { AreOthersSame slot.old.number (store_slots store.old) (store_slots store.new) }
@@ -237,6 +244,7 @@ fn gather<D: Disk, C: PageCache>(
         (D.history disk.old (D.attached disk.old)) }
     ensures numbers { IsTrue (D.is_honest disk.old) → (pairs : List Pair) → HasPairs (term_page page (store_contents store.old).terms) pairs
         → OnOk result (Gathers ranges.now pairs numbers.old.items numbers.new.items) }
+    ensures met { IsTrue (D.is_honest disk.old) → OnOk result (IsInGrammar (term_page page (store_contents store.old).terms)) }
     ensures told { IsTrue (D.is_honest disk.old) → IfErr result (TellsPart store.old) }
     ensures slot { slot.new ≡ slot.old }
     ensures others { AreOthersSame slot.old.number (store_slots store.old) (store_slots store.new) }

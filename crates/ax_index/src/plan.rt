@@ -21,6 +21,7 @@ ghost use Rattle.ax_store.specs.Store.{AgreesUnlessFailed, SameButRoom, store_co
 ghost use Rattle.ax_index.specs.Damage.{FailsBy, TellsPart};
 ghost use Rattle.ax_index.specs.DeltaRuns.{AreCarried};
 ghost use Rattle.ax_index.specs.DeltaSizes.{HaveShortTerms};
+ghost use Rattle.ax_index.specs.Grammar.{IsInGrammar};
 ghost use Rattle.ax_index.specs.Planning.{IsUpTo, IsPagePlanned, IsPlannedTo};
 ghost use Rattle.ax_index.specs.Plans.{HasNoDeltas, IsPlan};
 ghost use Rattle.ax_index.specs.Reads.{KeepsTaken, Reads, Reserves};
@@ -47,8 +48,8 @@ use std::alloc::Global;
 ///
 /// It answers how many term pages it merges, at most 16, and reads the parts of no other. Each other page
 /// gets just the changes of its pairs: one delta, but where it would be longer than a part may be, and none
-/// where nothing of it is changed. New pages have no deltas, and none is empty. It makes the room that a
-/// commit of the batch needs.
+/// where nothing of it is changed. New pages have no deltas, and none is empty. Over an honest disk a page is
+/// merged only where each of its parts is in its grammar. It makes the room that a commit of the batch needs.
 ///
 /// `Disk`, `Damaged`: as `has`. `Memory` where there is no room; the store is then as before but for room,
 /// and the batch may hold further parts.
@@ -245,6 +246,7 @@ fn plan_page<D: Disk, C: PageCache>(
         → IfOk result (λ merged. IsPagePlanned (D.is_honest disk.old) page changes.now (store_contents store.old).terms now merged next.new (λ number. store_room number store.new) (batch_parts batch.old) (batch_parts batch.new)) }
     ensures asked { IfOk result (λ merged. merged ≡ true → merge ≡ true) }
     ensures never_less { (number : ℕ) → store_room number store.old ≤ store_room number store.new }
+    ensures met { IsTrue (D.is_honest disk.old) → IfOk result (λ merged. merged ≡ true → IsInGrammar (term_page page (store_contents store.old).terms)) }
     ensures told { IsTrue (D.is_honest disk.old) → IfErr result (TellsPart store.old) }
     ensures slot { slot.new ≡ slot.old }
     ensures others { AreOthersSame slot.old.number (store_slots store.old) (store_slots store.new) }
@@ -335,6 +337,7 @@ pub(crate) fn merge_page<D: Disk, C: PageCache>(
         → AllBelong (changed_pairs changes.now) page (store_contents store.old).terms
         → IfOk result (λ merged. merged ≡ true → IsPagePlanned (D.is_honest disk.old) page changes.now (store_contents store.old).terms now true next.new (λ number. 0) (batch_parts batch.old) (batch_parts batch.new)) }
     ensures left { IfOk result (λ merged. merged ≡ false → (batch_parts batch.new ≡ batch_parts batch.old) × (next.new ≡ next.old)) }
+    ensures met { IsTrue (D.is_honest disk.old) → OnOk result (IsInGrammar (term_page page (store_contents store.old).terms)) }
     ensures told { IsTrue (D.is_honest disk.old) → IfErr result (TellsPart store.old) }
     ensures slot { slot.new ≡ slot.old }
     ensures others { AreOthersSame slot.old.number (store_slots store.old) (store_slots store.new) }

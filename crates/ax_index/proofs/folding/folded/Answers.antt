@@ -4,6 +4,7 @@ use Rattle.ax_pages.specs.Contents.{term_page, term_parts}
 use Rattle.ax_store.specs.Store.{store_contents}
 use Rattle.ax_index.proofs.DeltaParts.{count_parts, delta_there}
 use Rattle.ax_index.proofs.FoldedPairs.{folded_end, folded_start, folded_step}
+use Rattle.ax_index.proofs.GrammarLemmas.{in_grammar, up_to_start, up_to_step}
 use Rattle.ax_index.proofs.Unmoved.{same_contents}
 use Rattle.ax_index.proofs.ReadsLaws.{of_honest, others_then, read_then}
 use Rattle.ax_faults.specs.FaultLaws.{rose_since}
@@ -19,6 +20,8 @@ loop-i-init g c =
     record {
       folded = λ honest. folded_start c.args.wanted.now page c.oldest_delta-first.result c.in-Ok.pairs.items c.oldest_delta-first.ensures (first.has honest);
       rise = first.rise;
+      base = first.met;
+      deltas = λ honest. up_to_start page c.oldest_delta-first.result c.oldest_delta-first.ensures;
       from = omega (arith, c.oldest_delta-first.ensures);
       within = omega (arith, c.oldest_delta-first.ensures, count_parts page);
       reads = first.reads;
@@ -40,6 +43,9 @@ loop-i-preserved g c =
           (λ deltas are. more.merged (subst IsTrue (sym inv.honest) honest) _ (delta_there _ _ c.args.page deltas (same_contents _ _ inv.reads.same.same) are c.loop-i.i inv.from there))
           (inv.folded honest);
       rise = more.rise;
+      base = inv.base;
+      deltas = λ honest. up_to_step (store_contents c.args.store.now) _ c.args.page c.loop-i.i (c.loop-i.i + 1) (same_contents _ _ inv.reads.same.same) refl
+          (more.met (subst IsTrue (sym inv.honest) honest)) (inv.deltas honest);
       from = omega (arith, inv.from);
       within = omega (arith, there);
       reads = read_then g.C.PageCache.pages _ _ _ _ _ _ _ _ _ _ inv.reads (of_honest g.C.PageCache.pages _ _ inv.honest _ _ _ _ _ _ more.reads);
@@ -56,6 +62,12 @@ returns-clause-has g c = λ honest pairs of.
     let inv = c.loop-i.invariant in
     folded_end c.args.wanted.now page c.loop-i.i c.loop-i.pairs.items pairs (omega (arith, c.loop-i-test.false, c.parts-parts.ensures, inv.within))
     inv.rise (inv.folded honest) of
+
+pub returns-clause-met : goal.returns-clause-met
+returns-clause-met g c = λ honest.
+    let inv = c.loop-i.invariant in
+    in_grammar (term_page c.args.page (store_contents c.args.store.now).terms) (inv.base honest)
+    (λ n from there. inv.deltas honest n from (omega (arith, c.loop-i-test.false, c.parts-parts.ensures, there)))
 
 pub merge_at-requires-clause-agrees : goal.merge_at-requires-clause-agrees
 merge_at-requires-clause-agrees g c = λ honest works. c.loop-i.invariant.reads.agrees (subst IsTrue c.loop-i.invariant.honest honest) works

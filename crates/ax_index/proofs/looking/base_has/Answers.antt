@@ -1,5 +1,7 @@
 use Rattle.std.proofs.Common.{sym, ◌∙◌}
 use Rattle.ax_index.proofs.Unmoved.{read_still, told_base}
+use Rattle.ax_store.specs.Store.{store_contents}
+use Rattle.ax_index.proofs.GrammarLemmas.{met_base, no_base}
 use Rattle.ax_index.proofs.looking.base_has.Goals as goal
 
 pub returns-in-None-clause-told : goal.returns-in-None-clause-told
@@ -8,3 +10,12 @@ returns-in-None-clause-told g c = λ honest.
     (sym c.has_base.ensures ∙ c.if-not-has_base.false)
     (c.payload_in.ensures _ (read_still _ _ _ _ _ c.in-Ok.ensures.slot (c.in-Ok.ensures.read honest)))
     c.in-None.ensures.none c.damaged_at.ensures
+
+pub returns-then-not-has_base-clause-met : goal.returns-then-not-has_base-clause-met
+returns-then-not-has_base-clause-met g c = λ honest. no_base _ (sym c.has_base.ensures ∙ c.if-not-has_base.true)
+
+pub returns-in-Some-clause-met : goal.returns-in-Some-clause-met
+returns-in-Some-clause-met g c = λ honest.
+    met_base (store_contents c.args.store.now) c.args.page c.payload_in.result.now (sym c.has_base.ensures ∙ c.if-not-has_base.false)
+    (c.payload_in.ensures _ (read_still _ _ _ _ _ c.in-Ok.ensures.slot (c.in-Ok.ensures.read honest)))
+    c.in-Some.ensures.met

@@ -6,6 +6,7 @@ use Rattle.ax_index.proofs.ReadsLaws.{agrees_told, of_honest, others_then, read_
 use Rattle.ax_index.proofs.Unmoved.{same_contents}
 use Rattle.ax_pool.specs.declared.slot.Slot.{Slot}
 use Rattle.ax_store.specs.declared.store.StoreFrames.{StoreFrames}
+use Rattle.ax_index.proofs.GrammarLemmas.{looked_by_base, looked_by_delta}
 use Rattle.ax_index.proofs.looking.has_by.Goals as goal
 
 pub returns-in-Some-clause-has : goal.returns-in-Some-clause-has
@@ -33,3 +34,14 @@ returns-in-None-clause-reads g c =
 pub returns-in-None-clause-others : goal.returns-in-None-clause-others
 returns-in-None-clause-others g c =
     others_then _ _ _ _ _ (ap (λ (slot : Slot StoreFrames). slot.number) c.look_back.ensures.slot) c.in-Ok.ensures.others c.base_has.ensures.others
+
+pub returns-in-Some-clause-met : goal.returns-in-Some-clause-met
+returns-in-Some-clause-met g c = λ honest.
+    looked_by_delta _ c.page_of_pair-page.result c.args.pair.now c.in-Ok.said c.in-Some.added c.page_of_pair-page.ensures c.in-Some.is (c.in-Ok.ensures.met honest)
+
+pub returns-in-None-clause-met : goal.returns-in-None-clause-met
+returns-in-None-clause-met g c = λ honest.
+    let told = subst IsTrue (sym c.look_back.ensures.honest) honest in
+    looked_by_base c.base_has.result _ _ c.page_of_pair-page.result c.args.pair.now c.in-Ok.said c.page_of_pair-page.ensures c.in-None.is
+    (ap (λ (k : Contents). k.terms) (same_contents _ _ c.in-Ok.ensures.reads.same.same)) (c.in-Ok.ensures.met honest) (c.in-Ok.ensures.said honest)
+    (c.base_has.ensures.met told) (c.base_has.ensures.has told)

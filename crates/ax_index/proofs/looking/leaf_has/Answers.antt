@@ -1,5 +1,6 @@
 use Rattle.std.proofs.Common.{ap, ◌∙◌, sym, Bool, Some, None}
 use Rattle.ax_index.proofs.Postings.{base_has, under_rises}
+use Rattle.ax_index.proofs.GrammarLemmas.{leaf_base}
 use Rattle.ax_index.proofs.looking.leaf_has.Goals as goal
 
 pub has_one-requires : goal.has_one-requires
@@ -17,3 +18,9 @@ returns-in-None-clause-found c = λ pairs base.
     ap (λ (b : Bool). Some b)
     (base_has _ _ c.in_ok-leaf.leaf.postings c.args.pair.now.term c.as_slice.result.now c.args.pair.now.number None pairs
     c.in_ok-leaf.ensures.found c.as_slice.ensures c.in-None.ensures base)
+
+pub returns-in-Some-clause-met : goal.returns-in-Some-clause-met
+returns-in-Some-clause-met c = leaf_base c.args.payload.now _ _ c.in_ok-leaf.ensures.found
+
+pub returns-in-None-clause-met : goal.returns-in-None-clause-met
+returns-in-None-clause-met c = leaf_base c.args.payload.now _ _ c.in_ok-leaf.ensures.found

@@ -5,6 +5,7 @@ use Rattle.ax_index.specs.Damage.{FailsWith}
 use Rattle.ax_pages.specs.Contents.{term_page}
 use Rattle.ax_store.specs.Store.{store_contents}
 use Rattle.ax_index.proofs.DeltaParts.{count_parts, delta_there, newest_says, quiet_before, quiet_end}
+use Rattle.ax_index.proofs.GrammarLemmas.{from_end, from_less, from_step, looked_to}
 use Rattle.ax_index.proofs.Unmoved.{same_contents}
 use Rattle.ax_index.proofs.ReadsLaws.{nothing_read, of_honest, others_itself, others_then, read_then}
 use Rattle.ax_pool.specs.declared.slot.Slot.{Slot}
@@ -16,6 +17,7 @@ loop-i-init g c =
     let page = term_page c.args.page (store_contents c.args.store.now).terms in
     record {
       quiet = λ honest deltas are. quiet_end page deltas are c.args.pair.now c.parts-i.result c.parts-i.ensures;
+      met = λ honest. from_end page c.parts-i.result c.parts-i.ensures;
       from = omega (arith, count_parts page, c.parts-i.ensures);
       within = omega (arith, c.parts-i.ensures);
       reads = nothing_read g.C.PageCache.pages _ c.args.store.now _ _ c.requires.agrees;
@@ -46,6 +48,9 @@ loop-i-preserved g c =
           (inv.quiet honest deltas are)
           (more.said (subst IsTrue (sym inv.honest) honest) _ (delta_there _ _ c.args.page deltas (same_contents _ _ inv.reads.same.same) are (c.loop-i.i - 1) (omega arith) (omega arith)))
           (sym c.is_some.ensures ∙ c.if-is_some.false);
+      met = λ honest.
+          from_step (store_contents c.args.store.now) _ c.args.page (c.loop-i.i - 1) c.loop-i.i (same_contents _ _ inv.reads.same.same) (omega arith)
+          (more.met (subst IsTrue (sym inv.honest) honest)) (inv.met honest);
       from = omega arith;
       within = omega arith;
       reads = read_then g.C.PageCache.pages _ _ _ _ _ _ _ _ _ _ inv.reads (of_honest g.C.PageCache.pages _ _ inv.honest _ _ _ _ _ _ more.reads);
@@ -55,6 +60,20 @@ loop-i-preserved g c =
       attached = more.attached ∙ inv.attached;
       honest = more.honest ∙ inv.honest;
     }
+
+pub returns-then-is_some-clause-met : goal.returns-then-is_some-clause-met
+returns-then-is_some-clause-met g c = λ honest.
+    let inv = c.loop-i.invariant in
+    let same = same_contents _ _ inv.reads.same.same in
+    let told = subst IsTrue (sym inv.honest) honest in
+    looked_to (store_contents c.args.store.now) _ c.args.page (c.loop-i.i - 1) c.args.pair.now c.in-Ok.said same (omega arith) (omega arith)
+    (c.in-Ok.ensures.met told) (c.in-Ok.ensures.said told)
+    (from_step (store_contents c.args.store.now) _ c.args.page (c.loop-i.i - 1) c.loop-i.i same (omega arith) (c.in-Ok.ensures.met told) (inv.met honest))
+    (sym c.is_some.ensures ∙ c.if-is_some.true)
+
+pub returns-clause-met : goal.returns-clause-met
+returns-clause-met g c = λ honest.
+    from_less (term_page c.args.page (store_contents c.args.store.now).terms) c.loop-i.i _ (omega (arith, c.loop-i-test.false, c.oldest_delta-first.ensures)) (c.loop-i.invariant.met honest)
 
 pub look_at-requires-clause-agrees : goal.look_at-requires-clause-agrees
 look_at-requires-clause-agrees g c = λ honest works. c.loop-i.invariant.reads.agrees (subst IsTrue c.loop-i.invariant.honest honest) works

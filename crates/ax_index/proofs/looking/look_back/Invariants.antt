@@ -6,6 +6,7 @@ use Rattle.ax_pages.specs.Contents.{parts_of, term_page}
 use Rattle.ax_pages.specs.declared.page.Page.TheVariants.{Term}
 use Rattle.ax_pairs.specs.PagePairs.{AreDeltas}
 use Rattle.ax_store.specs.Store.{store_contents, store_failed, store_slots}
+use Rattle.ax_index.specs.Grammar.{AreDeltasFrom}
 use Rattle.ax_index.specs.Reading.{first_delta}
 use Rattle.ax_index.specs.Reads.{Reads}
 use Rattle.ax_store.specs.Slots.{AreOthersSame}
@@ -15,6 +16,7 @@ abbrev pub invariant-loop-i : goal.invariant-loop-i
 invariant-loop-i g l = record {
   quiet : IsTrue (g.D.Disk.is_honest l.fn.disk) → (deltas : List (List TermChange)) → AreDeltas (term_page l.page (store_contents l.fn.store).terms).deltas deltas
       → last_said l.pair (drop (l.i - first_delta (term_page l.page (store_contents l.fn.store).terms)) deltas) ≡ None;
+  met : IsTrue (g.D.Disk.is_honest l.fn.disk) → AreDeltasFrom (term_page l.page (store_contents l.fn.store).terms) l.i;
   from : first_delta (term_page l.page (store_contents l.fn.store).terms) ≤ l.i;
   within : l.i ≤ length (parts_of (Term l.page) (store_contents l.fn.store));
   reads : Reads g.C.PageCache.pages (g.D.Disk.is_honest l.fn.disk) l.fn.store l.store (g.D.Disk.history l.fn.disk (g.D.Disk.attached l.fn.disk)) (g.D.Disk.history l.disk (g.D.Disk.attached l.disk)) (g.D.Disk.faults l.fn.disk) (g.D.Disk.faults l.disk);

@@ -4,6 +4,7 @@ use Rattle.ax_pages.specs.Contents.{Contents, TermPage}
 use Rattle.ax_store.specs.Store.{store_contents}
 use Rattle.ax_index.proofs.CallLemmas.{fails_as, rose_later}
 use Rattle.ax_index.proofs.Gathering.{IsGathered, step_by, stop}
+use Rattle.ax_index.proofs.GrammarLemmas.{AreMetTo, met_end, met_start, met_step}
 use Rattle.ax_index.proofs.ReadsLaws.{agrees_told, nothing_read, of_honest, others_itself, others_then, read_then}
 use Rattle.ax_index.proofs.Unmoved.{same_contents}
 use Rattle.ax_pool.specs.declared.slot.Slot.{Slot}
@@ -13,6 +14,7 @@ use Rattle.ax_index.proofs.numbers.gathered.Goals as goal
 pub loop-next-init : goal.loop-next-init
 loop-next-init g c = record {
   gathered = search rules;
+  met = λ told apart. met_start c.args.ranges.now _ c.first_page-next.result c.first_page-next.ensures.reaches;
   there = search rules;
   reads = nothing_read g.C.PageCache.pages _ c.args.store.now _ _ c.requires.agrees;
   failed = refl;
@@ -41,6 +43,13 @@ loop-next-preserved g c =
           (subst (λ (o : Option ℕ). IfSome o (λ page. page < length terms)) c.in-Some.is inv.there)
           is
           (subst (λ (o : Option ℕ). IsGathered c.args.ranges.now set terms o c.loop-next.numbers.items) c.in-Some.is (inv.gathered told set is));
+      met = λ told apart.
+          met_step c.args.ranges.now terms (store_contents c.loop-next.store).terms (store_contents c.gather.new.store).terms
+          c.in-Some.page c.page_behind-next.result now after
+          (more.met (subst IsTrue (sym inv.honest) told)) c.page_behind-next.ensures.reaches
+          (subst (λ (o : Option ℕ). IfSome o (λ page. page < length terms)) c.in-Some.is inv.there)
+          apart
+          (subst (λ (o : Option ℕ). AreMetTo c.args.ranges.now terms o) c.in-Some.is (inv.met told apart));
       there = subst (λ (ts : List TermPage). IfSome c.page_behind-next.result (λ page. page < length ts)) after c.page_behind-next.ensures.there;
       reads = read_then g.C.PageCache.pages _ _ _ _ _ _ _ _ _ _ inv.reads
           (of_honest g.C.PageCache.pages _ _ inv.honest _ _ _ _ _ _ more.reads);
@@ -67,6 +76,10 @@ pub returns-clause-numbers : goal.returns-clause-numbers
 returns-clause-numbers g c = λ told set is.
     stop c.args.ranges.now set (store_contents c.args.store.now).terms c.loop-next.next c.loop-next.numbers.items c.in_default.is
     (c.loop-next.invariant.gathered told set is)
+
+pub returns-clause-met : goal.returns-clause-met
+returns-clause-met g c = λ told apart.
+    met_end c.args.ranges.now (store_contents c.args.store.now).terms c.loop-next.next c.in_default.is (c.loop-next.invariant.met told apart)
 
 pub returns-in-Err-clause-others : goal.returns-in-Err-clause-others
 returns-in-Err-clause-others g c =

@@ -1,6 +1,7 @@
 use Rattle.std.proofs.Common.{◌∙◌, refl}
 use Rattle.ax_index.proofs.CallLemmas.{deltas_planned, no_disk_fault, no_failure, with_room}
 use Rattle.ax_index.proofs.ReadsLaws.{others_itself, others_still, reads_only, room_alone, room_behind}
+use Rattle.ax_index.proofs.GrammarLemmas.{none_met}
 use Rattle.ax_index.proofs.plan.plan_page.Goals as goal
 
 pub returns-then-not-merge-clause-planned : goal.returns-then-not-merge-clause-planned
@@ -50,3 +51,9 @@ returns-then-not-merge-clause-others g c = others_still _ _ _ _ c.plan_deltas.en
 
 pub returns-in-Ok-false-clause-others : goal.returns-in-Ok-false-clause-others
 returns-in-Ok-false-clause-others g c = others_still _ _ _ _ c.plan_deltas-in-Ok-false.ensures.same.slots c.in-Ok-false.ensures.others
+
+pub returns-then-not-merge-clause-met : goal.returns-then-not-merge-clause-met
+returns-then-not-merge-clause-met g c = λ told. none_met _ c.plan_deltas.result c.plan_deltas.ensures.deltas
+
+pub returns-in-Ok-false-clause-met : goal.returns-in-Ok-false-clause-met
+returns-in-Ok-false-clause-met g c = λ told. none_met _ c.plan_deltas-in-Ok-false.result c.plan_deltas-in-Ok-false.ensures.deltas
