@@ -16,7 +16,8 @@ use Rattle.ax_index.proofs.NumberLists.{gathers}
 
 pub none_there : (payloads : List (List ℕ)) → nat_lt 0 (length payloads) ≡ false → payloads ≡ []
 none_there [] h = refl
-none_there (payload ∷ payloads) h = let some : nat_lt 0 (length (payload ∷ payloads)) ≡ true = lt-ltb 0 (length (payload ∷ payloads)) (omega arith) in absurd (cc)
+none_there (payload ∷ payloads) h =
+    let some : nat_lt 0 (length (payload ∷ payloads)) ≡ true = lt-ltb 0 (length (payload ∷ payloads)) (omega arith) in absurd (cc)
 
 by_base : (payloads : List (List ℕ)) (deltas : List (List TermChange)) (base pairs : List Pair) → payloads ≡ [] → AreDeltas payloads deltas
     → AreMerged base deltas pairs → base ≡ pairs

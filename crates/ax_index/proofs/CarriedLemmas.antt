@@ -120,7 +120,8 @@ no_base_of page n payload apart = ap (λ (b : Bool). cond b (payload ∷ []) [])
 
 -- ---- deltas one behind another
 
-pub carried_then : (xs ys : List (List ℕ)) (first second : List Change) → AreDeltasOf first xs → AreDeltasOf second ys → AreDeltasOf (first ++ second) (xs ++ ys)
+pub carried_then : (xs ys : List (List ℕ)) (first second : List Change) → AreDeltasOf first xs → AreDeltasOf second ys
+    → AreDeltasOf (first ++ second) (xs ++ ys)
 carried_then [] ys first second are more = subst (λ (changes : List Change). AreDeltasOf (changes ++ second) ys) (sym are) more
 carried_then (x ∷ xs) ys first second (here, rest, whole, is, are) more = (
   here,
@@ -130,13 +131,15 @@ carried_then (x ∷ xs) ys first second (here, rest, whole, is, are) more = (
   carried_then xs ys rest second are more,
 )
 
-pub carried_one : (page : ℕ) (changes : List Change) (payload : List ℕ) → IsDelta payload (term_changes_of changes) → AreDeltasOf changes (deltas_put page (delta_part page payload ∷ []))
+pub carried_one : (page : ℕ) (changes : List Change) (payload : List ℕ) → IsDelta payload (term_changes_of changes)
+    → AreDeltasOf changes (deltas_put page (delta_part page payload ∷ []))
 carried_one page changes payload is =
     subst (AreDeltasOf changes) (sym (one_delta_put page payload)) (changes, [], sym (append-nil changes), is, refl)
 
 -- ---- what is put for a page
 
-put_as : (merged : Bool) (changes : List Change) (bases deltas : List (List ℕ)) → 0 < length changes → IsPutBy merged changes bases deltas → IsPut changes bases deltas
+put_as : (merged : Bool) (changes : List Change) (bases deltas : List (List ℕ)) → 0 < length changes → IsPutBy merged changes bases deltas
+    → IsPut changes bases deltas
 put_as true changes bases deltas some put = inl (some, put.0, put.1)
 put_as false changes bases deltas some put = inr put
 
@@ -149,7 +152,8 @@ some_in p [] h = absurd (cc)
 some_in p (q ∷ pairs) h = omega arith
 
 module _ (page : ℕ) (pages : List TermPage) (done run : List Change) (parts more : List PartValue) (belong : AllBelong (changed_pairs run) page pages) where
-  pub settled_here : (merged : Bool) → 0 < length run → AreBefore (changed_pairs done) (low_pair page pages) → bases_put page parts ≡ [] → deltas_put page parts ≡ []
+  pub settled_here : (merged : Bool) → 0 < length run → AreBefore (changed_pairs done) (low_pair page pages) → bases_put page parts ≡ []
+      → deltas_put page parts ≡ []
       → IsPutBy merged run (bases_put page more) (deltas_put page more) → IsSettled page pages (done ++ run) (parts ++ more)
   settled_here merged some passed no_bases no_deltas put =
       let bases : bases_put page (parts ++ more) ≡ bases_put page more = later_bases page parts more no_bases in

@@ -68,6 +68,7 @@ numbers_in_one ranges range set numbers one found = record {
     there n (other, is, h) = subst (λ (r : TermRange). HasIn r set n) (sym (the_one range other is)) h
 
 pub in_one_by : {V : Type 0} (result : Result V StoreFault) (items : V → List ℕ) (ranges : List TermRange) (range : TermRange) (set : PairSet)
-    → ranges ≡ range ∷ [] → IfOk result (λ numbers. AreNumbersInSome ranges set (items numbers)) → IfOk result (λ numbers. AreNumbersIn range set (items numbers))
+    → ranges ≡ range ∷ [] → IfOk result (λ numbers. AreNumbersInSome ranges set (items numbers))
+    → IfOk result (λ numbers. AreNumbersIn range set (items numbers))
 in_one_by (Ok numbers) items ranges range set one found = numbers_in_one ranges range set (items numbers) one found
 in_one_by (Err fault) items ranges range set one found = tt

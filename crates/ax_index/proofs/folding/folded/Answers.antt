@@ -40,7 +40,8 @@ loop-i-preserved g c =
     let there : c.loop-i.i < length (term_parts page) = omega (arith, c.loop-i-test.true, c.parts-parts.ensures) in
     record {
       folded = λ honest. folded_step c.args.wanted.now page c.loop-i.i (c.loop-i.i + 1) c.loop-i.pairs.items c.in-Ok-merge_at.after.items inv.from there refl
-          (λ deltas are. more.merged (subst IsTrue (sym inv.honest) honest) _ (delta_there _ _ c.args.page deltas (same_contents _ _ inv.reads.same.same) are c.loop-i.i inv.from there))
+          (λ deltas are. more.merged (subst IsTrue (sym inv.honest) honest) _
+          (delta_there _ _ c.args.page deltas (same_contents _ _ inv.reads.same.same) are c.loop-i.i inv.from there))
           (inv.folded honest);
       rise = more.rise;
       base = inv.base;
@@ -73,10 +74,13 @@ pub merge_at-requires-clause-agrees : goal.merge_at-requires-clause-agrees
 merge_at-requires-clause-agrees g c = λ honest works. c.loop-i.invariant.reads.agrees (subst IsTrue c.loop-i.invariant.honest honest) works
 
 pub returns-in-Err-merge_at-clause-fails : goal.returns-in-Err-merge_at-clause-fails
-returns-in-Err-merge_at-clause-fails g c = subst (λ (before : Bool). FailsWith c.in-Err-merge_at.fault before c.merge_at.new.store.failed) c.loop-i.invariant.failed c.in-Err-merge_at.ensures.fails
+returns-in-Err-merge_at-clause-fails g c =
+    subst (λ (before : Bool). FailsWith c.in-Err-merge_at.fault before c.merge_at.new.store.failed) c.loop-i.invariant.failed c.in-Err-merge_at.ensures.fails
 
 pub returns-in-Err-merge_at-clause-reads : goal.returns-in-Err-merge_at-clause-reads
-returns-in-Err-merge_at-clause-reads g c = read_then g.C.PageCache.pages _ _ _ _ _ _ _ _ _ _ c.loop-i.invariant.reads (of_honest g.C.PageCache.pages _ _ c.loop-i.invariant.honest _ _ _ _ _ _ c.in-Err-merge_at.ensures.reads)
+returns-in-Err-merge_at-clause-reads g c =
+    read_then g.C.PageCache.pages _ _ _ _ _ _ _ _ _ _ c.loop-i.invariant.reads
+    (of_honest g.C.PageCache.pages _ _ c.loop-i.invariant.honest _ _ _ _ _ _ c.in-Err-merge_at.ensures.reads)
 
 pub returns-in-Err-merge_at-clause-cause : goal.returns-in-Err-merge_at-clause-cause
 returns-in-Err-merge_at-clause-cause g c = λ works.

@@ -20,7 +20,8 @@ returns-in-None-clause-has g c = λ honest set is.
     by_base _ set c.args.pair.now c.page_of_pair-page.result is
     c.page_of_pair-page.ensures
     c.in-Ok.said (c.in-Ok.ensures.said honest) _ c.base_has.result c.in-None.is
-    (ap (λ (k : Contents). k.terms) (same_contents _ _ c.in-Ok.ensures.reads.same.same)) (c.base_has.ensures.has (subst IsTrue (sym c.look_back.ensures.honest) honest))
+    (ap (λ (k : Contents). k.terms) (same_contents _ _ c.in-Ok.ensures.reads.same.same))
+    (c.base_has.ensures.has (subst IsTrue (sym c.look_back.ensures.honest) honest))
 
 pub base_has-requires-clause-agrees : goal.base_has-requires-clause-agrees
 base_has-requires-clause-agrees g c =

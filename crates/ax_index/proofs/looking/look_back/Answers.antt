@@ -34,7 +34,8 @@ returns-then-is_some-clause-said g c = λ honest deltas are.
     let inv = c.loop-i.invariant in
     newest_says page deltas are c.args.pair.now (c.loop-i.i - 1) c.loop-i.i c.in-Ok.said (omega arith) (omega arith) (omega arith)
     (inv.quiet honest deltas are)
-    (c.in-Ok.ensures.said (subst IsTrue (sym inv.honest) honest) _ (delta_there _ _ c.args.page deltas (same_contents _ _ inv.reads.same.same) are (c.loop-i.i - 1) (omega arith) (omega arith)))
+    (c.in-Ok.ensures.said (subst IsTrue (sym inv.honest) honest) _
+    (delta_there _ _ c.args.page deltas (same_contents _ _ inv.reads.same.same) are (c.loop-i.i - 1) (omega arith) (omega arith)))
     (sym c.is_some.ensures ∙ c.if-is_some.true)
 
 pub loop-i-preserved : goal.loop-i-preserved
@@ -46,7 +47,8 @@ loop-i-preserved g c =
       quiet = λ honest deltas are.
           quiet_before page deltas are c.args.pair.now (c.loop-i.i - 1) c.loop-i.i c.in-Ok.said (omega arith) (omega arith) (omega arith)
           (inv.quiet honest deltas are)
-          (more.said (subst IsTrue (sym inv.honest) honest) _ (delta_there _ _ c.args.page deltas (same_contents _ _ inv.reads.same.same) are (c.loop-i.i - 1) (omega arith) (omega arith)))
+          (more.said (subst IsTrue (sym inv.honest) honest) _
+          (delta_there _ _ c.args.page deltas (same_contents _ _ inv.reads.same.same) are (c.loop-i.i - 1) (omega arith) (omega arith)))
           (sym c.is_some.ensures ∙ c.if-is_some.false);
       met = λ honest.
           from_step (store_contents c.args.store.now) _ c.args.page (c.loop-i.i - 1) c.loop-i.i (same_contents _ _ inv.reads.same.same) (omega arith)
@@ -79,13 +81,18 @@ pub look_at-requires-clause-agrees : goal.look_at-requires-clause-agrees
 look_at-requires-clause-agrees g c = λ honest works. c.loop-i.invariant.reads.agrees (subst IsTrue c.loop-i.invariant.honest honest) works
 
 pub returns-in-Err-clause-fails : goal.returns-in-Err-clause-fails
-returns-in-Err-clause-fails g c = subst (λ (before : Bool). FailsWith c.in-Err.fault before c.look_at.new.store.failed) c.loop-i.invariant.failed c.in-Err.ensures.fails
+returns-in-Err-clause-fails g c =
+    subst (λ (before : Bool). FailsWith c.in-Err.fault before c.look_at.new.store.failed) c.loop-i.invariant.failed c.in-Err.ensures.fails
 
 pub returns-in-Err-clause-reads : goal.returns-in-Err-clause-reads
-returns-in-Err-clause-reads g c = read_then g.C.PageCache.pages _ _ _ _ _ _ _ _ _ _ c.loop-i.invariant.reads (of_honest g.C.PageCache.pages _ _ c.loop-i.invariant.honest _ _ _ _ _ _ c.in-Err.ensures.reads)
+returns-in-Err-clause-reads g c =
+    read_then g.C.PageCache.pages _ _ _ _ _ _ _ _ _ _ c.loop-i.invariant.reads
+    (of_honest g.C.PageCache.pages _ _ c.loop-i.invariant.honest _ _ _ _ _ _ c.in-Err.ensures.reads)
 
 pub returns-then-is_some-clause-reads : goal.returns-then-is_some-clause-reads
-returns-then-is_some-clause-reads g c = read_then g.C.PageCache.pages _ _ _ _ _ _ _ _ _ _ c.loop-i.invariant.reads (of_honest g.C.PageCache.pages _ _ c.loop-i.invariant.honest _ _ _ _ _ _ c.in-Ok.ensures.reads)
+returns-then-is_some-clause-reads g c =
+    read_then g.C.PageCache.pages _ _ _ _ _ _ _ _ _ _ c.loop-i.invariant.reads
+    (of_honest g.C.PageCache.pages _ _ c.loop-i.invariant.honest _ _ _ _ _ _ c.in-Ok.ensures.reads)
 
 pub returns-in-Err-clause-cause : goal.returns-in-Err-clause-cause
 returns-in-Err-clause-cause g c = λ works.

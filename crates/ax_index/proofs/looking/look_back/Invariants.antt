@@ -14,12 +14,15 @@ use Rattle.ax_index.proofs.looking.look_back.Given as goal
 
 abbrev pub invariant-loop-i : goal.invariant-loop-i
 invariant-loop-i g l = record {
-  quiet : IsTrue (g.D.Disk.is_honest l.fn.disk) → (deltas : List (List TermChange)) → AreDeltas (term_page l.page (store_contents l.fn.store).terms).deltas deltas
+  quiet : IsTrue (g.D.Disk.is_honest l.fn.disk) → (deltas : List (List TermChange))
+      → AreDeltas (term_page l.page (store_contents l.fn.store).terms).deltas deltas
       → last_said l.pair (drop (l.i - first_delta (term_page l.page (store_contents l.fn.store).terms)) deltas) ≡ None;
   met : IsTrue (g.D.Disk.is_honest l.fn.disk) → AreDeltasFrom (term_page l.page (store_contents l.fn.store).terms) l.i;
   from : first_delta (term_page l.page (store_contents l.fn.store).terms) ≤ l.i;
   within : l.i ≤ length (parts_of (Term l.page) (store_contents l.fn.store));
-  reads : Reads g.C.PageCache.pages (g.D.Disk.is_honest l.fn.disk) l.fn.store l.store (g.D.Disk.history l.fn.disk (g.D.Disk.attached l.fn.disk)) (g.D.Disk.history l.disk (g.D.Disk.attached l.disk)) (g.D.Disk.faults l.fn.disk) (g.D.Disk.faults l.disk);
+  reads : Reads g.C.PageCache.pages (g.D.Disk.is_honest l.fn.disk) l.fn.store l.store
+      (g.D.Disk.history l.fn.disk (g.D.Disk.attached l.fn.disk)) (g.D.Disk.history l.disk (g.D.Disk.attached l.disk))
+      (g.D.Disk.faults l.fn.disk) (g.D.Disk.faults l.disk);
   failed : store_failed l.store ≡ store_failed l.fn.store;
   slot : l.slot ≡ l.fn.slot;
   others : AreOthersSame l.fn.slot.number (store_slots l.fn.store) (store_slots l.store);

@@ -37,10 +37,15 @@ pub loop-at-preserved : goal.loop-at-preserved
 loop-at-preserved g c =
     let inv = c.loop-at.invariant in
     let more = c.in-Ok.ensures in
-    let now : (store_contents c.loop-at.store).terms ≡ (store_contents c.args.store.now).terms = ap (λ (k : Contents). k.terms) (same_contents _ _ inv.reads.same.same) in
-    let after : (store_contents c.merge_one.new.store).terms ≡ (store_contents c.args.store.now).terms = ap (λ (k : Contents). k.terms) (same_contents _ _ more.reads.same.same) ∙ now in
+    let now : (store_contents c.loop-at.store).terms ≡ (store_contents c.args.store.now).terms =
+    ap (λ (k : Contents). k.terms) (same_contents _ _ inv.reads.same.same)
+    in
+    let after : (store_contents c.merge_one.new.store).terms ≡ (store_contents c.args.store.now).terms =
+    ap (λ (k : Contents). k.terms) (same_contents _ _ more.reads.same.same) ∙ now
+    in
     record {
-      merging = merge_step_on _ _ c.in-Some.page c.loop-at.at c.next_page-at.result (store_contents c.args.store.now).terms (store_contents c.loop-at.store).terms
+      merging = merge_step_on _ _ c.in-Some.page c.loop-at.at c.next_page-at.result (store_contents c.args.store.now).terms
+          (store_contents c.loop-at.store).terms
           (store_contents c.merge_one.new.store).terms c.loop-at.merged c.loop-at.next c.merge_one.new.next c.as_number-merged.result c.in-Ok.done _ _ _
           inv.honest c.in-Some.is now after
           c.as_number-merged.ensures more.step c.next_page-at.ensures.found c.next_page-at.ensures.none inv.merging;
@@ -74,7 +79,8 @@ returns-in-Err-clause-cause g c = λ works.
 
 pub returns-clause-merged : goal.returns-clause-merged
 returns-clause-merged g c =
-    merged_end c.loop-at.at (store_contents c.args.store.now).terms c.args.n c.loop-at.merged c.loop-at.next _ _ c.in_default.is c.loop-at.invariant.merging c.loop-at.invariant.most
+    merged_end c.loop-at.at (store_contents c.args.store.now).terms c.args.n c.loop-at.merged c.loop-at.next _ _ c.in_default.is
+    c.loop-at.invariant.merging c.loop-at.invariant.most
 
 pub returns-in-Err-clause-others : goal.returns-in-Err-clause-others
 returns-in-Err-clause-others g c =

@@ -19,4 +19,5 @@ returns-clause-reserves g c =
 
 pub returns-clause-others : goal.returns-clause-others
 returns-clause-others g c =
-    keeps_around _ _ _ _ (store_slots c.give_slot.new.self) c.in-Some.ensures.was_free c.in-Some.ensures.bytes c.merge_by-merged.ensures.others c.give_slot.ensures.bytes
+    keeps_around _ _ _ _ (store_slots c.give_slot.new.self) c.in-Some.ensures.was_free c.in-Some.ensures.bytes
+    c.merge_by-merged.ensures.others c.give_slot.ensures.bytes

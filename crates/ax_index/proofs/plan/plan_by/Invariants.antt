@@ -13,8 +13,8 @@ abbrev pub invariant-loop-rest : goal.invariant-loop-rest
 invariant-loop-rest g l = record {
   rise : Rise (changed_pairs l.rest);
   short : HaveShortTerms l.rest;
-  planned : IsPlannedTo (g.D.Disk.is_honest l.fn.disk) l.changes l.rest (store_contents l.fn.store).terms l.plan.merged l.plan.next (λ number. store_room number l.store)
-      (batch_parts l.fn.batch) (batch_parts l.batch);
+  planned : IsPlannedTo (g.D.Disk.is_honest l.fn.disk) l.changes l.rest (store_contents l.fn.store).terms l.plan.merged l.plan.next
+      (λ number. store_room number l.store) (batch_parts l.fn.batch) (batch_parts l.batch);
   few : l.plan.merged ≤ 16;
   reserves : Reserves g.C.PageCache.pages (g.D.Disk.is_honest l.fn.disk) l.fn.store l.store
       (g.D.Disk.history l.fn.disk (g.D.Disk.attached l.fn.disk)) (g.D.Disk.history l.disk (g.D.Disk.attached l.disk))

@@ -16,7 +16,8 @@ returns-in-Ok-true-clause-planned g c = λ now earlier up next belong.
 pub returns-in-Ok-false-clause-planned : goal.returns-in-Ok-false-clause-planned
 returns-in-Ok-false-clause-planned g c = λ now earlier up next belong.
     let left = c.in-Ok-false.ensures.left c.in-Ok-false.field-0-test in
-    deltas_planned _ c.plan_deltas-in-Ok-false.result c.args.page c.args.changes.now _ now earlier _ _ _ c.args.next.now _ _ _ c.requires.page up next belong left.0 left.1 refl
+    deltas_planned _ c.plan_deltas-in-Ok-false.result c.args.page c.args.changes.now _ now earlier _ _ _ c.args.next.now _ _ _
+    c.requires.page up next belong left.0 left.1 refl
     (c.plan_deltas-in-Ok-false.ensures.planned now) c.plan_deltas-in-Ok-false.ensures.deltas
 
 pub returns-in-Ok-false-clause-cause : goal.returns-in-Ok-false-clause-cause
