@@ -1,5 +1,7 @@
 -- The parts of a term page by their positions, and what its deltas say, from the newest back.
-use Rattle.std.proofs.Common.{◌≡◌, ℕ, zero, suc, ◌+◌, ◌-◌, ◌<◌, ◌≤◌, List, [], ◌∷◌, ◌++◌, length, get_or, drop, arith, refl, ap, ◌∙◌, sym, subst, Bool, true, false, ◌&&◌, ◌==◌, Option, Some, None}
+use Rattle.std.proofs.Common.{◌≡◌, ℕ, zero, suc, ◌+◌, ◌-◌, ◌<◌, ◌≤◌, List, [], ◌∷◌, ◌++◌, length}
+use Rattle.std.proofs.Common.{get_or, drop, arith, refl, ap, ◌∙◌, sym, subst, Bool, true, false}
+use Rattle.std.proofs.Common.{◌&&◌, ◌==◌, Option, Some, None}
 use Rattle.std.proofs.lemmas.Bool.{ne_eqb}
 use Rattle.std.specs.Option.{option_or, option_to_list}
 use Rattle.std.specs.Prelude.{is_some, if◌then◌else◌}
@@ -42,7 +44,8 @@ delta_part page i h = part_behind page.base page.deltas i h
 
 -- ---- the base
 
-base_front : (base : Option (List ℕ)) (deltas : List (List ℕ)) (pairs : List Pair) → is_some base ≡ true → AreOfBase base pairs → IsBase (get_or (option_to_list base ++ deltas) 0 []) pairs
+base_front : (base : Option (List ℕ)) (deltas : List (List ℕ)) (pairs : List Pair) → is_some base ≡ true → AreOfBase base pairs
+    → IsBase (get_or (option_to_list base ++ deltas) 0 []) pairs
 base_front None deltas pairs there is = absurd (cc)
 base_front (Some b) deltas pairs there is = is
 
@@ -67,7 +70,8 @@ same_count [] (y ∷ deltas) h = absurd h
 same_count (x ∷ payloads) [] h = absurd h
 same_count (x ∷ payloads) (y ∷ deltas) h = ap suc (same_count payloads deltas h.1)
 
-delta_at : (payloads : List (List ℕ)) (deltas : List (List TermChange)) (k : ℕ) → AreDeltas payloads deltas → k < length payloads → IsDelta (get_or payloads k []) (get_or deltas k [])
+delta_at : (payloads : List (List ℕ)) (deltas : List (List TermChange)) (k : ℕ) → AreDeltas payloads deltas → k < length payloads
+    → IsDelta (get_or payloads k []) (get_or deltas k [])
 delta_at [] [] k h l = absurd (omega arith)
 delta_at [] (y ∷ deltas) k h l = absurd h
 delta_at (x ∷ payloads) [] k h l = absurd h

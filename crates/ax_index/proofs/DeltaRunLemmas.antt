@@ -73,7 +73,8 @@ carry_then page first second now between after a b one other = record {
       λ p h. belong p (ap (has p) pairs ∙ in_first p (changed_pairs first) (changed_pairs second) h)
       in
       let of_second : AllBelong (changed_pairs second) page between =
-      λ p h. belongs_still now between p page (as_same_lows now between one.lows) (belong p (ap (has p) pairs ∙ in_second p (changed_pairs first) (changed_pairs second) h))
+      λ p h. belongs_still now between p page (as_same_lows now between one.lows)
+      (belong p (ap (has p) pairs ∙ in_second p (changed_pairs first) (changed_pairs second) h))
       in
       same_set after (with_changes second (with_changes first set)) (with_changes (first ++ second) set)
       (λ p. sym (changed_twice first second set p))

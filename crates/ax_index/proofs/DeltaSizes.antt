@@ -1,5 +1,7 @@
 -- How many bytes a delta takes at most.
-use Rattle.std.proofs.Common.{◌≡◌, ℕ, ◌+◌, ◌-◌, ◌*◌, ◌<◌, ◌≤◌, ◌^◌, List, [], ◌∷◌, ◌++◌, length, take, drop, get_or, ◌∙◌, arith, ap, sym, subst, Bool, true, false, cond}
+use Rattle.std.proofs.Common.{◌≡◌, ℕ, ◌+◌, ◌-◌, ◌*◌, ◌<◌, ◌≤◌, ◌^◌, List, [], ◌∷◌, ◌++◌, length}
+use Rattle.std.proofs.Common.{take, drop, get_or, ◌∙◌, arith, ap, sym, subst, Bool, true, false}
+use Rattle.std.proofs.Common.{cond}
 use Rattle.std.specs.Prelude.{nat_eq}
 use Rattle.std.specs.Str.{bytes_eq}
 use Rattle.std.proofs.lemmas.List.{length-append, length-drop, take_more}
@@ -64,7 +66,8 @@ terms_fit (change ∷ changes) are =
 
 -- ---- by changes
 
-one_number : (added dropped : List ℕ) (change : Change) → length (with_added added change) + length (with_dropped dropped change) ≡ length added + length dropped + 1
+one_number : (added dropped : List ℕ) (change : Change) → length (with_added added change) + length
+    (with_dropped dropped change) ≡ length added + length dropped + 1
 one_number added dropped change = by_test change.add
   where
     by_test : (add : Bool) → length (cond add (added ++ change.pair.number ∷ []) added) + length (cond add dropped (dropped ++ change.pair.number ∷ []))

@@ -1,5 +1,7 @@
 -- Pairs of the wanted terms, and what merges make of them.
-use Rattle.std.proofs.Common.{◌≡◌, ℕ, ◌+◌, ◌-◌, ◌<◌, ◌≤◌, List, [], ◌∷◌, length, get_or, drop, arith, refl, ap, ◌∙◌, sym, subst, Bool, true, false, cond, ⊎_elim, Option, Some, None}
+use Rattle.std.proofs.Common.{◌≡◌, ℕ, ◌+◌, ◌-◌, ◌<◌, ◌≤◌, List, [], ◌∷◌, length, get_or, drop}
+use Rattle.std.proofs.Common.{arith, refl, ap, ◌∙◌, sym, subst, Bool, true, false, cond, ⊎_elim}
+use Rattle.std.proofs.Common.{Option, Some, None}
 use Rattle.std.specs.Option.{option_or, unwrap_or}
 use Rattle.ax_pair.specs.declared.pair.Pair.{Pair}
 use Rattle.ax_pair.specs.Order.{Rise, RiseAfter}

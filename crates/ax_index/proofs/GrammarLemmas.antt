@@ -1,5 +1,7 @@
 -- Parts that were read and are in their grammar, put together to pages that have pairs.
-use Rattle.std.proofs.Common.{◌≡◌, ℕ, suc, ◌+◌, ◌-◌, ◌<◌, ◌≤◌, List, [], ◌∷◌, ◌++◌, length, get_or, arith, refl, ap, ◌∙◌, sym, subst, Bool, true, false, ◌⊎◌, inl, inr, ⊎_elim, Option, Some, None}
+use Rattle.std.proofs.Common.{◌≡◌, ℕ, suc, ◌+◌, ◌-◌, ◌<◌, ◌≤◌, List, [], ◌∷◌, ◌++◌, length, get_or}
+use Rattle.std.proofs.Common.{arith, refl, ap, ◌∙◌, sym, subst, Bool, true, false, ◌⊎◌, inl, inr}
+use Rattle.std.proofs.Common.{⊎_elim, Option, Some, None}
 use Rattle.std.proofs.lemmas.Bool.{cases_lt}
 use Rattle.std.specs.Option.{option_to_list, unwrap_or}
 use Rattle.std.specs.Prelude.{is_some, IfOk, OnOk, Result, Ok, Err}

@@ -14,7 +14,8 @@ use Rattle.ax_pairs.specs.PagePairs.{AreDeltas, AreOfBase}
 use Rattle.ax_pairs.specs.PairSets.{PairSet}
 use Rattle.ax_store.specs.declared.fault.StoreFault.{StoreFault}
 
-pub of_term : (pages : List TermPage) (page : ℕ) (term : List ℕ) (p : Pair) → term ≡ p.term → IsPageOf (the_pair term p.number) page pages → IsPageOf p page pages
+pub of_term : (pages : List TermPage) (page : ℕ) (term : List ℕ) (p : Pair) → term ≡ p.term → IsPageOf (the_pair term p.number) page pages
+    → IsPageOf p page pages
 of_term pages page term p e of = subst (λ (t : List ℕ). IsPageOf (the_pair t p.number) page pages) e of
 
 module _ (pages : List TermPage) (set : PairSet) (p : Pair) (page : ℕ) (is : IsIndex pages set) (of : IsPageOf p page pages) (said : Option Bool)

@@ -1,5 +1,7 @@
 -- How many pages pairs take: what the loops over them keep.
-use Rattle.std.proofs.Common.{◌≡◌, ℕ, zero, suc, ◌+◌, ◌-◌, ◌<◌, ◌≤◌, List, [], ◌∷◌, length, drop, get_or, arith, refl, sym, ap, ◌∙◌, subst, Bool, true, false, cond, nat_lt}
+use Rattle.std.proofs.Common.{◌≡◌, ℕ, zero, suc, ◌+◌, ◌-◌, ◌<◌, ◌≤◌, List, [], ◌∷◌, length, drop}
+use Rattle.std.proofs.Common.{get_or, arith, refl, sym, ap, ◌∙◌, subst, Bool, true, false, cond}
+use Rattle.std.proofs.Common.{nat_lt}
 use Rattle.std.proofs.lemmas.Bool.{le-ltb, lt-ltb}
 use Rattle.std.proofs.lemmas.List.{drop_all, get_or_default}
 use Rattle.std.proofs.Math.Seq.{drop-cons}
@@ -62,7 +64,8 @@ module _ (pairs : List Pair) (i bytes front : ℕ) (before pair : Pair) (there :
       ∙ ap (λ (q : Pair). rest_from later q (drop kept pairs) (drop (i + 1) pairs)) last
 
 pub all_fit : (pairs : List Pair) (i bytes front : ℕ) → length pairs ≤ i → (d : Pair)
-    → (0 < length pairs → rest_of pairs ≡ rest_from bytes (get_or pairs (i - 1) d) (drop front pairs) (drop i pairs)) → drop (length pairs) pairs ≡ rest_of pairs
+    → (0 < length pairs → rest_of pairs ≡ rest_from bytes (get_or pairs (i - 1) d) (drop front pairs) (drop i pairs))
+    → drop (length pairs) pairs ≡ rest_of pairs
 unfolding rest_from rest_of
 all_fit [] i bytes front past d so_far = refl
 all_fit (p ∷ pairs) i bytes front past d so_far =
@@ -99,7 +102,8 @@ pub number_there : (next : ℕ) (rest : List Pair) → 0 < length rest → HasNu
 number_there next rest some (zero, none, few) = absurd (omega (arith, some, ap (λ (ps : List Pair). length ps) none))
 number_there next rest some (suc count, take, few) = omega (arith, few)
 
-pub numbers_behind : (next later : ℕ) (rest behind : List Pair) → 0 < length rest → behind ≡ rest_of rest → later ≡ next + 1 → HasNumbers next rest → HasNumbers later behind
+pub numbers_behind : (next later : ℕ) (rest behind : List Pair) → 0 < length rest → behind ≡ rest_of rest → later ≡ next + 1 → HasNumbers next rest
+    → HasNumbers later behind
 numbers_behind next later rest behind some is later_is (zero, none, few) = absurd (omega (arith, some, ap (λ (ps : List Pair). length ps) none))
 numbers_behind next later rest behind some is later_is (suc count, take, few) =
     (count, subst (TakePages count) (sym is) take.1, omega (arith, few, later_is))

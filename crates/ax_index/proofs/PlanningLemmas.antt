@@ -1,5 +1,7 @@
 -- A plan, page by page.
-use Rattle.std.proofs.Common.{◌≡◌, ◌≢◌, ℕ, ◌+◌, ◌<◌, ◌≤◌, List, [], ◌∷◌, ◌++◌, length, arith, refl, sym, ap, ◌∙◌, subst, Bool, true, false, cond, append_assoc, append-nil, ⊎_elim, inl, inr}
+use Rattle.std.proofs.Common.{◌≡◌, ◌≢◌, ℕ, ◌+◌, ◌<◌, ◌≤◌, List, [], ◌∷◌, ◌++◌, length, arith, refl}
+use Rattle.std.proofs.Common.{sym, ap, ◌∙◌, subst, Bool, true, false, cond, append_assoc}
+use Rattle.std.proofs.Common.{append-nil, ⊎_elim, inl, inr}
 use Rattle.std.specs.Option.{unwrap_or}
 use Rattle.std.specs.Prelude.{IsTrue}
 use Rattle.std.specs.declared.cmp.Ordering.TheVariants.{Less}
@@ -28,7 +30,9 @@ use Rattle.ax_index.specs.Grammar.{IsInGrammar}
 use Rattle.ax_index.specs.Planning.{AreBefore, IsPartedAt, IsUpTo, IsPageDone, IsPagePlanned, IsFirstOf, IsPlannedTo}
 use Rattle.ax_index.specs.Plans.{IsPlan, most_merged}
 use Rattle.ax_index.specs.Rewriting.{Rewrites}
-use Rattle.ax_index.proofs.CarriedLemmas.{bases_put_more, later_bases, many_deltas, no_bases_put, no_deltas_put, same_bases, settled_here, settled_none, settled_other, some_in, was_merged}
+use Rattle.ax_index.proofs.CarriedLemmas.{bases_put_more, later_bases, many_deltas, no_bases_put}
+use Rattle.ax_index.proofs.CarriedLemmas.{no_deltas_put, same_bases, settled_here, settled_none}
+use Rattle.ax_index.proofs.CarriedLemmas.{settled_other, some_in, was_merged}
 use Rattle.ax_index.proofs.Lists.{deltas_more, bases_more, changed_more, first_least, not_in_first}
 use Rattle.ax_index.proofs.RewritingLemmas.{finished}
 

@@ -94,7 +94,8 @@ at_rises term numbers x postings up rest e =
     (λ (s : bytes_eq x.term term ≡ false). rest (sym (ap (λ (b : Bool). cond b (Some x.numbers) (numbers_under term postings)) s) ∙ e))
     (true_or_false (bytes_eq x.term term))
 
-rises_after : (term numbers last : List ℕ) (postings : List Posting) → AreAfter last postings → numbers_under term postings ≡ Some numbers → IsRisingList numbers
+rises_after : (term numbers last : List ℕ) (postings : List Posting) → AreAfter last postings → numbers_under term postings ≡ Some numbers
+    → IsRisingList numbers
 rises_after term numbers last [] h e = absurd (cc)
 rises_after term numbers last (x ∷ postings) h e = at_rises term numbers x postings h.1.rising (rises_after term numbers x.term postings h.2) e
 
@@ -105,7 +106,8 @@ under_rises term numbers (x ∷ postings) h e = at_rises term numbers x postings
 -- ---- a base
 
 -- the pairs of a base that was read are those that it is the payload of
-pub base_pairs_are : (payload : List ℕ) (low : Pair) (postings : List Posting) (pairs : List Pair) → IsLeaf payload low postings → IsBase payload pairs → pairs ≡ pairs_of postings
+pub base_pairs_are : (payload : List ℕ) (low : Pair) (postings : List Posting) (pairs : List Pair) → IsLeaf payload low postings
+    → IsBase payload pairs → pairs ≡ pairs_of postings
 base_pairs_are payload low postings pairs is base =
     base.have ∙ ap pairs_of (one_leaf payload base.low low base.postings postings base.is is).1
 

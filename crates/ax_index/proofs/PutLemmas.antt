@@ -1,5 +1,6 @@
 -- Parts that were put one after another: deltas, and bases.
-use Rattle.std.proofs.Common.{◌≡◌, ℕ, ◌+◌, ◌<◌, List, [], ◌∷◌, ◌++◌, length, take, drop, arith, refl, sym, ap, ◌∙◌, subst, append_assoc, append-nil, true, ⊎_elim}
+use Rattle.std.proofs.Common.{◌≡◌, ℕ, ◌+◌, ◌<◌, List, [], ◌∷◌, ◌++◌, length, take, drop, arith}
+use Rattle.std.proofs.Common.{refl, sym, ap, ◌∙◌, subst, append_assoc, append-nil, true, ⊎_elim}
 use Rattle.std.specs.declared.cmp.Ordering.TheVariants.{Less}
 use Rattle.ax_frame.specs.Part.{PartValue}
 use Rattle.ax_pair.specs.declared.pair.Pair.{Pair}
@@ -40,7 +41,8 @@ rise_parted all first behind whole up =
 pub none_put : (page : ℕ) (now : List TermPage) (old : List PartValue) → ArePut page [] now 0 old old
 none_put page now old = record { parts = []; added = sym (append-nil old); after = now; carry = carry_nothing page now; counted = refl }
 
-pub one_put : (page : ℕ) (changes : List Change) (now : List TermPage) (payload : List ℕ) (old new : List PartValue) → page < length now → Rise (changed_pairs changes)
+pub one_put : (page : ℕ) (changes : List Change) (now : List TermPage) (payload : List ℕ) (old new : List PartValue) → page < length now
+    → Rise (changed_pairs changes)
     → IsDelta payload (term_changes_of changes) → new ≡ old ++ delta_part page payload ∷ [] → ArePut page changes now 1 old new
 one_put page changes now payload old new there up spelled added = record {
   parts = delta_part page payload ∷ [];
@@ -50,7 +52,8 @@ one_put page changes now payload old new there up spelled added = record {
   counted = one_delta_of page payload;
 }
 
-pub more_put : (page : ℕ) (done first : List Change) (now : List TermPage) (count : ℕ) (old here new : List PartValue) → page < length now → ArePut page done now count old here
+pub more_put : (page : ℕ) (done first : List Change) (now : List TermPage) (count : ℕ) (old here new : List PartValue) → page < length now
+    → ArePut page done now count old here
     → ((later : List TermPage) → page < length later → ArePut page first later 1 here new) → ArePut page (done ++ first) now (count + 1) old new
 more_put page done first now count old here new there is more =
     let next : ArePut page first is.after 1 here new = more is.after (omega (arith, is.carry.lows.many)) in
@@ -68,7 +71,8 @@ base_many : (page : ℕ) (payload : List ℕ) (now : List TermPage) → page < l
 base_many page payload now there = ap length (put_within page (with_base payload) now there) ∙ length-set now page (with_base payload)
 
 -- where the first of the pairs is not before the low pair, those behind some of them are after it
-pub behind_some : (low : Pair) (first rest : List Pair) → Rise (first ++ rest) → BeginsFrom low (first ++ rest) → (0 < length (first ++ rest) → 0 < length first)
+pub behind_some : (low : Pair) (first rest : List Pair) → Rise (first ++ rest) → BeginsFrom low (first ++ rest)
+    → (0 < length (first ++ rest) → 0 < length first)
     → (p : Pair) → has p rest ≡ true → pair_cmp low p ≡ Less
 behind_some low [] [] rise begins some p h = absurd (cc)
 behind_some low [] (q ∷ rest) rise begins some p h = absurd (omega (arith, some (omega arith)))
@@ -99,7 +103,8 @@ first_put page first rest now low old new there same rise begins some belong put
       next_is = sym (base_many page put.payload now there);
     }
 
-pub next_put : (page : ℕ) (list : List Pair) (q : Pair) (piece rest : List Pair) (now : List TermPage) (next : ℕ) (old here new : List PartValue) → Rise list → AllBelong list page now
+pub next_put : (page : ℕ) (list : List Pair) (q : Pair) (piece rest : List Pair) (now : List TermPage) (next : ℕ) (old here new : List PartValue)
+    → Rise list → AllBelong list page now
     → next < most_term_pages → IsRewrittenTo page list ((q ∷ piece) ++ rest) now next old here → IsBasePut next q (q ∷ piece) here new
     → IsRewrittenTo page list rest now (next + 1) old new
 next_put page list q piece rest now next old here new rise belong few is put =
@@ -119,7 +124,8 @@ pub list_parted : (all first behind : List Pair) → all ≡ first ++ behind →
 list_parted all first behind whole rise =
     let both : Rise (first ++ behind) = subst Rise whole rise in (rises_front first behind both, rises_back first behind both)
 
-pub piece_begins : (q : Pair) (rest tail piece behind : List Pair) → rest ≡ q ∷ tail → rest ≡ piece ++ behind → 0 < length piece → (more : List Pair) × (piece ≡ q ∷ more)
+pub piece_begins : (q : Pair) (rest tail piece behind : List Pair) → rest ≡ q ∷ tail → rest ≡ piece ++ behind → 0 < length piece
+    → (more : List Pair) × (piece ≡ q ∷ more)
 piece_begins q rest tail [] behind begins parts some = absurd (omega arith)
 piece_begins q rest tail (x ∷ piece) behind begins parts some =
     let same : x ∷ (piece ++ behind) ≡ q ∷ tail = sym parts ∙ begins in
@@ -131,12 +137,14 @@ piece_begins_itself q rest tail piece behind begins parts some =
     let (more, is) = piece_begins q rest tail piece behind begins parts some in
     subst (BeginsFrom q) (sym is) (begins_itself q more)
 
-pub belong_begins : (pages : List TermPage) (page : ℕ) (low : Pair) (pairs : List Pair) → low ≡ low_pair page pages → AllBelong pairs page pages → BeginsFrom low pairs
+pub belong_begins : (pages : List TermPage) (page : ℕ) (low : Pair) (pairs : List Pair) → low ≡ low_pair page pages → AllBelong pairs page pages
+    → BeginsFrom low pairs
 belong_begins pages page low [] same belong = tt
 belong_begins pages page low (q ∷ pairs) same belong = λ less.
     not_both q low less (subst (λ (l : Pair). NotAfter l q) (sym same) (belong q (first_of_list q pairs)).below)
 
-pub first_of_pairs : (page : ℕ) (pairs first rest : List Pair) (now : List TermPage) (low : Pair) (next : ℕ) (old new : List PartValue) → pairs ≡ first ++ rest → next ≡ length now
+pub first_of_pairs : (page : ℕ) (pairs first rest : List Pair) (now : List TermPage) (low : Pair) (next : ℕ) (old new : List PartValue)
+    → pairs ≡ first ++ rest → next ≡ length now
     → page < length now → low_pair page now ≡ low → Rise pairs → BeginsFrom low pairs → (0 < length pairs → 0 < length first) → AllBelong pairs page now
     → IsBasePut page low first old new → IsRewrittenTo page pairs rest now next old new
 first_of_pairs page pairs first rest now low next old new whole next_is there same rise begins some belong put =
@@ -146,7 +154,8 @@ first_of_pairs page pairs first rest now low next old new whole next_is there sa
     (λ h. some (subst (λ (list : List Pair). 0 < length list) (sym whole) h))
     (subst (λ (list : List Pair). AllBelong list page now) whole belong) put))
 
-pub next_of_pairs : (page : ℕ) (list : List Pair) (q : Pair) (rest tail piece behind : List Pair) (now : List TermPage) (next later : ℕ) (old here new : List PartValue) → Rise list
+pub next_of_pairs : (page : ℕ) (list : List Pair) (q : Pair) (rest tail piece behind : List Pair) (now : List TermPage) (next later : ℕ)
+    (old here new : List PartValue) → Rise list
     → AllBelong list page now → next < most_term_pages → later ≡ next + 1 → rest ≡ q ∷ tail → rest ≡ piece ++ behind → 0 < length piece
     → IsRewrittenTo page list rest now next old here → IsBasePut next q piece here new → IsRewrittenTo page list behind now later old new
 next_of_pairs page list q rest tail piece behind now next later old here new rise belong few later_is begins parts some is put =

@@ -1,5 +1,7 @@
 -- A page written anew: its own base first, and then one new page after another.
-use Rattle.std.proofs.Common.{◌≡◌, ◌≢◌, ℕ, ◌+◌, ◌<◌, ◌≤◌, List, [], ◌∷◌, ◌++◌, length, arith, refl, sym, ap, ◌∙◌, subst, Bool, true, false, cond, append_assoc, append-nil, ⊎_elim, ◌⊎◌, inl, inr}
+use Rattle.std.proofs.Common.{◌≡◌, ◌≢◌, ℕ, ◌+◌, ◌<◌, ◌≤◌, List, [], ◌∷◌, ◌++◌, length, arith, refl}
+use Rattle.std.proofs.Common.{sym, ap, ◌∙◌, subst, Bool, true, false, cond, append_assoc}
+use Rattle.std.proofs.Common.{append-nil, ⊎_elim, ◌⊎◌, inl, inr}
 use Rattle.std.specs.declared.cmp.Ordering.TheVariants.{Less}
 use Rattle.std.proofs.lemmas.Bool.{lt-ltb, le-ltb, cases_lt}
 use Rattle.std.proofs.lemmas.List.{get_or_append_left, get_or-set_same}
@@ -30,7 +32,9 @@ use Rattle.ax_index.specs.Bare.{has_deltas}
 use Rattle.ax_index.specs.Carried.{HasLowPair, HasSome, bases_put}
 use Rattle.ax_index.specs.Rewriting.{without, Replaces, Rewrites}
 use Rattle.ax_index.proofs.CarriedLemmas.{bases_put_more, later_bases, no_base_of, one_base_put, same_bases}
-use Rattle.ax_index.proofs.Lists.{deltas_more, bases_more, has_more, in_first, in_second, not_in_first, first_of_list, rises_back, one_before, not_in_both, not_in_other, first_least}
+use Rattle.ax_index.proofs.Lists.{deltas_more, bases_more, has_more, in_first, in_second}
+use Rattle.ax_index.proofs.Lists.{not_in_first, first_of_list, rises_back, one_before, not_in_both}
+use Rattle.ax_index.proofs.Lists.{not_in_other, first_least}
 
 -- ---- the base of the page itself
 
@@ -144,7 +148,8 @@ module _ (page : ℕ) (list : List Pair) (q : Pair) (piece rest : List Pair) (no
   least p h = first_least q p (piece ++ rest) rises_left h
 
   -- a pair of the page that is not left has none from the low pair on
-  none_beyond : (set with_it : PairSet) → Replaces page list now set with_it → (p : Pair) → IsPageOf p is.last old → NotAfter q p → without left with_it p ≡ false
+  none_beyond : (set with_it : PairSet) → Replaces page list now set with_it → (p : Pair) → IsPageOf p is.last old → NotAfter q p
+      → without left with_it p ≡ false
   none_beyond set with_it replaces p of not_after =
       ⊎_elim
       (λ (in_left : has p left ≡ true). ap (λ (b : Bool). cond b false (with_it p)) in_left)

@@ -1,5 +1,7 @@
 -- Runs of changes of one page, and pairs of one page.
-use Rattle.std.proofs.Common.{◌≡◌, ℕ, suc, ◌+◌, ◌<◌, ◌≤◌, List, [], ◌∷◌, ◌++◌, length, take, drop, get_or, arith, refl, sym, ap, ◌∙◌, subst, Bool, true, false, cond, ⊎_elim, inl, inr}
+use Rattle.std.proofs.Common.{◌≡◌, ℕ, suc, ◌+◌, ◌<◌, ◌≤◌, List, [], ◌∷◌, ◌++◌, length, take, drop}
+use Rattle.std.proofs.Common.{get_or, arith, refl, sym, ap, ◌∙◌, subst, Bool, true, false, cond}
+use Rattle.std.proofs.Common.{⊎_elim, inl, inr}
 use Rattle.std.proofs.lemmas.Bool.{cases_lt}
 use Rattle.std.proofs.lemmas.List.{take_more}
 use Rattle.std.proofs.Math.Seq.{drop-cons}
@@ -47,12 +49,14 @@ before_one_more bound first change before less p h =
     (true_or_false (is_same change.pair p)))
     (true_or_false (has p (changed_pairs first)))
 
-pub starts_at : (bound : Pair) (change : Change) (behind all : List Change) → all ≡ change ∷ behind → (pair_cmp change.pair bound ≡ Less → ⊥) → StartsFrom all bound
+pub starts_at : (bound : Pair) (change : Change) (behind all : List Change) → all ≡ change ∷ behind → (pair_cmp change.pair bound ≡ Less → ⊥)
+    → StartsFrom all bound
 starts_at bound change behind all is from = subst (λ (changes : List Change). StartsFrom changes bound) (sym is) from
 
 -- ---- pairs of a page
 
-pub ends_tell : (pages : List TermPage) (page : ℕ) (pairs : List Pair) (first last : Pair) (rest front : List Pair) → pairs ≡ first ∷ rest → pairs ≡ front ++ last ∷ [] → Rise pairs
+pub ends_tell : (pages : List TermPage) (page : ℕ) (pairs : List Pair) (first last : Pair) (rest front : List Pair) → pairs ≡ first ∷ rest
+    → pairs ≡ front ++ last ∷ [] → Rise pairs
     → IsPageOf first page pages → IsPageOf last page pages → AllBelong pairs page pages
 ends_tell pages page pairs first last rest front begins ends rise of_first of_last p h =
     between pages page first p last of_first of_last
@@ -73,10 +77,12 @@ ends_tell pages page pairs first last rest front begins ends rise of_first of_la
         (true_or_false (is_same last p)))
         (true_or_false (has p front))
 
-pub first_told : (pages : List TermPage) (page : ℕ) (pairs : List Pair) (first : Pair) (rest : List Pair) → pairs ≡ first ∷ rest → AllBelong pairs page pages → IsPageOf first page pages
+pub first_told : (pages : List TermPage) (page : ℕ) (pairs : List Pair) (first : Pair) (rest : List Pair) → pairs ≡ first ∷ rest
+    → AllBelong pairs page pages → IsPageOf first page pages
 first_told pages page pairs first rest begins belong = belong first (ap (has first) begins ∙ first_of_list first rest)
 
-pub last_told : (pages : List TermPage) (page : ℕ) (pairs : List Pair) (last : Pair) (front : List Pair) → pairs ≡ front ++ last ∷ [] → AllBelong pairs page pages → IsPageOf last page pages
+pub last_told : (pages : List TermPage) (page : ℕ) (pairs : List Pair) (last : Pair) (front : List Pair) → pairs ≡ front ++ last ∷ []
+    → AllBelong pairs page pages → IsPageOf last page pages
 last_told pages page pairs last front ends belong = belong last (ap (has last) ends ∙ in_second last front (last ∷ []) (first_of_list last []))
 
 -- ---- one pair of a page
@@ -93,12 +99,14 @@ from_low pages page p low same not_before =
 pub as_pair : (p : Pair) (term : List ℕ) (number : ℕ) → term ≡ p.term → number ≡ p.number → record { term = term; number = number } ≡ p
 as_pair p term number first second = same_pair term p.term number p.number first second
 
-pub told_before : (pages : List TermPage) (page : ℕ) (p low : Pair) (before : Bool) → low ≡ low_pair page pages → before ≡ is_lt (pair_cmp p low) → before ≡ true
+pub told_before : (pages : List TermPage) (page : ℕ) (p low : Pair) (before : Bool) → low ≡ low_pair page pages → before ≡ is_lt (pair_cmp p low)
+    → before ≡ true
     → (IsTrue false → IsPageOf p page pages) × (IsPageOf p page pages → IsTrue false)
 told_before pages page p low before same is so =
     (λ e. absurd (cc), λ of. absurd (before_low pages page p low same (sym is ∙ so) of))
 
-pub told_next : (pages : List TermPage) (page next : ℕ) (p low end : Pair) (before ends : Bool) → page < length pages → low ≡ low_pair page pages → before ≡ is_lt (pair_cmp p low)
+pub told_next : (pages : List TermPage) (page next : ℕ) (p low end : Pair) (before ends : Bool) → page < length pages → low ≡ low_pair page pages
+    → before ≡ is_lt (pair_cmp p low)
     → before ≡ false → IsNextPage page next pages → end ≡ low_pair next pages → ends ≡ is_lt (pair_cmp p end)
     → (IsTrue ends → IsPageOf p page pages) × (IsPageOf p page pages → IsTrue ends)
 told_next pages page next p low end before ends there same is not_so behind bound ends_is = (
@@ -107,7 +115,8 @@ told_next pages page next p low end before ends there same is not_so behind boun
   λ of. ends_is ∙ ap (λ (l : Pair). is_lt (pair_cmp p l)) bound ∙ ap is_lt (before_next pages page next p behind of),
 )
 
-pub told_last : (pages : List TermPage) (page : ℕ) (p low : Pair) (before : Bool) → page < length pages → low ≡ low_pair page pages → before ≡ is_lt (pair_cmp p low)
+pub told_last : (pages : List TermPage) (page : ℕ) (p low : Pair) (before : Bool) → page < length pages → low ≡ low_pair page pages
+    → before ≡ is_lt (pair_cmp p low)
     → before ≡ false → IsLastPage page pages → (IsTrue true → IsPageOf p page pages) × (IsPageOf p page pages → IsTrue true)
 told_last pages page p low before there same is not_so last =
     (λ so. within_last pages page p there last (from_low pages page p low same (sym is ∙ not_so)), λ of. refl)
@@ -129,7 +138,8 @@ some_in_run pages page changes n some first parted =
     by_zero (change ∷ left) h at (inl (next, is, ends)) = ends.starts (before_next pages page next change.pair is at)
     by_zero (change ∷ left) h at (inr (last, none)) = absurd (cc)
 
-pub before_more : (bound : Pair) (changes : List Change) (i : ℕ) (change : Change) → i < length changes → change ≡ get_or changes i change → AreBefore (changed_pairs (take i changes)) bound
+pub before_more : (bound : Pair) (changes : List Change) (i : ℕ) (change : Change) → i < length changes → change ≡ get_or changes i change
+    → AreBefore (changed_pairs (take i changes)) bound
     → pair_cmp change.pair bound ≡ Less → AreBefore (changed_pairs (take (i + 1) changes)) bound
 before_more bound changes i change there is before less =
     subst (λ (first : List Change). AreBefore (changed_pairs first) bound)

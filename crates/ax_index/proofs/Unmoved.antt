@@ -52,7 +52,8 @@ module _ {C : Type 0} where
 
   -- ---- faults
 
-  pub told_from : (old new : Store C) (fault : StoreFault) → store_contents new ≡ store_contents old → store_offsets new ≡ store_offsets old → store_area new ≡ store_area old
+  pub told_from : (old new : Store C) (fault : StoreFault) → store_contents new ≡ store_contents old → store_offsets new ≡ store_offsets old
+      → store_area new ≡ store_area old
       → TellsPart new fault → TellsPart old fault
   told_from old new Disk contents offsets area h = tt
   told_from old new (Damaged extent at) contents offsets area h = record {
@@ -120,7 +121,8 @@ module _ {C : Type 0} where
       placed
 
   -- the same of a delta
-  pub told_delta : (old new : Store C) (page i : ℕ) (fault : StoreFault) (payload : List ℕ) → SameButReads old new → i < length (parts_of (Term page) (store_contents old))
+  pub told_delta : (old new : Store C) (page i : ℕ) (fault : StoreFault) (payload : List ℕ) → SameButReads old new
+      → i < length (parts_of (Term page) (store_contents old))
       → is_base_at (term_page page (store_contents old).terms) i ≡ false → payload ≡ part_at (Term page) i (store_contents old)
       → ((changes : List TermChange) × IsDelta payload changes → ⊥) → IsPlacedAt new page i fault → TellsPart old fault
   told_delta old new page i fault payload same there delta is none placed =
@@ -136,5 +138,6 @@ pub slots_back : (old took left new : List Bool) (n m : ℕ) → slice_index_or 
 slots_back old took left new n m free e f same g =
     g ∙ ap (λ (k : ℕ). slice_set left k false) same ∙ ap (λ (taken : List Bool). slice_set taken n false) (f ∙ e) ∙ given_back old n free
 
-pub read_still : (payload : List ℕ) (frames : Frames) (old new : Slot StoreFrames) (len : ℕ) → new ≡ old → IsRead payload frames old.number len → IsRead payload frames new.number len
+pub read_still : (payload : List ℕ) (frames : Frames) (old new : Slot StoreFrames) (len : ℕ) → new ≡ old → IsRead payload frames old.number len
+    → IsRead payload frames new.number len
 read_still payload frames old new len same is = subst (λ (slot : Slot StoreFrames). IsRead payload frames slot.number len) (sym same) is

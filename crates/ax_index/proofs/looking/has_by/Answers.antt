@@ -38,7 +38,8 @@ returns-in-None-clause-others g c =
 
 pub returns-in-Some-clause-met : goal.returns-in-Some-clause-met
 returns-in-Some-clause-met g c = λ honest.
-    looked_by_delta _ c.page_of_pair-page.result c.args.pair.now c.in-Ok.said c.in-Some.added c.page_of_pair-page.ensures c.in-Some.is (c.in-Ok.ensures.met honest)
+    looked_by_delta _ c.page_of_pair-page.result c.args.pair.now c.in-Ok.said c.in-Some.added c.page_of_pair-page.ensures c.in-Some.is
+    (c.in-Ok.ensures.met honest)
 
 pub returns-in-None-clause-met : goal.returns-in-None-clause-met
 returns-in-None-clause-met g c = λ honest.

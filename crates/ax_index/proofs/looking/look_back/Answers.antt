@@ -75,7 +75,8 @@ returns-then-is_some-clause-met g c = λ honest.
 
 pub returns-clause-met : goal.returns-clause-met
 returns-clause-met g c = λ honest.
-    from_less (term_page c.args.page (store_contents c.args.store.now).terms) c.loop-i.i _ (omega (arith, c.loop-i-test.false, c.oldest_delta-first.ensures)) (c.loop-i.invariant.met honest)
+    from_less (term_page c.args.page (store_contents c.args.store.now).terms) c.loop-i.i _
+    (omega (arith, c.loop-i-test.false, c.oldest_delta-first.ensures)) (c.loop-i.invariant.met honest)
 
 pub look_at-requires-clause-agrees : goal.look_at-requires-clause-agrees
 look_at-requires-clause-agrees g c = λ honest works. c.loop-i.invariant.reads.agrees (subst IsTrue c.loop-i.invariant.honest honest) works

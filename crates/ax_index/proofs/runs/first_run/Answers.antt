@@ -5,4 +5,5 @@ use Rattle.ax_index.proofs.runs.first_run.Goals as goal
 
 pub returns-clause-some : goal.returns-clause-some
 returns-clause-some g c =
-    some_in_run (store_contents c.args.store.now).terms c.page_of_pair-page.result c.args.changes.now c.run_len-len.result c.requires (search rules) c.run_len-len.ensures.parted
+    some_in_run (store_contents c.args.store.now).terms c.page_of_pair-page.result c.args.changes.now c.run_len-len.result c.requires
+    (search rules) c.run_len-len.ensures.parted

@@ -26,7 +26,8 @@ loop-i-preserved c =
     let counted : c.loop-i.bytes + c.bytes_behind-bytes.result ≡ c.loop-i.bytes + bytes_beside c.index-pairs-i.result c.index-pairs-i-in-loop-i.result =
     omega (arith, c.bytes_behind-bytes.ensures.is)
     in
-    let kept = kept_within (nat_lt 2048 (c.loop-i.bytes + c.bytes_behind-bytes.result)) c.loop-i.front c.loop-i.i c.front_after-front.result c.front_after-front.ensures
+    let kept = kept_within
+    (nat_lt 2048 (c.loop-i.bytes + c.bytes_behind-bytes.result)) c.loop-i.front c.loop-i.i c.front_after-front.result c.front_after-front.ensures
     c.loop-i.invariant.some c.loop-i.invariant.up_to
     in
     record {
