@@ -32,7 +32,8 @@ bases_due had has = if had && not has then 1 else 0
 -- Behind the parts that a batch had, parts were put that change no pair. So many pages fewer have deltas: as
 -- many as were asked for, or else no page has deltas but those that are stuck. Each page that had deltas and has
 -- none then got one base, each other page that was there got none, and a new page has one base and a pair; of a page
--- that there is not then there is no part. One that is merged is left without pairs only where it has none, and each of its parts was in its grammar.
+-- that there is not then there is no part. One that is merged is left without pairs only where it has none; and over an honest
+-- disk each of its parts was in its grammar.
 pub record IsMergePlan (honest : Bool) (asked merged : ℕ) (old new : List PartValue) (before : List TermPage) : Type 0 where
   pub parts : List PartValue
   pub added : new ≡ old ++ parts

@@ -23,7 +23,7 @@ most_merged = 16
 -- the disk from which parts were read is honest. So many of them are bases of pages that were there, and those are
 -- few. A page that was there and is not merged gets just the changes of the list that are of it, and a new page has
 -- one base, no deltas and a pair; of a page that there is not then there is no part. A page that is merged is left
--- without pairs only where the changes leave it none, and each of its parts was in its grammar.
+-- without pairs only where the changes leave it none; and over an honest disk each of its parts was in its grammar.
 pub record IsPlan (honest : Bool) (changes : List Change) (merged : ℕ) (old new : List PartValue) (before : List TermPage) : Type 0 where
   pub parts : List PartValue
   pub added : new ≡ old ++ parts

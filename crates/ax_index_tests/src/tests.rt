@@ -5,4 +5,5 @@ mod largest;
 mod many;
 mod random;
 mod several;
+mod spoiled;
 mod worked_page;

@@ -20,6 +20,25 @@ pub fn fresh_disk(alloc: Global, room: usize) -> Result<MemDisk, Fail> {
     Ok(MemDisk::make(alloc, root, a, b, room, CALLS, Vec::new(alloc))?)
 }
 
+/// The open root slot of version 1, area 1 and generation 1, a closed one, and the last byte.
+const ROOT: &[u8] =
+    b"\x01\x01\x00\x01\x01\x00\x00\x00\x00\x00\x00\x00AXDB\x00\x00\x00\x00\x00\x00\x00\x00\x00\x00\x00\x00\x00\x00\x00\x00E";
+
+/// A disk in memory whose first area has these bytes.
+pub fn disk_of(alloc: Global, area: &[u8]) -> Result<MemDisk, Fail> {
+    let root = Vec::from_slice(alloc, ROOT)?;
+    let a = Vec::from_slice(alloc, area)?;
+    Ok(MemDisk::make(
+        alloc,
+        root,
+        a,
+        Vec::new(alloc),
+        4096,
+        CALLS,
+        Vec::new(alloc),
+    )?)
+}
+
 /// Whether the pair of a term and a number is in the index.
 pub fn has_pair<D: Disk, C: PageCache>(
     alloc: Global,
@@ -59,7 +78,8 @@ pub fn changes_of_rows(alloc: Global, rows: &[(bool, &[u8], u32)]) -> Result<Vec
     Ok(changes)
 }
 
-fn range_of(alloc: Global, from: &[u8], below: &[u8]) -> Result<TermRange, Fail> {
+/// The range from one term on and before another.
+pub fn range_of(alloc: Global, from: &[u8], below: &[u8]) -> Result<TermRange, Fail> {
     let from = Bytes::from_vec(Vec::from_slice(alloc, from)?);
     let below = Bytes::from_vec(Vec::from_slice(alloc, below)?);
     Ok(TermRange { from, below })
