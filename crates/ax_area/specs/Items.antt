@@ -4,7 +4,7 @@ use Rattle.std.specs.Prelude.{◌≡◌, ℕ, ◌<◌, ◌-◌, ◌==◌, ◌&&�
 use Rattle.std.specs.Prelude.{List, [], ◌∷◌, length, take, drop}
 use Rattle.std.specs.Int.{w32, w64, from_le_bytes}
 use Rattle.ax_frame.specs.Part.{PartValue, parts_bytes, AllFit}
-use Rattle.ax_area.specs.declared.numbers.TheConstants.{LONG_DOCUMENT, PIECE}
+use Rattle.ax_pages.specs.declared.numbers.TheConstants.{LONG_DOCUMENT, PIECE}
 
 pub record Item : Type 0 where
   pub first : PartValue

@@ -4,10 +4,10 @@ use Rattle.std.specs.Prelude.{ℕ, ◌==◌, nat_le, if◌then◌else◌, List, 
 use Rattle.std.specs.Prelude.{Option, Some, None, option_and_then}
 use Rattle.ax_area.specs.declared.kind.Kind.{Kind}
 use Rattle.ax_area.specs.declared.kind.Kind.TheVariants as kind
-use Rattle.ax_area.specs.declared.numbers.TheConstants.{PLAIN_META, POLICY, PLAIN_DOCUMENT, GONE}
-use Rattle.ax_area.specs.declared.numbers.TheConstants.{BASE, DELTA, DOCUMENT, META}
-use Rattle.ax_area.specs.declared.numbers.TheConstants.{LONG_DOCUMENT, PIECE}
-use Rattle.ax_area.specs.declared.numbers.TheConstants.{VERSIONS_SINCE, PIECES_SINCE}
+use Rattle.ax_pages.specs.declared.numbers.TheConstants.{PLAIN_META, POLICY, PLAIN_DOCUMENT, GONE}
+use Rattle.ax_pages.specs.declared.numbers.TheConstants.{BASE, DELTA, DOCUMENT, META}
+use Rattle.ax_pages.specs.declared.numbers.TheConstants.{LONG_DOCUMENT, PIECE}
+use Rattle.ax_pages.specs.declared.numbers.TheConstants.{VERSIONS_SINCE, PIECES_SINCE}
 
 pub record Row : Type 0 where
   pub number : ℕ

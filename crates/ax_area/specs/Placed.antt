@@ -6,7 +6,7 @@ use Rattle.std.specs.Prelude.{take, drop, map, slice_index_or, Some}
 use Rattle.std.specs.List.{flat_map}
 use Rattle.std.specs.FinMap as finite
 use Rattle.ax_pages.specs.Contents.{term_page, term_parts}
-use Rattle.ax_area.specs.declared.numbers.TheConstants.{PLAIN_DOCUMENT, DOCUMENT}
+use Rattle.ax_pages.specs.declared.numbers.TheConstants.{PLAIN_DOCUMENT, DOCUMENT}
 use Rattle.ax_area.specs.Contents.{Contents, Stored}
 use Rattle.ax_area.specs.Places.{Place, PagePlaces}
 

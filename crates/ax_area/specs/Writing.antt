@@ -10,10 +10,10 @@ use Rattle.std.specs.Int.{w32, w64, to_le_bytes}
 use Rattle.ax_pair.specs.Low.{low_in}
 use Rattle.ax_frame.specs.Part.{PartValue}
 use Rattle.ax_pages.specs.AfterPart.{last_policy}
-use Rattle.ax_area.specs.declared.numbers.TheConstants.{PLAIN_META, POLICY, PLAIN_DOCUMENT, GONE}
-use Rattle.ax_area.specs.declared.numbers.TheConstants.{BASE, DELTA, DOCUMENT, META}
-use Rattle.ax_area.specs.declared.numbers.TheConstants.{LONG_DOCUMENT, PIECE}
-use Rattle.ax_area.specs.declared.numbers.TheConstants.{VERSIONS_SINCE, PIECES_SINCE}
+use Rattle.ax_pages.specs.declared.numbers.TheConstants.{PLAIN_META, POLICY, PLAIN_DOCUMENT, GONE}
+use Rattle.ax_pages.specs.declared.numbers.TheConstants.{BASE, DELTA, DOCUMENT, META}
+use Rattle.ax_pages.specs.declared.numbers.TheConstants.{LONG_DOCUMENT, PIECE}
+use Rattle.ax_pages.specs.declared.numbers.TheConstants.{VERSIONS_SINCE, PIECES_SINCE}
 use Rattle.ax_area.specs.Items.{Item, single, item_bytes, first_bytes, piece_bytes}
 use Rattle.ax_area.specs.Changes.{Change, Written, Numbers, most_short}
 use Rattle.ax_area.specs.Changes as change

@@ -3,7 +3,7 @@
 ghost use Rattle.std.specs.Prelude.{◌≡◌, ◌≤◌};
 ghost use Rattle.ax_area.specs.Kinds.{kind_in, known_in, row};
 
-use crate::numbers::{
+use ax_pages::numbers::{
     BASE, DELTA, DOCUMENT, GONE, LONG_DOCUMENT, META, PIECE, PIECES_SINCE, PLAIN_DOCUMENT,
     PLAIN_META, POLICY, VERSIONS_SINCE,
 };

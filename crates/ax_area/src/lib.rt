@@ -16,7 +16,6 @@ mod change;
 mod item;
 mod kind;
 pub mod laws;
-pub mod numbers;
 mod root;
 
 pub use change::{ChangeText, may_follow, read_change};

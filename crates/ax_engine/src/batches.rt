@@ -8,15 +8,10 @@ ghost use Rattle.ax_image.specs.UpsertParts.{replacing_parts, creating_parts};
 ghost use Rattle.ax_store.specs.Batch.{batch_parts, is_sealed};
 
 use ax_frame::Part;
+use ax_pages::numbers::{PLAIN_DOCUMENT, PLAIN_META};
 use ax_store::{Batch, Memory};
 use ax_tree::{Tree, append_tree};
 use std::alloc::Global;
-
-/// The number of the kind of a part of the meta.
-const META: u8 = 1;
-
-/// The number of the kind of a part of a document.
-const DOCUMENT: u8 = 3;
 
 /// The sealed batch by which a document that is held gets a tree.
 pub(crate) fn replacing(
@@ -35,7 +30,7 @@ pub(crate) fn replacing(
     batch.add(
         alloc,
         Part {
-            kind: DOCUMENT,
+            kind: PLAIN_DOCUMENT,
             key: number,
             payload,
         },
@@ -57,7 +52,7 @@ pub(crate) fn creating(alloc: Global, number: u32, policy: u8, tree: &Tree) -> R
     batch.add(
         alloc,
         Part {
-            kind: META,
+            kind: PLAIN_META,
             key: 0,
             payload: &meta,
         },
@@ -65,7 +60,7 @@ pub(crate) fn creating(alloc: Global, number: u32, policy: u8, tree: &Tree) -> R
     batch.add(
         alloc,
         Part {
-            kind: DOCUMENT,
+            kind: PLAIN_DOCUMENT,
             key: number,
             payload,
         },

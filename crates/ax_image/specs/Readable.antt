@@ -6,7 +6,7 @@ use Rattle.std.specs.List.{AllByRecursion}
 use Rattle.ax_disk.specs.model.Image.{Image}
 use Rattle.ax_frame.specs.Part.{PartValue, AllFit, parts_bytes}
 use Rattle.ax_pages.specs.Image.{HasFrames}
-use Rattle.ax_area.specs.declared.numbers.TheConstants.{NEWEST_VERSION}
+use Rattle.ax_pages.specs.declared.numbers.TheConstants.{NEWEST_VERSION}
 use Rattle.ax_area.specs.Changes.{Change, change_of}
 use Rattle.ax_area.specs.Items.{single}
 use Rattle.ax_image_grammar.specs.Payloads.{IsReadable}

@@ -8,14 +8,15 @@ use Rattle.ax_tree.specs.declared.tree.Tree.{Tree}
 use Rattle.ax_tree.specs.CanonicalText.{canonical_text}
 use Rattle.ax_container.specs.Container.{Container, entry_of}
 use Rattle.ax_pages.specs.Contents.{meta_bytes}
+use Rattle.ax_pages.specs.declared.numbers.TheConstants.{PLAIN_META, PLAIN_DOCUMENT}
 
 -- the document of that number, under that policy
 abbrev pub document_part : ℕ → ℕ → Tree → PartValue
-document_part number policy tree = record { kind = 3; key = number; payload = policy ∷ canonical_text tree }
+document_part number policy tree = record { kind = PLAIN_DOCUMENT; key = number; payload = policy ∷ canonical_text tree }
 
 -- the next number, and the number of the policy now
 abbrev pub meta_part : ℕ → ℕ → PartValue
-meta_part next policy = record { kind = 1; key = 0; payload = meta_bytes next policy }
+meta_part next policy = record { kind = PLAIN_META; key = 0; payload = meta_bytes next policy }
 
 abbrev pub replacing_parts : ℕ → ℕ → Tree → List PartValue
 replacing_parts number policy tree = document_part number policy tree ∷ []

@@ -17,7 +17,7 @@ use Rattle.ax_leaf.specs.Pairs.{Posting}
 use Rattle.ax_leaf.specs.Payload.{IsLeaf}
 use Rattle.ax_delta.specs.Changes.{TermChange}
 use Rattle.ax_delta.specs.Payload.{IsDelta}
-use Rattle.ax_area.specs.declared.numbers.TheConstants.{PIECES_SINCE}
+use Rattle.ax_pages.specs.declared.numbers.TheConstants.{PIECES_SINCE}
 use Rattle.ax_area.specs.Changes.{Change}
 use Rattle.ax_area.specs.Changes as change
 

@@ -10,6 +10,7 @@ use Rattle.ax_leaf.specs.Pairs.{postings_of}
 use Rattle.ax_leaf.specs.Payload.{IsLeaf}
 use Rattle.ax_pages.specs.Contents.{TermPage, term_page}
 use Rattle.ax_pages.specs.TermPages.{IsPageOf, low_pair}
+use Rattle.ax_pages.specs.declared.numbers.TheConstants.{BASE}
 use Rattle.ax_pairs.specs.Index.{AllBelong, IsIndex}
 use Rattle.ax_pairs.specs.PairSets.{PairSet}
 use Rattle.ax_pairs.specs.TermParts.{LeadTo, bases_below}
@@ -21,7 +22,7 @@ use Rattle.ax_index.specs.Carried.{HasLowPair, HasSome, bases_put}
 pub record IsBasePut (number : ℕ) (low : Pair) (pairs : List Pair) (old new : List PartValue) : Type 0 where
   pub payload : List ℕ
   pub is : IsLeaf payload low (postings_of pairs)
-  pub added : new ≡ old ++ record { kind = 5; key = number; payload = payload } ∷ []
+  pub added : new ≡ old ++ record { kind = BASE; key = number; payload = payload } ∷ []
 
 -- a set without the pairs of a list
 abbrev pub without : List Pair → PairSet → Pair → Bool

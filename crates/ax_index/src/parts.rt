@@ -13,14 +13,10 @@ use crate::out_of_memory::Memory;
 use crate::sizes::delta_len;
 use ax_delta::Change;
 use ax_frame::{MOST_PAYLOAD, Part};
+use ax_pages::numbers::{BASE, DELTA};
 use ax_pair::Pair;
 use ax_store::Batch;
 use std::alloc::Global;
-
-/// The kinds of parts, as their bytes say them.
-const BASE: u8 = 5;
-
-const DELTA: u8 = 6;
 
 /// Puts deltas of a page that carry rising changes, and answers how many they are: one, but for changes of
 /// which one delta would be longer than a part may be.

@@ -8,6 +8,7 @@ use Rattle.std.specs.Str.{bytes_eq}
 use Rattle.ax_pair.specs.declared.pair.Pair.{Pair}
 use Rattle.ax_pair.specs.Low.{low_in, first_pair}
 use Rattle.ax_frame.specs.Part.{PartValue}
+use Rattle.ax_pages.specs.declared.numbers.TheConstants.{PLAIN_META, POLICY, PLAIN_DOCUMENT, GONE, BASE, DELTA}
 use Rattle.ax_pages.specs.declared.page.Page.{Page}
 use Rattle.ax_pages.specs.declared.page.Page.TheVariants.{Meta, Policy, Document, Term}
 use Rattle.ax_pages.specs.declared.page.Kind.{Kind}
@@ -17,9 +18,9 @@ use Rattle.ax_pages.specs.Contents.{Contents, TermPage, next_in, now_in, is_give
 -- the kinds of parts by their numbers
 abbrev pub kind_of : ℕ → Option Kind
 kind_of number =
-    if number == 1 then Some kind.Meta else (if number == 2 then Some kind.Policy else
-    (if number == 3 then Some kind.Document else (if number == 4 then Some kind.Gone else
-    (if number == 5 then Some kind.Base else (if number == 6 then Some kind.Delta else None)))))
+    if number == PLAIN_META then Some kind.Meta else (if number == POLICY then Some kind.Policy else
+    (if number == PLAIN_DOCUMENT then Some kind.Document else (if number == GONE then Some kind.Gone else
+    (if number == BASE then Some kind.Base else (if number == DELTA then Some kind.Delta else None)))))
 
 -- the greatest number of a policy
 abbrev pub last_policy : ℕ

@@ -9,6 +9,7 @@
 #![tactic(auto)]
 
 pub mod contents_laws;
+pub mod numbers;
 mod page;
 mod root;
 

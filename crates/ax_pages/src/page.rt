@@ -3,6 +3,8 @@
 ghost use Rattle.std.specs.Prelude.{◌≡◌};
 ghost use Rattle.ax_pages.specs.AfterPart.{kind_of};
 
+use crate::numbers::{BASE, DELTA, GONE, PLAIN_DOCUMENT, PLAIN_META, POLICY};
+
 /// A page of a store: all parts of the meta, of one policy, of one document or of one term page.
 #[derive(Clone, Copy, Debug, PartialEq, Eq)]
 pub enum Page {
@@ -38,12 +40,12 @@ pub fn kind_of_number(number: u8) -> Option<Kind>
     ensures { result ≡ kind_of number }
 {
     match number {
-        1 => Some(Kind::Meta),
-        2 => Some(Kind::Policy),
-        3 => Some(Kind::Document),
-        4 => Some(Kind::Gone),
-        5 => Some(Kind::Base),
-        6 => Some(Kind::Delta),
+        PLAIN_META => Some(Kind::Meta),
+        POLICY => Some(Kind::Policy),
+        PLAIN_DOCUMENT => Some(Kind::Document),
+        GONE => Some(Kind::Gone),
+        BASE => Some(Kind::Base),
+        DELTA => Some(Kind::Delta),
         _ => None,
     }
 }

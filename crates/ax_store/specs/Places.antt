@@ -2,6 +2,7 @@
 -- From the store's own file format (docs/FORMAT.md, "Parts"); no other document has it.
 use Rattle.std.specs.Prelude.{◌≡◌, ℕ, ◌==◌, ◌&&◌, if◌then◌else◌, is_some, List, ◌++◌, drop}
 use Rattle.ax_frame.specs.Part.{PartValue, part_bytes}
+use Rattle.ax_pages.specs.declared.numbers.TheConstants.{PLAIN_META, POLICY, PLAIN_DOCUMENT, BASE, DELTA}
 use Rattle.ax_pages.specs.declared.page.Page.{Page}
 use Rattle.ax_pages.specs.declared.page.Page.TheVariants.{Meta, Policy, Document, Term}
 use Rattle.ax_pages.specs.Contents.{Contents, TermPage, term_page}
@@ -9,13 +10,13 @@ use Rattle.ax_store.specs.Slots.{part_at}
 
 -- the kind of a part of a term page: the first is a base, where there is a base, and the others are deltas
 abbrev pub kind_in : TermPage → ℕ → ℕ
-kind_in page i = if (i == 0) && is_some page.base then 5 else 6
+kind_in page i = if (i == 0) && is_some page.base then BASE else DELTA
 
 -- the part of that position by which a page has its payload
 abbrev pub part_of_page : Page → ℕ → Contents → PartValue
-part_of_page Meta i contents = record { kind = 1; key = 0; payload = part_at Meta i contents }
-part_of_page (Policy number) i contents = record { kind = 2; key = number; payload = part_at (Policy number) i contents }
-part_of_page (Document number) i contents = record { kind = 3; key = number; payload = part_at (Document number) i contents }
+part_of_page Meta i contents = record { kind = PLAIN_META; key = 0; payload = part_at Meta i contents }
+part_of_page (Policy number) i contents = record { kind = POLICY; key = number; payload = part_at (Policy number) i contents }
+part_of_page (Document number) i contents = record { kind = PLAIN_DOCUMENT; key = number; payload = part_at (Document number) i contents }
 part_of_page (Term number) i contents =
     record { kind = kind_in (term_page number contents.terms) i; key = number; payload = part_at (Term number) i contents }
 

@@ -3,17 +3,16 @@
 ghost use Rattle.std.specs.Prelude.{◌≡◌, ◌≤◌, ◌==◌, length, is_some, IfOk, IfSome, slice_index};
 ghost use Rattle.ax_pages.specs.Contents.{next_in, now_in};
 ghost use Rattle.ax_pages.specs.AfterPart.{low_at_front};
+ghost use Rattle.ax_pages.specs.declared.numbers.TheConstants.{BASE};
 ghost use Rattle.ax_store.specs.NewParts.{new_payload, new_low};
 
 use crate::kept_part::KeptPart;
 use crate::new_part::NewPart;
 use crate::out_of_memory::Memory;
+use ax_pages::numbers::BASE;
 use ax_pair::split_low;
 use ax_shown::Shown;
 use std::alloc::Global;
-
-/// The number of the kind of bases.
-const BASE: u8 = 5;
 
 const EMPTY: &[u8] = &[];
 
@@ -22,7 +21,7 @@ const EMPTY: &[u8] = &[];
 pub(crate) fn new_part(alloc: Global, kind: u8, payload: &[u8]) -> Result<NewPart, Memory>
     requires { length payload.now ≤ 65536 }
     ensures payload { IfOk result (λ part. new_payload part ≡ payload.now) }
-    ensures low { kind ≡ 5 → IfOk result (λ part. new_low part ≡ low_at_front payload.now) }
+    ensures low { kind ≡ BASE → IfOk result (λ part. new_low part ≡ low_at_front payload.now) }
 {
     let (next, policy_now) = match numbers_in(payload) {
         Some(numbers) => numbers,

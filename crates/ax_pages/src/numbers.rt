@@ -1,4 +1,5 @@
-//! The numbers of the format: its versions, and the kinds of parts. They stand here once, for code and definitions.
+//! The numbers of the format: its versions, and the kinds of parts. They stand here once, for the code and the
+//! definitions of all crates.
 
 /// The newest version, which is the one that is written. An image of a later one is newer than this program.
 pub const NEWEST_VERSION: u16 = 1;
