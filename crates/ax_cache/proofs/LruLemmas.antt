@@ -1,5 +1,6 @@
 -- What the map by last use does to the pages that it holds.
-use Rattle.std.proofs.Common.{◌≡◌, ℕ, suc, ◌+◌, ◌-◌, ◌<◌, ◌≤◌, Bool, true, false, cond, List, [], ◌∷◌, ◌++◌, length, take, map, Option, Some, None, option_map, is_some, Result, Ok, Err, OnOk, OnErr, is_ok, refl, sym, ap, subst, ◌∙◌, arith, length-append}
+use Rattle.std.proofs.Common.{◌≡◌, ℕ, suc, ◌+◌, ◌-◌, ◌<◌, ◌≤◌, Bool, true, false, cond, List, [], ◌∷◌, ◌++◌, length, take, map, Option, Some, None}
+use Rattle.std.proofs.Common.{option_map, is_some, Result, Ok, Err, OnOk, OnErr, is_ok, refl, sym, ap, subst, ◌∙◌, arith, length-append}
 use Rattle.std.specs.Prelude.{IsSome, IsOk, nat_le, ◌==◌, not, ◌&&◌}
 use Rattle.std.specs.Cmp.{eq_by_cmp_equiv, nat_cmp_total, nat_eq_equiv}
 use Rattle.std.specs.Option.{option_map_or}
@@ -109,7 +110,8 @@ module _ {V : Type 0} (shown : V → List ℕ) (eq : PartKey → PartKey → Boo
   others_stay j k [] apart = refl
   others_stay j k (e ∷ es) apart = either (eq k e.0) refl (others_stay j k es apart)
     where
-      either : (b : Bool) → eq k e.0 ≡ b → lookup (eq j) (remove_entry (eq k) es) ≡ lookup (eq j) es → lookup (eq j) (cond b es (e ∷ remove_entry (eq k) es)) ≡ lookup (eq j) (e ∷ es)
+      either : (b : Bool) → eq k e.0 ≡ b → lookup (eq j) (remove_entry (eq k) es) ≡ lookup (eq j) es
+          → lookup (eq j) (cond b es (e ∷ remove_entry (eq k) es)) ≡ lookup (eq j) (e ∷ es)
       either true is more = sym (ap (λ b. cond b (Some e.1) (lookup (eq j) es)) (sym (ap (eq j) (place_is k e.0 is)) ∙ apart))
       either false is more = ap (cond (eq j e.0) (Some e.1)) more
 
@@ -117,18 +119,21 @@ module _ {V : Type 0} (shown : V → List ℕ) (eq : PartKey → PartKey → Boo
 
   pub updated : (es : List (PartKey × V)) (k : PartKey) (v : V) (e : PartKey × V) → lookup_entry (eq k) es ≡ Some e
       → pages_of shown ((e.0, v) ∷ remove_entry (eq k) es) ≡ finite.insert (pages_of shown es) k (shown v)
-  updated es k v e is = finite.same_map key_cmp_total one_key _ _ (λ q. found ((e.0, v) ∷ remove_entry (eq k) es) q ∙ at_each q ∙ sym (finite.get-insert key_cmp_total (pages_of shown es) k (shown v) q))
+  updated es k v e is = finite.same_map key_cmp_total one_key _ _
+      (λ q. found ((e.0, v) ∷ remove_entry (eq k) es) q ∙ at_each q ∙ sym (finite.get-insert key_cmp_total (pages_of shown es) k (shown v) q))
     where
       there : k ≡ e.0
       there = place_is k e.0 (Contains-lookup_entry (eq k) es e is).1
 
-      either : (j : PartKey) (b : Bool) → eq j k ≡ b → option_map shown (cond (eq j e.0) (Some v) (lookup (eq j) (remove_entry (eq k) es))) ≡ cond b (Some (shown v)) (option_map shown (lookup (eq j) es))
+      either : (j : PartKey) (b : Bool) → eq j k ≡ b → option_map shown (cond (eq j e.0) (Some v) (lookup (eq j) (remove_entry (eq k) es)))
+          ≡ cond b (Some (shown v)) (option_map shown (lookup (eq j) es))
       either j true b = ap (λ t. option_map shown (cond t (Some v) (lookup (eq j) (remove_entry (eq k) es)))) (sym (ap (eq j) there) ∙ b)
       either j false b =
           ap (λ t. option_map shown (cond t (Some v) (lookup (eq j) (remove_entry (eq k) es)))) (sym (ap (eq j) there) ∙ b)
           ∙ ap (option_map shown) (others_stay j k es b)
 
-      at_each : (q : PartKey) → option_map shown (lookup (eq q) ((e.0, v) ∷ remove_entry (eq k) es)) ≡ cond (eq_by_cmp key_cmp q k) (Some (shown v)) (finite.get (pages_of shown es) q)
+      at_each : (q : PartKey) → option_map shown (lookup (eq q) ((e.0, v) ∷ remove_entry (eq k) es))
+          ≡ cond (eq_by_cmp key_cmp q k) (Some (shown v)) (finite.get (pages_of shown es) q)
       at_each q =
           either q (eq q k) refl
           ∙ ap (λ b. cond b (Some (shown v)) (option_map shown (lookup (eq q) es))) (same q k)
@@ -146,7 +151,8 @@ module _ {V : Type 0} (shown : V → List ℕ) (eq : PartKey → PartKey → Boo
   counted (e ∷ es) distinct =
       let step : finite.len (pages_of shown (e ∷ es)) ≡ finite.len (pages_of shown es) + 1 =
       finite.len-insert key_cmp_total (pages_of shown es) e.0 (shown e.1)
-      ∙ ap (λ b. cond b (finite.len (pages_of shown es)) (finite.len (pages_of shown es) + 1)) (ap is_some (found es e.0 ∙ ap (option_map shown) (none_first e.0 es distinct.0))) in
+      ∙ ap (λ b. cond b (finite.len (pages_of shown es)) (finite.len (pages_of shown es) + 1))
+      (ap is_some (found es e.0 ∙ ap (option_map shown) (none_first e.0 es distinct.0))) in
       omega (arith, step, counted es distinct.1)
 
   -- ---- the last one goes
@@ -177,14 +183,17 @@ module _ {V : Type 0} (shown : V → List ℕ) (eq : PartKey → PartKey → Boo
 
   pub last_gone : (es : List (PartKey × V)) (e : PartKey × V) → IsDistinct eq (keys_of (es ++ e ∷ []))
       → pages_of shown es ≡ finite.remove (pages_of shown (es ++ e ∷ [])) e.0
-  last_gone es e distinct = finite.same_map key_cmp_total one_key _ _ (λ q. found es q ∙ either q (eq q e.0) refl ∙ sym (finite.get-remove key_cmp_total (pages_of shown (es ++ e ∷ [])) e.0 q ∙ at_each q))
+  last_gone es e distinct = finite.same_map key_cmp_total one_key _ _
+      (λ q. found es q ∙ either q (eq q e.0) refl ∙ sym (finite.get-remove key_cmp_total (pages_of shown (es ++ e ∷ [])) e.0 q ∙ at_each q))
     where
-      at_each : (q : PartKey) → cond (eq_by_cmp key_cmp q e.0) None (finite.get (pages_of shown (es ++ e ∷ [])) q) ≡ cond (eq q e.0) None (option_map shown (lookup (eq q) (es ++ e ∷ [])))
+      at_each : (q : PartKey) → cond (eq_by_cmp key_cmp q e.0) None (finite.get (pages_of shown (es ++ e ∷ [])) q)
+          ≡ cond (eq q e.0) None (option_map shown (lookup (eq q) (es ++ e ∷ [])))
       at_each q =
           ap (λ b. cond b None (finite.get (pages_of shown (es ++ e ∷ [])) q)) (sym (same q e.0))
           ∙ ap (cond (eq q e.0) None) (found (es ++ e ∷ []) q)
 
-      either : (q : PartKey) (b : Bool) → eq q e.0 ≡ b → option_map shown (lookup (eq q) es) ≡ cond (eq q e.0) None (option_map shown (lookup (eq q) (es ++ e ∷ [])))
+      either : (q : PartKey) (b : Bool) → eq q e.0 ≡ b → option_map shown (lookup (eq q) es)
+          ≡ cond (eq q e.0) None (option_map shown (lookup (eq q) (es ++ e ∷ [])))
       either q true is =
           ap (option_map shown) (ap (λ p. lookup (eq p) es) (place_is q e.0 is) ∙ none_before es e distinct)
           ∙ sym (ap (λ b. cond b None (option_map shown (lookup (eq q) (es ++ e ∷ [])))) is)
@@ -192,14 +201,16 @@ module _ {V : Type 0} (shown : V → List ℕ) (eq : PartKey → PartKey → Boo
           ap (option_map shown) (sym (last_behind q es e is))
           ∙ sym (ap (λ b. cond b None (option_map shown (lookup (eq q) (es ++ e ∷ [])))) is)
 
-  pub last_held : (es : List (PartKey × V)) (e : PartKey × V) → IsDistinct eq (keys_of (es ++ e ∷ [])) → finite.contains_key (pages_of shown (es ++ e ∷ [])) e.0 ≡ true
+  pub last_held : (es : List (PartKey × V)) (e : PartKey × V) → IsDistinct eq (keys_of (es ++ e ∷ []))
+      → finite.contains_key (pages_of shown (es ++ e ∷ [])) e.0 ≡ true
   last_held es e distinct = ap is_some (found (es ++ e ∷ []) e.0 ∙ ap (option_map shown) (last_there es e distinct))
 
   looked_up : (es : List (PartKey × V)) (k : PartKey) → lookup (eq k) es ≡ option_map (λ (e : PartKey × V). e.1) (lookup_entry (eq k) es)
   looked_up [] k = refl
   looked_up (e ∷ es) k = either (eq k e.0) (looked_up es k)
     where
-      either : (b : Bool) → lookup (eq k) es ≡ option_map (λ (e : PartKey × V). e.1) (lookup_entry (eq k) es) → cond b (Some e.1) (lookup (eq k) es) ≡ option_map (λ (e : PartKey × V). e.1) (cond b (Some e) (lookup_entry (eq k) es))
+      either : (b : Bool) → lookup (eq k) es ≡ option_map (λ (e : PartKey × V). e.1) (lookup_entry (eq k) es)
+          → cond b (Some e.1) (lookup (eq k) es) ≡ option_map (λ (e : PartKey × V). e.1) (cond b (Some e) (lookup_entry (eq k) es))
       either true more = refl
       either false more = more
 
@@ -215,7 +226,8 @@ module _ {V : Type 0} (shown : V → List ℕ) (eq : PartKey → PartKey → Boo
   pub promoted_same : (es : List (PartKey × V)) (k : PartKey) → pages_of shown (promoted (eq k) es) ≡ pages_of shown es
   promoted_same es k = either (lookup_entry (eq k) es) refl
     where
-      either : (o : Option (PartKey × V)) → lookup_entry (eq k) es ≡ o → pages_of shown (option_map_or (λ e. e ∷ remove_entry (eq k) es) o es) ≡ pages_of shown es
+      either : (o : Option (PartKey × V)) → lookup_entry (eq k) es ≡ o
+          → pages_of shown (option_map_or (λ e. e ∷ remove_entry (eq k) es) o es) ≡ pages_of shown es
       either None is = refl
       either (Some e) is =
           updated es k e.1 e is
@@ -232,13 +244,16 @@ module _ {V : Type 0} (shown : V → List ℕ) (eq : PartKey → PartKey → Boo
       either true is more = ap (λ p. lookup (eq p) es) (place_is k e.0 is) ∙ none_first e.0 es distinct.0
       either false is more = ap (λ b. cond b (Some e.1) (lookup (eq k) (remove_entry (eq k) es))) is ∙ more
 
-  pub popped : (es : List (PartKey × V)) (k : PartKey) → IsDistinct eq (keys_of es) → pages_of shown (remove_entry (eq k) es) ≡ finite.remove (pages_of shown es) k
-  popped es k distinct = finite.same_map key_cmp_total one_key _ _ (λ q. found (remove_entry (eq k) es) q ∙ either q (eq q k) refl ∙ sym (finite.get-remove key_cmp_total (pages_of shown es) k q ∙ at_each q))
+  pub popped : (es : List (PartKey × V)) (k : PartKey) → IsDistinct eq (keys_of es)
+      → pages_of shown (remove_entry (eq k) es) ≡ finite.remove (pages_of shown es) k
+  popped es k distinct = finite.same_map key_cmp_total one_key _ _
+      (λ q. found (remove_entry (eq k) es) q ∙ either q (eq q k) refl ∙ sym (finite.get-remove key_cmp_total (pages_of shown es) k q ∙ at_each q))
     where
       at_each : (q : PartKey) → cond (eq_by_cmp key_cmp q k) None (finite.get (pages_of shown es) q) ≡ cond (eq q k) None (option_map shown (lookup (eq q) es))
       at_each q = ap (λ b. cond b None (finite.get (pages_of shown es) q)) (sym (same q k)) ∙ ap (cond (eq q k) None) (found es q)
 
-      either : (q : PartKey) (b : Bool) → eq q k ≡ b → option_map shown (lookup (eq q) (remove_entry (eq k) es)) ≡ cond (eq q k) None (option_map shown (lookup (eq q) es))
+      either : (q : PartKey) (b : Bool) → eq q k ≡ b → option_map shown (lookup (eq q) (remove_entry (eq k) es))
+          ≡ cond (eq q k) None (option_map shown (lookup (eq q) es))
       either q true is =
           ap (option_map shown) (ap (λ p. lookup (eq p) (remove_entry (eq k) es)) (place_is q k is) ∙ none_of es k distinct)
           ∙ sym (ap (λ b. cond b None (option_map shown (lookup (eq q) es))) is)
@@ -256,13 +271,15 @@ module _ {V : Type 0} (shown : V → List ℕ) (eq : PartKey → PartKey → Boo
   full_is : (has : Bool) (n room : ℕ) → has ≡ false → (b : Bool) → (n == room) ≡ b → (not has && (n == room)) ≡ b
   full_is has n room absent b e = ap (λ h. not h && (n == room)) absent ∙ e
 
-  no_put : (key : PartKey) (bytes : List ℕ) (old new : CachedPages) (full : Bool) (b : Bool) → full ≡ b → IsPut b key bytes old new → IsPut full key bytes old new
+  no_put : (key : PartKey) (bytes : List ℕ) (old new : CachedPages) (full : Bool) (b : Bool) → full ≡ b → IsPut b key bytes old new
+      → IsPut full key bytes old new
   no_put key bytes old new full b e put = subst (λ f. IsPut f key bytes old new) (sym e) put
 
   pub put_there : (es : List (PartKey × V)) (cap : ℕ) (k : PartKey) (v : V) (e : PartKey × V) → lookup_entry (eq k) es ≡ Some e
       → IsPutWithin cap k (shown v) (pages_of shown es) (pages_of shown ((e.0, v) ∷ remove_entry (eq k) es))
   put_there es cap k v e is =
-      no_put k (shown v) (pages_of shown es) (pages_of shown ((e.0, v) ∷ remove_entry (eq k) es)) (is_full_for cap k (pages_of shown es)) false not_full (updated es k v e is)
+      no_put k (shown v) (pages_of shown es) (pages_of shown ((e.0, v) ∷ remove_entry (eq k) es)) (is_full_for cap k (pages_of shown es)) false not_full
+      (updated es k v e is)
     where
       held : finite.contains_key (pages_of shown es) k ≡ true
       held = ap is_some (found es k ∙ ap (option_map shown) (looked_up es k ∙ ap (option_map (λ (f : PartKey × V). f.1)) is))
@@ -270,7 +287,8 @@ module _ {V : Type 0} (shown : V → List ℕ) (eq : PartKey → PartKey → Boo
       not_full : (not (finite.contains_key (pages_of shown es) k) && (finite.len (pages_of shown es) == cap)) ≡ false
       not_full = ap (λ b. not b && (finite.len (pages_of shown es) == cap)) held
 
-  pub put_new : (es : List (PartKey × V)) (cap : ℕ) (k : PartKey) (v : V) → IsDistinct eq (keys_of es) → length es ≤ cap → 0 < cap → lookup_entry (eq k) es ≡ None
+  pub put_new : (es : List (PartKey × V)) (cap : ℕ) (k : PartKey) (v : V) → IsDistinct eq (keys_of es) → length es ≤ cap → 0 < cap
+      → lookup_entry (eq k) es ≡ None
       → IsPutWithin cap k (shown v) (pages_of shown es) (pages_of shown ((k, v) ∷ take (cap - 1) es))
   put_new es cap k v distinct few some none = either (length es == cap) refl
     where
@@ -280,7 +298,8 @@ module _ {V : Type 0} (shown : V → List ℕ) (eq : PartKey → PartKey → Boo
       either : (b : Bool) → (length es == cap) ≡ b → IsPutWithin cap k (shown v) (pages_of shown es) (pages_of shown ((k, v) ∷ take (cap - 1) es))
       either false is =
           no_put k (shown v) (pages_of shown es) (pages_of shown ((k, v) ∷ take (cap - 1) es)) (is_full_for cap k (pages_of shown es)) false
-          (full_is (finite.contains_key (pages_of shown es) k) (finite.len (pages_of shown es)) cap absent false (ap (λ n. n == cap) (counted es distinct) ∙ is))
+          (full_is (finite.contains_key (pages_of shown es) k) (finite.len (pages_of shown es)) cap absent false
+          (ap (λ n. n == cap) (counted es distinct) ∙ is))
           (ap (λ es. finite.insert (pages_of shown es) k (shown v)) (take_all (cap - 1) es (omega (arith, few, not_same (length es) cap is))))
       either true is =
           let last = last_of es (omega (arith, eqb-true (length es) cap is, some)) in
@@ -291,7 +310,8 @@ module _ {V : Type 0} (shown : V → List ℕ) (eq : PartKey → PartKey → Boo
           ap (take (cap - 1)) all ∙ take_at init (e ∷ []) (cap - 1) (omega (arith, eqb-true (length es) cap is, ap length all, length-append init (e ∷ []))) in
           let distinct_here : IsDistinct eq (keys_of (init ++ e ∷ [])) = subst (λ es. IsDistinct eq (keys_of es)) all distinct in
           no_put k (shown v) (pages_of shown es) (pages_of shown ((k, v) ∷ take (cap - 1) es)) (is_full_for cap k (pages_of shown es)) true
-          (full_is (finite.contains_key (pages_of shown es) k) (finite.len (pages_of shown es)) cap absent true (ap (λ n. n == cap) (counted es distinct) ∙ is)) (
+          (full_is (finite.contains_key (pages_of shown es) k) (finite.len (pages_of shown es)) cap absent true
+          (ap (λ n. n == cap) (counted es distinct) ∙ is)) (
             e.0,
             ap (λ es. finite.contains_key (pages_of shown es) e.0) all ∙ last_held init e distinct_here,
             ap (λ es. finite.insert (pages_of shown es) k (shown v)) cut
@@ -303,13 +323,15 @@ module _ {V : Type 0} (shown : V → List ℕ) (eq : PartKey → PartKey → Boo
   put_within c k v distinct few some = either (lookup_entry (eq k) c.entries) refl
     where
       either : (o : Option (PartKey × V)) → lookup_entry (eq k) c.entries ≡ o
-          → IsPutWithin c.cap k (shown v) (pages_of shown c.entries) (pages_of shown (option_map_or (λ e. (e.0, v) ∷ remove_entry (eq k) c.entries) o ((k, v) ∷ take (c.cap - 1) c.entries)))
+          → IsPutWithin c.cap k (shown v) (pages_of shown c.entries)
+          (pages_of shown (option_map_or (λ e. (e.0, v) ∷ remove_entry (eq k) c.entries) o ((k, v) ∷ take (c.cap - 1) c.entries)))
       either None is = put_new c.entries c.cap k v distinct few some is
       either (Some e) is = put_there c.entries c.cap k v e is
 
   -- what is not there can't be taken out
   pub none_out : (es : List (PartKey × V)) (k : PartKey) → lookup (eq k) es ≡ None → pages_of shown es ≡ finite.remove (pages_of shown es) k
-  none_out es k none = finite.same_map key_cmp_total one_key _ _ (λ q. either q (eq_by_cmp key_cmp q k) refl ∙ sym (finite.get-remove key_cmp_total (pages_of shown es) k q))
+  none_out es k none = finite.same_map key_cmp_total one_key _ _
+      (λ q. either q (eq_by_cmp key_cmp q k) refl ∙ sym (finite.get-remove key_cmp_total (pages_of shown es) k q))
     where
       either : (q : PartKey) (b : Bool) → eq_by_cmp key_cmp q k ≡ b → finite.get (pages_of shown es) q ≡ cond b None (finite.get (pages_of shown es) q)
       either q true e = ap (finite.get (pages_of shown es)) (one_key q k (equal (key_cmp q k) e)) ∙ found es k ∙ ap (option_map shown) none
@@ -330,7 +352,8 @@ module _ {K V : Type 0} (test : K → Bool) where
   removed_one [] e is = absurd cc
   removed_one (f ∷ es) e is = either (test f.0) (λ more. removed_one es e more) is
     where
-      either : (b : Bool) → (lookup_entry test es ≡ Some e → length (remove_entry test es) + 1 ≡ length es) → cond b (Some f) (lookup_entry test es) ≡ Some e → length (cond b es (f ∷ remove_entry test es)) + 1 ≡ suc (length es)
+      either : (b : Bool) → (lookup_entry test es ≡ Some e → length (remove_entry test es) + 1 ≡ length es) → cond b (Some f) (lookup_entry test es) ≡ Some e
+          → length (cond b es (f ∷ remove_entry test es)) + 1 ≡ suc (length es)
       either true more is = omega arith
       either false more is = omega (arith, more is)
 
@@ -341,10 +364,12 @@ module _ {K V : Type 0} (test : K → Bool) where
       either None is = omega arith
       either (Some e) is = omega (arith, removed_one es e is)
 
-pub put_few : {K V : Type 0} (eq : K → K → Bool) (c : LruCache K V) (k : K) (v : V) → length c.entries ≤ c.cap → 0 < c.cap → length (put_entries eq c k v) ≤ c.cap
+pub put_few : {K V : Type 0} (eq : K → K → Bool) (c : LruCache K V) (k : K) (v : V) → length c.entries ≤ c.cap → 0 < c.cap
+    → length (put_entries eq c k v) ≤ c.cap
 put_few {K = K} {V = V} eq c k v few some = either (lookup_entry (eq k) c.entries) refl
   where
-    either : (o : Option (K × V)) → lookup_entry (eq k) c.entries ≡ o → length (option_map_or (λ e. (e.0, v) ∷ remove_entry (eq k) c.entries) o ((k, v) ∷ take (c.cap - 1) c.entries)) ≤ c.cap
+    either : (o : Option (K × V)) → lookup_entry (eq k) c.entries ≡ o
+        → length (option_map_or (λ e. (e.0, v) ∷ remove_entry (eq k) c.entries) o ((k, v) ∷ take (c.cap - 1) c.entries)) ≤ c.cap
     either None is = omega (arith, length-take (c.cap - 1) c.entries, some)
     either (Some e) is = omega (arith, removed_one (eq k) c.entries e is, few)
 
@@ -362,10 +387,12 @@ put_in shown r old new k v (distinct, few, some) put is =
     subst (λ es. IsPutWithin old.cap k (shown v) (pages_of shown old.entries) (pages_of shown es)) (sym (ap (λ (c : LruCache PartKey _). c.entries) same))
     (put_within shown place_eq place_test old k v distinct few some)
 
-pub put_not : {T E V : Type 0} (shown : V → List ℕ) (r : Result T E) (old new : LruCache PartKey V) (k : PartKey) → OnErr r (new ≡ old) → (IsSome (lookup (place_eq k) old.entries) → IsOk r) → is_ok r ≡ false
+pub put_not : {T E V : Type 0} (shown : V → List ℕ) (r : Result T E) (old new : LruCache PartKey V) (k : PartKey) → OnErr r (new ≡ old)
+    → (IsSome (lookup (place_eq k) old.entries) → IsOk r) → is_ok r ≡ false
     → pages_of shown new.entries ≡ finite.remove (pages_of shown old.entries) k
 put_not shown (Ok x) old new k err there is = absurd cc
-put_not shown (Err e) old new k err there is = ap (λ (c : LruCache PartKey _). pages_of shown c.entries) err ∙ none_out shown place_eq place_test old.entries k (absent (lookup (place_eq k) old.entries) (λ some. true_or_false (there some)))
+put_not shown (Err e) old new k err there is = ap (λ (c : LruCache PartKey _). pages_of shown c.entries) err
+    ∙ none_out shown place_eq place_test old.entries k (absent (lookup (place_eq k) old.entries) (λ some. true_or_false (there some)))
   where
     true_or_false : false ≡ true → ⊥
     true_or_false e = cc
@@ -374,8 +401,10 @@ put_not shown (Err e) old new k err there is = ap (λ (c : LruCache PartKey _). 
     absent None none = refl
     absent (Some v) none = absurd (none refl)
 
-pub put_keeps : {T E V : Type 0} (r : Result T E) (old new : LruCache PartKey V) (k : PartKey) (v : V) → IsValid place_eq old → OnOk r (new ≡ lru_cache (put_entries place_eq old k v) old.cap) → OnErr r (new ≡ old)
+pub put_keeps : {T E V : Type 0} (r : Result T E) (old new : LruCache PartKey V) (k : PartKey) (v : V) → IsValid place_eq old
+    → OnOk r (new ≡ lru_cache (put_entries place_eq old k v) old.cap) → OnErr r (new ≡ old)
     → (length new.entries ≤ new.cap) × (new.cap ≡ old.cap)
 put_keeps (Ok x) old new k v (distinct, few, some) ok err =
     (subst (λ (c : LruCache PartKey _). length c.entries ≤ c.cap) (sym ok) (put_few place_eq old k v few some), ap (λ (c : LruCache PartKey _). c.cap) ok)
-put_keeps (Err e) old new k v (distinct, few, some) ok err = (subst (λ (c : LruCache PartKey _). length c.entries ≤ c.cap) (sym err) few, ap (λ (c : LruCache PartKey _). c.cap) err)
+put_keeps (Err e) old new k v (distinct, few, some) ok err =
+    (subst (λ (c : LruCache PartKey _). length c.entries ≤ c.cap) (sym err) few, ap (λ (c : LruCache PartKey _). c.cap) err)

@@ -8,7 +8,8 @@ use Rattle.ax_cache.specs.declared.part_key.PartKey.{PartKey}
 use Rattle.ax_cache.specs.Pages.{key_cmp, CachedPages}
 
 pub key_cmp_total : IsTotalOrder key_cmp
-key_cmp_total = then_total (on_total (λ (key : PartKey). key.area) nat_cmp_total) (then_total (on_total (λ (key : PartKey). key.generation) nat_cmp_total) (on_total (λ (key : PartKey). key.offset) nat_cmp_total))
+key_cmp_total = then_total (on_total (λ (key : PartKey). key.area) nat_cmp_total)
+    (then_total (on_total (λ (key : PartKey). key.generation) nat_cmp_total) (on_total (λ (key : PartKey). key.offset) nat_cmp_total))
 
 abbrev pub no_pages : CachedPages
 no_pages = map.empty

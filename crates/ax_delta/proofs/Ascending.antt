@@ -53,7 +53,8 @@ add_rises low term n adds others (d ∷ drops) more m below l h apart k =
     (λ (i : d < n).
     rw (lt-ltb d n i)
     (put_over low (the_pair term d) (changed_pairs (add_among term n others drops ++ more)) (below d h.0)
-    (add_rises (Some (the_pair term d)) term n adds others drops more (d + 1) (from_number term d) (omega arith) h.2 (no_longer_second d (n ∷ adds) drops apart) k)))
+    (add_rises (Some (the_pair term d)) term n adds others drops more (d + 1) (from_number term d) (omega arith) h.2
+    (no_longer_second d (n ∷ adds) drops apart) k)))
     (λ (i : n ≤ d).
     let not : n ≡ d → ⊥ = apart_heads n d adds drops apart in
     rw (le-ltb d n i)
@@ -89,7 +90,8 @@ changes_rise (c ∷ changes) h =
     (rises c.added h.0.additions) (rises c.dropped h.0.removals) h.0.disjoint (λ m. after_rises c.term m changes h.1)
     (rises_alone (the_pair c.term 0) (changed_pairs (changes_of changes)) (after_rises c.term 0 changes h.1))
 
-pub merged_is : (pairs after : List Pair) (changes : List TermChange) → Rise pairs → AreTermChanges changes → after ≡ merged pairs (changes_of changes) → IsMerge pairs changes after
+pub merged_is : (pairs after : List Pair) (changes : List TermChange) → Rise pairs → AreTermChanges changes → after ≡ merged pairs (changes_of changes)
+    → IsMerge pairs changes after
 merged_is pairs after changes h are e =
     let up : Rise (changed_pairs (changes_of changes)) = changes_rise changes are in
     record {

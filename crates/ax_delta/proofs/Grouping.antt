@@ -1,5 +1,6 @@
 -- The term changes of rising changes: the numbers of each rise, and none is both added and dropped.
-use Rattle.std.proofs.Common.{◌≡◌, ℕ, ◌+◌, ◌<◌, ◌≤◌, List, [], ◌∷◌, ◌++◌, length, get_or, arith, refl, ap, ◌∙◌, sym, Bool, true, false, cond, nat_eq, ⊎_elim, suc}
+use Rattle.std.proofs.Common.{◌≡◌, ℕ, ◌+◌, ◌<◌, ◌≤◌, List, [], ◌∷◌, ◌++◌, length, get_or, arith, refl, ap, ◌∙◌, sym, Bool, true, false, cond, nat_eq}
+use Rattle.std.proofs.Common.{⊎_elim, suc}
 use Rattle.std.proofs.lemmas.Bool.{ne_eqb, eqb-true}
 use Rattle.std.proofs.lemmas.List.{length-append}
 use Rattle.std.proofs.lemmas.Slice.Eq.{bytes_eq-Decides}
@@ -122,7 +123,8 @@ one false n = record {
 fit_of : (term adds drops : List ℕ) (n : ℕ) → IsUpTo adds drops n → IsFit (record { term = term; added = adds; dropped = drops })
 fit_of term adds drops n up = record { ups = up.ups; downs = up.downs; some = up.some; disjoint = up.disjoint }
 
-fit_from : (term adds drops : List ℕ) (p : Change) (changes : List Change) → IsUpTo adds drops p.pair.number → p.pair.term ≡ term → RiseAfter p.pair (changed_pairs changes)
+fit_from : (term adds drops : List ℕ) (p : Change) (changes : List Change) → IsUpTo adds drops p.pair.number → p.pair.term ≡ term
+    → RiseAfter p.pair (changed_pairs changes)
     → AreFit (term_changes_from term adds drops changes)
 unfolding term_changes_from
 fit_from term adds drops p [] up e rise = (fit_of term adds drops p.pair.number up, tt)

@@ -40,7 +40,8 @@ pub record IsFirst (last : List ℕ) (shared : ℕ) (part adds drops after : Lis
   pub has_dropped : drops ≡ change.dropped
   pub leaves : after ≡ list_after change.term changes
 
-pub first_of : (last bytes : List ℕ) (shared : ℕ) (part adds drops after : List ℕ) (change : TermChange) (changes : List TermChange) → Begins bytes shared part adds drops after
+pub first_of : (last bytes : List ℕ) (shared : ℕ) (part adds drops after : List ℕ) (change : TermChange) (changes : List TermChange)
+    → Begins bytes shared part adds drops after
     → IsTermChange change → bytes ≡ list_after last (change ∷ changes) → IsFirst last shared part adds drops after change changes
 first_of last bytes shared part adds drops after change changes h is e =
     let rest : List ℕ = list_after change.term changes in
@@ -67,7 +68,8 @@ pub record IsStep (last : List ℕ) (shared : ℕ) (part adds drops after : List
   pub disjoint : AreDisjoint adds drops
   pub more : HasListAfter (whole_term last shared part) count after
 
-follows_of : (last : List ℕ) (shared : ℕ) (part adds drops after : List ℕ) (change : TermChange) (changes : List TermChange) → IsFirst last shared part adds drops after change changes
+follows_of : (last : List ℕ) (shared : ℕ) (part adds drops after : List ℕ) (change : TermChange) (changes : List TermChange)
+    → IsFirst last shared part adds drops after change changes
     → IsTermChange change → slice_cmp nat_cmp last change.term ≡ Less → Follows last shared part
 follows_of last shared part adds drops after change changes first is less =
     let within = common_prefix_len-le nat_eq last change.term in
@@ -82,13 +84,15 @@ follows_of last shared part adds drops after change changes first is less =
     }
 
 disjoint_of : (adds drops : List ℕ) (change : TermChange) → IsTermChange change → adds ≡ change.added → drops ≡ change.dropped → AreDisjoint adds drops
-disjoint_of adds drops change is e f = subst (λ (xs : List ℕ). AreDisjoint xs drops) (sym e) (subst (λ (xs : List ℕ). AreDisjoint change.added xs) (sym f) is.disjoint)
+disjoint_of adds drops change is e f = subst (λ (xs : List ℕ). AreDisjoint xs drops) (sym e)
+    (subst (λ (xs : List ℕ). AreDisjoint change.added xs) (sym f) is.disjoint)
 
 pub one_less : (last bytes : List ℕ) (shared : ℕ) (part adds drops after : List ℕ) (count : ℕ) → Begins bytes shared part adds drops after
     → HasListAfter last (suc count) bytes → IsStep last shared part adds drops after count
 one_less last bytes shared part adds drops after count h ([], is) = absurd (omega (arith, is.counted))
 one_less last bytes shared part adds drops after count h (change ∷ changes, is) =
-    let first : IsFirst last shared part adds drops after change changes = first_of last bytes shared part adds drops after change changes h is.are.1 is.spelled in
+    let first : IsFirst last shared part adds drops after change changes =
+    first_of last bytes shared part adds drops after change changes h is.are.1 is.spelled in
     record {
       follows = follows_of last shared part adds drops after change changes first is.are.1 is.are.0;
       disjoint = disjoint_of adds drops change is.are.1 first.has_added first.has_dropped;
@@ -135,7 +139,8 @@ pub one_more : (last bytes : List ℕ) (shared : ℕ) (part adds drops after : L
     → IsStep last shared part adds drops after count → HasListAfter last (suc count) bytes
 one_more last bytes shared part adds drops after count h step =
     let (changes, is) = step.more in
-    let change : IsTermChange (change_with (whole_term last shared part) adds drops) = change_is last bytes shared part adds drops after h step.follows.within step.follows.short step.disjoint in (
+    let change : IsTermChange (change_with (whole_term last shared part) adds drops) =
+    change_is last bytes shared part adds drops after h step.follows.within step.follows.short step.disjoint in (
       change_with (whole_term last shared part) adds drops ∷ changes,
       record {
         spelled = list_from last bytes shared part adds drops after changes h change step.follows.within step.follows.longest is.spelled;
@@ -171,12 +176,14 @@ first_less bytes shared part adds drops after count h (change ∷ changes, is) =
       );
     }
 
-pub first_more : (bytes : List ℕ) (shared : ℕ) (part adds drops after : List ℕ) (count : ℕ) → Begins bytes shared part adds drops after → length part < 4294967296
+pub first_more : (bytes : List ℕ) (shared : ℕ) (part adds drops after : List ℕ) (count : ℕ) → Begins bytes shared part adds drops after
+    → length part < 4294967296
     → IsStart shared part adds drops after count → HasChangeList (suc count) bytes
 first_more bytes shared part adds drops after count h fits start =
     let (changes, is) = start.more in
     let begins : Begins bytes 0 part adds drops after = subst (λ (n : ℕ). Begins bytes n part adds drops after) start.shares h in
-    let change : IsTermChange (change_with part adds drops) = change_is [] bytes 0 part adds drops after begins (omega arith) (omega (arith, fits)) start.disjoint in (
+    let change : IsTermChange (change_with part adds drops) =
+    change_is [] bytes 0 part adds drops after begins (omega arith) (omega (arith, fits)) start.disjoint in (
       change_with part adds drops ∷ changes,
       record {
         spelled = list_from [] bytes 0 part adds drops after changes begins change (omega arith) refl is.spelled;
@@ -204,7 +211,8 @@ HasNoFirst bytes = (shared : ℕ) (part added dropped after : List ℕ) → shar
     → IsRisingList added → IsRisingList dropped → 0 < length added + length dropped
     → bytes ≡ short_term shared part ++ (gaps added ++ (gaps dropped ++ after)) → ⊥
 
-pub fits_first : (last bytes : List ℕ) (change : TermChange) (changes : List TermChange) → IsTermChange change → bytes ≡ list_after last (change ∷ changes) → HasNoFirst bytes → ⊥
+pub fits_first : (last bytes : List ℕ) (change : TermChange) (changes : List TermChange) → IsTermChange change → bytes ≡ list_after last (change ∷ changes)
+    → HasNoFirst bytes → ⊥
 fits_first last bytes change changes is e none =
     let begins = list_begins last [] change changes is in
     let shorter = common_prefix_len-le nat_eq last change.term in

@@ -1,5 +1,6 @@
 -- Numbers of lists that rise: whether one is there, and whether two lists share one.
-use Rattle.std.proofs.Common.{◌≡◌, ◌↔◌, ℕ, ◌+◌, ◌<◌, ◌≤◌, List, [], ◌∷◌, drop, arith, refl, ap, ◌∙◌, sym, IsTrue, true, false, nat_eq, ⊎_elim, Some, None, slice_get}
+use Rattle.std.proofs.Common.{◌≡◌, ◌↔◌, ℕ, ◌+◌, ◌<◌, ◌≤◌, List, [], ◌∷◌, drop, arith, refl, ap, ◌∙◌, sym, IsTrue, true, false, nat_eq, ⊎_elim, Some}
+use Rattle.std.proofs.Common.{None, slice_get}
 use Rattle.std.proofs.lemmas.Bool.{eq-eqb, ne_eqb, cases_eq, false≢true, false_from_ne_true}
 use Rattle.ax_gap.specs.Gaps.{IsRisingList}
 use Rattle.ax_gap.proofs.Rising.{RisesFrom, rises}

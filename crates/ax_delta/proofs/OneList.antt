@@ -54,7 +54,8 @@ same_heads x y xs ys h k first second =
     (true_or_false (is_same y x)))
     (true_or_false (is_same x y))
 
-same_tails : (x : Pair) (xs ys : List Pair) → RiseAfter x xs → RiseAfter x ys → ((p : Pair) → has p (x ∷ xs) ≡ has p (x ∷ ys)) → (p : Pair) → has p xs ≡ has p ys
+same_tails : (x : Pair) (xs ys : List Pair) → RiseAfter x xs → RiseAfter x ys → ((p : Pair) → has p (x ∷ xs) ≡ has p (x ∷ ys)) → (p : Pair)
+    → has p xs ≡ has p ys
 same_tails x xs ys h k alike p =
     ⊎_elim
     (λ (s : is_same x p ≡ true).

@@ -8,11 +8,13 @@ use Rattle.ax_delta.specs.declared.change.Change.{Change}
 use Rattle.ax_delta.specs.Changes.{changed_pairs}
 use Rattle.ax_delta.specs.Pass.{put_where, added_by, by_order, put_among, merged}
 use Rattle.ax_delta.specs.Said.{is_same, has, said_by}
-use Rattle.ax_delta.proofs.SamePair.{true_or_false, same_from, same_to, equal_same, less_from, IsAbove, RisesOver, put_over, first_above, rest_rises, later, rises_alone, none_above, none_said, nothing_over}
+use Rattle.ax_delta.proofs.SamePair.{true_or_false, same_from, same_to, equal_same, less_from, IsAbove, RisesOver, put_over, first_above, rest_rises}
+use Rattle.ax_delta.proofs.SamePair.{later, rises_alone, none_above, none_said, nothing_over}
 
 -- ---- it rises
 
-where_put : (add : Bool) (low : Option Pair) (p : Pair) (pairs : List Pair) → IsAbove low p → RiseAfter p pairs → RisesOver low pairs → RisesOver low (put_where add p pairs)
+where_put : (add : Bool) (low : Option Pair) (p : Pair) (pairs : List Pair) → IsAbove low p → RiseAfter p pairs → RisesOver low pairs
+    → RisesOver low (put_where add p pairs)
 where_put true low p pairs h k r = put_over low p pairs h k
 where_put false low p pairs h k r = r
 
@@ -21,7 +23,8 @@ rises_added [] low h = nothing_over low
 rises_added (c ∷ changes) low h =
     let above : IsAbove low c.pair = first_above low c.pair (changed_pairs changes) h in
     let rest : RiseAfter c.pair (changed_pairs changes) = rest_rises low c.pair (changed_pairs changes) h in
-    where_put c.add low c.pair (added_by changes) above (rises_added changes (Some c.pair) rest) (rises_added changes low (later low c.pair (changed_pairs changes) above rest))
+    where_put c.add low c.pair (added_by changes) above (rises_added changes (Some c.pair) rest)
+    (rises_added changes low (later low c.pair (changed_pairs changes) above rest))
 
 -- what is made of the pairs behind p rises behind it
 abbrev IsBehind : Pair → (List Change → List Pair) → Type 0
@@ -34,7 +37,8 @@ rises_among p others k (c ∷ changes) low above h =
     let first : IsAbove low c.pair = first_above low c.pair (changed_pairs changes) h in
     let rest : RiseAfter c.pair (changed_pairs changes) = rest_rises low c.pair (changed_pairs changes) h in
     elim (pair_cmp c.pair p) as
-    (λ o. pair_cmp c.pair p ≡ o → RisesOver low (by_order o (put_where c.add c.pair (put_among p others changes)) (put_where c.add p (others changes)) (p ∷ others (c ∷ changes)))) [
+    (λ o. pair_cmp c.pair p ≡ o → RisesOver low (by_order o (put_where c.add c.pair (put_among p others changes)) (put_where c.add p (others changes))
+    (p ∷ others (c ∷ changes)))) [
       | Less ↦ λ e.
           where_put c.add low c.pair (put_among p others changes) first (rises_among p others k changes (Some c.pair) e rest)
           (rises_among p others k changes low above (later low c.pair (changed_pairs changes) first rest))
@@ -44,7 +48,8 @@ rises_among p others k (c ∷ changes) low above h =
       | Greater ↦ λ e. put_over low p (others (c ∷ changes)) above (k (c ∷ changes) (less_from p c.pair e, rest))
     ] refl
 
-pub merged_rises : (pairs : List Pair) (changes : List Change) (low : Option Pair) → RisesOver low pairs → RisesOver low (changed_pairs changes) → RisesOver low (merged pairs changes)
+pub merged_rises : (pairs : List Pair) (changes : List Change) (low : Option Pair) → RisesOver low pairs → RisesOver low (changed_pairs changes)
+    → RisesOver low (merged pairs changes)
 unfolding merged
 merged_rises [] changes low h k = rises_added changes low k
 merged_rises (p ∷ pairs) changes low h k =

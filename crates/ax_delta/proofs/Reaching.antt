@@ -1,5 +1,6 @@
 -- What is reached behind one term change more.
-use Rattle.std.proofs.Common.{◌≡◌, ◌↔◌, ℕ, ◌+◌, ◌-◌, ◌<◌, ◌≤◌, List, [], length, get_or, take, arith, refl, ap, ◌∙◌, sym, subst, suc, add-one, cond, nat_lt, below_more}
+use Rattle.std.proofs.Common.{◌≡◌, ◌↔◌, ℕ, ◌+◌, ◌-◌, ◌<◌, ◌≤◌, List, [], length, get_or, take, arith, refl, ap, ◌∙◌, sym, subst, suc, add-one, cond}
+use Rattle.std.proofs.Common.{nat_lt, below_more}
 use Rattle.std.proofs.lemmas.List.{length-append, length-take-le}
 use Rattle.ax_leaf.specs.ShortTerm.{whole_term, Follows}
 use Rattle.ax_leaf.proofs.Reaching.{byte_of_whole}
@@ -63,7 +64,8 @@ no_more_there list first rest count k size was l none h =
     subst (λ (n : ℕ). HasListAfter (reached k list).term n rest) (omega arith) (was.same.1 h)
     in no_first_after (reached k list).term rest (count - (k + 1)) none more
 
-module _ (list first rest : List ℕ) (count k size shared : ℕ) (part adds drops after : List ℕ) (was : IsUnderWay list first rest count k size) (l : k < count) (begins : Begins rest shared part adds drops after) where
+module _ (list first rest : List ℕ) (count k size shared : ℕ) (part adds drops after : List ℕ) (was : IsUnderWay list first rest count k size) (l : k < count)
+    (begins : Begins rest shared part adds drops after) where
   step_of : HasListAfter (reached 1 list).term (count - 1) first → IsStep (reached k list).term shared part adds drops after (count - (k + 1))
   step_of h =
       one_less (reached k list).term rest shared part adds drops after (count - (k + 1)) begins
@@ -77,7 +79,8 @@ module _ (list first rest : List ℕ) (count k size shared : ℕ) (part adds dro
 
   pub term_there : (reached (k + 1) list).term ≡ whole_term (reached k list).term shared part
   term_there =
-      ap (λ (r : Reached). r.term) (reached_more k list shared part adds drops after (subst (λ (bs : List ℕ). Begins bs shared part adds drops after) was.left begins))
+      ap (λ (r : Reached). r.term) (reached_more k list shared part adds drops after
+      (subst (λ (bs : List ℕ). Begins bs shared part adds drops after) was.left begins))
 
   pub goes_on : shared < 4294967296 → length part < 4294967296 → Follows (reached k list).term shared part → AreDisjoint adds drops
       → IsUnderWay list first after count (k + 1) (shared + length part)
@@ -99,7 +102,13 @@ module _ (list first rest : List ℕ) (count k size shared : ℕ) (part adds dro
           short = short;
         });
         left = ap (λ (r : Reached). r.bytes) (sym more);
-        sized = omega (arith, ap length term, length-append (take shared (reached k list).term) part, length-take-le shared (reached k list).term follows.within);
+        sized = omega (
+          arith,
+          ap length term,
+          length-append (take shared (reached k list).term) part,
+          length-take-le shared
+              (reached k list).term follows.within,
+        );
         same = (
           λ h. was.same.0
               (subst (λ (n : ℕ). HasListAfter (reached k list).term n rest) (omega arith)
@@ -117,12 +126,14 @@ is_done list first rest count k size was l = (
 )
 
 -- behind the first term change
-pub first_reached : (list : List ℕ) (shared : ℕ) (part adds drops after : List ℕ) → Begins list shared part adds drops after → shared ≡ 0 → reached 1 list ≡ behind part after
+pub first_reached : (list : List ℕ) (shared : ℕ) (part adds drops after : List ℕ) → Begins list shared part adds drops after → shared ≡ 0
+    → reached 1 list ≡ behind part after
 unfolding reached
 first_reached list shared part adds drops after h none =
     ap reached_by (first_read [] list shared part adds drops after h) ∙ ap (λ (n : ℕ). behind (whole_term [] n part) after) none
 
-pub one_reached : (list : List ℕ) (shared : ℕ) (part adds drops after : List ℕ) → Begins list shared part adds drops after → shared ≡ 0 → length part < 4294967296 → CanReach 1 list
+pub one_reached : (list : List ℕ) (shared : ℕ) (part adds drops after : List ℕ) → Begins list shared part adds drops after → shared ≡ 0
+    → length part < 4294967296 → CanReach 1 list
 unfolding reached
 one_reached list shared part adds drops after h none short k l =
     let z : k ≡ 0 = omega arith in

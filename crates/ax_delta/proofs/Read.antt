@@ -26,11 +26,21 @@ first_read last bytes shared part adds drops after h =
     let split : bytes ≡ varint shared ++ (varint (length part) ++ (part ++ rest)) = short_parts bytes shared part rest h.spelled in
     let taken : take (length part) (part ++ rest) ≡ part = take_at part rest (length part) refl in
     let left : drop (length part) (part ++ rest) ≡ rest = drop_at part rest (length part) refl in
-    rw (split, first_varint_again shared (varint (length part) ++ (part ++ rest)), first_varint_again (length part) (part ++ rest), taken, left, list_again adds (gaps drops ++ after) h.additions, list_again drops after h.removals) refl
+    rw (
+      split,
+      first_varint_again shared (varint (length part) ++ (part ++ rest)),
+      first_varint_again (length part)
+          (part ++ rest),
+      taken,
+      left,
+      list_again adds (gaps drops ++ after) h.additions,
+      list_again drops after h.removals,
+    ) refl
 
 -- a spelled list begins with its first term change
 pub list_begins : (last rest : List ℕ) (change : TermChange) (changes : List TermChange) → IsTermChange change
-    → Begins (list_after last (change ∷ changes) ++ rest) (common last change.term) (drop (common last change.term) change.term) change.added change.dropped (list_after change.term changes ++ rest)
+    → Begins (list_after last (change ∷ changes) ++ rest) (common last change.term) (drop (common last change.term) change.term) change.added change.dropped
+    (list_after change.term changes ++ rest)
 unfolding list_after term_after short_term
 list_begins last rest change changes is =
     let c : ℕ = common last change.term in
@@ -50,7 +60,12 @@ list_begins last rest change changes is =
     }
 
 one_change : (last : List ℕ) (change : TermChange)
-    → (record { term = whole_term last (common last change.term) (drop (common last change.term) change.term); added = change.added; dropped = change.dropped }) ≡ change
+    → (record {
+      term = whole_term last (common last change.term) (drop (common last change.term) change.term);
+      added = change.added;
+      dropped =
+          change.dropped;
+    }) ≡ change
 one_change last change = ap (λ (t : List ℕ). record { term = t; added = change.added; dropped = change.dropped }) (sym (one.whole_term last change.term))
 
 pub list_read : (last rest : List ℕ) (change : TermChange) (changes : List TermChange) → IsTermChange change

@@ -8,7 +8,8 @@ use Rattle.ax_pair.specs.declared.pair.Pair.{Pair}
 use Rattle.ax_pair.specs.Order.{Rise, RiseAfter}
 use Rattle.ax_leaf.proofs.Grouping.{numbers_rise}
 use Rattle.ax_delta.specs.declared.change.Change.{Change}
-use Rattle.ax_delta.specs.Changes.{changed_pairs, with_added, with_dropped, term_changes_from, term_changes_of, change_at, drops_with, add_among, changes_with, changes_of}
+use Rattle.ax_delta.specs.Changes.{changed_pairs, with_added, with_dropped, term_changes_from, term_changes_of, change_at, drops_with, add_among}
+use Rattle.ax_delta.specs.Changes.{changes_with, changes_of}
 use Rattle.ax_delta.specs.Said.{said_of, said_by}
 use Rattle.ax_delta.proofs.Grouping.{IsUpTo, more, one, fit, terms_of_rise, apart_from}
 use Rattle.ax_delta.proofs.Saying.{same_said}
@@ -25,11 +26,13 @@ all_under (x ∷ list) m n h l =
 
 -- ---- one change more
 
-add_last : (term : List ℕ) (n : ℕ) (drops : List ℕ) → AllUnder n drops → add_among term n (drops_with term) drops ≡ drops_with term drops ++ change_at true term n ∷ []
+add_last : (term : List ℕ) (n : ℕ) (drops : List ℕ) → AllUnder n drops → add_among term n (drops_with term) drops ≡ drops_with term drops
+    ++ change_at true term n ∷ []
 add_last term n [] h = refl
 add_last term n (d ∷ drops) h = rw (lt-ltb d n h.0) (ap (λ (cs : List Change). change_at false term d ∷ cs) (add_last term n drops h.1))
 
-among_last : (term : List ℕ) (x n : ℕ) (others longer : List ℕ → List Change) (last : List Change) → ((ds : List ℕ) → AllUnder n ds → longer ds ≡ others ds ++ last)
+among_last : (term : List ℕ) (x n : ℕ) (others longer : List ℕ → List Change) (last : List Change)
+    → ((ds : List ℕ) → AllUnder n ds → longer ds ≡ others ds ++ last)
     → (drops : List ℕ) → AllUnder n drops → add_among term x longer drops ≡ add_among term x others drops ++ last
 among_last term x n others longer last k [] h = ap (λ (cs : List Change). change_at true term x ∷ cs) (k [] tt)
 among_last term x n others longer last k (d ∷ drops) h =
@@ -51,7 +54,8 @@ drops_last : (term : List ℕ) (n : ℕ) (drops : List ℕ) → drops_with term 
 drops_last term n [] = refl
 drops_last term n (d ∷ drops) = ap (λ (cs : List Change). change_at false term d ∷ cs) (drops_last term n drops)
 
-drop_among : (term : List ℕ) (x n : ℕ) (others : List ℕ → List Change) → x < n → ((ds : List ℕ) → others (ds ++ n ∷ []) ≡ others ds ++ change_at false term n ∷ [])
+drop_among : (term : List ℕ) (x n : ℕ) (others : List ℕ → List Change) → x < n
+    → ((ds : List ℕ) → others (ds ++ n ∷ []) ≡ others ds ++ change_at false term n ∷ [])
     → (drops : List ℕ) → add_among term x others (drops ++ n ∷ []) ≡ add_among term x others drops ++ change_at false term n ∷ []
 drop_among term x n others l k [] = rw (le-ltb n x (omega arith)) (ap (λ (cs : List Change). change_at true term x ∷ cs) (k []))
 drop_among term x n others l k (d ∷ drops) =
@@ -83,7 +87,8 @@ alone false term n = refl
 at_term : (q : Change) (term : List ℕ) → q.pair.term ≡ term → change_at q.add term q.pair.number ≡ q
 at_term q term e = ap (λ (t : List ℕ). change_at q.add t q.pair.number) (sym e)
 
-made_from : (term adds drops : List ℕ) (p : Change) (changes : List Change) → IsUpTo adds drops p.pair.number → p.pair.term ≡ term → RiseAfter p.pair (changed_pairs changes)
+made_from : (term adds drops : List ℕ) (p : Change) (changes : List Change) → IsUpTo adds drops p.pair.number → p.pair.term ≡ term
+    → RiseAfter p.pair (changed_pairs changes)
     → changes_of (term_changes_from term adds drops changes) ≡ changes_with term adds drops ++ changes
 unfolding term_changes_from changes_of
 made_from term adds drops p [] up e rise = refl

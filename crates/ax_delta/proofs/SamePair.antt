@@ -67,7 +67,8 @@ both_equal Greater r h = absurd (cc)
 pub equal_same : (p q : Pair) → pair_cmp p q ≡ Equal → p ≡ q
 equal_same p q h =
     let both = both_equal (slice_cmp nat_cmp p.term q.term) (nat_cmp p.number q.number) h in
-    same_pair p.term q.term p.number q.number (slice_cmp-IsAntisymmetric nat_cmp-IsAntisymmetric p.term q.term both.0) (nat_cmp-IsAntisymmetric p.number q.number both.1)
+    same_pair p.term q.term p.number q.number (slice_cmp-IsAntisymmetric nat_cmp-IsAntisymmetric p.term q.term both.0)
+    (nat_cmp-IsAntisymmetric p.number q.number both.1)
 
 pub less_from : (p q : Pair) → pair_cmp q p ≡ Greater → pair_cmp p q ≡ Less
 less_from p q h = pair_cmp_total.antisymm p q ∙ ap ordering_reverse h

@@ -33,7 +33,8 @@ add_of_other term n others (d ∷ drops) more q h k =
       | false ↦ rw (other_by_term term n q h) (k (d ∷ drops))
     ]
 
-pub with_other : (term adds drops : List ℕ) (more : List Change) (q : Pair) → (term ≡ q.term → ⊥) → said_by q (changes_with term adds drops ++ more) ≡ said_by q more
+pub with_other : (term adds drops : List ℕ) (more : List Change) (q : Pair) → (term ≡ q.term → ⊥)
+    → said_by q (changes_with term adds drops ++ more) ≡ said_by q more
 unfolding changes_with
 with_other term [] drops more q h = drops_of_other term drops more q h
 with_other term (n ∷ adds) drops more q h =
@@ -63,7 +64,8 @@ dropped_here n m d adds drops h s =
 dropped_later : (n m d : ℕ) (adds drops : List ℕ) → nat_eq d m ≡ false → said_in m (n ∷ adds) (d ∷ drops) ≡ said_in m (n ∷ adds) drops
 dropped_later n m d adds drops s = rw s refl
 
-add_says : (term : List ℕ) (n : ℕ) (adds : List ℕ) (others : List ℕ → List Change) (drops : List ℕ) (more : List Change) (q : Pair) → term ≡ q.term → AreDisjoint (n ∷ adds) drops
+add_says : (term : List ℕ) (n : ℕ) (adds : List ℕ) (others : List ℕ → List Change) (drops : List ℕ) (more : List Change) (q : Pair) → term ≡ q.term
+    → AreDisjoint (n ∷ adds) drops
     → ((ds : List ℕ) → AreDisjoint adds ds → said_by q (others ds ++ more) ≡ option_or (said_in q.number adds ds) (said_by q more))
     → said_by q (add_among term n others drops ++ more) ≡ option_or (said_in q.number (n ∷ adds) drops) (said_by q more)
 add_says term n adds others [] more q e h k =
@@ -143,7 +145,8 @@ unfolding changes_of
 same_said q [] h k = refl
 same_said q (c ∷ changes) h k =
     elim (bytes_eq c.term q.term) as
-    (λ b. bytes_eq c.term q.term ≡ b → cond b (said_in q.number c.added c.dropped) (said_of q changes) ≡ said_by q (changes_with c.term c.added c.dropped ++ changes_of changes)) [
+    (λ b. bytes_eq c.term q.term ≡ b → cond b (said_in q.number c.added c.dropped) (said_of q changes)
+    ≡ said_by q (changes_with c.term c.added c.dropped ++ changes_of changes)) [
       | true ↦ λ s.
           let e : c.term ≡ q.term = (bytes_eq-Decides c.term q.term).0 s in
           let none : said_by q (changes_of changes) ≡ None = none_behind q changes (rw (sym e) k) in

@@ -69,7 +69,8 @@ pub record IsSearch (term rest : List ℕ) (number many matched : ℕ) (changes 
   pub below : IsUpTo last term
   pub same : said_of (the_pair term number) left ≡ said_of (the_pair term number) changes
 
-pub search_begins : (term list : List ℕ) (number count : ℕ) (changes : List TermChange) → IsChangeList count list changes → IsSearch term list number count 0 changes
+pub search_begins : (term list : List ℕ) (number count : ℕ) (changes : List TermChange) → IsChangeList count list changes
+    → IsSearch term list number count 0 changes
 search_begins term list number count changes is = record {
   last = [];
   left = changes;
@@ -85,10 +86,12 @@ search_begins term list number count changes is = record {
     is_first [] e = cc
     is_first (b ∷ t) e = cc
 
-pub search_ends : (term rest : List ℕ) (number many matched : ℕ) (changes : List TermChange) → IsSearch term rest number many matched changes → many ≡ 0 → None ≡ said_of (the_pair term number) changes
+pub search_ends : (term rest : List ℕ) (number many matched : ℕ) (changes : List TermChange) → IsSearch term rest number many matched changes → many ≡ 0
+    → None ≡ said_of (the_pair term number) changes
 search_ends term rest number many matched changes was none = ends was.left was.counted was.same
   where
-    ends : (left : List TermChange) → length left ≡ many → said_of (the_pair term number) left ≡ said_of (the_pair term number) changes → None ≡ said_of (the_pair term number) changes
+    ends : (left : List TermChange) → length left ≡ many → said_of (the_pair term number) left ≡ said_of (the_pair term number) changes
+        → None ≡ said_of (the_pair term number) changes
     ends [] counted same = same
     ends (change ∷ left) counted same = absurd (omega arith)
 
@@ -103,7 +106,8 @@ pub record IsNext (term last rest : List ℕ) (number many matched shared : ℕ)
   pub same : said_of (the_pair term number) (change ∷ left) ≡ said_of (the_pair term number) changes
   pub met : IsMet last term matched shared part
 
-met_from : (last term : List ℕ) (matched shared : ℕ) (part adds drops after : List ℕ) (change : TermChange) (left : List TermChange) → IsFirst last shared part adds drops after change left
+met_from : (last term : List ℕ) (matched shared : ℕ) (part adds drops after : List ℕ) (change : TermChange) (left : List TermChange)
+    → IsFirst last shared part adds drops after change left
     → IsUpTo last change.term → common last term ≡ matched → IsUpTo last term → IsMet last term matched shared part
 met_from last term matched shared part adds drops after change left first up matches below =
     let within = common_prefix_len-le nat_eq last change.term in
@@ -115,15 +119,18 @@ met_from last term matched shared part adds drops after change left first up mat
       below = below;
     }
 
-pub next_is : (term rest : List ℕ) (number many matched shared : ℕ) (part adds drops after : List ℕ) (changes : List TermChange) → (was : IsSearch term rest number many matched changes) → 0 < many
+pub next_is : (term rest : List ℕ) (number many matched shared : ℕ) (part adds drops after : List ℕ) (changes : List TermChange)
+    → (was : IsSearch term rest number many matched changes) → 0 < many
     → Begins rest shared part adds drops after → IsNext term was.last rest number many matched shared part adds drops after changes
 next_is term rest number many matched shared part adds drops after changes was some begins = comes was.left was.spelled was.counted was.are was.same
   where
-    comes : (left : List TermChange) → rest ≡ list_after was.last left → length left ≡ many → AreFrom was.last left → said_of (the_pair term number) left ≡ said_of (the_pair term number) changes
+    comes : (left : List TermChange) → rest ≡ list_after was.last left → length left ≡ many → AreFrom was.last left
+        → said_of (the_pair term number) left ≡ said_of (the_pair term number) changes
         → IsNext term was.last rest number many matched shared part adds drops after changes
     comes [] spelled counted are same = absurd (omega arith)
     comes (change ∷ left) spelled counted are same =
-        let first : IsFirst was.last shared part adds drops after change left = first_of was.last rest shared part adds drops after change left begins are.1 spelled in
+        let first : IsFirst was.last shared part adds drops after change left =
+        first_of was.last rest shared part adds drops after change left begins are.1 spelled in
         record {
           change = change;
           left = left;
@@ -135,7 +142,8 @@ next_is term rest number many matched shared part adds drops after changes was s
           met = met_from was.last term matched shared part adds drops after change left first are.0 was.matches was.below;
         }
 
-module _ (term last rest : List ℕ) (number many matched shared : ℕ) (part adds drops after : List ℕ) (changes : List TermChange) (next : IsNext term last rest number many matched shared part adds drops after changes) where
+module _ (term last rest : List ℕ) (number many matched shared : ℕ) (part adds drops after : List ℕ) (changes : List TermChange)
+    (next : IsNext term last rest number many matched shared part adds drops after changes) where
   pub found_here : slice_cmp nat_cmp (whole_term last shared part) term ≡ Equal → said_of (the_pair term number) changes ≡ said_in number adds drops
   found_here e =
       let same : next.change.term ≡ term = sym next.first.is ∙ slice_cmp-IsAntisymmetric nat_cmp-IsAntisymmetric (whole_term last shared part) term e in
@@ -145,7 +153,8 @@ module _ (term last rest : List ℕ) (number many matched shared : ℕ) (part ad
 
   pub is_behind : slice_cmp nat_cmp term next.change.term ≡ Less → None ≡ said_of (the_pair term number) changes
   is_behind less =
-      sym (none_behind term next.change.term number next.left less next.more) ∙ sym (passed term number next.change next.left (λ e. apart_terms term next.change.term less (sym e))) ∙ next.same
+      sym (none_behind term next.change.term number next.left less next.more)
+      ∙ sym (passed term number next.change next.left (λ e. apart_terms term next.change.term less (sym e))) ∙ next.same
 
   pub search_goes_on : (now : ℕ) → slice_cmp nat_cmp (whole_term last shared part) term ≡ Less → now ≡ common (whole_term last shared part) term
       → IsSearch term after number (many - 1) now changes
@@ -162,7 +171,8 @@ module _ (term last rest : List ℕ) (number many matched shared : ℕ) (part ad
         same = sym (passed term number next.change next.left (apart_terms next.change.term term before)) ∙ next.same;
       }
 
-pub search_has_first : (term rest : List ℕ) (number many matched : ℕ) (changes : List TermChange) → IsSearch term rest number many matched changes → 0 < many → HasNoFirst rest → ⊥
+pub search_has_first : (term rest : List ℕ) (number many matched : ℕ) (changes : List TermChange) → IsSearch term rest number many matched changes → 0 < many
+    → HasNoFirst rest → ⊥
 search_has_first term rest number many matched changes was some none = has was.left was.spelled was.counted was.are
   where
     has : (left : List TermChange) → rest ≡ list_after was.last left → length left ≡ many → AreFrom was.last left → ⊥

@@ -31,7 +31,8 @@ added_step old out new changes left whole e f was =
     step [] = append-nil (out ++ [])
     step (c ∷ cs) = append_assoc out (put_where c.add c.pair []) (added_by cs) ∙ ap (λ ps. out ++ ps) (sym (put_split c.add c.pair (added_by cs)))
 
-pub added_end : (old out : List Pair) (changes whole : List Change) → changes ≡ [] → out ++ added_by changes ≡ old ++ added_by whole → out ≡ old ++ added_by whole
+pub added_end : (old out : List Pair) (changes whole : List Change) → changes ≡ [] → out ++ added_by changes ≡ old ++ added_by whole → out ≡ old
+    ++ added_by whole
 added_end old out changes whole e was = sym (append-nil out) ∙ ap (λ cs. out ++ added_by cs) (sym e) ∙ was
 
 -- ---- those before a pair
@@ -66,13 +67,15 @@ met_greater changes p h = ap met_by (sym h)
 -- ---- the pair
 
 -- a change of the pair, by what it is
-at_equal : (p : Pair) (others : List Change → List Pair) (c : Change) (changes : List Change) (o : Ordering) → o ≡ pair_cmp c.pair p → met_by (Some o) ≡ Some true
+at_equal : (p : Pair) (others : List Change → List Pair) (c : Change) (changes : List Change) (o : Ordering) → o ≡ pair_cmp c.pair p
+    → met_by (Some o) ≡ Some true
     → put_among p others (c ∷ changes) ≡ put_where c.add p (others changes)
 at_equal p others c changes Less e h = absurd (cc)
 at_equal p others c changes Equal e h = rw (sym e) refl
 at_equal p others c changes Greater e h = absurd (cc)
 
-at_greater : (p : Pair) (others : List Change → List Pair) (c : Change) (changes : List Change) (o : Ordering) → o ≡ pair_cmp c.pair p → met_by (Some o) ≡ Some false
+at_greater : (p : Pair) (others : List Change → List Pair) (c : Change) (changes : List Change) (o : Ordering) → o ≡ pair_cmp c.pair p
+    → met_by (Some o) ≡ Some false
     → put_among p others (c ∷ changes) ≡ p ∷ others (c ∷ changes)
 at_greater p others c changes Less e h = absurd (cc)
 at_greater p others c changes Equal e h = absurd (cc)
@@ -88,13 +91,15 @@ among_unmet : (p : Pair) (others : List Change → List Pair) (changes : List Ch
 among_unmet p others [] h = refl
 among_unmet p others (c ∷ changes) h = at_greater p others c changes (pair_cmp c.pair p) refl h
 
-pub put_unmet : (out new : List Pair) (changes : List Change) (p : Pair) (met : Bool) (others : List Change → List Pair) → met_by (first_cmp changes p) ≡ Some met → met ≡ false
+pub put_unmet : (out new : List Pair) (changes : List Change) (p : Pair) (met : Bool) (others : List Change → List Pair)
+    → met_by (first_cmp changes p) ≡ Some met → met ≡ false
     → new ≡ out ++ p ∷ [] → new ++ others changes ≡ out ++ put_among p others changes
 put_unmet out new changes p met others h unmet e =
     ap (λ ps. ps ++ others changes) e ∙ append_assoc out (p ∷ []) (others changes)
     ∙ ap (λ ps. out ++ ps) (sym (among_unmet p others changes (h ∙ ap (λ (b : Bool). Some b) unmet)))
 
-pub put_met : (out new : List Pair) (changes left : List Change) (p : Pair) (met add : Bool) (others : List Change → List Pair) → met_by (first_cmp changes p) ≡ Some met → met ≡ true
+pub put_met : (out new : List Pair) (changes left : List Change) (p : Pair) (met add : Bool) (others : List Change → List Pair)
+    → met_by (first_cmp changes p) ≡ Some met → met ≡ true
     → left ≡ drop 1 changes → add ≡ adds_first changes → new ≡ out ++ put_where add p [] → new ++ others left ≡ out ++ put_among p others changes
 put_met out new changes left p met add others h is_met e f g =
     ap (λ ps. ps ++ others left) g ∙ append_assoc out (put_where add p []) (others left)
@@ -116,6 +121,7 @@ nil_from : (pairs : List Pair) → length pairs ≡ 0 → pairs ≡ []
 nil_from [] h = refl
 nil_from (p ∷ pairs) h = absurd (omega arith)
 
-pub merged_end : (out new : List Pair) (changes : List Change) (rest whole : List Pair) → length rest ≡ 0 → new ≡ out ++ added_by changes → out ++ merged rest changes ≡ whole → new ≡ whole
+pub merged_end : (out new : List Pair) (changes : List Change) (rest whole : List Pair) → length rest ≡ 0 → new ≡ out ++ added_by changes → out
+    ++ merged rest changes ≡ whole → new ≡ whole
 unfolding merged
 merged_end out new changes rest whole e f was = f ∙ ap (λ ps. out ++ merged ps changes) (sym (nil_from rest e)) ∙ was

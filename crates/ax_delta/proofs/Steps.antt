@@ -17,7 +17,8 @@ pub record IsUnderWay (old out last : List ℕ) (changes whole : List TermChange
   pub fit : AreFit changes
   pub good : AreGood changes → AreGood whole
 
-pub start : (p : Change) (changes rest : List Change) → changes ≡ p ∷ rest → term_changes_of changes ≡ term_changes_from p.pair.term (with_added [] p) (with_dropped [] p) rest
+pub start : (p : Change) (changes rest : List Change) → changes ≡ p ∷ rest
+    → term_changes_of changes ≡ term_changes_from p.pair.term (with_added [] p) (with_dropped [] p) rest
 unfolding term_changes_of
 start p changes rest e = ap term_changes_of e
 
@@ -53,10 +54,12 @@ with_change old out new last term adds drops changes whole count e is was = reco
   good = λ more. was.good (is, more);
 }
   where
-    again : out ++ (term_after last term ++ (gaps adds ++ (gaps drops ++ list_after term changes))) ≡ out ++ list_after last (change_with term adds drops ∷ changes)
+    again : out ++ (term_after last term ++ (gaps adds ++ (gaps drops ++ list_after term changes))) ≡ out
+        ++ list_after last (change_with term adds drops ∷ changes)
     again =
         ap (λ (bs : List ℕ). out ++ bs)
-        (sym (append_assoc (term_after last term ++ gaps adds) (gaps drops) (list_after term changes) ∙ append_assoc (term_after last term) (gaps adds) (gaps drops ++ list_after term changes)))
+        (sym (append_assoc (term_after last term ++ gaps adds) (gaps drops) (list_after term changes)
+        ∙ append_assoc (term_after last term) (gaps adds) (gaps drops ++ list_after term changes)))
 
 pub at_end : (old out last : List ℕ) (whole : List TermChange) (count : ℕ) → IsUnderWay old out last [] whole count → out ≡ old ++ list_after [] whole
 unfolding list_after
@@ -75,7 +78,8 @@ pub from_parts : (term other adds more drops less : List ℕ) (rest : List Chang
     → term_changes_from term adds drops rest ≡ term_changes_from other more less rest
 from_parts term other adds more drops less rest e f g = rw (e, f, g) refl
 
-pub fit_first : (term adds drops : List ℕ) (changes others : List TermChange) → changes ≡ change_with term adds drops ∷ others → AreFit changes → IsFit (change_with term adds drops)
+pub fit_first : (term adds drops : List ℕ) (changes others : List TermChange) → changes ≡ change_with term adds drops ∷ others → AreFit changes
+    → IsFit (change_with term adds drops)
 fit_first term adds drops changes others e h = (subst AreFit e h).0
 
 pub change_from : (term adds drops slice other : List ℕ) → slice ≡ adds → other ≡ drops → length term < 4294967296 → IsRisingList slice → IsRisingList other

@@ -1,5 +1,6 @@
 -- The first change that is left, and what is left behind it.
-use Rattle.std.proofs.Common.{◌≡◌, ℕ, ◌-◌, ◌<◌, List, [], ◌∷◌, ◌++◌, length, drop, arith, refl, ap, ◌∙◌, sym, subst, Bool, true, false, cond, nat_lt, Option, Some, None}
+use Rattle.std.proofs.Common.{◌≡◌, ℕ, ◌-◌, ◌<◌, List, [], ◌∷◌, ◌++◌, length, drop, arith, refl, ap, ◌∙◌, sym, subst, Bool, true, false, cond, nat_lt}
+use Rattle.std.proofs.Common.{Option, Some, None}
 use Rattle.std.specs.declared.cmp.Ordering.{Ordering}
 use Rattle.ax_pair.specs.declared.pair.Pair.{Pair}
 use Rattle.ax_pair.specs.Order.{pair_cmp}
@@ -74,7 +75,8 @@ none_first [] [] e = record { first = refl; second = refl }
 none_first [] (d ∷ drops) e = absurd (cc)
 none_first (n ∷ adds) [] e = absurd (cc)
 none_first (n ∷ adds) (d ∷ drops) e =
-    elim (nat_lt d n) as (λ b. None ≡ cond b (first_is false d) (first_is true n) → AreNone (n ∷ adds) (d ∷ drops)) [ true ↦ λ h. absurd (cc) | false ↦ λ h. absurd (cc) ] e
+    elim (nat_lt d n) as (λ b. None ≡ cond b (first_is false d) (first_is true n) → AreNone (n ∷ adds) (d ∷ drops))
+    [ true ↦ λ h. absurd (cc) | false ↦ λ h. absurd (cc) ] e
 
 pub nothing_with : (term adds drops : List ℕ) (more : List Change) → AreNone adds drops → changes_with term adds drops ++ more ≡ more
 unfolding changes_with
@@ -136,7 +138,8 @@ goes : (last bytes : List ℕ) (shared : ℕ) (part adds drops after term : List
 unfolding changes_of
 goes last bytes shared part adds drops after term count [] seen spelled counted are some begins e = absurd (omega arith)
 goes last bytes shared part adds drops after term count (change ∷ changes) seen spelled counted are some begins e =
-    let first : IsFirst last shared part adds drops after change changes = first_of last bytes shared part adds drops after change changes begins are.0 spelled in
+    let first : IsFirst last shared part adds drops after change changes =
+    first_of last bytes shared part adds drops after change changes begins are.0 spelled in
     let same : change.term ≡ term = sym (e ∙ first.is) in
     let after_is : after ≡ list_after term changes = first.leaves ∙ ap (λ (t : List ℕ). list_after t changes) same in
     let others : changes_in (count - 1) term after ≡ changes = seen_as term after (count - 1) changes are.1 (omega arith) after_is in

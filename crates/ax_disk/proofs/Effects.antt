@@ -6,7 +6,8 @@ use Rattle.ax_disk.specs.model.Pending.{AreBytes, MayLeave, all_settled, after_w
 use Rattle.ax_disk.specs.laws.PendingLaws.{all_settled_only, all_settled_leaves, after_write_leaves, after_write_allows, after_cut_leaves, after_cut_allows}
 use Rattle.ax_disk.specs.laws.MomentLaws.{elapses_start}
 use Rattle.ax_disk.specs.model.Calls.{Idles, Writes, Cuts, Syncs}
-use Rattle.ax_disk.specs.mem_disk.OperationLog.{Operation, wrote, cut, synced, State, synced_state, after_operation, OperationLog, with_operation, state_of, history_of}
+use Rattle.ax_disk.specs.mem_disk.OperationLog.{Operation, wrote, cut, synced, State, synced_state, after_operation, OperationLog, with_operation}
+use Rattle.ax_disk.specs.mem_disk.OperationLog.{state_of, history_of}
 use Rattle.ax_disk.specs.mem_disk.OperationLogLaws.{after_one_more, operation_elapses}
 
 -- an image as read may be left

@@ -1,7 +1,8 @@
 -- Bytes of a list and zeros behind them.
 use Rattle.std.proofs.Common.{◌≡◌, ◌⊎◌, ⊎_elim, ℕ, ◌+◌, ◌-◌, ◌<◌, ◌≤◌, min, List, [], ◌++◌, length, get_or, take, drop, sym, ◌∙◌, ap, arith, length-append}
 use Rattle.std.proofs.Math.ListN.{replicate}
-use Rattle.std.proofs.lemmas.List.{length-take, length-drop, length-replicate, get_or-take, get_or-drop, get_or-replicate, get_or_append_left, get_or-append_right, get_or_past, take_at, drop_all, append-nil}
+use Rattle.std.proofs.lemmas.List.{length-take, length-drop, length-replicate, get_or-take, get_or-drop, get_or-replicate, get_or_append_left}
+use Rattle.std.proofs.lemmas.List.{get_or-append_right, get_or_past, take_at, drop_all, append-nil}
 use Rattle.ax_disk.specs.model.Calls.{bytes_from}
 use Rattle.ax_disk.specs.laws.ReadLaws.{is_bytes_from}
 

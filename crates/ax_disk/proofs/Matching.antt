@@ -5,7 +5,8 @@ use Rattle.ax_disk.specs.declared.extent.Extent.{Extent}
 use Rattle.ax_disk.specs.declared.extent.Extent.TheVariants.{Root, A, B}
 use Rattle.ax_disk.specs.model.Image.{Image, list_of, with_list}
 use Rattle.ax_disk.specs.model.Pending.{AreBytes, Unsynced, MayLeave, all_settled, after_write, after_cut}
-use Rattle.ax_disk.specs.laws.PendingLaws.{settled_holds, all_settled_leaves, after_write_leaves, after_write_allows, after_cut_leaves, after_cut_allows, length-overwritten}
+use Rattle.ax_disk.specs.laws.PendingLaws.{settled_holds, all_settled_leaves, after_write_leaves, after_write_allows, after_cut_leaves}
+use Rattle.ax_disk.specs.laws.PendingLaws.{after_cut_allows, length-overwritten}
 use Rattle.ax_disk.specs.model.Calls.{overwritten}
 use Rattle.ax_disk.specs.mem_disk.OperationLog.{Operation, wrote, cut, synced, State, synced_state, after_operation, OperationLog, with_operation, state_of}
 use Rattle.ax_disk.specs.mem_disk.OperationLogLaws.{after_one_more}

@@ -1,5 +1,6 @@
 -- Reading one gap more, and reading a whole gap list.
-use Rattle.std.proofs.Common.{◌≡◌, ℕ, ◌+◌, ◌-◌, ◌<◌, ◌≤◌, List, [], ◌∷◌, ◌++◌, length, get_or, drop, arith, refl, ap, ◌∙◌, sym, Option, Some, None, IsSome, Bool, true, false, cond, nat_lt, nat_le, suc, option_and_then, All}
+use Rattle.std.proofs.Common.{◌≡◌, ℕ, ◌+◌, ◌-◌, ◌<◌, ◌≤◌, List, [], ◌∷◌, ◌++◌, length, get_or, drop, arith, refl, ap, ◌∙◌, sym, Option, Some, None}
+use Rattle.std.proofs.Common.{IsSome, Bool, true, false, cond, nat_lt, nat_le, suc, option_and_then, All}
 use Rattle.std.specs.Option.{option_map}
 use Rattle.std.proofs.lemmas.List.{append_assoc, length-append, drop_at}
 use Rattle.std.proofs.lemmas.List.Elements.{All-from_get_or}
@@ -10,7 +11,8 @@ use Rattle.ax_gap.specs.Reading.{first_varint, first_number, at_most, before, fi
 use Rattle.ax_gap.specs.Cursor.{numbers_of}
 use Rattle.ax_gap.proofs.Rising.{RisesFrom, rises, rising_list, length_rises}
 use Rattle.ax_gap.proofs.VarintLaws.{found, split_takes, split_again, same_number, same_after, most_found}
-use Rattle.ax_gap.proofs.GapLaws.{given, IsReadAs, number_taken, first_gaps_takes, first_gaps_again, first_gaps_counts, all_after, length-gaps_from, list_grammar_spells, same_list, same_end}
+use Rattle.ax_gap.proofs.GapLaws.{given, IsReadAs, number_taken, first_gaps_takes, first_gaps_again, first_gaps_counts, all_after, length-gaps_from}
+use Rattle.ax_gap.proofs.GapLaws.{list_grammar_spells, same_list, same_end}
 
 -- ---- one number more
 
@@ -33,12 +35,14 @@ past_from least (Some gap) e =
 pub number_past : (least : ℕ) (bytes : List ℕ) → None ≡ at_most 4294967296 (first_varint bytes) → first_number least bytes ≡ None
 number_past least bytes h = past_from least (first_varint bytes) h
 
-pub number_high : (least gap : ℕ) (bytes after : List ℕ) → found gap after ≡ at_most 4294967296 (first_varint bytes) → 4294967296 ≤ least + gap → first_number least bytes ≡ None
+pub number_high : (least gap : ℕ) (bytes after : List ℕ) → found gap after ≡ at_most 4294967296 (first_varint bytes) → 4294967296 ≤ least + gap
+    → first_number least bytes ≡ None
 number_high least gap bytes after h over =
     let s : nat_lt (least + gap) 4294967296 ≡ false = le-ltb (least + gap) 4294967296 over in
     ap (number_from least) (sym (most_found 4294967296 (first_varint bytes) gap after h)) ∙ rw s refl
 
-pub number_found : (least gap : ℕ) (bytes after : List ℕ) → found gap after ≡ at_most 4294967296 (first_varint bytes) → least + gap < 4294967296 → first_number least bytes ≡ found (least + gap) after
+pub number_found : (least gap : ℕ) (bytes after : List ℕ) → found gap after ≡ at_most 4294967296 (first_varint bytes) → least + gap < 4294967296
+    → first_number least bytes ≡ found (least + gap) after
 number_found least gap bytes after h under =
     let s : nat_lt (least + gap) 4294967296 ≡ true = lt-ltb (least + gap) 4294967296 under in
     ap (number_from least) (sym (most_found 4294967296 (first_varint bytes) gap after h)) ∙ rw s refl
@@ -54,7 +58,8 @@ first_gaps_suc least many count bytes e = rw e refl
 pub first_gaps_past : (least many count : ℕ) (bytes : List ℕ) → many ≡ suc count → None ≡ first_number least bytes → first_gaps least many bytes ≡ None
 first_gaps_past least many count bytes e h = first_gaps_suc least many count bytes e ∙ ap (next_gaps count) (sym h)
 
-pub first_gaps_more : (least many count number : ℕ) (bytes after : List ℕ) → many ≡ suc count → found number after ≡ first_number least bytes → first_gaps least many bytes ≡ before number (first_gaps (number + 1) count after)
+pub first_gaps_more : (least many count number : ℕ) (bytes after : List ℕ) → many ≡ suc count → found number after ≡ first_number least bytes
+    → first_gaps least many bytes ≡ before number (first_gaps (number + 1) count after)
 first_gaps_more least many count number bytes after e h = first_gaps_suc least many count bytes e ∙ ap (next_gaps count) (sym h)
 
 pub number_fits : (least number : ℕ) (bytes after : List ℕ) → found number after ≡ first_number least bytes → number < 4294967296
@@ -78,13 +83,15 @@ pub record ReadsOn (least many number : ℕ) (bytes after : List ℕ) : Type 0 w
   pub reads : IsSome (first_gaps (number + 1) (many - 1) after)
   pub numbers : numbers_of (first_gaps least many bytes) ≡ number ∷ numbers_of (first_gaps (number + 1) (many - 1) after)
 
-pub reads_on : (least many number : ℕ) (bytes after : List ℕ) → 0 < many → found number after ≡ first_number least bytes → IsSome (first_gaps least many bytes) → ReadsOn least many number bytes after
+pub reads_on : (least many number : ℕ) (bytes after : List ℕ) → 0 < many → found number after ≡ first_number least bytes
+    → IsSome (first_gaps least many bytes) → ReadsOn least many number bytes after
 reads_on least many number bytes after l h some =
     let one : many ≡ suc (many - 1) = omega arith in
     let e : first_gaps least many bytes ≡ before number (first_gaps (number + 1) (many - 1) after) =
     first_gaps_more least many (many - 1) number bytes after one h
     in
-    let parts : (IsSome (first_gaps (number + 1) (many - 1) after)) × (numbers_of (before number (first_gaps (number + 1) (many - 1) after)) ≡ number ∷ numbers_of (first_gaps (number + 1) (many - 1) after)) =
+    let parts : (IsSome (first_gaps (number + 1) (many - 1) after))
+    × (numbers_of (before number (first_gaps (number + 1) (many - 1) after)) ≡ number ∷ numbers_of (first_gaps (number + 1) (many - 1) after)) =
     some_before number (first_gaps (number + 1) (many - 1) after) (rw e at some)
     in record { small = number_fits least number bytes after h; reads = parts.0; numbers = ap numbers_of e ∙ parts.1 }
 
@@ -141,7 +148,8 @@ pub none_or_end : (r : Option (List ℕ × List ℕ)) (list tail : List ℕ) →
 none_or_end None list tail e h = absurd (cc)
 none_or_end (Some x) list tail e h = absurd (cc)
 
-pub whole_takes : (bytes rest tail : List ℕ) (count : ℕ) → ((i : ℕ) → get_or bytes i 0 < 256) → found count rest ≡ at_most 4294967296 (first_varint bytes) → Some tail ≡ option_map (λ x. x.1) (first_gaps 0 count rest) → IsTaken bytes (numbers_of (first_gaps 0 count rest)) tail
+pub whole_takes : (bytes rest tail : List ℕ) (count : ℕ) → ((i : ℕ) → get_or bytes i 0 < 256) → found count rest ≡ at_most 4294967296 (first_varint bytes)
+    → Some tail ≡ option_map (λ x. x.1) (first_gaps 0 count rest) → IsTaken bytes (numbers_of (first_gaps 0 count rest)) tail
 unfolding gaps
 whole_takes bytes rest tail count fits h e =
     let list : List ℕ = numbers_of (first_gaps 0 count rest) in

@@ -1,5 +1,6 @@
 -- Gap lists: the grammar, the spelling and the reading of one are the same.
-use Rattle.std.proofs.Common.{◌≡◌, ℕ, ◌+◌, ◌-◌, ◌<◌, ◌≤◌, List, [], ◌∷◌, ◌++◌, length, get_or, drop, arith, refl, ap, ◌∙◌, sym, Option, Some, None, Bool, true, false, cond, nat_lt, zero, suc, option_and_then, All, subst}
+use Rattle.std.proofs.Common.{◌≡◌, ℕ, ◌+◌, ◌-◌, ◌<◌, ◌≤◌, List, [], ◌∷◌, ◌++◌, length, get_or, drop, arith, refl, ap, ◌∙◌, sym, Option, Some, None}
+use Rattle.std.proofs.Common.{Bool, true, false, cond, nat_lt, zero, suc, option_and_then, All, subst}
 use Rattle.std.proofs.lemmas.List.{at_drop_more, at_drop_all, drop_more, append_assoc, drop_at, length-append}
 use Rattle.std.proofs.lemmas.List.Elements.{All-same, All-drop}
 use Rattle.std.proofs.lemmas.Bool.{lt-ltb, ltb-true}
@@ -11,7 +12,8 @@ use Rattle.ax_gap.proofs.VarintLaws.{grammar_spells, spells_grammar, first_varin
 
 -- ---- what is written
 
-pub gaps_from-more : (list : List ℕ) (index least n : ℕ) → index < length list → n ≡ get_or list index 0 → gaps_from least (drop index list) ≡ varint (n - least) ++ gaps_from (n + 1) (drop (index + 1) list)
+pub gaps_from-more : (list : List ℕ) (index least n : ℕ) → index < length list → n ≡ get_or list index 0
+    → gaps_from least (drop index list) ≡ varint (n - least) ++ gaps_from (n + 1) (drop (index + 1) list)
 unfolding gaps_from
 gaps_from-more list index least n h e =
     at_drop_more (gaps_from least) list index 0 h ∙ ap (λ (m : ℕ). varint (m - least) ++ gaps_from (m + 1) (drop (index + 1) list)) (sym e)
@@ -20,7 +22,8 @@ pub gaps_from-all : (list : List ℕ) (index least : ℕ) → length list ≤ in
 unfolding gaps_from
 gaps_from-all list index least h = at_drop_all (gaps_from least) list index h
 
-pub rises-more : (list : List ℕ) (index least n : ℕ) → index < length list → n ≡ get_or list index 0 → RisesFrom least (drop index list) → (least ≤ n) × (n < 4294967296) × RisesFrom (n + 1) (drop (index + 1) list)
+pub rises-more : (list : List ℕ) (index least n : ℕ) → index < length list → n ≡ get_or list index 0 → RisesFrom least (drop index list) → (least ≤ n)
+    × (n < 4294967296) × RisesFrom (n + 1) (drop (index + 1) list)
 rises-more list index least n h e up =
     let split : drop index list ≡ n ∷ drop (index + 1) list =
     drop_more list index 0 h ∙ ap (λ (m : ℕ). m ∷ drop (index + 1) list) (sym e)
@@ -63,7 +66,8 @@ spells_list_grammar list h =
 abbrev pub given : List ℕ → List ℕ → Option (List ℕ × List ℕ)
 given list rest = Some (list, rest)
 
-pub first_gaps_again : (list : List ℕ) (least : ℕ) (rest : List ℕ) → RisesFrom least list → first_gaps least (length list) (gaps_from least list ++ rest) ≡ given list rest
+pub first_gaps_again : (list : List ℕ) (least : ℕ) (rest : List ℕ) → RisesFrom least list
+    → first_gaps least (length list) (gaps_from least list ++ rest) ≡ given list rest
 unfolding gaps_from first_gaps
 first_gaps_again [] least rest h = refl
 first_gaps_again (n ∷ list) least rest h =
@@ -92,12 +96,14 @@ pub same_end : (list other x y : List ℕ) → given list x ≡ given other y �
 unfolding after_of
 same_end list other x y e = ap after_of e
 
-before_found : (n : ℕ) (r : Option (List ℕ × List ℕ)) (list rest : List ℕ) → before n r ≡ given list rest → (ns : List ℕ) × (r ≡ given ns rest) × (n ∷ ns ≡ list)
+before_found : (n : ℕ) (r : Option (List ℕ × List ℕ)) (list rest : List ℕ) → before n r ≡ given list rest → (ns : List ℕ) × (r ≡ given ns rest)
+    × (n ∷ ns ≡ list)
 before_found n None list rest e = absurd (cc)
 before_found n (Some (ns, after)) list rest e =
     (ns, ap (given ns) (same_end (n ∷ ns) list after rest e), same_list (n ∷ ns) list after rest e)
 
-number_before : (r : Option (ℕ × List ℕ)) (f : ℕ × List ℕ → Option (List ℕ × List ℕ)) (list rest : List ℕ) → option_and_then f r ≡ given list rest → (gap : ℕ) × (after : List ℕ) × (r ≡ found gap after) × (f (gap, after) ≡ given list rest)
+number_before : (r : Option (ℕ × List ℕ)) (f : ℕ × List ℕ → Option (List ℕ × List ℕ)) (list rest : List ℕ) → option_and_then f r ≡ given list rest → (gap : ℕ)
+    × (after : List ℕ) × (r ≡ found gap after) × (f (gap, after) ≡ given list rest)
 number_before None f list rest e = absurd (cc)
 number_before (Some (gap, after)) f list rest e = (gap, after, refl, e)
 
@@ -136,7 +142,8 @@ number_from_taken least number bytes after (Some (gap, rest)) was e =
 pub number_taken : (least number : ℕ) (bytes after : List ℕ) → first_number least bytes ≡ found number after → NumberTaken least number bytes after
 number_taken least number bytes after e = number_from_taken least number bytes after (first_varint bytes) refl e
 
-read_more : (least count number gap : ℕ) (bytes after ns list rest : List ℕ) → bytes ≡ varint gap ++ after → least + gap ≡ number → number < 4294967296 → number ∷ ns ≡ list → IsReadAs (number + 1) count after ns rest → IsReadAs least (suc count) bytes list rest
+read_more : (least count number gap : ℕ) (bytes after ns list rest : List ℕ) → bytes ≡ varint gap ++ after → least + gap ≡ number → number < 4294967296
+    → number ∷ ns ≡ list → IsReadAs (number + 1) count after ns rest → IsReadAs least (suc count) bytes list rest
 unfolding gaps_from
 read_more least count number gap bytes after ns list rest first sums small is later =
     let this : number - least ≡ gap = omega arith in
@@ -152,7 +159,8 @@ read_more least count number gap bytes after ns list rest first sums small is la
       counted = sym (ap length is) ∙ omega (arith, later.counted);
     }
 
-pub first_gaps_takes : (count least : ℕ) (bytes list rest : List ℕ) → All (λ b. b < 256) bytes → first_gaps least count bytes ≡ given list rest → IsReadAs least count bytes list rest
+pub first_gaps_takes : (count least : ℕ) (bytes list rest : List ℕ) → All (λ b. b < 256) bytes → first_gaps least count bytes ≡ given list rest
+    → IsReadAs least count bytes list rest
 unfolding gaps_from first_gaps
 first_gaps_takes zero least bytes list rest all e =
     let none : [] ≡ list = same_list [] list bytes rest e in

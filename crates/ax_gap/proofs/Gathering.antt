@@ -6,13 +6,15 @@ use Rattle.ax_gap.specs.Varint.{varint}
 use Rattle.ax_gap.proofs.VarintLaws.{varint-small, varint-large, take-more_written}
 
 -- one byte behind those that are gathered, and one more that does not count
-one_byte : (g : List ℕ) (count gap y : ℕ) → count < length g → gap < 128 → take (count + 1) (slice_set (slice_set g count gap) (count + 1) y) ≡ take count g ++ varint gap
+one_byte : (g : List ℕ) (count gap y : ℕ) → count < length g → gap < 128 → take (count + 1) (slice_set (slice_set g count gap) (count + 1) y) ≡ take count g
+    ++ varint gap
 one_byte g count gap y room small =
     take-set (slice_set g count gap) (count + 1) y ∙ take_more_set g count gap room
     ∙ ap (λ (bs : List ℕ). take count g ++ bs) (sym (varint-small gap small))
 
 -- two bytes behind those that are gathered
-two_bytes : (g : List ℕ) (count gap : ℕ) → count + 1 < length g → 128 ≤ gap → gap < 16384 → take (count + 1 + 1) (slice_set (slice_set g count (128 + gap % 128)) (count + 1) (gap / 128)) ≡ take count g ++ varint gap
+two_bytes : (g : List ℕ) (count gap : ℕ) → count + 1 < length g → 128 ≤ gap → gap < 16384
+    → take (count + 1 + 1) (slice_set (slice_set g count (128 + gap % 128)) (count + 1) (gap / 128)) ≡ take count g ++ varint gap
 two_bytes g count gap room long short =
     let x = 128 + gap % 128 in
     let l = slice_set g count x in

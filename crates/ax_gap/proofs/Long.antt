@@ -1,5 +1,6 @@
 -- Reading a varint byte by byte: what the bytes so far and the rest give together.
-use Rattle.std.proofs.Common.{◌≡◌, ℕ, ◌+◌, ◌-◌, ◌*◌, ◌<◌, ◌≤◌, ◌^◌, ◌&&◌, false, get_or, length, ◌==◌, List, ◌∷◌, Option, Some, None, zero, suc, nat_lt, drop, if◌then◌else◌, arith, refl, ap, ◌∙◌, sym}
+use Rattle.std.proofs.Common.{◌≡◌, ℕ, ◌+◌, ◌-◌, ◌*◌, ◌<◌, ◌≤◌, ◌^◌, ◌&&◌, false, get_or, length, ◌==◌, List, ◌∷◌, Option, Some, None, zero, suc}
+use Rattle.std.proofs.Common.{nat_lt, drop, if◌then◌else◌, arith, refl, ap, ◌∙◌, sym}
 use Rattle.std.proofs.lemmas.Bool.{le-ltb, lt-ltb, lt-leb, ne_eqb, and_right}
 use Rattle.std.proofs.lemmas.List.{at_drop_more}
 use Rattle.std.proofs.lemmas.Nat.{mul-le}
@@ -37,7 +38,8 @@ placed_over low scale taken (Some (suc n, rest)) h t =
 shifted : (low scale byte n : ℕ) → low + (byte - 128 + 128 * suc n) * scale ≡ low + (byte - 128) * scale + suc n * (scale * 128)
 shifted low scale byte n = omega arith
 
-pub placed_more : (low scale taken byte : ℕ) (r : Option (ℕ × List ℕ)) → placed low scale taken (longer byte r) ≡ placed (low + (byte - 128) * scale) (scale * 128) (taken + 1) r
+pub placed_more : (low scale taken byte : ℕ) (r : Option (ℕ × List ℕ))
+    → placed low scale taken (longer byte r) ≡ placed (low + (byte - 128) * scale) (scale * 128) (taken + 1) r
 placed_more low scale taken byte None = refl
 placed_more low scale taken byte (Some (zero, rest)) =
     rw (lt-ltb 0 (taken + 1) (omega arith)) refl
@@ -47,7 +49,8 @@ placed_more low scale taken byte (Some (suc n, rest)) =
     (ap (λ (v : ℕ). Some (v, rest)) (shifted low scale byte n))
 
 -- one more byte from 128 on, which is `byte`
-pub more : (low scale taken byte : ℕ) (bytes : List ℕ) → IsUnderWay low scale taken bytes → taken < length bytes → byte ≡ get_or bytes taken 0 → 128 ≤ byte → byte < 256 → scale ≤ 4294967296 → IsUnderWay (low + (byte - 128) * scale) (scale * 128) (taken + 1) bytes
+pub more : (low scale taken byte : ℕ) (bytes : List ℕ) → IsUnderWay low scale taken bytes → taken < length bytes → byte ≡ get_or bytes taken 0 → 128 ≤ byte
+    → byte < 256 → scale ≤ 4294967296 → IsUnderWay (low + (byte - 128) * scale) (scale * 128) (taken + 1) bytes
 more low scale taken byte bytes was within at long small fits =
     let rest : List ℕ = drop (taken + 1) bytes in
     let here : first_varint (drop taken bytes) ≡ first_varint (get_or bytes taken 0 ∷ rest) = at_drop_more first_varint bytes taken 0 within in

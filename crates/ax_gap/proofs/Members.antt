@@ -1,7 +1,9 @@
 -- What the set operations on rising lists contain.
-use Rattle.std.proofs.Common.{◌≡◌, ℕ, ◌+◌, ◌==◌, ◌||◌, ◌&&◌, List, [], ◌∷◌, arith, refl, ap, ◌∙◌, sym, subst, Bool, true, false, not, cond, nat_lt, zero, suc, filter, inl, inr, ⊎_elim, ◌⊎◌, Contains, ◌↔◌}
+use Rattle.std.proofs.Common.{◌≡◌, ℕ, ◌+◌, ◌==◌, ◌||◌, ◌&&◌, List, [], ◌∷◌, arith, refl, ap, ◌∙◌, sym, subst, Bool, true, false, not, cond, nat_lt}
+use Rattle.std.proofs.Common.{zero, suc, filter, inl, inr, ⊎_elim, ◌⊎◌, Contains, ◌↔◌}
 use Rattle.std.specs.List.Sorted.{IsStrictlyIncreasing}
-use Rattle.std.proofs.lemmas.Bool.{lt-ltb, ne_eqb, eq-eqb, eqb-true, cases_order, cases_eq, and_parts, and_from, or_cases, cases_Bool, not-true, false≢true, and_right, both_ways}
+use Rattle.std.proofs.lemmas.Bool.{lt-ltb, ne_eqb, eq-eqb, eqb-true, cases_order, cases_eq, and_parts, and_from, or_cases, cases_Bool, not-true}
+use Rattle.std.proofs.lemmas.Bool.{false≢true, and_right, both_ways}
 use Rattle.std.proofs.lemmas.List.Kept.{IsStrictlyIncreasing-filter}
 use Rattle.ax_gap.specs.Gaps.{IsRisingList}
 use Rattle.ax_gap.proofs.Rising.{RisesFrom, rises, rising_list}
@@ -24,7 +26,8 @@ contains_from_in (x ∷ xs) n h =
     (λ e. let (k, l, at) = contains_from_in xs n e in (suc k, omega arith, at))
     (or_cases (n == x) (is_in n xs) h)
 
-filter_step : (passes same later here kept : Bool) → kept ≡ (later && here) → (same ≡ true → here ≡ passes) → cond passes (same || kept) kept ≡ ((same || later) && here)
+filter_step : (passes same later here kept : Bool) → kept ≡ (later && here) → (same ≡ true → here ≡ passes)
+    → cond passes (same || kept) kept ≡ ((same || later) && here)
 filter_step true true later here kept e h = sym (h refl)
 filter_step true false later here kept e h = e
 filter_step false true later here kept e h =
@@ -36,7 +39,8 @@ pub in_filter : (p : ℕ → Bool) (xs : List ℕ) (n : ℕ) → is_in n (filter
 in_filter p [] n = refl
 in_filter p (x ∷ xs) n =
     let parts : is_in n (cond (p x) (x ∷ filter p xs) (filter p xs)) ≡ cond (p x) (is_in n (x ∷ filter p xs)) (is_in n (filter p xs)) =
-    elim (p x) as (λ b. is_in n (cond b (x ∷ filter p xs) (filter p xs)) ≡ cond b (is_in n (x ∷ filter p xs)) (is_in n (filter p xs))) [ true ↦ refl | false ↦ refl ]
+    elim (p x) as (λ b. is_in n (cond b (x ∷ filter p xs) (filter p xs)) ≡ cond b (is_in n (x ∷ filter p xs)) (is_in n (filter p xs)))
+    [ true ↦ refl | false ↦ refl ]
     in
     parts
     ∙ filter_step (p x) (n == x) (is_in n xs) (p n) (is_in n (filter p xs)) (in_filter p xs n) (λ e. ap p (eqb-true n x e))
@@ -132,7 +136,8 @@ same_test true b f g = sym (f refl)
 same_test false true f g = g refl
 same_test false false f g = refl
 
-tail_test : (x : ℕ) (xs ys : List ℕ) → RisesFrom (x + 1) xs → RisesFrom (x + 1) ys → ((n : ℕ) → is_in n (x ∷ xs) ≡ is_in n (x ∷ ys)) → (n : ℕ) → is_in n xs ≡ is_in n ys
+tail_test : (x : ℕ) (xs ys : List ℕ) → RisesFrom (x + 1) xs → RisesFrom (x + 1) ys → ((n : ℕ) → is_in n (x ∷ xs) ≡ is_in n (x ∷ ys)) → (n : ℕ)
+    → is_in n xs ≡ is_in n ys
 tail_test x xs ys up vp same n =
     ⊎_elim
     (λ e.

@@ -1,6 +1,7 @@
 -- The set operations on lists that rise strictly, as functions on lists, and what each step of a
 -- merge does to them.
-use Rattle.std.proofs.Common.{◌≡◌, ℕ, ◌+◌, ◌<◌, ◌≤◌, ◌==◌, ◌||◌, List, [], ◌∷◌, ◌++◌, length, get_or, drop, arith, refl, ap, ◌∙◌, sym, Bool, true, false, not, nat_lt, if◌then◌else◌, filter, ⊎_elim, ◌⊎◌}
+use Rattle.std.proofs.Common.{◌≡◌, ℕ, ◌+◌, ◌<◌, ◌≤◌, ◌==◌, ◌||◌, List, [], ◌∷◌, ◌++◌, length, get_or, drop, arith, refl, ap, ◌∙◌, sym, Bool, true}
+use Rattle.std.proofs.Common.{false, not, nat_lt, if◌then◌else◌, filter, ⊎_elim, ◌⊎◌}
 use Rattle.std.proofs.lemmas.Bool.{lt-ltb, le-ltb, ne_eqb, eq-eqb, cases_order}
 use Rattle.std.proofs.lemmas.List.{drop_more, drop_all, append_assoc, append-nil}
 use Rattle.ax_gap.proofs.Rising.{RisesFrom}
@@ -165,7 +166,10 @@ rest_rises xs i h up =
     rises_lower 0 (get_or xs i 0 + 1) (drop (i + 1) xs) (omega arith) (at_drop xs i h up).2
 
 -- what `new` adds to `out` is what the operation gives less where the heads are taken off
-pub first_taken : (op : List ℕ → List ℕ → List ℕ) (out new a b : List ℕ) (i j : ℕ) → IsMerging op out a b i j → i < length a → j < length b → (RisesFrom 0 (get_or a i 0 ∷ drop (i + 1) a) → RisesFrom 0 (get_or b j 0 ∷ drop (j + 1) b) → new ++ op (drop (i + 1) a) (get_or b j 0 ∷ drop (j + 1) b) ≡ out ++ op (get_or a i 0 ∷ drop (i + 1) a) (get_or b j 0 ∷ drop (j + 1) b)) → IsMerging op new a b (i + 1) j
+pub first_taken : (op : List ℕ → List ℕ → List ℕ) (out new a b : List ℕ) (i j : ℕ) → IsMerging op out a b i j → i < length a → j < length b
+    → (RisesFrom 0 (get_or a i 0 ∷ drop (i + 1) a) → RisesFrom 0 (get_or b j 0 ∷ drop (j + 1) b) → new
+    ++ op (drop (i + 1) a) (get_or b j 0 ∷ drop (j + 1) b) ≡ out ++ op (get_or a i 0 ∷ drop (i + 1) a) (get_or b j 0 ∷ drop (j + 1) b))
+    → IsMerging op new a b (i + 1) j
 first_taken op out new a b i j was h k step =
     let x : drop i a ≡ get_or a i 0 ∷ drop (i + 1) a = drop_more a i 0 h in
     let y : drop j b ≡ get_or b j 0 ∷ drop (j + 1) b = drop_more b j 0 k in
@@ -179,7 +183,10 @@ first_taken op out new a b i j was h k step =
       j_within = was.j_within;
     }
 
-pub second_taken : (op : List ℕ → List ℕ → List ℕ) (out new a b : List ℕ) (i j : ℕ) → IsMerging op out a b i j → i < length a → j < length b → (RisesFrom 0 (get_or a i 0 ∷ drop (i + 1) a) → RisesFrom 0 (get_or b j 0 ∷ drop (j + 1) b) → new ++ op (get_or a i 0 ∷ drop (i + 1) a) (drop (j + 1) b) ≡ out ++ op (get_or a i 0 ∷ drop (i + 1) a) (get_or b j 0 ∷ drop (j + 1) b)) → IsMerging op new a b i (j + 1)
+pub second_taken : (op : List ℕ → List ℕ → List ℕ) (out new a b : List ℕ) (i j : ℕ) → IsMerging op out a b i j → i < length a → j < length b
+    → (RisesFrom 0 (get_or a i 0 ∷ drop (i + 1) a) → RisesFrom 0 (get_or b j 0 ∷ drop (j + 1) b) → new
+    ++ op (get_or a i 0 ∷ drop (i + 1) a) (drop (j + 1) b) ≡ out ++ op (get_or a i 0 ∷ drop (i + 1) a) (get_or b j 0 ∷ drop (j + 1) b))
+    → IsMerging op new a b i (j + 1)
 second_taken op out new a b i j was h k step =
     let x : drop i a ≡ get_or a i 0 ∷ drop (i + 1) a = drop_more a i 0 h in
     let y : drop j b ≡ get_or b j 0 ∷ drop (j + 1) b = drop_more b j 0 k in
@@ -193,7 +200,9 @@ second_taken op out new a b i j was h k step =
       j_within = omega arith;
     }
 
-pub both_taken : (op : List ℕ → List ℕ → List ℕ) (out new a b : List ℕ) (i j : ℕ) → IsMerging op out a b i j → i < length a → j < length b → get_or b j 0 ≡ get_or a i 0 → (RisesFrom 0 (get_or a i 0 ∷ drop (i + 1) a) → new ++ op (drop (i + 1) a) (drop (j + 1) b) ≡ out ++ op (get_or a i 0 ∷ drop (i + 1) a) (get_or a i 0 ∷ drop (j + 1) b)) → IsMerging op new a b (i + 1) (j + 1)
+pub both_taken : (op : List ℕ → List ℕ → List ℕ) (out new a b : List ℕ) (i j : ℕ) → IsMerging op out a b i j → i < length a → j < length b
+    → get_or b j 0 ≡ get_or a i 0 → (RisesFrom 0 (get_or a i 0 ∷ drop (i + 1) a) → new ++ op (drop (i + 1) a) (drop (j + 1) b) ≡ out
+    ++ op (get_or a i 0 ∷ drop (i + 1) a) (get_or a i 0 ∷ drop (j + 1) b)) → IsMerging op new a b (i + 1) (j + 1)
 both_taken op out new a b i j was h k same step =
     let x : drop i a ≡ get_or a i 0 ∷ drop (i + 1) a = drop_more a i 0 h in
     let y : drop j b ≡ get_or a i 0 ∷ drop (j + 1) b =

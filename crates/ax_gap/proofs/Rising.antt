@@ -26,7 +26,8 @@ increasing-cons n m list h up (suc k) l =
     let above : get_or (m ∷ list) k 0 < get_or (m ∷ list) (k + 1) 0 = up k (omega arith) in
     omega (arith, get_or-next n (m ∷ list) (suc k + 1) (k + 1) (omega arith))
 
-rises_up : (least : ℕ) (list : List ℕ) → IsStrictlyIncreasing list → All (λ n. n < 4294967296) list → (0 < length list → least ≤ get_or list 0 0) → RisesFrom least list
+rises_up : (least : ℕ) (list : List ℕ) → IsStrictlyIncreasing list → All (λ n. n < 4294967296) list → (0 < length list → least ≤ get_or list 0 0)
+    → RisesFrom least list
 rises_up least [] up all low = tt
 rises_up least (n ∷ []) up all low = (low (omega arith), All-head (λ n. n < 4294967296) n [] all, tt)
 rises_up least (n ∷ m ∷ list) up all low = (

@@ -1,5 +1,6 @@
 -- Varints: the grammar, the spelling and the reading of one are the same.
-use Rattle.std.proofs.Common.{◌≡◌, ℕ, ◌+◌, ◌-◌, ◌*◌, ◌/◌, ◌%◌, ◌<◌, ◌≤◌, ◌==◌, true, false, length, List, [], ◌∷◌, ◌++◌, Option, Some, None, zero, suc, nat_lt, arith, refl, ap, ◌∙◌, sym, ⊎_elim, All, nat_le, cond, get_or, drop, take, min}
+use Rattle.std.proofs.Common.{◌≡◌, ℕ, ◌+◌, ◌-◌, ◌*◌, ◌/◌, ◌%◌, ◌<◌, ◌≤◌, ◌==◌, true, false, length, List, [], ◌∷◌, ◌++◌, Option, Some, None, zero}
+use Rattle.std.proofs.Common.{suc, nat_lt, arith, refl, ap, ◌∙◌, sym, ⊎_elim, All, nat_le, cond, get_or, drop, take, min}
 use Rattle.std.proofs.lemmas.Bool.{le-ltb, lt-ltb, ne_eqb, cases_lt, le-leb}
 use Rattle.std.proofs.lemmas.List.{length-append, length-take, drop_at, take-append-le, append_assoc}
 use Rattle.std.proofs.lemmas.List.Elements.{All-head, All-tail, All-from_get_or}
@@ -87,13 +88,15 @@ pub same_after : (m n : ℕ) (x y : List ℕ) → found m x ≡ found n y → x 
 unfolding after_of
 same_after m n x y e = ap after_of e
 
-large_again : (byte m n : ℕ) (bytes rest : List ℕ) → byte < 256 → 128 ≤ byte → 0 < m → byte - 128 + 128 * m ≡ n → bytes ≡ varint m ++ rest → byte ∷ bytes ≡ varint n ++ rest
+large_again : (byte m n : ℕ) (bytes rest : List ℕ) → byte < 256 → 128 ≤ byte → 0 < m → byte - 128 + 128 * m ≡ n → bytes ≡ varint m ++ rest → byte
+    ∷ bytes ≡ varint n ++ rest
 large_again byte m n bytes rest s l p e was =
     let high : n / 128 ≡ m = omega arith in
     let low : 128 + n % 128 ≡ byte = omega arith in
     rw (varint-large n (omega arith), low, high, was) refl
 
-takes_longer : (byte : ℕ) (bytes : List ℕ) (r : Option (ℕ × List ℕ)) (n : ℕ) (rest : List ℕ) → byte < 256 → 128 ≤ byte → ((m : ℕ) → r ≡ Some (m, rest) → bytes ≡ varint m ++ rest) → longer byte r ≡ Some (n, rest) → byte ∷ bytes ≡ varint n ++ rest
+takes_longer : (byte : ℕ) (bytes : List ℕ) (r : Option (ℕ × List ℕ)) (n : ℕ) (rest : List ℕ) → byte < 256 → 128 ≤ byte
+    → ((m : ℕ) → r ≡ Some (m, rest) → bytes ≡ varint m ++ rest) → longer byte r ≡ Some (n, rest) → byte ∷ bytes ≡ varint n ++ rest
 takes_longer byte bytes None n rest s l was e = absurd (cc)
 takes_longer byte bytes (Some (zero, r)) n rest s l was e = absurd (cc)
 takes_longer byte bytes (Some (suc m, r)) n rest s l was e =
@@ -124,9 +127,11 @@ first_varint_takes (byte ∷ bytes) n rest all e =
 pub grammar_spells : (bytes : List ℕ) (n : ℕ) → IsVarint bytes n → bytes ≡ varint n
 grammar_spells [] n h = absurd h
 grammar_spells (byte ∷ []) n h = ap (λ (b : ℕ). b ∷ []) h.1 ∙ sym (varint-small n (omega (arith, h.0, h.1)))
-grammar_spells (byte ∷ next ∷ rest) n h = ap (λ b. b ∷ next ∷ rest) h.1 ∙ ap (λ bs. (128 + n % 128) ∷ bs) (grammar_spells (next ∷ rest) (n / 128) h.2) ∙ sym (varint-large n h.0)
+grammar_spells (byte ∷ next ∷ rest) n h = ap (λ b. b ∷ next ∷ rest) h.1 ∙ ap (λ bs. (128 + n % 128) ∷ bs) (grammar_spells (next ∷ rest) (n / 128) h.2)
+    ∙ sym (varint-large n h.0)
 
-grammar_longer : (n : ℕ) (bytes : List ℕ) → (byte : ℕ) × (rest : List ℕ) × (bytes ≡ byte ∷ rest) → 128 ≤ n → IsVarint bytes (n / 128) → IsVarint ((128 + n % 128) ∷ bytes) n
+grammar_longer : (n : ℕ) (bytes : List ℕ) → (byte : ℕ) × (rest : List ℕ) × (bytes ≡ byte ∷ rest) → 128 ≤ n → IsVarint bytes (n / 128)
+    → IsVarint ((128 + n % 128) ∷ bytes) n
 grammar_longer n [] c h was = absurd was
 grammar_longer n (byte ∷ rest) c h was = (h, refl, was)
 
@@ -144,7 +149,8 @@ most_found most (Some x) n rest e =
     elim (nat_le x.0 most) as (λ b. found n rest ≡ cond b (Some x) None → found n rest ≡ Some x) [ true ↦ λ h. h | false ↦ λ h. absurd (cc) ] e
 
 -- what is taken off is spelled so
-pub split_takes : (bytes : List ℕ) (n : ℕ) (rest : List ℕ) → ((i : ℕ) → get_or bytes i 0 < 256) → found n rest ≡ at_most 4294967296 (first_varint bytes) → bytes ≡ varint n ++ rest
+pub split_takes : (bytes : List ℕ) (n : ℕ) (rest : List ℕ) → ((i : ℕ) → get_or bytes i 0 < 256) → found n rest ≡ at_most 4294967296 (first_varint bytes)
+    → bytes ≡ varint n ++ rest
 split_takes bytes n rest fits e =
     first_varint_takes bytes n rest (All-from_get_or (λ b. b < 256) bytes 0 (λ i h. fits i)) (sym (most_found 4294967296 (first_varint bytes) n rest e))
 
@@ -184,7 +190,8 @@ one_form s t x y m n h k e =
     let first : s ≡ varint m = grammar_spells s m h in
     let second : t ≡ varint n = grammar_spells t n k in
     let read : found m x ≡ found n y =
-    sym (first_varint_again m x) ∙ ap (λ bs. first_varint (bs ++ x)) (sym first) ∙ ap first_varint e ∙ ap (λ bs. first_varint (bs ++ y)) second ∙ first_varint_again n y
+    sym (first_varint_again m x) ∙ ap (λ bs. first_varint (bs ++ x)) (sym first) ∙ ap first_varint e ∙ ap (λ bs. first_varint (bs ++ y)) second
+    ∙ first_varint_again n y
     in
     let same : m ≡ n = same_number m n x y read in
     (same, first ∙ ap varint same ∙ sym second, same_after m n x y read)

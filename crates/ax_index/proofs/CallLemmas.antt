@@ -185,7 +185,8 @@ pub first_planned : {honest : Bool} (all changes run behind : List Change) (befo
     → AllBelong (changed_pairs run) page before
     → IsPagePlanned honest page run before now is_merged later more here new)
     → IsPlannedTo honest all behind before (merged + extra) later more old new
-first_planned {honest = honest} all changes run behind before merged next later extra room more old here new page is_merged whole some rise first parted extra_is is never_less met planned =
+first_planned {honest = honest} all changes run behind before merged next later extra room more old here new page is_merged whole some rise first parted
+    extra_is is never_less met planned =
     let mine : IsPlannedTo honest all (run ++ behind) before merged next room old here =
     subst (λ (left : List Change). IsPlannedTo honest all left before merged next room old here) whole is
     in

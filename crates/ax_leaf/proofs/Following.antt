@@ -1,5 +1,6 @@
 -- Whether a term that is written after another comes after it: one byte decides.
-use Rattle.std.proofs.Common.{◌≡◌, ◌↔◌, ℕ, ◌+◌, ◌<◌, ◌≤◌, List, [], ◌∷◌, ◌++◌, length, take, drop, arith, refl, ap, ◌∙◌, sym, subst, Option, slice_get, zero, suc, ⊎_elim, ◌⊎◌}
+use Rattle.std.proofs.Common.{◌≡◌, ◌↔◌, ℕ, ◌+◌, ◌<◌, ◌≤◌, List, [], ◌∷◌, ◌++◌, length, take, drop, arith, refl, ap, ◌∙◌, sym, subst, Option}
+use Rattle.std.proofs.Common.{slice_get, zero, suc, ⊎_elim, ◌⊎◌}
 use Rattle.std.proofs.lemmas.Bool.{eq-eqb, ne_eqb, cases_order}
 use Rattle.std.proofs.lemmas.List.{length-take-le, take-append-drop}
 use Rattle.std.specs.Cmp.{nat_cmp_is}
@@ -24,7 +25,8 @@ cmp_whole last shared rest =
     ap (λ (bs : List ℕ). slice_cmp nat_cmp bs (whole_term last shared rest)) (sym (take-append-drop shared last))
     ∙ cmp_behind (take shared last) (drop shared last) rest
 
-common_whole : (last : List ℕ) (shared : ℕ) (rest : List ℕ) → shared ≤ length last → common last (whole_term last shared rest) ≡ shared + common (drop shared last) rest
+common_whole : (last : List ℕ) (shared : ℕ) (rest : List ℕ) → shared ≤ length last
+    → common last (whole_term last shared rest) ≡ shared + common (drop shared last) rest
 common_whole last shared rest h =
     ap (λ (bs : List ℕ). common bs (whole_term last shared rest)) (sym (take-append-drop shared last))
     ∙ common_behind (take shared last) (drop shared last) rest
@@ -67,7 +69,8 @@ first_behind (x ∷ last) (suc shared) = first_behind last shared
 
 -- ---- the test of the code
 
-pub follows_where : (last : List ℕ) (shared : ℕ) (rest : List ℕ) (byte : Option ℕ) → byte ≡ slice_get last shared → shared ≤ length last → shared + length rest < 4294967296
+pub follows_where : (last : List ℕ) (shared : ℕ) (rest : List ℕ) (byte : Option ℕ) → byte ≡ slice_get last shared → shared ≤ length last
+    → shared + length rest < 4294967296
     → Exceeds rest byte ↔ Follows last shared rest
 follows_where last shared rest byte e within short =
     let same : byte ≡ slice_get (drop shared last) 0 = e ∙ sym (first_behind last shared) in (

@@ -5,12 +5,14 @@ use Rattle.std.proofs.lemmas.List.{length-append, length-take-le, get_or-take, g
 use Rattle.std.proofs.lemmas.Option.{slice_get_past, slice_get-get_or}
 use Rattle.ax_leaf.specs.ShortTerm.{whole_term, HasFront}
 
-pub front_stays : (front last : List ℕ) (shared : ℕ) (rest : List ℕ) → length front ≤ shared → HasFront front last → shared ≤ length last → HasFront front (whole_term last shared rest)
+pub front_stays : (front last : List ℕ) (shared : ℕ) (rest : List ℕ) → length front ≤ shared → HasFront front last → shared ≤ length last
+    → HasFront front (whole_term last shared rest)
 front_stays front last shared rest far has within k h l =
     let size : length (take shared last) ≡ shared = length-take-le shared last within in
     has k h (omega arith) ∙ sym (get_or-take shared last k 0 (omega arith)) ∙ sym (get_or_append_left (take shared last) rest 0 k (omega arith))
 
-pub front_kept : (front new last : List ℕ) (shared kept : ℕ) (rest : List ℕ) → shared < length front → kept ≡ min (length rest) (length front - shared) → length new ≡ length front
+pub front_kept : (front new last : List ℕ) (shared kept : ℕ) (rest : List ℕ) → shared < length front → kept ≡ min (length rest) (length front - shared)
+    → length new ≡ length front
     → take (shared + kept) new ≡ take shared front ++ take kept rest → HasFront front last → shared ≤ length last → HasFront new (whole_term last shared rest)
 front_kept front new last shared kept rest near many size e has within k h l =
     let first : length (take shared last) ≡ shared = length-take-le shared last within in

@@ -31,7 +31,8 @@ increasing_with ns n up below k h =
     omega (arith, below k (omega arith), last, get_or-append ns (n ∷ []) 0 k (omega arith)))
     (cases_lt (k + 1) (length ns))
 
-pub below_with : (ns : List ℕ) (m n : ℕ) → ((k : ℕ) → k < length ns → get_or ns k 0 ≤ m) → m < n → (k : ℕ) → k < length (ns ++ n ∷ []) → get_or (ns ++ n ∷ []) k 0 ≤ n
+pub below_with : (ns : List ℕ) (m n : ℕ) → ((k : ℕ) → k < length ns → get_or ns k 0 ≤ m) → m < n → (k : ℕ) → k < length (ns ++ n ∷ [])
+    → get_or (ns ++ n ∷ []) k 0 ≤ n
 below_with ns m n below h k l =
     let whole : length (ns ++ n ∷ []) ≡ length ns + 1 = length-append ns (n ∷ []) in
     ⊎_elim
@@ -70,16 +71,19 @@ pub one_below : (n : ℕ) (k : ℕ) → k < length (n ∷ []) → get_or (n ∷ 
 one_below n zero h = omega arith
 one_below n (suc k) h = absurd (omega arith)
 
-fit_from : (term ns : List ℕ) (p : Pair) (pairs : List Pair) → IsStrictlyIncreasing ns → 0 < length ns → ((k : ℕ) → k < length ns → get_or ns k 0 ≤ p.number) → p.term ≡ term → RiseAfter p pairs → AreFit (postings_from term ns pairs)
+fit_from : (term ns : List ℕ) (p : Pair) (pairs : List Pair) → IsStrictlyIncreasing ns → 0 < length ns → ((k : ℕ) → k < length ns → get_or ns k 0 ≤ p.number)
+    → p.term ≡ term → RiseAfter p pairs → AreFit (postings_from term ns pairs)
 unfolding postings_from
 fit_from term ns p [] up some below e rise = (up, some, tt)
 fit_from term ns p (q ∷ pairs) up some below e rise =
     elim (bytes_eq q.term term) as
-    (λ b. bytes_eq q.term term ≡ b → AreFit (cond b (postings_from term (ns ++ q.number ∷ []) pairs) (record { term = term; numbers = ns } ∷ postings_from q.term (q.number ∷ []) pairs))) [
+    (λ b. bytes_eq q.term term ≡ b → AreFit (cond b (postings_from term (ns ++ q.number ∷ []) pairs)
+    (record { term = term; numbers = ns } ∷ postings_from q.term (q.number ∷ []) pairs))) [
       | true ↦ λ h.
           let same : q.term ≡ term = (bytes_eq-Decides q.term term).0 h in
           let rises : p.number < q.number = numbers_rise p q (same ∙ sym e) rise.0 in
-          fit_from term (ns ++ q.number ∷ []) q pairs (increasing_with ns q.number up (λ k l. omega (arith, below k l))) (omega (arith, length-append ns (q.number ∷ []))) (below_with ns p.number q.number below rises) same rise.1
+          fit_from term (ns ++ q.number ∷ []) q pairs (increasing_with ns q.number up (λ k l. omega (arith, below k l)))
+          (omega (arith, length-append ns (q.number ∷ []))) (below_with ns p.number q.number below rises) same rise.1
       | false ↦ λ h. (up, some, fit_from q.term (q.number ∷ []) q pairs (one_increases q.number) (omega arith) (one_below q.number) refl rise.1)
     ] refl
 

@@ -42,7 +42,8 @@ first_of last bytes shared part ns after posting postings h is e =
     let begins = list_begins last [] posting postings is.rising is.some in
     let number = varint_parts shared (common last posting.term) _ _
     (sym (short_parts bytes shared part (gaps ns ++ after) h.spelled) ∙ whole
-    ∙ short_parts (list_after last (posting ∷ postings) ++ []) (common last posting.term) (drop (common last posting.term) posting.term) (gaps posting.numbers ++ (rest ++ [])) begins.spelled)
+    ∙ short_parts (list_after last (posting ∷ postings) ++ []) (common last posting.term) (drop (common last posting.term) posting.term)
+    (gaps posting.numbers ++ (rest ++ [])) begins.spelled)
     in
     let read : found (record { term = whole_term last shared part; numbers = ns }) after ≡ found posting (rest ++ []) =
     sym (first_read last bytes shared part ns after h) ∙ ap (first_posting last) whole ∙ list_read last [] posting postings is.rising is.some
@@ -58,7 +59,8 @@ pub record IsStep (last : List ℕ) (shared : ℕ) (part after : List ℕ) (coun
   pub follows : Follows last shared part
   pub more : HasListAfter (whole_term last shared part) count after
 
-follows_of : (last : List ℕ) (shared : ℕ) (part ns after : List ℕ) (posting : Posting) (postings : List Posting) → IsFirst last shared part ns after posting postings
+follows_of : (last : List ℕ) (shared : ℕ) (part ns after : List ℕ) (posting : Posting) (postings : List Posting)
+    → IsFirst last shared part ns after posting postings
     → IsPosting posting → slice_cmp nat_cmp last posting.term ≡ Less → Follows last shared part
 follows_of last shared part ns after posting postings first is less =
     let within = common_prefix_len-le nat_eq last posting.term in
@@ -188,7 +190,8 @@ abbrev pub HasNoFirst : List ℕ → Type 0
 HasNoFirst bytes = (shared : ℕ) (part numbers after : List ℕ) → shared < 4294967296 → length part < 4294967296
     → IsRisingList numbers → 0 < length numbers → bytes ≡ short_term shared part ++ (gaps numbers ++ after) → ⊥
 
-pub fits_first : (last bytes : List ℕ) (posting : Posting) (postings : List Posting) → IsPosting posting → bytes ≡ list_after last (posting ∷ postings) → HasNoFirst bytes → ⊥
+pub fits_first : (last bytes : List ℕ) (posting : Posting) (postings : List Posting) → IsPosting posting → bytes ≡ list_after last (posting ∷ postings)
+    → HasNoFirst bytes → ⊥
 fits_first last bytes posting postings is e none =
     let begins = list_begins last [] posting postings is.rising is.some in
     let shorter = common_prefix_len-le nat_eq last posting.term in

@@ -9,4 +9,5 @@ use Rattle.ax_leaf.specs.Payload.{list_after, IsLeaf}
 use Rattle.ax_leaf.proofs.Whole.{leaf_parts}
 
 pub leaf_low : (bytes : List ℕ) (low : Pair) (postings : List Posting) → IsLeaf bytes low postings → low_in bytes ≡ Some low
-leaf_low bytes low postings is = low_again bytes low.term (varint (length postings) ++ list_after [] postings) low.number is.short is.number (leaf_parts bytes low postings is)
+leaf_low bytes low postings is = low_again bytes low.term (varint (length postings) ++ list_after [] postings) low.number is.short is.number
+    (leaf_parts bytes low postings is)

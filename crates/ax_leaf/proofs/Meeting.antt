@@ -94,7 +94,8 @@ pub met_up_to : (last sought : List ℕ) (matched shared : ℕ) (rest : List ℕ
 met_up_to last sought matched shared rest met less =
     ⊎_elim
     (λ (l : shared < matched).
-    let greater : slice_cmp nat_cmp (whole_term last shared rest) sought ≡ Greater = after_from (whole_term last shared rest) sought (met_behind last sought matched shared rest met l) in
+    let greater : slice_cmp nat_cmp (whole_term last shared rest) sought ≡ Greater =
+    after_from (whole_term last shared rest) sought (met_behind last sought matched shared rest met l) in
     absurd (cc))
     (λ (l : matched ≤ shared). l)
     (cases_lt shared matched)
@@ -104,7 +105,8 @@ pub met_less : (last sought : List ℕ) (matched shared : ℕ) (rest : List ℕ)
     → Less ≡ slice_cmp nat_cmp (whole_term last shared rest) sought
 met_less last sought matched shared rest met e = sym (met_before last sought matched shared rest met (ranked matched shared Less e)).less
 
-pub met_equal : (last sought : List ℕ) (matched shared : ℕ) (rest behind : List ℕ) (r : Ordering) → IsMet last sought matched shared rest → Equal ≡ nat_cmp matched shared
+pub met_equal : (last sought : List ℕ) (matched shared : ℕ) (rest behind : List ℕ) (r : Ordering) → IsMet last sought matched shared rest
+    → Equal ≡ nat_cmp matched shared
     → behind ≡ drop matched sought → r ≡ slice_cmp nat_cmp rest behind → r ≡ slice_cmp nat_cmp (whole_term last shared rest) sought
 met_equal last sought matched shared rest behind r met e f g =
     g ∙ ap (slice_cmp nat_cmp rest) f ∙ sym (met_alike last sought matched shared rest met (ranked matched shared Equal e))

@@ -86,7 +86,8 @@ list_parts last [] (f ∷ b) l h k e = absurd (omega arith)
 list_parts last (d ∷ a) [] l h k e = absurd (omega arith)
 list_parts last (d ∷ a) (f ∷ b) l h k e =
     let split : term_after last d.term ++ (gaps d.numbers ++ list_after d.term a) ≡ term_after last f.term ++ (gaps f.numbers ++ list_after f.term b) =
-    sym (append_assoc (term_after last d.term) (gaps d.numbers) (list_after d.term a)) ∙ e ∙ append_assoc (term_after last f.term) (gaps f.numbers) (list_after f.term b)
+    sym (append_assoc (term_after last d.term) (gaps d.numbers) (list_after d.term a)) ∙ e
+    ∙ append_assoc (term_after last f.term) (gaps f.numbers) (list_after f.term b)
     in
     let (term, after) = term_parts last d.term f.term _ _ split in
     let (numbers, rest) = gaps_parts d.numbers f.numbers _ _ h.0 k.0 after in

@@ -37,21 +37,24 @@ unfolding postings_from
 heads_from last term ns [] h = h
 heads_from last term ns (q ∷ pairs) h =
     elim (bytes_eq q.term term) as
-    (λ b. Heads last (cond b (postings_from term (ns ++ q.number ∷ []) pairs) (record { term = term; numbers = ns } ∷ postings_from q.term (q.number ∷ []) pairs)))
+    (λ b. Heads last (cond b (postings_from term (ns ++ q.number ∷ []) pairs)
+    (record { term = term; numbers = ns } ∷ postings_from q.term (q.number ∷ []) pairs)))
     [ true ↦ heads_from last term (ns ++ q.number ∷ []) pairs h | false ↦ h ]
 
 after_of : (last : List ℕ) (postings : List Posting) → Heads last postings → ArePostings postings → AreAfter last postings
 after_of last [] h k = tt
 after_of last (posting ∷ postings) h k = (h, k.0, k.1)
 
-ordered_from : (term ns : List ℕ) (p : Pair) (pairs : List Pair) → p.term ≡ term → RiseAfter p pairs → AreGood (postings_from term ns pairs) → ArePostings (postings_from term ns pairs)
+ordered_from : (term ns : List ℕ) (p : Pair) (pairs : List Pair) → p.term ≡ term → RiseAfter p pairs → AreGood (postings_from term ns pairs)
+    → ArePostings (postings_from term ns pairs)
 unfolding postings_from
 ordered_from term ns p [] e rise good = (good.0, tt)
 ordered_from term ns p (q ∷ pairs) e rise good =
     elim (bytes_eq q.term term) as
     (λ b. bytes_eq q.term term ≡ b
     → AreGood (cond b (postings_from term (ns ++ q.number ∷ []) pairs) (record { term = term; numbers = ns } ∷ postings_from q.term (q.number ∷ []) pairs))
-    → ArePostings (cond b (postings_from term (ns ++ q.number ∷ []) pairs) (record { term = term; numbers = ns } ∷ postings_from q.term (q.number ∷ []) pairs))) [
+    → ArePostings (cond b (postings_from term (ns ++ q.number ∷ []) pairs)
+    (record { term = term; numbers = ns } ∷ postings_from q.term (q.number ∷ []) pairs))) [
       | true ↦ λ h g. ordered_from term (ns ++ q.number ∷ []) q pairs ((bytes_eq-Decides q.term term).0 h) rise.1 g
       | false ↦ λ h g. (
         g.0,

@@ -1,5 +1,6 @@
 -- What is reached behind one posting more.
-use Rattle.std.proofs.Common.{◌≡◌, ◌↔◌, ℕ, ◌+◌, ◌-◌, ◌<◌, ◌≤◌, List, [], length, get_or, take, arith, refl, ap, ◌∙◌, sym, subst, suc, add-one, cond, nat_lt, ⊎_elim, below_more}
+use Rattle.std.proofs.Common.{◌≡◌, ◌↔◌, ℕ, ◌+◌, ◌-◌, ◌<◌, ◌≤◌, List, [], length, get_or, take, arith, refl, ap, ◌∙◌, sym, subst, suc, add-one, cond}
+use Rattle.std.proofs.Common.{nat_lt, ⊎_elim, below_more}
 use Rattle.std.proofs.lemmas.Bool.{cases_lt, lt-ltb, le-ltb}
 use Rattle.std.proofs.lemmas.List.{length-append, length-take-le, get_or_append_left, get_or-append_right, get_or-take}
 use Rattle.ax_leaf.specs.Reading.{Reached, reached, reached_by}
@@ -23,7 +24,8 @@ pub byte_of_whole : (last : List ℕ) (shared position byte : ℕ) (part : List 
 byte_of_whole last shared position byte part within e =
     let size : length (take shared last) ≡ shared = length-take-le shared last within in
     ⊎_elim
-    (λ (l : position < shared). rw (lt-ltb position shared l) (e ∙ sym (get_or-take shared last position 0 l) ∙ sym (get_or_append_left (take shared last) part 0 position (omega arith))))
+    (λ (l : position < shared). rw (lt-ltb position shared l)
+    (e ∙ sym (get_or-take shared last position 0 l) ∙ sym (get_or_append_left (take shared last) part 0 position (omega arith))))
     (λ (l : shared ≤ position). rw (le-ltb position shared l) (sym (get_or-append_right (take shared last) part shared position 0 size l)))
     (cases_lt position shared)
 
@@ -72,7 +74,8 @@ no_more_there list first rest count k size was l none h =
     subst (λ (n : ℕ). HasListAfter (reached k list).term n rest) (omega arith) (was.same.1 h)
     in no_first_after (reached k list).term rest (count - (k + 1)) none more
 
-module _ (list first rest : List ℕ) (count k size shared : ℕ) (part ns after : List ℕ) (was : IsUnderWay list first rest count k size) (l : k < count) (begins : Begins rest shared part ns after) where
+module _ (list first rest : List ℕ) (count k size shared : ℕ) (part ns after : List ℕ) (was : IsUnderWay list first rest count k size) (l : k < count)
+    (begins : Begins rest shared part ns after) where
   step_of : HasListAfter (reached 1 list).term (count - 1) first → IsStep (reached k list).term shared part after (count - (k + 1))
   step_of h =
       one_less (reached k list).term rest shared part ns after (count - (k + 1)) begins
@@ -104,7 +107,13 @@ module _ (list first rest : List ℕ) (count k size shared : ℕ) (part ns after
           short = short;
         });
         left = ap (λ (r : Reached). r.bytes) (sym more);
-        sized = omega (arith, ap length term, length-append (take shared (reached k list).term) part, length-take-le shared (reached k list).term follows.within);
+        sized = omega (
+          arith,
+          ap length term,
+          length-append (take shared (reached k list).term) part,
+          length-take-le shared
+              (reached k list).term follows.within,
+        );
         same = (
           λ h. was.same.0
               (subst (λ (n : ℕ). HasListAfter (reached k list).term n rest) (omega arith)
@@ -127,7 +136,8 @@ unfolding reached
 first_reached list shared part ns after h none =
     ap reached_by (first_read [] list shared part ns after h) ∙ ap (λ (n : ℕ). behind (whole_term [] n part) after) none
 
-pub one_reached : (list : List ℕ) (shared : ℕ) (part ns after : List ℕ) → Begins list shared part ns after → shared ≡ 0 → length part < 4294967296 → CanReach 1 list
+pub one_reached : (list : List ℕ) (shared : ℕ) (part ns after : List ℕ) → Begins list shared part ns after → shared ≡ 0 → length part < 4294967296
+    → CanReach 1 list
 unfolding reached
 one_reached list shared part ns after h none short k l =
     let z : k ≡ 0 = omega arith in

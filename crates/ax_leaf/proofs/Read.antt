@@ -33,11 +33,20 @@ first_read last bytes shared part ns after h =
     let split : bytes ≡ varint shared ++ (varint (length part) ++ (part ++ rest)) = short_parts bytes shared part rest h.spelled in
     let taken : take (length part) (part ++ rest) ≡ part = take_at part rest (length part) refl in
     let left : drop (length part) (part ++ rest) ≡ rest = drop_at part rest (length part) refl in
-    rw (split, first_varint_again shared (varint (length part) ++ (part ++ rest)), first_varint_again (length part) (part ++ rest), taken, left, list_again ns after h.rising) refl
+    rw (
+      split,
+      first_varint_again shared (varint (length part) ++ (part ++ rest)),
+      first_varint_again (length part)
+          (part ++ rest),
+      taken,
+      left,
+      list_again ns after h.rising,
+    ) refl
 
 -- a spelled list begins with its first posting
 pub list_begins : (last rest : List ℕ) (posting : Posting) (postings : List Posting) → IsRisingList posting.numbers → 0 < length posting.numbers
-    → Begins (list_after last (posting ∷ postings) ++ rest) (common last posting.term) (drop (common last posting.term) posting.term) posting.numbers (list_after posting.term postings ++ rest)
+    → Begins (list_after last (posting ∷ postings) ++ rest) (common last posting.term) (drop (common last posting.term) posting.term) posting.numbers
+    (list_after posting.term postings ++ rest)
 unfolding list_after term_after short_term
 list_begins last rest posting postings rising some =
     let c : ℕ = common last posting.term in
@@ -54,7 +63,11 @@ list_begins last rest posting postings rising some =
       rising = rising;
     }
 
-one_posting : (last : List ℕ) (posting : Posting) → (record { term = whole_term last (common last posting.term) (drop (common last posting.term) posting.term); numbers = posting.numbers }) ≡ posting
+one_posting : (last : List ℕ) (posting : Posting) → (record {
+  term =
+      whole_term last (common last posting.term) (drop (common last posting.term) posting.term);
+  numbers = posting.numbers;
+}) ≡ posting
 one_posting last posting = ap (λ (t : List ℕ). record { term = t; numbers = posting.numbers }) (sym (one.whole_term last posting.term))
 
 pub list_read : (last rest : List ℕ) (posting : Posting) (postings : List Posting) → IsRisingList posting.numbers → 0 < length posting.numbers
@@ -64,7 +77,8 @@ list_read last rest posting postings rising some =
     ∙ ap (λ (p : Posting). found p (list_after posting.term postings ++ rest)) (one_posting last posting)
 
 -- spelled postings are read, and no others
-read_again : (postings : List Posting) (last rest : List ℕ) → AreGood postings → postings_in (length postings) last (list_after last postings ++ rest) ≡ postings
+read_again : (postings : List Posting) (last rest : List ℕ) → AreGood postings
+    → postings_in (length postings) last (list_after last postings ++ rest) ≡ postings
 unfolding postings_in
 read_again [] last rest h = refl
 read_again (posting ∷ postings) last rest h =

@@ -15,7 +15,8 @@ unfolding postings_from
 made_from term ns [] = refl
 made_from term ns (p ∷ pairs) =
     elim (bytes_eq p.term term) as
-    (λ b. bytes_eq p.term term ≡ b → pairs_of (cond b (postings_from term (ns ++ p.number ∷ []) pairs) (record { term = term; numbers = ns } ∷ postings_from p.term (p.number ∷ []) pairs)) ≡ pairs_with term ns ++ p ∷ pairs) [
+    (λ b. bytes_eq p.term term ≡ b → pairs_of (cond b (postings_from term (ns ++ p.number ∷ []) pairs)
+    (record { term = term; numbers = ns } ∷ postings_from p.term (p.number ∷ []) pairs)) ≡ pairs_with term ns ++ p ∷ pairs) [
       | true ↦ λ h.
           made_from term (ns ++ p.number ∷ []) pairs
           ∙ ap (λ (ps : List Pair). ps ++ pairs) (with_more term ns p ((bytes_eq-Decides p.term term).0 h))

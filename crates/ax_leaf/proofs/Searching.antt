@@ -29,7 +29,8 @@ apart_terms a b h e =
 pub other_term : (a b : List ℕ) → (a ≡ b → ⊥) → bytes_eq a b ≡ false
 other_term a b h = false_from_ne_true (bytes_eq a b) (λ e. h ((bytes_eq-Decides a b).0 e))
 
-pub passed : (term : List ℕ) (posting : Posting) (postings : List Posting) → (posting.term ≡ term → ⊥) → numbers_under term (posting ∷ postings) ≡ numbers_under term postings
+pub passed : (term : List ℕ) (posting : Posting) (postings : List Posting) → (posting.term ≡ term → ⊥)
+    → numbers_under term (posting ∷ postings) ≡ numbers_under term postings
 passed term posting postings h = rw (other_term posting.term term h) refl
 
 pub hit : (term : List ℕ) (posting : Posting) (postings : List Posting) → posting.term ≡ term → numbers_under term (posting ∷ postings) ≡ Some posting.numbers
@@ -88,7 +89,8 @@ search_begins term list count postings is = record {
     is_first [] e = cc
     is_first (b ∷ t) e = cc
 
-pub search_ends : (term rest : List ℕ) (many matched : ℕ) (postings : List Posting) → IsSearch term rest many matched postings → many ≡ 0 → None ≡ numbers_under term postings
+pub search_ends : (term rest : List ℕ) (many matched : ℕ) (postings : List Posting) → IsSearch term rest many matched postings → many ≡ 0
+    → None ≡ numbers_under term postings
 search_ends term rest many matched postings was none = ends was.left was.counted was.same
   where
     ends : (left : List Posting) → length left ≡ many → numbers_under term left ≡ numbers_under term postings → None ≡ numbers_under term postings
@@ -106,7 +108,8 @@ pub record IsNext (term last rest : List ℕ) (many matched shared : ℕ) (part 
   pub same : numbers_under term (posting ∷ left) ≡ numbers_under term postings
   pub met : IsMet last term matched shared part
 
-met_from : (last term : List ℕ) (matched shared : ℕ) (part ns after : List ℕ) (posting : Posting) (left : List Posting) → IsFirst last shared part ns after posting left
+met_from : (last term : List ℕ) (matched shared : ℕ) (part ns after : List ℕ) (posting : Posting) (left : List Posting)
+    → IsFirst last shared part ns after posting left
     → IsUpTo last posting.term → common last term ≡ matched → IsUpTo last term → IsMet last term matched shared part
 met_from last term matched shared part ns after posting left first up matches below =
     let within = common_prefix_len-le nat_eq last posting.term in
@@ -118,11 +121,13 @@ met_from last term matched shared part ns after posting left first up matches be
       below = below;
     }
 
-pub next_is : (term rest : List ℕ) (many matched shared : ℕ) (part ns after : List ℕ) (postings : List Posting) → (was : IsSearch term rest many matched postings) → 0 < many
+pub next_is : (term rest : List ℕ) (many matched shared : ℕ) (part ns after : List ℕ) (postings : List Posting)
+    → (was : IsSearch term rest many matched postings) → 0 < many
     → Begins rest shared part ns after → IsNext term was.last rest many matched shared part ns after postings
 next_is term rest many matched shared part ns after postings was some begins = comes was.left was.spelled was.counted was.are was.same
   where
-    comes : (left : List Posting) → rest ≡ list_after was.last left → length left ≡ many → AreFrom was.last left → numbers_under term left ≡ numbers_under term postings
+    comes : (left : List Posting) → rest ≡ list_after was.last left → length left ≡ many → AreFrom was.last left
+        → numbers_under term left ≡ numbers_under term postings
         → IsNext term was.last rest many matched shared part ns after postings
     comes [] spelled counted are same = absurd (omega arith)
     comes (posting ∷ left) spelled counted are same =
@@ -138,7 +143,8 @@ next_is term rest many matched shared part ns after postings was some begins = c
           met = met_from was.last term matched shared part ns after posting left first are.0 was.matches was.below;
         }
 
-module _ (term last rest : List ℕ) (many matched shared : ℕ) (part ns after : List ℕ) (postings : List Posting) (next : IsNext term last rest many matched shared part ns after postings) where
+module _ (term last rest : List ℕ) (many matched shared : ℕ) (part ns after : List ℕ) (postings : List Posting)
+    (next : IsNext term last rest many matched shared part ns after postings) where
   pub found_here : slice_cmp nat_cmp (whole_term last shared part) term ≡ Equal → numbers_under term postings ≡ Some ns
   found_here e =
       let same : next.posting.term ≡ term = sym next.first.is ∙ slice_cmp-IsAntisymmetric nat_cmp-IsAntisymmetric (whole_term last shared part) term e in
@@ -146,7 +152,8 @@ module _ (term last rest : List ℕ) (many matched shared : ℕ) (part ns after 
 
   pub is_behind : slice_cmp nat_cmp term next.posting.term ≡ Less → None ≡ numbers_under term postings
   is_behind less =
-      sym (none_behind term next.posting.term next.left less next.more) ∙ sym (passed term next.posting next.left (λ e. apart_terms term next.posting.term less (sym e))) ∙ next.same
+      sym (none_behind term next.posting.term next.left less next.more)
+      ∙ sym (passed term next.posting next.left (λ e. apart_terms term next.posting.term less (sym e))) ∙ next.same
 
   pub search_goes_on : (now : ℕ) → slice_cmp nat_cmp (whole_term last shared part) term ≡ Less → now ≡ common (whole_term last shared part) term
       → IsSearch term after (many - 1) now postings
@@ -163,7 +170,8 @@ module _ (term last rest : List ℕ) (many matched shared : ℕ) (part ns after 
         same = sym (passed term next.posting next.left (apart_terms next.posting.term term before)) ∙ next.same;
       }
 
-pub search_has_first : (term rest : List ℕ) (many matched : ℕ) (postings : List Posting) → IsSearch term rest many matched postings → 0 < many → HasNoFirst rest → ⊥
+pub search_has_first : (term rest : List ℕ) (many matched : ℕ) (postings : List Posting) → IsSearch term rest many matched postings → 0 < many
+    → HasNoFirst rest → ⊥
 search_has_first term rest many matched postings was some none = has was.left was.spelled was.counted was.are
   where
     has : (left : List Posting) → rest ≡ list_after was.last left → length left ≡ many → AreFrom was.last left → ⊥

@@ -70,8 +70,10 @@ nothing_written old pairs e = sym (append-nil old) ∙ ap (λ es. old ++ list_af
 pub from_parts : (term other ns more : List ℕ) (rest : List Pair) → term ≡ other → ns ≡ more → postings_from term ns rest ≡ postings_from other more rest
 from_parts term other ns more rest e f = rw (e, f) refl
 
-pub fit_first : (term ns : List ℕ) (postings others : List Posting) → postings ≡ record { term = term; numbers = ns } ∷ others → AreFit postings → IsStrictlyIncreasing ns × (0 < length ns)
+pub fit_first : (term ns : List ℕ) (postings others : List Posting) → postings ≡ record { term = term; numbers = ns } ∷ others → AreFit postings
+    → IsStrictlyIncreasing ns × (0 < length ns)
 fit_first term ns postings others e h = let whole = subst AreFit e h in (whole.0, whole.1)
 
-pub posting_from : (term ns slice : List ℕ) → slice ≡ ns → length term < 4294967296 → 0 < length slice → IsRisingList slice → IsPosting (record { term = term; numbers = ns })
+pub posting_from : (term ns slice : List ℕ) → slice ≡ ns → length term < 4294967296 → 0 < length slice → IsRisingList slice
+    → IsPosting (record { term = term; numbers = ns })
 posting_from term ns slice e short some rising = record { short = short; some = omega (arith, some, ap length e); rising = subst IsRisingList e rising }

@@ -43,7 +43,8 @@ leaf_parts bytes low postings is =
     ∙ append_assoc (varint (length low.term) ++ low.term) (varint low.number) (varint (length postings) ++ list_after [] postings)
     ∙ append_assoc (varint (length low.term)) low.term (varint low.number ++ (varint (length postings) ++ list_after [] postings))
 
-pub term_list_of : (bytes list : List ℕ) (count : ℕ) (low : Pair) (postings : List Posting) → IsLeaf bytes low postings → count ≡ length postings → list ≡ list_after [] postings
+pub term_list_of : (bytes list : List ℕ) (count : ℕ) (low : Pair) (postings : List Posting) → IsLeaf bytes low postings → count ≡ length postings
+    → list ≡ list_after [] postings
     → IsTermList count list postings
 term_list_of bytes list count low postings is e f = record { spelled = f; counted = sym e; are = is.are }
 

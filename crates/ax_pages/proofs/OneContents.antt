@@ -22,15 +22,18 @@ pub record StepsBy (part : PartValue) (parts : List PartValue) (before after : C
   pub first : after_part part before ≡ Some between
   pub others : after_parts parts between ≡ Some after
 
-pub first_step : (part : PartValue) (parts : List PartValue) (before after : Contents) → after_parts (part ∷ parts) before ≡ Some after → StepsBy part parts before after
+pub first_step : (part : PartValue) (parts : List PartValue) (before after : Contents) → after_parts (part ∷ parts) before ≡ Some after
+    → StepsBy part parts before after
 first_step part parts before after lead =
-    elim (after_part part before) as (λ found. after_part part before ≡ found → option_and_then (after_parts parts) found ≡ Some after → StepsBy part parts before after) [
+    elim (after_part part before) as (λ found. after_part part before ≡ found → option_and_then (after_parts parts) found ≡ Some after
+    → StepsBy part parts before after) [
       | None ↦ λ is e. absurd (some_or_none after e)
       | Some between ↦ λ is e. record { between = between; first = is; others = e }
     ] refl lead
 
 -- a part that leads on is not refused
-not_refused : (part : PartValue) (parts : List PartValue) (rest : List ℕ) (bytes : List ℕ) (before after : Contents) → AllFit (part ∷ parts) → bytes ≡ parts_bytes (part ∷ parts) ++ rest
+not_refused : (part : PartValue) (parts : List PartValue) (rest : List ℕ) (bytes : List ℕ) (before after : Contents) → AllFit (part ∷ parts)
+    → bytes ≡ parts_bytes (part ∷ parts) ++ rest
     → after_parts (part ∷ parts) before ≡ Some after → IsRefused bytes before → ⊥
 not_refused part parts rest bytes before after fit spelled lead refused =
     let step = first_step part parts before after lead in
@@ -42,7 +45,8 @@ record SameFirst (p q : PartValue) (ps qs : List PartValue) (x y : List ℕ) : T
   first : p ≡ q
   others : parts_bytes ps ++ x ≡ parts_bytes qs ++ y
 
-same_first : (p q : PartValue) (ps qs : List PartValue) (x y : List ℕ) → AllFit (p ∷ ps) → AllFit (q ∷ qs) → parts_bytes (p ∷ ps) ++ x ≡ parts_bytes (q ∷ qs) ++ y → SameFirst p q ps qs x y
+same_first : (p q : PartValue) (ps qs : List PartValue) (x y : List ℕ) → AllFit (p ∷ ps) → AllFit (q ∷ qs) → parts_bytes (p ∷ ps) ++ x ≡ parts_bytes (q ∷ qs)
+    ++ y → SameFirst p q ps qs x y
 same_first p q ps qs x y fp fq e =
     let one = parts.one_part p q (parts_bytes ps ++ x) (parts_bytes qs ++ y) fp.0 fq.0
     (sym (append_assoc (part_bytes p) (parts_bytes ps) x) ∙ e ∙ append_assoc (part_bytes q) (parts_bytes qs) y) in
@@ -52,7 +56,8 @@ same_first p q ps qs x y fp fq e =
 same_step : (p q : PartValue) (before x y : Contents) → p ≡ q → after_part p before ≡ Some x → after_part q before ≡ Some y → x ≡ y
 same_step p q before x y same px qy = same_some x y (sym px ∙ ap (λ part. after_part part before) same ∙ qy)
 
-one_list : (ps qs : List PartValue) (before pr qr : Contents) (x y : List ℕ) → AllFit ps → AllFit qs → after_parts ps before ≡ Some pr → after_parts qs before ≡ Some qr
+one_list : (ps qs : List PartValue) (before pr qr : Contents) (x y : List ℕ) → AllFit ps → AllFit qs → after_parts ps before ≡ Some pr
+    → after_parts qs before ≡ Some qr
     → IsRefused x pr → IsRefused y qr → parts_bytes ps ++ x ≡ parts_bytes qs ++ y → ps ≡ qs
 one_list [] [] before pr qr x y fp fq lp lq rp rq e = refl
 one_list [] (q ∷ qs) before pr qr x y fp fq lp lq rp rq e =
@@ -74,10 +79,12 @@ one_leads bytes before x y lx ly =
 
 pub one_offset : (bytes : List ℕ) (before : Contents) (i j : ℕ) → IsSpoiled bytes before i → IsSpoiled bytes before j → i ≡ j
 one_offset bytes before i j si sj =
-    let same = one_list si.parts sj.parts before si.reached sj.reached si.rest sj.rest si.fit sj.fit si.lead sj.lead si.refused sj.refused (sym si.spelled ∙ sj.spelled) in
+    let same = one_list si.parts sj.parts before si.reached sj.reached si.rest sj.rest si.fit sj.fit si.lead sj.lead si.refused sj.refused
+    (sym si.spelled ∙ sj.spelled) in
     si.offset ∙ ap (λ ps. length (parts_bytes ps)) same ∙ sym sj.offset
 
-not_both : (ps qs : List PartValue) (before pr qr : Contents) (y : List ℕ) → AllFit ps → AllFit qs → after_parts ps before ≡ Some pr → after_parts qs before ≡ Some qr
+not_both : (ps qs : List PartValue) (before pr qr : Contents) (y : List ℕ) → AllFit ps → AllFit qs → after_parts ps before ≡ Some pr
+    → after_parts qs before ≡ Some qr
     → y ≢ [] → IsRefused y qr → parts_bytes ps ≡ parts_bytes qs ++ y → ⊥
 not_both [] [] before pr qr y fp fq lp lq some rq e = some (sym e)
 not_both [] (q ∷ qs) before pr qr y fp fq lp lq some rq e = absurd cc
@@ -88,11 +95,13 @@ not_both (p ∷ ps) (q ∷ qs) before pr qr y fp fq lp lq some rq e =
     let sp = first_step p ps before pr lp in
     let sq = first_step q qs before qr lq in
     let between : sq.between ≡ sp.between = sym (same_step p q before sp.between sq.between same.first sp.first sq.first) in
-    not_both ps qs sp.between pr qr y fp.1 fq.1 sp.others (subst (λ c. after_parts qs c ≡ Some qr) between sq.others) some rq (sym (append-nil (parts_bytes ps)) ∙ same.others)
+    not_both ps qs sp.between pr qr y fp.1 fq.1 sp.others (subst (λ c. after_parts qs c ≡ Some qr) between sq.others) some rq
+    (sym (append-nil (parts_bytes ps)) ∙ same.others)
 
 pub leads_or_spoiled : (bytes : List ℕ) (before after : Contents) (i : ℕ) → Leads bytes before after → IsSpoiled bytes before i → ⊥
 leads_or_spoiled bytes before after i leads spoiled =
-    not_both leads.parts spoiled.parts before after spoiled.reached spoiled.rest leads.fit spoiled.fit leads.lead spoiled.lead spoiled.some spoiled.refused (sym leads.spelled ∙ spoiled.spelled)
+    not_both leads.parts spoiled.parts before after spoiled.reached spoiled.rest leads.fit spoiled.fit leads.lead spoiled.lead spoiled.some spoiled.refused
+    (sym leads.spelled ∙ spoiled.spelled)
 
 -- ---- frames one after another
 
@@ -107,7 +116,8 @@ record SameSpoiled (f g : List (List ℕ)) (i j : ℕ) : Type 0 where
   first : f ≡ g
   within : i ≡ j
 
-one_spoiled : (f g : List (List ℕ)) (a b : List ℕ) (fs gs : List (List ℕ)) (before x y : Contents) (i j : ℕ) → LeadOn f before x → LeadOn g before y → IsSpoiled a x i → IsSpoiled b y j
+one_spoiled : (f g : List (List ℕ)) (a b : List ℕ) (fs gs : List (List ℕ)) (before x y : Contents) (i j : ℕ) → LeadOn f before x → LeadOn g before y
+    → IsSpoiled a x i → IsSpoiled b y j
     → f ++ a ∷ fs ≡ g ++ b ∷ gs → SameSpoiled f g i j
 one_spoiled [] [] a b fs gs before x y i j lx ly sa sb e =
     let same : a ≡ b = cc in
@@ -128,10 +138,13 @@ one_spoiled (c ∷ f) (d ∷ g) a b fs gs before x y i j (bx, cx, ox) (by, dy, o
 
 pub one_place : (frames : List (List ℕ)) (before : Contents) (i j : ℕ) → AreSpoiled frames before i → AreSpoiled frames before j → i ≡ j
 one_place frames before i j si sj =
-    let same = one_spoiled si.first sj.first si.frame sj.frame si.others sj.others before si.reached sj.reached si.within sj.within si.lead sj.lead si.spoiled sj.spoiled (sym si.are ∙ sj.are) in
-    si.offset ∙ ap (λ first. length (flat_map open_frame first) + 9 + si.within) same.first ∙ ap (λ n. length (flat_map open_frame sj.first) + 9 + n) same.within ∙ sym sj.offset
+    let same = one_spoiled si.first sj.first si.frame sj.frame si.others sj.others before si.reached sj.reached si.within sj.within si.lead sj.lead si.spoiled
+    sj.spoiled (sym si.are ∙ sj.are) in
+    si.offset ∙ ap (λ first. length (flat_map open_frame first) + 9 + si.within) same.first
+    ∙ ap (λ n. length (flat_map open_frame sj.first) + 9 + n) same.within ∙ sym sj.offset
 
-not_both_on : (f frames : List (List ℕ)) (a : List ℕ) (fs : List (List ℕ)) (before after x : Contents) (i : ℕ) → LeadOn frames before after → LeadOn f before x → IsSpoiled a x i
+not_both_on : (f frames : List (List ℕ)) (a : List ℕ) (fs : List (List ℕ)) (before after x : Contents) (i : ℕ) → LeadOn frames before after
+    → LeadOn f before x → IsSpoiled a x i
     → frames ≡ f ++ a ∷ fs → ⊥
 not_both_on [] [] a fs before after x i lead lx sa e = absurd cc
 not_both_on (c ∷ f) [] a fs before after x i lead lx sa e = absurd cc

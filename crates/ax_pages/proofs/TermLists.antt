@@ -1,5 +1,6 @@
 -- Term pages by number: a base takes the place of one or stands behind the last, a delta changes one.
-use Rattle.std.proofs.Common.{◌≡◌, ℕ, ◌<◌, ◌≤◌, ◌==◌, nat_lt, true, false, not, ◌&&◌, List, [], ◌∷◌, ◌++◌, length, get_or, slice_set, arith, ap, ◌∙◌, sym, ◌⊎◌, inl, inr, ⊎_elim}
+use Rattle.std.proofs.Common.{◌≡◌, ℕ, ◌<◌, ◌≤◌, ◌==◌, nat_lt, true, false, not, ◌&&◌, List, [], ◌∷◌, ◌++◌, length, get_or, slice_set, arith, ap, ◌∙◌}
+use Rattle.std.proofs.Common.{sym, ◌⊎◌, inl, inr, ⊎_elim}
 use Rattle.std.specs.Prelude.{◌≢◌, is_some, if◌then◌else◌}
 use Rattle.std.specs.Str.{bytes_eq}
 use Rattle.std.proofs.lemmas.Bool.{and_parts, or_cases, eqb-true, ltb-true, lt-ltb, le-ltb, not-true, cond-true, cond-false, cases_lt, cases_order}
@@ -93,7 +94,8 @@ behind_other page pages n apart =
     beyond l = get_or_past (pages ++ page ∷ []) n no_term_page (omega (arith, length-append pages (page ∷ [])))
         ∙ sym (get_or_past pages n no_term_page (omega arith))
 
-pub put_other : (key : ℕ) (page : TermPage) (pages : List TermPage) (n : ℕ) → (key < length pages) ⊎ (key ≡ length pages) → n ≢ key → page_at (put_page key page pages) n ≡ page_at pages n
+pub put_other : (key : ℕ) (page : TermPage) (pages : List TermPage) (n : ℕ) → (key < length pages) ⊎ (key ≡ length pages) → n ≢ key
+    → page_at (put_page key page pages) n ≡ page_at pages n
 put_other key page pages n where_it_is apart =
     ⊎_elim
     (λ (h : key < length pages). ap (λ ps. page_at ps n) (put_within key page pages h) ∙ set_other key page pages n apart)

@@ -1,5 +1,6 @@
 -- Term pages, as parts make them, keep their low pairs and are told apart by them.
-use Rattle.std.proofs.Common.{◌≡◌, ℕ, ◌+◌, ◌<◌, ◌≤◌, ◌==◌, true, List, [], ◌∷◌, ◌++◌, length, slice_set, arith, refl, ap, subst, ◌∙◌, sym, ◌⊎◌, inl, inr, ⊎_elim, Option}
+use Rattle.std.proofs.Common.{◌≡◌, ℕ, ◌+◌, ◌<◌, ◌≤◌, ◌==◌, true, List, [], ◌∷◌, ◌++◌, length, slice_set, arith, refl, ap, subst, ◌∙◌, sym, ◌⊎◌, inl}
+use Rattle.std.proofs.Common.{inr, ⊎_elim, Option}
 use Rattle.std.specs.Prelude.{Some, None}
 use Rattle.std.specs.Str.{bytes_eq}
 use Rattle.std.proofs.lemmas.Bool.{and_from, eq-eqb, cases_eq, cases_lt, both_ways, ltb-true}
@@ -11,7 +12,8 @@ use Rattle.ax_pair.specs.declared.pair.Pair.{Pair}
 use Rattle.ax_pages.specs.declared.page.Kind.{Kind}
 use Rattle.ax_pages.specs.declared.page.Kind.TheVariants as kind
 use Rattle.ax_pages.specs.Contents.{Contents, TermPage, no_term_page, no_contents, term_page, low_of}
-use Rattle.ax_pages.specs.AfterPart.{kind_of, after_kind, after_parts, is_same, is_taken, is_base, is_delta, with_base, with_delta, low_at_front, after_base, after_delta}
+use Rattle.ax_pages.specs.AfterPart.{kind_of, after_kind, after_parts, is_same, is_taken, is_base, is_delta, with_base, with_delta, low_at_front}
+use Rattle.ax_pages.specs.AfterPart.{after_base, after_delta}
 use Rattle.ax_pages.specs.TermPages.{low_pair, AreApart, KeepsLow}
 use Rattle.ax_pages.proofs.OneContents.{same_some, first_step}
 use Rattle.ax_pages.proofs.TermLists.{put_within, put_behind, at_behind, set_other, base_where, IsOwn, IsNext}
@@ -85,13 +87,16 @@ delta_goes_on key payload before e =
 goes_to : (before x y : Contents) → y ≡ x → GoOn before.terms x.terms → GoOn before.terms y.terms
 goes_to before x y are step = subst (λ (contents : Contents). GoOn before.terms contents.terms) (sym are) step
 
-kind_goes_on : (k : Option Kind) (key : ℕ) (payload : List ℕ) (before after : Contents) → after_kind k key payload before ≡ Some after → GoOn before.terms after.terms
+kind_goes_on : (k : Option Kind) (key : ℕ) (payload : List ℕ) (before after : Contents) → after_kind k key payload before ≡ Some after
+    → GoOn before.terms after.terms
 kind_goes_on (Some kind.Meta) key payload before after lead = goes_to before _ after (passed _ _ after lead) (same_pages before.terms)
 kind_goes_on (Some kind.Policy) key payload before after lead = goes_to before _ after (passed _ _ after lead) (same_pages before.terms)
 kind_goes_on (Some kind.Document) key payload before after lead = goes_to before _ after (passed _ _ after lead) (same_pages before.terms)
 kind_goes_on (Some kind.Gone) key payload before after lead = goes_to before _ after (passed _ _ after lead) (same_pages before.terms)
-kind_goes_on (Some kind.Base) key payload before after lead = goes_to before _ after (passed _ _ after lead) (base_goes_on key payload before.terms (held _ after lead))
-kind_goes_on (Some kind.Delta) key payload before after lead = goes_to before _ after (passed _ _ after lead) (delta_goes_on key payload before.terms (held _ after lead))
+kind_goes_on (Some kind.Base) key payload before after lead =
+    goes_to before _ after (passed _ _ after lead) (base_goes_on key payload before.terms (held _ after lead))
+kind_goes_on (Some kind.Delta) key payload before after lead =
+    goes_to before _ after (passed _ _ after lead) (delta_goes_on key payload before.terms (held _ after lead))
 kind_goes_on None key payload before after lead = absurd cc
 
 -- ---- pages that are told apart
@@ -162,7 +167,8 @@ at_first = record { some = omega arith; first = refl; apart = λ m n h k e. omeg
 pub told_apart : (parts : List PartValue) (contents : Contents) → after_parts parts no_contents ≡ Some contents → AreApart contents.terms
 told_apart parts contents lead = all_apart parts no_contents contents lead at_first
 
-pub lows_kept : (parts : List PartValue) (before after : Contents) (n : ℕ) → after_parts parts before ≡ Some after → n < length before.terms → KeepsLow n before.terms after.terms
+pub lows_kept : (parts : List PartValue) (before after : Contents) (n : ℕ) → after_parts parts before ≡ Some after → n < length before.terms
+    → KeepsLow n before.terms after.terms
 lows_kept [] before after n lead h =
     subst (λ (contents : Contents). KeepsLow n before.terms contents.terms) (same_some before after lead) (record { there = h; same = refl })
 lows_kept (part ∷ parts) before after n lead h =

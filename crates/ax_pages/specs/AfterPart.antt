@@ -1,7 +1,8 @@
 -- How a part changes what the pages have, and which parts are outside the format after the parts
 -- before them: the grammar of parts.
 -- From the store's own file format (docs/FORMAT.md, "Parts"); no other document has it.
-use Rattle.std.specs.Prelude.{ℕ, Bool, not, ◌==◌, ◌&&◌, ◌||◌, nat_lt, nat_le, if◌then◌else◌, List, [], ◌∷◌, ◌++◌, length, Option, Some, None, is_some, slice_index, slice_set, option_and_then, unwrap_or}
+use Rattle.std.specs.Prelude.{ℕ, Bool, not, ◌==◌, ◌&&◌, ◌||◌, nat_lt, nat_le, if◌then◌else◌, List, [], ◌∷◌, ◌++◌, length, Option, Some, None, is_some}
+use Rattle.std.specs.Prelude.{slice_index, slice_set, option_and_then, unwrap_or}
 use Rattle.std.specs.FinMap as map
 use Rattle.std.specs.List.{list_any}
 use Rattle.std.specs.Str.{bytes_eq}

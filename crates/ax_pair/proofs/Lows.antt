@@ -1,5 +1,6 @@
 -- The low pair at the front of bytes: reading it and spelling it are the same.
-use Rattle.std.proofs.Common.{◌≡◌, ◌↔◌, ℕ, ◌<◌, ◌≤◌, List, [], ◌∷◌, ◌++◌, length, take, drop, arith, refl, ap, ◌∙◌, sym, subst, Option, Some, None, true, false, cond, nat_le, All, get_or}
+use Rattle.std.proofs.Common.{◌≡◌, ◌↔◌, ℕ, ◌<◌, ◌≤◌, List, [], ◌∷◌, ◌++◌, length, take, drop, arith, refl, ap, ◌∙◌, sym, subst, Option, Some, None}
+use Rattle.std.proofs.Common.{true, false, cond, nat_le, All, get_or}
 use Rattle.std.specs.Prelude.{option_and_then, unwrap_or}
 use Rattle.std.proofs.lemmas.Bool.{le-leb, leb-true}
 use Rattle.std.proofs.lemmas.List.{append_assoc, length-append, take_at, drop_at, length-take-le, take-append-drop}
@@ -33,7 +34,8 @@ pub record IsNumber (bytes : List ℕ) (n : ℕ) (rest : List ℕ) : Type 0 wher
   pub spelled : bytes ≡ varint n ++ rest
   pub small : n < 4294967296
 
-number_found : (bytes : List ℕ) (r : Option (ℕ × List ℕ)) (n : ℕ) (rest : List ℕ) → AreBytes bytes → first_varint bytes ≡ r → at_most 4294967295 r ≡ found n rest
+number_found : (bytes : List ℕ) (r : Option (ℕ × List ℕ)) (n : ℕ) (rest : List ℕ) → AreBytes bytes → first_varint bytes ≡ r
+    → at_most 4294967295 r ≡ found n rest
     → IsNumber bytes n rest
 number_found bytes None n rest all is e = absurd (cc)
 number_found bytes (Some (m, after)) n rest all is e =
@@ -54,7 +56,8 @@ none_there : (bytes : List ℕ) (r : Option (ℕ × List ℕ)) → AreBytes byte
 none_there bytes None all none e = e
 none_there bytes (Some (n, rest)) all none e = let is = number_takes bytes n rest all e in absurd (none n rest is.small is.spelled)
 
-pub number_none : (bytes : List ℕ) → ((i : ℕ) → get_or bytes i 0 < 256) → ((n : ℕ) (rest : List ℕ) → n < 4294967296 → bytes ≡ varint n ++ rest → ⊥) → None ≡ first_number bytes
+pub number_none : (bytes : List ℕ) → ((i : ℕ) → get_or bytes i 0 < 256) → ((n : ℕ) (rest : List ℕ) → n < 4294967296 → bytes ≡ varint n ++ rest → ⊥)
+    → None ≡ first_number bytes
 number_none bytes fits none = sym (none_there bytes (first_number bytes) (All-from_get_or (λ b. b < 256) bytes 0 (λ i h. fits i)) none refl)
 
 -- ---- the pair at the front
@@ -76,9 +79,11 @@ low_again bytes term rest number short small e =
 pub begins_again : (bytes : List ℕ) (low : Pair) → BeginsWithLow bytes low → low_in bytes ≡ Some low
 begins_again bytes low is =
     low_again bytes low.term is.rest low.number is.short is.number
-    (is.spelled ∙ append_assoc (varint (length low.term) ++ low.term) (varint low.number) is.rest ∙ append_assoc (varint (length low.term)) low.term (varint low.number ++ is.rest))
+    (is.spelled ∙ append_assoc (varint (length low.term) ++ low.term) (varint low.number) is.rest
+    ∙ append_assoc (varint (length low.term)) low.term (varint low.number ++ is.rest))
 
-begins_so : (bytes after term behind rest : List ℕ) (size number : ℕ) → IsNumber bytes size after → size ≡ length term → after ≡ term ++ behind → IsNumber behind number rest
+begins_so : (bytes after term behind rest : List ℕ) (size number : ℕ) → IsNumber bytes size after → size ≡ length term → after ≡ term ++ behind
+    → IsNumber behind number rest
     → BeginsWithLow bytes (the_pair term number)
 begins_so bytes after term behind rest size number first counted parts second = record {
   rest = rest;
@@ -90,16 +95,19 @@ begins_so bytes after term behind rest size number first counted parts second = 
   number = second.small;
 }
 
-found_behind : (bytes after : List ℕ) (size : ℕ) (low : Pair) (r : Option (ℕ × List ℕ)) → AreBytes (drop size after) → IsNumber bytes size after → size ≤ length after
+found_behind : (bytes after : List ℕ) (size : ℕ) (low : Pair) (r : Option (ℕ × List ℕ)) → AreBytes (drop size after) → IsNumber bytes size after
+    → size ≤ length after
     → first_number (drop size after) ≡ r → pair_of (take size after) r ≡ Some low → BeginsWithLow bytes low
 found_behind bytes after size low None all first within is e = absurd (cc)
 found_behind bytes after size low (Some (number, rest)) all first within is e =
     let so : BeginsWithLow bytes (the_pair (take size after) number) =
-    begins_so bytes after (take size after) (drop size after) rest size number first (sym (length-take-le size after within)) (sym (take-append-drop size after))
+    begins_so bytes after (take size after) (drop size after) rest size number first (sym (length-take-le size after within))
+    (sym (take-append-drop size after))
     (number_takes (drop size after) number rest all is)
     in subst (BeginsWithLow bytes) (same_some (the_pair (take size after) number) low e) so
 
-found_low : (bytes : List ℕ) (low : Pair) (r : Option (ℕ × List ℕ)) → AreBytes bytes → first_number bytes ≡ r → option_and_then pair_behind r ≡ Some low → BeginsWithLow bytes low
+found_low : (bytes : List ℕ) (low : Pair) (r : Option (ℕ × List ℕ)) → AreBytes bytes → first_number bytes ≡ r → option_and_then pair_behind r ≡ Some low
+    → BeginsWithLow bytes low
 found_low bytes low None all is e = absurd (cc)
 found_low bytes low (Some (size, after)) all is e =
     let first : IsNumber bytes size after = number_takes bytes size after all is in

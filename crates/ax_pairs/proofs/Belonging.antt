@@ -53,7 +53,8 @@ next_best pages p count number is =
     (λ (here : NotAfter (low_pair count pages) p).
     ⊎_elim
     (λ (up : NotAfter (low_pair number pages) (low_pair count pages)). (count, taken here up))
-    (λ (less : pair_cmp (low_pair count pages) (low_pair number pages) ≡ Less). (number, kept (λ h. less_not_after (low_pair count pages) (low_pair number pages) less)))
+    (λ (less : pair_cmp (low_pair count pages) (low_pair number pages) ≡ Less).
+    (number, kept (λ h. less_not_after (low_pair count pages) (low_pair number pages) less)))
     (order_cases (low_pair number pages) (low_pair count pages)))
     (λ (behind : pair_cmp p (low_pair count pages) ≡ Less). (number, kept (λ h. absurd (not_both p (low_pair count pages) behind h))))
     (order_cases (low_pair count pages) p)

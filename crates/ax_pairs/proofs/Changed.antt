@@ -1,5 +1,6 @@
 -- One page put in the place of another of the same low pair: what the set is then. A delta makes its changes.
-use Rattle.std.proofs.Common.{◌≡◌, ◌≢◌, ℕ, ◌<◌, List, [], ◌∷◌, length, slice_set, arith, refl, sym, ap, ◌∙◌, subst, Bool, true, false, cond, nat_eq, Option, Some, None, ⊎_elim}
+use Rattle.std.proofs.Common.{◌≡◌, ◌≢◌, ℕ, ◌<◌, List, [], ◌∷◌, length, slice_set, arith, refl, sym, ap, ◌∙◌, subst, Bool, true, false, cond, nat_eq}
+use Rattle.std.proofs.Common.{Option, Some, None, ⊎_elim}
 use Rattle.std.specs.Option.{unwrap_or}
 use Rattle.std.proofs.lemmas.Bool.{cases_eq, eq-eqb, ne_eqb}
 use Rattle.std.proofs.lemmas.List.{get_or-set_same, length-set}
@@ -24,7 +25,8 @@ use Rattle.ax_pairs.proofs.PageLists.{list_rises, is_merged, with_one_more, one_
 use Rattle.ax_pairs.proofs.Sets.{changes_say}
 
 -- a page in the place of another
-pub set_lows : (number : ℕ) (page : TermPage) (pages : List TermPage) → number < length pages → low_of page ≡ low_pair number pages → HaveSameLows pages (slice_set pages number page)
+pub set_lows : (number : ℕ) (page : TermPage) (pages : List TermPage) → number < length pages → low_of page ≡ low_pair number pages
+    → HaveSameLows pages (slice_set pages number page)
 set_lows number page pages there same = record {
   many = length-set pages number page;
   low = λ n.
@@ -118,7 +120,8 @@ pub here_merged : (pages : List TermPage) (set : PairSet) (number : ℕ) (change
     → Rise (changed_pairs changes) → HasPairs (term_page number pages) pairs → ((p : Pair) → has p after ≡ unwrap_or (said_by p changes) (has p pairs))
     → (p : Pair) → IsPageOf p number pages → has p after ≡ with_changes changes set p
 here_merged pages set number changes pairs after is up has_pairs made p of =
-    made p ∙ ap (unwrap_or (said_by p changes)) (ap (has p) (one_page_list (term_page number pages) pairs (is.pairs number) has_pairs (is.have number of.there)) ∙ is.all number p of)
+    made p ∙ ap (unwrap_or (said_by p changes)) (ap (has p) (one_page_list (term_page number pages) pairs (is.pairs number) has_pairs
+    (is.have number of.there)) ∙ is.all number p of)
     ∙ sym (changes_say changes set p up)
 
 -- what a merge has is of the page, where all that is merged is
@@ -139,7 +142,8 @@ delta_set pages set number payload changes is there up spelled belong =
     let rise : Rise pairs = list_rises (term_page number pages) pairs (is.have number there) in
     let made : (p : Pair) → has p (merged pairs changes) ≡ unwrap_or (said_by p changes) (has p pairs) = λ p. merged_has p pairs changes rise up in
     put_at pages number (with_delta payload (term_page number pages)) there refl set (with_changes changes set) (merged pairs changes) is
-    (with_one_more (term_page number pages) pairs (merged pairs changes) payload (term_changes_of changes) (is.have number there) spelled (is_merged pairs changes rise up))
+    (with_one_more (term_page number pages) pairs (merged pairs changes) payload (term_changes_of changes) (is.have number there) spelled
+    (is_merged pairs changes rise up))
     (merged_belong pages number changes pairs (merged pairs changes) (is.belong number there) belong made)
     (here_merged pages set number changes pairs (merged pairs changes) is up (is.have number there) made)
     (others_same pages set number changes is.apart up belong)

@@ -1,6 +1,7 @@
 -- What parts of term pages make of the pages: one after another, a delta, a base of a page that is there, the
 -- first base of the next page.
-use Rattle.std.proofs.Common.{◌≡◌, ℕ, ◌<◌, nat_lt, nat_eq, not, ◌&&◌, ◌||◌, List, [], ◌∷◌, ◌++◌, length, arith, refl, sym, ap, ◌∙◌, subst, Bool, true, false, cond, Option, Some, None, suc}
+use Rattle.std.proofs.Common.{◌≡◌, ℕ, ◌<◌, nat_lt, nat_eq, not, ◌&&◌, ◌||◌, List, [], ◌∷◌, ◌++◌, length, arith, refl, sym, ap, ◌∙◌, subst, Bool, true}
+use Rattle.std.proofs.Common.{false, cond, Option, Some, None, suc}
 use Rattle.std.specs.Prelude.{is_some}
 use Rattle.std.specs.Option.{option_and_then, unwrap_or}
 use Rattle.std.proofs.lemmas.Bool.{lt-ltb, eq-eqb}
@@ -10,7 +11,8 @@ use Rattle.ax_frame.specs.Part.{PartValue}
 use Rattle.ax_pair.specs.declared.pair.Pair.{Pair}
 use Rattle.ax_pair.specs.Low.{low_in, first_pair}
 use Rattle.ax_pages.specs.Contents.{Contents, TermPage, low_of, term_page}
-use Rattle.ax_pages.specs.AfterPart.{after_part, after_parts, after_base, after_delta, with_base, is_base, is_own, is_new, is_same, is_taken, low_at_front, most_term_pages}
+use Rattle.ax_pages.specs.AfterPart.{after_part, after_parts, after_base, after_delta, with_base, is_base, is_own, is_new, is_same, is_taken}
+use Rattle.ax_pages.specs.AfterPart.{low_at_front, most_term_pages}
 use Rattle.ax_pages.specs.TermPages.{low_pair}
 use Rattle.ax_pages.proofs.TermLists.{are_same, put_behind}
 use Rattle.ax_pairs.specs.TermParts.{LeadTo}
@@ -18,7 +20,8 @@ use Rattle.ax_pairs.specs.TermParts.{LeadTo}
 pub lead_nothing : (pages : List TermPage) → LeadTo [] pages pages
 lead_nothing pages = record { lead = λ contents same. ap (λ (terms : List TermPage). Some (record contents { terms = terms })) same }
 
-more_parts : (first second : List PartValue) (contents : Contents) → after_parts (first ++ second) contents ≡ option_and_then (after_parts second) (after_parts first contents)
+more_parts : (first second : List PartValue) (contents : Contents)
+    → after_parts (first ++ second) contents ≡ option_and_then (after_parts second) (after_parts first contents)
 more_parts [] second contents = refl
 more_parts (part ∷ first) second contents = by_step (after_part part contents) (λ between. more_parts first second between)
   where
@@ -28,7 +31,8 @@ more_parts (part ∷ first) second contents = by_step (after_part part contents)
     by_step None more = refl
     by_step (Some between) more = more between
 
-pub lead_then : (first second : List PartValue) (before between after : List TermPage) → LeadTo first before between → LeadTo second between after → LeadTo (first ++ second) before after
+pub lead_then : (first second : List PartValue) (before between after : List TermPage) → LeadTo first before between → LeadTo second between after
+    → LeadTo (first ++ second) before after
 lead_then first second before between after one other = record {
   lead = λ contents same.
       more_parts first second contents
@@ -57,7 +61,8 @@ delta_part number payload = record { kind = 6; key = number; payload = payload }
 abbrev pub base_part : ℕ → List ℕ → PartValue
 base_part number payload = record { kind = 5; key = number; payload = payload }
 
-pub lead_delta : (pages : List TermPage) (number : ℕ) (payload : List ℕ) → number < length pages → LeadTo (delta_part number payload ∷ []) pages (after_delta number payload pages)
+pub lead_delta : (pages : List TermPage) (number : ℕ) (payload : List ℕ) → number < length pages
+    → LeadTo (delta_part number payload ∷ []) pages (after_delta number payload pages)
 lead_delta pages number payload there = record {
   lead = λ contents same.
       step_taken (nat_lt number (length contents.terms)) (record contents { terms = after_delta number payload contents.terms })
@@ -110,7 +115,8 @@ not_taken low (page ∷ pages) fresh =
     by_test true e rest = absurd (fresh 0 (omega arith) (sym (are_same low (low_of page) e)))
     by_test false e rest = rest
 
-pub lead_new : (pages : List TermPage) (number : ℕ) (payload : List ℕ) (low : Pair) → number ≡ length pages → number < most_term_pages → low_in payload ≡ Some low
+pub lead_new : (pages : List TermPage) (number : ℕ) (payload : List ℕ) (low : Pair) → number ≡ length pages → number < most_term_pages
+    → low_in payload ≡ Some low
     → ((n : ℕ) → n < length pages → low_pair n pages ≡ low → ⊥)
     → LeadTo (base_part number payload ∷ []) pages (pages ++ with_base payload ∷ [])
 lead_new pages number payload low next few found fresh =

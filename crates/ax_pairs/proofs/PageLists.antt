@@ -76,14 +76,16 @@ of_payload payload low pairs is = record {
 
 -- ---- one delta more
 
-more_deltas : (payloads : List (List ℕ)) (deltas : List (List TermChange)) (payload : List ℕ) (changes : List TermChange) → AreDeltas payloads deltas → IsDelta payload changes
+more_deltas : (payloads : List (List ℕ)) (deltas : List (List TermChange)) (payload : List ℕ) (changes : List TermChange) → AreDeltas payloads deltas
+    → IsDelta payload changes
     → AreDeltas (payloads ++ payload ∷ []) (deltas ++ changes ∷ [])
 more_deltas [] [] payload changes h is = (is, tt)
 more_deltas [] (x ∷ deltas) payload changes h is = absurd h
 more_deltas (y ∷ payloads) [] payload changes h is = absurd h
 more_deltas (y ∷ payloads) (x ∷ deltas) payload changes h is = (h.0, more_deltas payloads deltas payload changes h.1 is)
 
-more_merged : (base pairs after : List Pair) (deltas : List (List TermChange)) (changes : List TermChange) → AreMerged base deltas pairs → IsMerge pairs changes after
+more_merged : (base pairs after : List Pair) (deltas : List (List TermChange)) (changes : List TermChange) → AreMerged base deltas pairs
+    → IsMerge pairs changes after
     → AreMerged base (deltas ++ changes ∷ []) after
 more_merged base pairs after [] changes h is = (after, subst (λ (before : List Pair). IsMerge before changes after) (sym h) is, refl)
 more_merged base pairs after (first ∷ newer) changes (between, one, h) is = (between, one, more_merged between pairs after newer changes h is)
@@ -99,7 +101,8 @@ with_one_more page pairs after payload changes has is merge = record {
 }
 
 -- what the changes make of the pairs
-pub is_merged : (pairs : List Pair) (changes : List Change) → Rise pairs → Rise (changed_pairs changes) → IsMerge pairs (term_changes_of changes) (merged pairs changes)
+pub is_merged : (pairs : List Pair) (changes : List Change) → Rise pairs → Rise (changed_pairs changes)
+    → IsMerge pairs (term_changes_of changes) (merged pairs changes)
 is_merged pairs changes rise up = record {
   rises = merged_rises pairs changes None rise up;
   holds = λ p. merged_has p pairs changes rise up ∙ ap (λ (said : Option Bool). unwrap_or said (has p pairs)) (sym (said_alike changes p up));

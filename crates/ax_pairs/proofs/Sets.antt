@@ -22,7 +22,8 @@ changed_alike [] a b same p = same p
 changed_alike (change ∷ changes) a b same p =
     changed_alike changes (with_change change a) (with_change change b) (λ q. ap (λ (x : Bool). cond (is_same change.pair q) change.add x) (same q)) p
 
-pub changed_twice : (first second : List Change) (set : PairSet) (p : Pair) → with_changes (first ++ second) set p ≡ with_changes second (with_changes first set) p
+pub changed_twice : (first second : List Change) (set : PairSet) (p : Pair)
+    → with_changes (first ++ second) set p ≡ with_changes second (with_changes first set) p
 changed_twice [] second set p = refl
 changed_twice (change ∷ first) second set p = changed_twice first second (with_change change set) p
 
@@ -42,7 +43,8 @@ said_or change changes set p up =
     ∙ sym (ap (λ (b : Bool). unwrap_or (cond b (Some change.add) (said_by p changes)) (set p)) other))
     (true_or_false (is_same change.pair p))
 
-pub changes_say : (changes : List Change) (set : PairSet) (p : Pair) → Rise (changed_pairs changes) → with_changes changes set p ≡ unwrap_or (said_by p changes) (set p)
+pub changes_say : (changes : List Change) (set : PairSet) (p : Pair) → Rise (changed_pairs changes)
+    → with_changes changes set p ≡ unwrap_or (said_by p changes) (set p)
 changes_say [] set p up = refl
 changes_say (change ∷ changes) set p up =
     changes_say changes (with_change change set) p (rises_alone change.pair (changed_pairs changes) up) ∙ said_or change changes set p up

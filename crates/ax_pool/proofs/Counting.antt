@@ -1,5 +1,6 @@
 -- How many frames are free and how many are taken.
-use Rattle.std.proofs.Common.{◌≡◌, ℕ, suc, ◌+◌, ◌<◌, Bool, true, false, not, cond, List, [], ◌∷◌, length, map, ◌++◌, take, drop, vec_items, All, count_by, slice_index_or, slice_set, sym, ap, ◌∙◌, refl, arith, inl, inr}
+use Rattle.std.proofs.Common.{◌≡◌, ℕ, suc, ◌+◌, ◌<◌, Bool, true, false, not, cond, List, [], ◌∷◌, length, map, ◌++◌, take, drop, vec_items, All}
+use Rattle.std.proofs.Common.{count_by, slice_index_or, slice_set, sym, ap, ◌∙◌, refl, arith, inl, inr}
 use Rattle.std.specs.Global.{Vec}
 use Rattle.std.proofs.lemmas.List.{get_or_past, map-set, get_or-map, length-map, length-set}
 use Rattle.std.proofs.lemmas.List.Sums.{sum_by-cons, sum_by-set}
@@ -53,7 +54,8 @@ module _ (frames : List (Vec ℕ)) where
   pub all_add_up : (taken : List Bool) → length frames ≡ length taken → count_by not taken + count_by (λ t. t) taken ≡ length shown
   all_add_up taken same = counts_add_up taken ∙ sym same ∙ sym (length-map frames (λ (frame : Vec ℕ). frame.items))
 
-  pub all_add_up_set : (taken : List Bool) (i : ℕ) (t : Bool) → length frames ≡ length taken → count_by not (slice_set taken i t) + count_by (λ t. t) (slice_set taken i t) ≡ length shown
+  pub all_add_up_set : (taken : List Bool) (i : ℕ) (t : Bool) → length frames ≡ length taken
+      → count_by not (slice_set taken i t) + count_by (λ t. t) (slice_set taken i t) ≡ length shown
   all_add_up_set taken i t same = all_add_up (slice_set taken i t) (same ∙ sym (length-set taken i t))
 
   pub number_within : (taken : List Bool) (i : ℕ) → length frames ≡ length taken → slice_index_or taken i false ≡ true → i < length frames
@@ -63,7 +65,8 @@ module _ (frames : List (Vec ℕ)) where
   pub shown_at : (i : ℕ) (d : Vec ℕ) → i < length frames → slice_index_or shown i [] ≡ vec_items (slice_index_or frames i d)
   shown_at i d lt = get_or-map (λ (frame : Vec ℕ). frame.items) frames i d [] lt
 
-  pub shown_written : (i : ℕ) (frame : Vec ℕ) (w : List ℕ) → slice_index_or shown i [] ≡ frame.items → map (λ (frame : Vec ℕ). frame.items) (slice_set frames i (with_items frame w)) ≡ slice_set shown i (written_over w (slice_index_or shown i []))
+  pub shown_written : (i : ℕ) (frame : Vec ℕ) (w : List ℕ) → slice_index_or shown i [] ≡ frame.items
+      → map (λ (frame : Vec ℕ). frame.items) (slice_set frames i (with_items frame w)) ≡ slice_set shown i (written_over w (slice_index_or shown i []))
   shown_written i frame w is =
       map-set (λ (frame : Vec ℕ). frame.items) frames i (with_items frame w)
       ∙ ap (λ n. slice_set shown i (take n (w ++ drop (length w) frame.items))) frame.ok.0

@@ -1,6 +1,7 @@
 -- Where the store agrees with a disk, each part of each page stands in each image that a crash may leave
 -- at the extent and the offset that the store answers for it.
-use Rattle.std.proofs.Common.{◌≡◌, ℕ, zero, suc, ◌+◌, ◌-◌, ◌^◌, min, ◌<◌, ◌≤◌, take, Bool, true, false, List, [], ◌∷◌, ◌++◌, length, drop, Option, Some, None, refl, sym, ap, subst, ◌∙◌, length-append, arith}
+use Rattle.std.proofs.Common.{◌≡◌, ℕ, zero, suc, ◌+◌, ◌-◌, ◌^◌, min, ◌<◌, ◌≤◌, take, Bool, true, false, List, [], ◌∷◌, ◌++◌, length, drop, Option}
+use Rattle.std.proofs.Common.{Some, None, refl, sym, ap, subst, ◌∙◌, length-append, arith}
 use Rattle.std.specs.Prelude.{if◌then◌else◌, ◌==◌, ◌&&◌, ◌||◌, not, is_some, nat_lt, nat_le, option_and_then, slice_get, slice_set, slice_index_or}
 use Rattle.std.specs.Ordering.{nat_cmp, eq_by_cmp}
 use Rattle.std.specs.Cmp.{nat_cmp_total}
@@ -20,7 +21,8 @@ use Rattle.ax_pages.specs.declared.page.Kind.{Kind}
 use Rattle.ax_pages.specs.declared.page.Kind.TheVariants as kind
 use Rattle.ax_pages.specs.Area.{frames_bytes}
 use Rattle.ax_pages.specs.Contents.{Contents, TermPage, Numbered, no_contents, no_term_page, term_page, low_of, parts_of, next_in, now_in, is_given}
-use Rattle.ax_pages.specs.AfterPart.{kind_of, after_kind, after_part, after_parts, after_base, after_delta, with_base, with_delta, is_meta, is_document, is_gone, is_base, is_delta, is_same, is_taken, low_at_front, most_term_pages, last_policy}
+use Rattle.ax_pages.specs.AfterPart.{kind_of, after_kind, after_part, after_parts, after_base, after_delta, with_base, with_delta, is_meta}
+use Rattle.ax_pages.specs.AfterPart.{is_document, is_gone, is_base, is_delta, is_same, is_taken, low_at_front, most_term_pages, last_policy}
 use Rattle.ax_pages.proofs.LastPart.{tie}
 use Rattle.ax_store.specs.declared.store.Store.{Store}
 use Rattle.ax_store.specs.Rows.{Offsets}

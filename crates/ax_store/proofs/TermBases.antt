@@ -1,5 +1,6 @@
 -- Bases of term pages: which are within the format, and that one keeps the low pair of its page.
-use Rattle.std.proofs.Common.{◌≡◌, ℕ, suc, ◌<◌, ◌≤◌, List, [], ◌∷◌, ◌++◌, length, set, Bool, true, false, ◌&&◌, ◌||◌, not, ◌==◌, refl, sym, ap, ◌∙◌, arith, ◌⊎◌, inl, inr, is_some, Ordering, Less, Equal, Greater, nat_lt}
+use Rattle.std.proofs.Common.{◌≡◌, ℕ, suc, ◌<◌, ◌≤◌, List, [], ◌∷◌, ◌++◌, length, set, Bool, true, false, ◌&&◌, ◌||◌, not, ◌==◌, refl, sym, ap, ◌∙◌}
+use Rattle.std.proofs.Common.{arith, ◌⊎◌, inl, inr, is_some, Ordering, Less, Equal, Greater, nat_lt}
 use Rattle.std.specs.List.{insert}
 use Rattle.std.specs.Str.{bytes_eq}
 use Rattle.std.proofs.lemmas.Bool.{cases_eq, eqb-true, eq-eqb, ltb-true}

@@ -48,7 +48,8 @@ TellsNext (Err Memory) area rest here old new = Unit {0}
 abbrev pub TellsSpan : Result (Unit {0}) StoreFault → Extent → List ℕ → ℕ → Kept → Kept → Type 0
 TellsSpan (Ok done) area bytes at old new = Takes bytes at old new
 TellsSpan (Err Disk) area bytes at old new = Unit {0}
-TellsSpan (Err (Damaged extent place)) area bytes at old new = (extent ≡ extent_number area) × ((within : ℕ) × IsSpoiled bytes old.contents within × (place ≡ at + within))
+TellsSpan (Err (Damaged extent place)) area bytes at old new = (extent ≡ extent_number area)
+    × ((within : ℕ) × IsSpoiled bytes old.contents within × (place ≡ at + within))
 TellsSpan (Err (Newer version)) area bytes at old new = ⊥
 TellsSpan (Err Memory) area bytes at old new = Unit {0}
 

@@ -13,7 +13,8 @@ idles_leave old new idle image may = subst (λ (u : Unsynced). MayLeave u image)
 
 module _ {T E : Type 0} where
   -- after a write, also one that failed, it leaves at most what may be left after the write
-  pub writes_leave : (ext : Extent) (at : ℕ) (bytes : List ℕ) (result : Result T E) (old new : History) → Writes ext at bytes result old new → (image : Image) → MayLeave new.unsynced image → MayLeave (after_write ext at (length bytes) old.unsynced) image
+  pub writes_leave : (ext : Extent) (at : ℕ) (bytes : List ℕ) (result : Result T E) (old new : History) → Writes ext at bytes result old new → (image : Image)
+      → MayLeave new.unsynced image → MayLeave (after_write ext at (length bytes) old.unsynced) image
   writes_leave ext at bytes (Ok value) old new write image may = subst (λ (u : Unsynced). MayLeave u image) write.unsynced may
   writes_leave ext at bytes (Err error) old new write image may =
       ⊎_elim
@@ -21,7 +22,8 @@ module _ {T E : Type 0} where
       (λ torn. subst (λ (u : Unsynced). MayLeave u image) torn may)
       write.unsynced_torn
 
-  pub cuts_leave : (ext : Extent) (len : ℕ) (result : Result T E) (old new : History) → Cuts ext len result old new → (image : Image) → MayLeave new.unsynced image → MayLeave (after_cut ext len old.unsynced) image
+  pub cuts_leave : (ext : Extent) (len : ℕ) (result : Result T E) (old new : History) → Cuts ext len result old new → (image : Image)
+      → MayLeave new.unsynced image → MayLeave (after_cut ext len old.unsynced) image
   cuts_leave ext len (Ok value) old new cut image may = subst (λ (u : Unsynced). MayLeave u image) cut.unsynced may
   cuts_leave ext len (Err error) old new cut image may =
       ⊎_elim
@@ -34,7 +36,8 @@ module _ {T E : Type 0} where
   syncs_only value old new sync image may = all_settled_only old.reads image (subst (λ (u : Unsynced). MayLeave u image) sync.settled may) ∙ sym sync.reads
 
   -- and after any sync nothing that it might not have left before
-  pub syncs_leave : (result : Result T E) (old new : History) → Syncs result old new → MayLeave old.unsynced old.reads → (image : Image) → MayLeave new.unsynced image → MayLeave old.unsynced image
+  pub syncs_leave : (result : Result T E) (old new : History) → Syncs result old new → MayLeave old.unsynced old.reads → (image : Image)
+      → MayLeave new.unsynced image → MayLeave old.unsynced image
   syncs_leave (Ok value) old new sync stays image may =
       let only = all_settled_only old.reads image (subst (λ (u : Unsynced). MayLeave u image) sync.settled may) in
       subst (λ (i : Image). MayLeave old.unsynced i) (sym only) stays

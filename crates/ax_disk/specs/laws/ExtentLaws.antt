@@ -26,7 +26,8 @@ pending_of-same Root pending unsynced = refl
 pending_of-same A pending unsynced = refl
 pending_of-same B pending unsynced = refl
 
-pub pending_of-other : (ext other : Extent) (pending : Pending) (unsynced : Unsynced) → other ≢ ext → pending_of other (with_pending ext pending unsynced) ≡ pending_of other unsynced
+pub pending_of-other : (ext other : Extent) (pending : Pending) (unsynced : Unsynced) → other ≢ ext
+    → pending_of other (with_pending ext pending unsynced) ≡ pending_of other unsynced
 pending_of-other Root Root pending unsynced apart = absurd (apart refl)
 pending_of-other Root A pending unsynced apart = refl
 pending_of-other Root B pending unsynced apart = refl

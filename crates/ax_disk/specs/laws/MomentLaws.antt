@@ -31,7 +31,8 @@ elapses_join old mid new P first second = record {
 }
 
 -- what follows from it at each moment
-pub elapses_weaken : (old new : History) (P Q : ℕ → Image → Type 0) → ((t : ℕ) (image : Image) → old.moment < t → t ≤ new.moment → P t image → Q t image) → Elapses old new P → Elapses old new Q
+pub elapses_weaken : (old new : History) (P Q : ℕ → Image → Type 0) → ((t : ℕ) (image : Image) → old.moment < t → t ≤ new.moment → P t image → Q t image)
+    → Elapses old new P → Elapses old new Q
 elapses_weaken old new P Q follows time = record {
   later = time.later;
   past = time.past;
@@ -39,7 +40,8 @@ elapses_weaken old new P Q follows time = record {
 }
 
 -- the same, of a property that asks for no moment
-pub elapses_with : (old new : History) (P Q : Image → Type 0) → ((image : Image) → P image → Q image) → Elapses old new (λ _ image. P image) → Elapses old new (λ _ image. Q image)
+pub elapses_with : (old new : History) (P Q : Image → Type 0) → ((image : Image) → P image → Q image) → Elapses old new (λ _ image. P image)
+    → Elapses old new (λ _ image. Q image)
 elapses_with old new P Q follows time = record {
   later = time.later;
   past = time.past;
@@ -47,7 +49,8 @@ elapses_with old new P Q follows time = record {
 }
 
 -- What a crash now may leave has what holds at each moment of a run in which time went on.
-pub elapses_now : (old new : History) (P : ℕ → Image → Type 0) → Elapses old new P → IsCurrent new → old.moment < new.moment → (image : Image) → MayLeave new.unsynced image → P new.moment image
+pub elapses_now : (old new : History) (P : ℕ → Image → Type 0) → Elapses old new P → IsCurrent new → old.moment < new.moment → (image : Image)
+    → MayLeave new.unsynced image → P new.moment image
 elapses_now old new P time current went_on image may = time.during new.moment image went_on (omega arith) ((current image).1 may)
 
 -- one stage, all the time
@@ -80,7 +83,8 @@ joined_before m before after t le = grind arith
 joined_after : (m : ℕ) (before after : ℕ → ℕ) (t : ℕ) → m < t → joined m before after t ≡ after t
 joined_after m before after t lt = grind arith
 
-joined_rises : (m j : ℕ) (before after : ℕ → ℕ) → ((t : ℕ) → before t ≤ j) → ((t : ℕ) → j ≤ after t) → ((s t : ℕ) → s ≤ t → before s ≤ before t) → ((s t : ℕ) → s ≤ t → after s ≤ after t) → (s t : ℕ) → s ≤ t → joined m before after s ≤ joined m before after t
+joined_rises : (m j : ℕ) (before after : ℕ → ℕ) → ((t : ℕ) → before t ≤ j) → ((t : ℕ) → j ≤ after t) → ((s t : ℕ) → s ≤ t → before s ≤ before t)
+    → ((s t : ℕ) → s ≤ t → after s ≤ after t) → (s t : ℕ) → s ≤ t → joined m before after s ≤ joined m before after t
 joined_rises m j before after most least rises_before rises_after s t le =
     ⊎_elim
     (λ t_before. omega (arith, joined_before m before after s (omega arith), joined_before m before after t t_before, rises_before s t le))
@@ -105,7 +109,8 @@ joined_most m j k before after le most_before most_after t =
     (up_to_or_after t m)
 
 -- one run of calls that ends in a stage, and then another that goes on from it
-pub progress_join : (old mid new : History) (i j k : ℕ) (P : ℕ → Image → Type 0) → Progresses old mid i j P → Progresses mid new j k P → Progresses old new i k P
+pub progress_join : (old mid new : History) (i j k : ℕ) (P : ℕ → Image → Type 0) → Progresses old mid i j P → Progresses mid new j k P
+    → Progresses old new i k P
 progress_join old mid new i j k P first second =
     let m = mid.moment in
     let stage = joined m first.stage second.stage in
@@ -124,7 +129,8 @@ progress_join old mid new i j k P first second =
             (λ left. one.0 (two.0 left), λ left. two.1 (one.1 left));
         during = λ t image after to left.
             ⊎_elim
-            (λ before. subst (λ (n : ℕ). P n image) (sym (joined_before m first.stage second.stage t before)) (first.each.during t image after before ((second.each.past t image before).0 left)))
+            (λ before. subst (λ (n : ℕ). P n image) (sym (joined_before m first.stage second.stage t before))
+            (first.each.during t image after before ((second.each.past t image before).0 left)))
             (λ later. subst (λ (n : ℕ). P n image) (sym (joined_after m first.stage second.stage t later)) (second.each.during t image later to left))
             (up_to_or_after t m);
       };

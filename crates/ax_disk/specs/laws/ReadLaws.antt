@@ -1,7 +1,8 @@
 -- Laws of what a read gives.
 use Rattle.std.proofs.Common.{◌≡◌, ◌⊎◌, ⊎_elim, ℕ, ◌+◌, ◌-◌, ◌<◌, ◌≤◌, List, ◌++◌, length, get_or, take, drop, sym, ◌∙◌, ap, arith, length-append}
 use Rattle.std.proofs.Math.ListN.{replicate}
-use Rattle.std.proofs.lemmas.List.{ext_get_or, length-take, length-drop, length-replicate, get_or-take, get_or-drop, get_or-replicate, get_or_append_left, get_or-append_right, get_or_past, take-append-le}
+use Rattle.std.proofs.lemmas.List.{ext_get_or, length-take, length-drop, length-replicate, get_or-take, get_or-drop, get_or-replicate}
+use Rattle.std.proofs.lemmas.List.{get_or_append_left, get_or-append_right, get_or_past, take-append-le}
 use Rattle.ax_disk.specs.model.Calls.{bytes_from}
 
 pub length-bytes_from : (list : List ℕ) (at size : ℕ) → length (bytes_from list at size) ≡ size
@@ -29,7 +30,8 @@ pub bytes_from-within : (list : List ℕ) (at size : ℕ) → at + size ≤ leng
 bytes_from-within list at size within = take-append-le size (drop at list) (replicate size 0) (omega (arith, length-drop at list))
 
 -- a list of so many bytes that are the list's at their places, or 0 past its end, is what a read gives
-pub is_bytes_from : (list : List ℕ) (at size : ℕ) (bytes : List ℕ) → length bytes ≡ size → ((i : ℕ) → i < size → get_or bytes i 0 ≡ get_or list (at + i) 0) → bytes ≡ bytes_from list at size
+pub is_bytes_from : (list : List ℕ) (at size : ℕ) (bytes : List ℕ) → length bytes ≡ size → ((i : ℕ) → i < size → get_or bytes i 0 ≡ get_or list (at + i) 0)
+    → bytes ≡ bytes_from list at size
 is_bytes_from list at size bytes long each =
     ext_get_or 0 bytes (bytes_from list at size) (long ∙ sym (length-bytes_from list at size))
     (λ i below. each i (omega arith) ∙ sym (get_or-bytes_from list at size i (omega arith)))

@@ -1,8 +1,10 @@
 -- What a crash may leave of a list after a write or a cut, in terms of what it might have left
 -- before: up to the place of the write it is a list from before, and with the old bytes put back
 -- it is one.
-use Rattle.std.proofs.Common.{◌≡◌, ◌⊎◌, inl, inr, ⊎_elim, ℕ, ◌+◌, ◌-◌, ◌<◌, ◌≤◌, List, ◌∷◌, ◌++◌, length, get_or, take, drop, refl, sym, ◌∙◌, ap, subst, arith, append_assoc, length-append}
-use Rattle.std.proofs.lemmas.List.{ext_get_or, length-take, length-take-le, length-drop, get_or-take, get_or-drop, get_or_append_left, get_or-append_right, take_at, take_all, take-take, drop_at, drop_more, take-append-drop}
+use Rattle.std.proofs.Common.{◌≡◌, ◌⊎◌, inl, inr, ⊎_elim, ℕ, ◌+◌, ◌-◌, ◌<◌, ◌≤◌, List, ◌∷◌, ◌++◌, length, get_or, take, drop, refl, sym, ◌∙◌, ap}
+use Rattle.std.proofs.Common.{subst, arith, append_assoc, length-append}
+use Rattle.std.proofs.lemmas.List.{ext_get_or, length-take, length-take-le, length-drop, get_or-take, get_or-drop, get_or_append_left}
+use Rattle.std.proofs.lemmas.List.{get_or-append_right, take_at, take_all, take-take, drop_at, drop_more, take-append-drop}
 use Rattle.ax_disk.specs.model.Pending.{IsOutside, IsUntouched, Pending, MayHold, settled, written, shortened}
 use Rattle.ax_disk.specs.model.Calls.{overwritten}
 use Rattle.ax_disk.specs.laws.PendingLaws.{length-overwritten, overwritten_inside, overwritten_outside, kept_back}

@@ -4,7 +4,8 @@ use Rattle.std.proofs.lemmas.List.{take-append-le, take_all}
 use Rattle.ax_disk.specs.model.Image.{Image}
 use Rattle.ax_disk.specs.model.Pending.{Unsynced, MayLeave}
 use Rattle.ax_disk.specs.model.Moments.{Elapses, IsCurrent}
-use Rattle.ax_disk.specs.mem_disk.OperationLog.{Operation, State, synced_state, after_operation, after_operations, OperationLog, with_operation, state_of, history_of}
+use Rattle.ax_disk.specs.mem_disk.OperationLog.{Operation, State, synced_state, after_operation, after_operations, OperationLog, with_operation}
+use Rattle.ax_disk.specs.mem_disk.OperationLog.{state_of, history_of}
 
 pub after_one_more : (state : State) (operations : List Operation) (operation : Operation)
     → after_operations state (operations ++ operation ∷ [])

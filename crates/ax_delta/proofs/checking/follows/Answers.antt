@@ -13,5 +13,6 @@ returns-then-not-fits_behind c = (
 pub returns : goal.returns
 returns c =
     let fits = c.fits_behind.ensures.0 c.if-not-fits_behind.false in
-    let both = follows_where (reached c.args.count c.args.list.now).term c.args.term.shared c.args.term.rest.now c.byte_behind-byte.result c.byte_behind-byte.ensures (omega (arith, fits.0)) fits.1 in
+    let both = follows_where (reached c.args.count c.args.list.now).term c.args.term.shared c.args.term.rest.now c.byte_behind-byte.result
+    c.byte_behind-byte.ensures (omega (arith, fits.0)) fits.1 in
     (λ h. both.0 (c.exceeds.ensures.0 h), λ h. c.exceeds.ensures.1 (both.1 h))

@@ -13,11 +13,19 @@ returns-in_default c = (
   λ h. absurd (no_first c.args.list.now (c.args.count - 1) c.in_default.ensures.only (subst (λ (n : ℕ). HasChangeList n c.args.list.now) (omega arith) h)),
 )
 
-begun : (c : In-Some) → Begins c.args.list.now c.in-Some.first.term.shared c.in-Some.first.term.rest.now c.in-Some.first.added.numbers c.in-Some.first.dropped.numbers c.in-Some.rest.now
-begun c = record { spelled = c.in-Some.ensures.found; some = c.in-Some.ensures.some; additions = c.in-Some.ensures.additions; removals = c.in-Some.ensures.removals }
+begun : (c : In-Some) → Begins c.args.list.now c.in-Some.first.term.shared c.in-Some.first.term.rest.now c.in-Some.first.added.numbers
+    c.in-Some.first.dropped.numbers c.in-Some.rest.now
+begun c = record {
+  spelled = c.in-Some.ensures.found;
+  some = c.in-Some.ensures.some;
+  additions = c.in-Some.ensures.additions;
+  removals =
+      c.in-Some.ensures.removals;
+}
 
 start : (c : In-Some) → HasChangeList c.args.count c.args.list.now
-    → IsStart c.in-Some.first.term.shared c.in-Some.first.term.rest.now c.in-Some.first.added.numbers c.in-Some.first.dropped.numbers c.in-Some.rest.now (c.args.count - 1)
+    → IsStart c.in-Some.first.term.shared c.in-Some.first.term.rest.now c.in-Some.first.added.numbers c.in-Some.first.dropped.numbers c.in-Some.rest.now
+    (c.args.count - 1)
 start c h = first_less c.args.list.now _ _ _ _ _ (c.args.count - 1) (begun c) (subst (λ (n : ℕ). HasChangeList n c.args.list.now) (omega arith) h)
 
 pub returns-then-term-ne0 : goal.returns-then-term-ne0
@@ -36,13 +44,16 @@ reached_first : (c : In-Some) → c.in-Some.first.term.shared ≡ 0 → reached 
 reached_first c none = first_reached c.args.list.now _ _ _ _ _ (begun c) none
 
 pub is_list_after_first-requires-clause-reads : goal.is_list_after_first-requires-clause-reads
-is_list_after_first-requires-clause-reads c = one_reached c.args.list.now _ _ _ _ _ (begun (goal.at.is_list_after_first-requires-clause-reads c).In-Some) (omega arith) c.in-Some.ensures.fits.1
+is_list_after_first-requires-clause-reads c = one_reached c.args.list.now _ _ _ _ _ (begun (goal.at.is_list_after_first-requires-clause-reads c).In-Some)
+    (omega arith) c.in-Some.ensures.fits.1
 
 pub is_list_after_first-requires-clause-behind : goal.is_list_after_first-requires-clause-behind
-is_list_after_first-requires-clause-behind c = ap (λ (r : Reached). r.bytes) (sym (reached_first (goal.at.is_list_after_first-requires-clause-behind c).In-Some (omega arith)))
+is_list_after_first-requires-clause-behind c = ap (λ (r : Reached). r.bytes)
+    (sym (reached_first (goal.at.is_list_after_first-requires-clause-behind c).In-Some (omega arith)))
 
 pub is_list_after_first-requires-clause-term : goal.is_list_after_first-requires-clause-term
-is_list_after_first-requires-clause-term c = ap (λ (r : Reached). r.term) (sym (reached_first (goal.at.is_list_after_first-requires-clause-term c).In-Some (omega arith)))
+is_list_after_first-requires-clause-term c = ap (λ (r : Reached). r.term)
+    (sym (reached_first (goal.at.is_list_after_first-requires-clause-term c).In-Some (omega arith)))
 
 pub returns : goal.returns
 returns c =

@@ -26,7 +26,8 @@ invariant_of-result c = listed c.in_ok-count.count c.in_ok-count.list.now (c.is_
 
 pub returns-clause-found : goal.returns-clause-found
 returns-clause-found c =
-    whole_delta c.args.payload.now c.in_ok-count.list.now c.in_ok-count.count _ c.in_ok-count.ensures.found c.in_ok-count.ensures.fits.0 c.in_ok-count.ensures.fits.1
+    whole_delta c.args.payload.now c.in_ok-count.list.now c.in_ok-count.count _ c.in_ok-count.ensures.found c.in_ok-count.ensures.fits.0
+    c.in_ok-count.ensures.fits.1
     (listed c.in_ok-count.count c.in_ok-count.list.now (c.is_change_list.ensures.0 c.if-not-is_change_list.false))
 
 pub returns-clause-only : goal.returns-clause-only

@@ -16,4 +16,5 @@ loop-pair-preserved c =
 
 pub returns-clause-made : goal.returns-clause-made
 returns-clause-made c =
-    merged_end _ _ _ (into_iter_items c.loop-pair.pair-iterator) _ (sym c.loop-pair.pair-iterator.rest.ok.0 ∙ c.in-None.ensures.steps.0) c.in_ok-put_others.ensures c.loop-pair.invariant.made
+    merged_end _ _ _ (into_iter_items c.loop-pair.pair-iterator) _
+    (sym c.loop-pair.pair-iterator.rest.ok.0 ∙ c.in-None.ensures.steps.0) c.in_ok-put_others.ensures c.loop-pair.invariant.made

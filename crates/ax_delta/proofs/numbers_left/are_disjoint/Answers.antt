@@ -12,5 +12,6 @@ loop-number-preserved-then-number-other-2 c =
 
 pub loop-number-preserved : goal.loop-number-preserved
 loop-number-preserved c =
-    left_second c.loop-number.added c.loop-number.dropped c.args.added.numbers c.args.dropped.numbers c.pass-else-number-other-2.new.self c.in-Some.number c.in-Some-first.other
+    left_second c.loop-number.added c.loop-number.dropped c.args.added.numbers c.args.dropped.numbers c.pass-else-number-other-2.new.self c.in-Some.number
+    c.in-Some-first.other
     c.loop-number.invariant c.in-Some.ensures c.in-Some-first.ensures (omega arith) c.pass-else-number-other-2.ensures

@@ -9,7 +9,8 @@ use Rattle.ax_delta.specs.Changes.{term_changes_from, term_changes_of, with_adde
 use Rattle.ax_delta.specs.Payload.{AreGood, list_after}
 use Rattle.ax_delta.proofs.Grouping.{AreFit, IsFit, fit}
 use Rattle.ax_delta.proofs.Listed.{change_with}
-use Rattle.ax_delta.proofs.Steps.{IsUnderWay, start, from_parts, fit_first, same_step, other_step, last_step, with_change, change_from, at_end, nothing, nothing_written}
+use Rattle.ax_delta.proofs.Steps.{IsUnderWay, start, from_parts, fit_first, same_step, other_step, last_step, with_change, change_from, at_end}
+use Rattle.ax_delta.proofs.Steps.{nothing, nothing_written}
 use Rattle.ax_delta.proofs.writing.put_list.Goals as goal
 use Rattle.ax_delta.proofs.writing.put_list.Goals.{After-as_slice-in-loop-i-2, After-as_slice-3}
 
@@ -37,7 +38,8 @@ loop-i-init c =
     drop_more c.args.changes.now 0 p (omega arith) ∙ ap (λ (q : Change). q ∷ rest) (sym c.index-changes-0.is)
     in
     let adds : c.put_number.new.added.items ≡ with_added [] p = c.in_ok-put_number.ensures.added ∙ ap (λ ns. with_added ns p) c.new-added.ensures.items in
-    let drops : c.put_number.new.dropped.items ≡ with_dropped [] p = c.in_ok-put_number.ensures.dropped ∙ ap (λ ns. with_dropped ns p) c.new-dropped.ensures.items in
+    let drops : c.put_number.new.dropped.items ≡ with_dropped [] p = c.in_ok-put_number.ensures.dropped
+    ∙ ap (λ ns. with_dropped ns p) c.new-dropped.ensures.items in
     let e : term_changes_of c.args.changes.now ≡ term_changes_from c.as_slice-term.result.now c.put_number.new.added.items c.put_number.new.dropped.items rest =
     start p c.args.changes.now rest split ∙ from_parts _ _ _ _ _ _ rest (sym c.as_slice-term.ensures) (sym adds) (sym drops)
     in (
@@ -65,7 +67,8 @@ loop-i-preserved-then-eq c =
     same_step c.loop-i.term.now c.loop-i.added.items c.loop-i.dropped.items p _ rest next test
     ∙ from_parts _ _ _ _ _ _ rest refl (sym c.in_ok-put_number-2.ensures.added) (sym c.in_ok-put_number-2.ensures.dropped)
     in (
-      subst (λ es. IsUnderWay c.args.out.now.items c.loop-i.out.items c.loop-i.last.now es (term_changes_of c.args.changes.now) c.loop-i.count) e c.loop-i.invariant.0,
+      subst (λ es. IsUnderWay c.args.out.now.items c.loop-i.out.items c.loop-i.last.now es (term_changes_of c.args.changes.now) c.loop-i.count) e
+          c.loop-i.invariant.0,
       omega (arith, c.loop-i.invariant.1),
     )
 
@@ -79,7 +82,8 @@ fit_here c =
     let test : bytes_eq p.pair.term c.loop-i.term.now ≡ false =
     ap (λ bs. bytes_eq bs c.loop-i.term.now) (sym c.as_slice.ensures) ∙ sym c.eq.ensures ∙ c.if-eq.false
     in
-    fit_first c.loop-i.term.now c.loop-i.added.items c.loop-i.dropped.items _ _ (other_step c.loop-i.term.now c.loop-i.added.items c.loop-i.dropped.items p _ rest next test) c.loop-i.invariant.0.fit
+    fit_first c.loop-i.term.now c.loop-i.added.items c.loop-i.dropped.items _ _
+    (other_step c.loop-i.term.now c.loop-i.added.items c.loop-i.dropped.items p _ rest next test) c.loop-i.invariant.0.fit
 
 pub put_change-requires-clause-additions : goal.put_change-requires-clause-additions
 put_change-requires-clause-additions c = subst IsStrictlyIncreasing (sym c.as_slice-in-loop-i.ensures.value) (fit_here c).ups
@@ -101,8 +105,10 @@ loop-i-preserved c =
     let test : bytes_eq p.pair.term c.loop-i.term.now ≡ false =
     ap (λ bs. bytes_eq bs c.loop-i.term.now) (sym c.as_slice.ensures) ∙ sym c.eq.ensures ∙ c.if-eq.false
     in
-    let adds : c.put_number-in-loop-i.new.added.items ≡ with_added [] p = c.in_ok-put_number-3.ensures.added ∙ ap (λ ns. with_added ns p) c.clear.ensures.items in
-    let drops : c.put_number-in-loop-i.new.dropped.items ≡ with_dropped [] p = c.in_ok-put_number-3.ensures.dropped ∙ ap (λ ns. with_dropped ns p) c.clear-in-loop-i.ensures.items in
+    let adds : c.put_number-in-loop-i.new.added.items ≡ with_added [] p = c.in_ok-put_number-3.ensures.added
+    ∙ ap (λ ns. with_added ns p) c.clear.ensures.items in
+    let drops : c.put_number-in-loop-i.new.dropped.items ≡ with_dropped [] p = c.in_ok-put_number-3.ensures.dropped
+    ∙ ap (λ ns. with_dropped ns p) c.clear-in-loop-i.ensures.items in
     let e : term_changes_from c.loop-i.term.now c.loop-i.added.items c.loop-i.dropped.items (drop c.loop-i.i c.args.changes.now)
     ≡ change_with c.loop-i.term.now c.loop-i.added.items c.loop-i.dropped.items
     ∷ term_changes_from c.as_slice-term-in-loop-i.result.now c.put_number-in-loop-i.new.added.items c.put_number-in-loop-i.new.dropped.items rest =
@@ -114,7 +120,8 @@ loop-i-preserved c =
     (change_with c.loop-i.term.now c.loop-i.added.items c.loop-i.dropped.items
     ∷ term_changes_from c.as_slice-term-in-loop-i.result.now c.put_number-in-loop-i.new.added.items c.put_number-in-loop-i.new.dropped.items rest)
     (term_changes_of c.args.changes.now) c.loop-i.count =
-    subst (λ es. IsUnderWay c.args.out.now.items c.loop-i.out.items c.loop-i.last.now es (term_changes_of c.args.changes.now) c.loop-i.count) e c.loop-i.invariant.0
+    subst (λ es. IsUnderWay c.args.out.now.items c.loop-i.out.items c.loop-i.last.now es (term_changes_of c.args.changes.now) c.loop-i.count) e
+    c.loop-i.invariant.0
     in (
       with_change c.args.out.now.items c.loop-i.out.items _ c.loop-i.last.now c.loop-i.term.now c.loop-i.added.items c.loop-i.dropped.items _ _ _
           (same_written _ _ _ _ _ _ _ _ c.in_ok-put_change.ensures.written c.as_slice-in-loop-i.ensures.value c.as_slice-in-loop-i-2.ensures.value)
@@ -124,7 +131,8 @@ loop-i-preserved c =
       omega (arith, c.loop-i.invariant.1),
     )
 
-last_here : (c : After-as_slice-3) → IsUnderWay c.args.out.now.items c.loop-i.out.items c.loop-i.last.now (change_with c.loop-i.term.now c.loop-i.added.items c.loop-i.dropped.items ∷ []) (term_changes_of c.args.changes.now) c.loop-i.count
+last_here : (c : After-as_slice-3) → IsUnderWay c.args.out.now.items c.loop-i.out.items c.loop-i.last.now
+    (change_with c.loop-i.term.now c.loop-i.added.items c.loop-i.dropped.items ∷ []) (term_changes_of c.args.changes.now) c.loop-i.count
 last_here c =
     let none : drop c.loop-i.i c.args.changes.now ≡ [] = past_end c.args.changes.now c.loop-i.i (omega arith) in
     subst (λ es. IsUnderWay c.args.out.now.items c.loop-i.out.items c.loop-i.last.now es (term_changes_of c.args.changes.now) c.loop-i.count)
@@ -136,10 +144,12 @@ put_change-requires-2-clause-additions c = subst IsStrictlyIncreasing (sym c.as_
 pub put_change-requires-2-clause-removals : goal.put_change-requires-2-clause-removals
 put_change-requires-2-clause-removals c = subst IsStrictlyIncreasing (sym c.as_slice-3.ensures.value) (last_here c).fit.0.downs
 
-at_exit : (c : goal.After-drop-added-2) → IsUnderWay c.args.out.now.items c.put_change-2.new.out.items c.loop-i.term.now [] (term_changes_of c.args.changes.now) (c.loop-i.count + 1)
+at_exit : (c : goal.After-drop-added-2) → IsUnderWay c.args.out.now.items c.put_change-2.new.out.items c.loop-i.term.now []
+    (term_changes_of c.args.changes.now) (c.loop-i.count + 1)
 at_exit c =
     let none : drop c.loop-i.i c.args.changes.now ≡ [] = past_end c.args.changes.now c.loop-i.i (omega arith) in
-    let was : IsUnderWay c.args.out.now.items c.loop-i.out.items c.loop-i.last.now (change_with c.loop-i.term.now c.loop-i.added.items c.loop-i.dropped.items ∷ []) (term_changes_of c.args.changes.now) c.loop-i.count =
+    let was : IsUnderWay c.args.out.now.items c.loop-i.out.items c.loop-i.last.now
+    (change_with c.loop-i.term.now c.loop-i.added.items c.loop-i.dropped.items ∷ []) (term_changes_of c.args.changes.now) c.loop-i.count =
     subst (λ es. IsUnderWay c.args.out.now.items c.loop-i.out.items c.loop-i.last.now es (term_changes_of c.args.changes.now) c.loop-i.count)
     (last_step c.loop-i.term.now c.loop-i.added.items c.loop-i.dropped.items _ none) c.loop-i.invariant.0
     in

@@ -11,7 +11,11 @@ pub loop-n-init : goal.loop-n-init
 loop-n-init c = record {
   written = ap (λ bs. bs ++ gaps_from 0 c.args.list.now) (append-nil c.args.out.now.items);
   prefix = take_all _ c.args.out.now.items (omega arith);
-  rises = rises c.args.list.now (record { rising = c.requires; numbers = All-from_get_or (λ n. n < 4294967296) c.args.list.now 0 (λ i _. omega (arith, c.type_inv.list i)) });
+  rises = rises c.args.list.now (record {
+    rising = c.requires;
+    numbers =
+        All-from_get_or (λ n. n < 4294967296) c.args.list.now 0 (λ i _. omega (arith, c.type_inv.list i));
+  });
   within = omega arith;
 }
 
@@ -20,7 +24,8 @@ loop-n-preserved c =
     let up = rises-more c.args.list.now c.loop-n.n-index c.loop-n.least _ (omega arith) refl c.loop-n.invariant.rises in
     let gap = gaps_from-more c.args.list.now c.loop-n.n-index c.loop-n.least _ (omega arith) refl in
     record {
-      written = ap (λ bs. bs ++ gaps_from (get_or c.args.list.now c.loop-n.n-index 0 + 1) (drop (c.loop-n.n-index + 1) c.args.list.now)) c.in_ok-count.ensures.ok.1
+      written = ap (λ bs. bs ++ gaps_from (get_or c.args.list.now c.loop-n.n-index 0 + 1) (drop (c.loop-n.n-index + 1) c.args.list.now))
+          c.in_ok-count.ensures.ok.1
           ∙ append_assoc (c.loop-n.out.items ++ take c.loop-n.count c.loop-n.gathered) _ _
           ∙ ap (λ bs. c.loop-n.out.items ++ take c.loop-n.count c.loop-n.gathered ++ bs) (sym gap)
           ∙ c.loop-n.invariant.written;
@@ -33,5 +38,6 @@ pub returns-clause-ok : goal.returns-clause-ok
 returns-clause-ok c =
     c.in_ok-extend_from_slice.ensures.items
     ∙ sym (append-nil (c.loop-n.out.items ++ take c.loop-n.count c.loop-n.gathered))
-    ∙ ap (λ bs. c.loop-n.out.items ++ take c.loop-n.count c.loop-n.gathered ++ bs) (sym (gaps_from-all c.args.list.now c.loop-n.n-index c.loop-n.least (omega arith)))
+    ∙ ap (λ bs. c.loop-n.out.items ++ take c.loop-n.count c.loop-n.gathered ++ bs)
+    (sym (gaps_from-all c.args.list.now c.loop-n.n-index c.loop-n.least (omega arith)))
     ∙ c.loop-n.invariant.written

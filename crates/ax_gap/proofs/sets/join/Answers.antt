@@ -10,8 +10,16 @@ use Rattle.ax_gap.proofs.sets.join.Goals.{then-loop-i-test+else-j-b, else-loop-i
 pub loop-i-init : goal.loop-i-init
 loop-i-init c =
     begin_merge join_of _ c.args.a.now c.args.b.now c.in_ok-all.ensures.items
-    (rises c.args.a.now (record { rising = c.requires.first; numbers = All-from_get_or (λ n. n < 4294967296) c.args.a.now 0 (λ i _. omega (arith, c.type_inv.a i)) }))
-    (rises c.args.b.now (record { rising = c.requires.second; numbers = All-from_get_or (λ n. n < 4294967296) c.args.b.now 0 (λ i _. omega (arith, c.type_inv.b i)) }))
+    (rises c.args.a.now (record {
+      rising = c.requires.first;
+      numbers =
+          All-from_get_or (λ n. n < 4294967296) c.args.a.now 0 (λ i _. omega (arith, c.type_inv.a i));
+    }))
+    (rises c.args.b.now (record {
+      rising = c.requires.second;
+      numbers =
+          All-from_get_or (λ n. n < 4294967296) c.args.b.now 0 (λ i _. omega (arith, c.type_inv.b i));
+    }))
 
 pub loop-i-preserved-then-x-y : goal.loop-i-preserved-then-x-y
 loop-i-preserved-then-x-y c =
@@ -37,9 +45,18 @@ returns-clause-rising c =
     elim c.loop-i-test.branch [ then-loop-i-test+else-j-b w ↦ inr (omega arith) | else-loop-i-test w ↦ inl (omega arith) ]
     in join_increases _ c.args.a.now c.args.b.now (written c.loop-i.all.items _ _ _ _
     (c.in_ok-extend_from_slice.ensures.items ∙ ap (λ l. c.loop-i.all.items ++ l) (take_rest c.args.a.now c.loop-i.i))
-    (c.in_ok-extend_from_slice-2.ensures.items ∙ ap (λ l. c.extend_from_slice.new.self.items ++ l) (take_rest c.args.b.now c.loop-i.j)) ∙ join_end _ _ _ _ _ c.loop-i.invariant ended)
-    (rises c.args.a.now (record { rising = c.requires.first; numbers = All-from_get_or (λ n. n < 4294967296) c.args.a.now 0 (λ i _. omega (arith, c.type_inv.a i)) }))
-    (rises c.args.b.now (record { rising = c.requires.second; numbers = All-from_get_or (λ n. n < 4294967296) c.args.b.now 0 (λ i _. omega (arith, c.type_inv.b i)) }))
+    (c.in_ok-extend_from_slice-2.ensures.items ∙ ap (λ l. c.extend_from_slice.new.self.items ++ l) (take_rest c.args.b.now c.loop-i.j))
+    ∙ join_end _ _ _ _ _ c.loop-i.invariant ended)
+    (rises c.args.a.now (record {
+      rising = c.requires.first;
+      numbers =
+          All-from_get_or (λ n. n < 4294967296) c.args.a.now 0 (λ i _. omega (arith, c.type_inv.a i));
+    }))
+    (rises c.args.b.now (record {
+      rising = c.requires.second;
+      numbers =
+          All-from_get_or (λ n. n < 4294967296) c.args.b.now 0 (λ i _. omega (arith, c.type_inv.b i));
+    }))
 
 pub returns-clause-members : goal.returns-clause-members
 returns-clause-members c =
@@ -47,4 +64,5 @@ returns-clause-members c =
     elim c.loop-i-test.branch [ then-loop-i-test+else-j-b w ↦ inr (omega arith) | else-loop-i-test w ↦ inl (omega arith) ]
     in join_members _ c.args.a.now c.args.b.now (written c.loop-i.all.items _ _ _ _
     (c.in_ok-extend_from_slice.ensures.items ∙ ap (λ l. c.loop-i.all.items ++ l) (take_rest c.args.a.now c.loop-i.i))
-    (c.in_ok-extend_from_slice-2.ensures.items ∙ ap (λ l. c.extend_from_slice.new.self.items ++ l) (take_rest c.args.b.now c.loop-i.j)) ∙ join_end _ _ _ _ _ c.loop-i.invariant ended)
+    (c.in_ok-extend_from_slice-2.ensures.items ∙ ap (λ l. c.extend_from_slice.new.self.items ++ l) (take_rest c.args.b.now c.loop-i.j))
+    ∙ join_end _ _ _ _ _ c.loop-i.invariant ended)

@@ -9,8 +9,16 @@ use Rattle.ax_gap.proofs.sets.meet.Goals.{then-loop-i-test+else-j-b, else-loop-i
 pub loop-i-init : goal.loop-i-init
 loop-i-init c =
     begin_merge meet_of _ c.args.a.now c.args.b.now c.in_ok-both.ensures.items
-    (rises c.args.a.now (record { rising = c.requires.first; numbers = All-from_get_or (λ n. n < 4294967296) c.args.a.now 0 (λ i _. omega (arith, c.type_inv.a i)) }))
-    (rises c.args.b.now (record { rising = c.requires.second; numbers = All-from_get_or (λ n. n < 4294967296) c.args.b.now 0 (λ i _. omega (arith, c.type_inv.b i)) }))
+    (rises c.args.a.now (record {
+      rising = c.requires.first;
+      numbers =
+          All-from_get_or (λ n. n < 4294967296) c.args.a.now 0 (λ i _. omega (arith, c.type_inv.a i));
+    }))
+    (rises c.args.b.now (record {
+      rising = c.requires.second;
+      numbers =
+          All-from_get_or (λ n. n < 4294967296) c.args.b.now 0 (λ i _. omega (arith, c.type_inv.b i));
+    }))
 
 pub loop-i-preserved-then-x-y : goal.loop-i-preserved-then-x-y
 loop-i-preserved-then-x-y c =

@@ -22,7 +22,8 @@ loop-low-init c =
 pub put_new_page-requires-clause-rise : goal.put_new_page-requires-clause-rise
 put_new_page-requires-clause-rise c =
     (list_parted c.loop-low.rest.now _ _
-    (put_together c.base_len-in-Some.result c.loop-low.rest.now _ _ c.split_at-in-Some.ensures.front c.split_at-in-Some.ensures.back) c.loop-low.invariant.rise).0
+    (put_together c.base_len-in-Some.result c.loop-low.rest.now _ _ c.split_at-in-Some.ensures.front c.split_at-in-Some.ensures.back)
+    c.loop-low.invariant.rise).0
 
 pub put_new_page-requires-clause-begins : goal.put_new_page-requires-clause-begins
 put_new_page-requires-clause-begins c =

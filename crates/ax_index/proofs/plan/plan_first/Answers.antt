@@ -21,5 +21,6 @@ returns-clause-planned g c = λ all old is.
     c.plan_page.new.next c.as_number.result _ _ old _ _ c.first_run-run.result.page c.in-Ok.merged
     (put_together c.first_run-run.result.len c.args.changes.now _ _ c.split_at.ensures.front c.split_at.ensures.back)
     (omega (arith, c.split_at.ensures.front_len, c.first_run-run.ensures.some, c.first_run-run.ensures.within)) c.requires.rise c.first_run-run.ensures.page
-    (parted_there c.first_run-run.result.page c.first_run-run.result.len c.args.changes.now _ _ _ c.split_at.ensures.front c.split_at.ensures.back c.first_run-run.ensures.parted)
+    (parted_there c.first_run-run.result.page c.first_run-run.result.len c.args.changes.now _ _ _ c.split_at.ensures.front c.split_at.ensures.back
+    c.first_run-run.ensures.parted)
     c.as_number.ensures is c.in-Ok.ensures.never_less (λ so told. c.in-Ok.ensures.met told so) c.in-Ok.ensures.planned

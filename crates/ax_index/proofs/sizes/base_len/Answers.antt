@@ -17,7 +17,8 @@ returns-then-bytes-gt-MOST_BASE_BYTES-clause-cut c =
     let counted : c.loop-i.bytes + c.bytes_behind-bytes.result ≡ c.loop-i.bytes + bytes_beside c.index-pairs-i.result c.index-pairs-i-in-loop-i.result =
     omega (arith, c.bytes_behind-bytes.ensures.is)
     in
-    cut_here c.args.pairs.now c.loop-i.i c.loop-i.bytes c.loop-i.front c.index-pairs-i.result c.index-pairs-i-in-loop-i.result c.loop-i-test.true c.loop-i.auto.i
+    cut_here c.args.pairs.now c.loop-i.i c.loop-i.bytes c.loop-i.front c.index-pairs-i.result c.index-pairs-i-in-loop-i.result c.loop-i-test.true
+    c.loop-i.auto.i
     c.index-pairs-i.is c.index-pairs-i-in-loop-i.is c.loop-i.invariant.so_far (c.loop-i.bytes + c.bytes_behind-bytes.result) counted
     c.if-bytes-gt-MOST_BASE_BYTES.true
 

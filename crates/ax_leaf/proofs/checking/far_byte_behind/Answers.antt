@@ -8,7 +8,8 @@ loop-k-init c = byte_start c.args.list.now c.args.position
 pub loop-k-preserved : goal.loop-k-preserved
 loop-k-preserved c =
     let b = c.requires c.loop-k._k (omega arith) in
-    let same = c.in-Some.ensures.only b.shared b.part b.numbers b.after b.few b.short b.begins.rising b.begins.some (c.loop-k.invariant.left ∙ b.begins.spelled) in
+    let same = c.in-Some.ensures.only b.shared b.part b.numbers b.after b.few b.short b.begins.rising b.begins.some
+    (c.loop-k.invariant.left ∙ b.begins.spelled) in
     byte_step c.loop-k._k c.args.list.now c.loop-k.rest.now c.loop-k.byte c.args.position c.in-Some.posting.term.shared _ _ _ _ c.loop-k.invariant
     (record { spelled = c.in-Some.ensures.found; some = c.in-Some.ensures.some; rising = c.in-Some.ensures.rising })
     (within_by _ _ _ b same.0)

@@ -9,13 +9,15 @@ use Rattle.ax_leaf.proofs.checking.is_list_after_first.Goals as goal
 pub returns-in_default : goal.returns-in_default
 returns-in_default c = (
   λ h. absurd (false≢true h),
-  λ h. absurd (no_more_there c.args.list.now c.args.behind.now c.loop-k.rest.now c.args.count c.loop-k.k c.loop-k.size c.loop-k.invariant.way (omega arith) c.in_default.ensures.only h),
+  λ h. absurd (no_more_there c.args.list.now c.args.behind.now c.loop-k.rest.now c.args.count c.loop-k.k c.loop-k.size c.loop-k.invariant.way
+      (omega arith) c.in_default.ensures.only h),
 )
 
 pub returns-then-not-follows : goal.returns-then-not-follows
 returns-then-not-follows c = (
   λ h. absurd (false≢true h),
-  λ h. absurd (no_step c.args.list.now c.args.behind.now c.loop-k.rest.now c.args.count c.loop-k.k c.loop-k.size c.in-Some.posting.term.shared c.in-Some.posting.term.rest.now _ c.in-Some.after.now
+  λ h. absurd (no_step c.args.list.now c.args.behind.now c.loop-k.rest.now c.args.count c.loop-k.k c.loop-k.size c.in-Some.posting.term.shared
+      c.in-Some.posting.term.rest.now _ c.in-Some.after.now
       c.loop-k.invariant.way (omega arith)
       (record { spelled = c.in-Some.ensures.found; some = c.in-Some.ensures.some; rising = c.in-Some.ensures.rising })
       (λ f. let t : c.follows.result ≡ true = c.follows.ensures.1 f in let e : c.follows.result ≡ false = c.if-not-follows.true in false≢true (sym e ∙ t)) h),
@@ -27,11 +29,13 @@ loop-k-preserved c =
     record { spelled = c.in-Some.ensures.found; some = c.in-Some.ensures.some; rising = c.in-Some.ensures.rising }
     in
     let follows = c.follows.ensures.0 c.if-not-follows.false in
-    let term = term_there c.args.list.now c.args.behind.now c.loop-k.rest.now c.args.count c.loop-k.k c.loop-k.size c.in-Some.posting.term.shared c.in-Some.posting.term.rest.now _ c.in-Some.after.now
+    let term = term_there c.args.list.now c.args.behind.now c.loop-k.rest.now c.args.count c.loop-k.k c.loop-k.size c.in-Some.posting.term.shared
+    c.in-Some.posting.term.rest.now _ c.in-Some.after.now
     c.loop-k.invariant.way (omega arith) begins
     in
     record {
-      way = goes_on c.args.list.now c.args.behind.now c.loop-k.rest.now c.args.count c.loop-k.k c.loop-k.size c.in-Some.posting.term.shared c.in-Some.posting.term.rest.now _ c.in-Some.after.now
+      way = goes_on c.args.list.now c.args.behind.now c.loop-k.rest.now c.args.count c.loop-k.k c.loop-k.size c.in-Some.posting.term.shared
+          c.in-Some.posting.term.rest.now _ c.in-Some.after.now
           c.loop-k.invariant.way (omega arith) begins c.in-Some.ensures.fits.0 c.in-Some.ensures.fits.1 follows;
       front = subst (HasFront c.keep_front-in-loop-k.new.front) (sym term)
           (c.keep_front-in-loop-k.ensures (reached c.loop-k.k c.args.list.now).term c.loop-k.invariant.front follows.within);

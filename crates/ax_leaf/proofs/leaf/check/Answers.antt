@@ -46,7 +46,8 @@ pub returns-then-not-begins_from-clause-only : goal.returns-then-not-begins_from
 returns-then-not-begins_from-clause-only c low postings is =
     let list = behind (goal.at.returns-then-not-begins_from-clause-only c).In_ok-count low postings is in
     let low_is : low ≡ the_pair c.in_ok-term.term.now c.in_ok-term.number = same_pair _ _ _ _ (sym list.0) (sym list.1) in
-    absurd (false≢true (sym c.if-not-begins_from.true ∙ (c.begins_from.ensures postings list.2).1 (subst (λ (p : Pair). BeginsFrom p (pairs_of postings)) low_is is.begins)))
+    absurd (false≢true (sym c.if-not-begins_from.true ∙ (c.begins_from.ensures postings list.2).1
+    (subst (λ (p : Pair). BeginsFrom p (pairs_of postings)) low_is is.begins)))
 
 pub invariant_of-result : goal.invariant_of-result
 invariant_of-result c = listed c.in_ok-count.count c.in_ok-count.list.now (c.is_term_list.ensures.0 c.if-not-is_term_list.false)

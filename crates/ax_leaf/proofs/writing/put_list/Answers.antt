@@ -7,7 +7,8 @@ use Rattle.ax_leaf.specs.Pairs.{postings_from, postings_of}
 use Rattle.ax_leaf.specs.Payload.{AreGood, list_after, term_after}
 use Rattle.ax_gap.specs.Gaps.{gaps}
 use Rattle.ax_leaf.proofs.Grouping.{AreFit, fit}
-use Rattle.ax_leaf.proofs.Steps.{IsUnderWay, start, from_parts, fit_first, same_step, other_step, last_step, with_posting, posting_from, at_end, nothing, nothing_written}
+use Rattle.ax_leaf.proofs.Steps.{IsUnderWay, start, from_parts, fit_first, same_step, other_step, last_step, with_posting, posting_from, at_end}
+use Rattle.ax_leaf.proofs.Steps.{nothing, nothing_written}
 use Rattle.ax_leaf.proofs.writing.put_list.Goals as goal
 use Rattle.ax_leaf.proofs.writing.put_list.Goals.{After-as_slice-in-loop-i, After-as_slice-2}
 
@@ -59,11 +60,13 @@ loop-i-preserved-then-eq c =
     let test : bytes_eq p.term c.loop-i.term.now ≡ true =
     ap (λ bs. bytes_eq bs c.loop-i.term.now) (sym c.as_slice.ensures) ∙ sym c.eq.ensures ∙ c.if-eq.true
     in
-    let e : postings_from c.loop-i.term.now c.loop-i.numbers.items (drop c.loop-i.i c.args.pairs.now) ≡ postings_from c.loop-i.term.now c.push-then-eq.new.self.items rest =
+    let e : postings_from c.loop-i.term.now c.loop-i.numbers.items (drop c.loop-i.i c.args.pairs.now)
+    ≡ postings_from c.loop-i.term.now c.push-then-eq.new.self.items rest =
     same_step c.loop-i.term.now c.loop-i.numbers.items p _ rest next test
     ∙ from_parts _ _ _ _ rest refl (sym c.in_ok-push-2.ensures.items)
     in (
-      subst (λ es. IsUnderWay c.args.out.now.items c.loop-i.out.items c.loop-i.last.now es (postings_of c.args.pairs.now) c.loop-i.count) e c.loop-i.invariant.0,
+      subst (λ es. IsUnderWay c.args.out.now.items c.loop-i.out.items c.loop-i.last.now es (postings_of c.args.pairs.now) c.loop-i.count) e
+          c.loop-i.invariant.0,
       omega (arith, c.loop-i.invariant.1),
     )
 
@@ -99,15 +102,19 @@ loop-i-preserved c =
     c.in_ok-push-3.ensures.items ∙ ap (λ (ns : List ℕ). ns ++ p.number ∷ []) c.clear.ensures.items
     in
     let e : postings_from c.loop-i.term.now c.loop-i.numbers.items (drop c.loop-i.i c.args.pairs.now)
-    ≡ record { term = c.loop-i.term.now; numbers = c.loop-i.numbers.items } ∷ postings_from c.as_slice-term-in-loop-i.result.now c.push-in-loop-i.new.self.items rest =
+    ≡ record { term = c.loop-i.term.now; numbers = c.loop-i.numbers.items }
+    ∷ postings_from c.as_slice-term-in-loop-i.result.now c.push-in-loop-i.new.self.items rest =
     other_step c.loop-i.term.now c.loop-i.numbers.items p _ rest next test
     ∙ ap (λ es. record { term = c.loop-i.term.now; numbers = c.loop-i.numbers.items } ∷ es)
     (from_parts _ _ _ _ rest (sym c.as_slice-term-in-loop-i.ensures) (sym numbers))
     in (
       with_posting c.args.out.now.items c.loop-i.out.items _ c.loop-i.last.now c.loop-i.term.now c.loop-i.numbers.items _ _ _
-          (c.in_ok-put_posting.ensures.written ∙ ap (λ ns. c.loop-i.out.items ++ term_after c.loop-i.last.now c.loop-i.term.now ++ gaps ns) c.as_slice-in-loop-i.ensures.value)
-          (posting_from c.loop-i.term.now c.loop-i.numbers.items _ c.as_slice-in-loop-i.ensures.value c.in_ok-put_posting.ensures.short c.in_ok-put_posting.ensures.some c.in_ok-put_posting.ensures.list)
-          (subst (λ es. IsUnderWay c.args.out.now.items c.loop-i.out.items c.loop-i.last.now es (postings_of c.args.pairs.now) c.loop-i.count) e c.loop-i.invariant.0),
+          (c.in_ok-put_posting.ensures.written ∙ ap (λ ns. c.loop-i.out.items ++ term_after c.loop-i.last.now c.loop-i.term.now ++ gaps ns)
+          c.as_slice-in-loop-i.ensures.value)
+          (posting_from c.loop-i.term.now c.loop-i.numbers.items _ c.as_slice-in-loop-i.ensures.value c.in_ok-put_posting.ensures.short
+          c.in_ok-put_posting.ensures.some c.in_ok-put_posting.ensures.list)
+          (subst (λ es. IsUnderWay c.args.out.now.items c.loop-i.out.items c.loop-i.last.now es (postings_of c.args.pairs.now) c.loop-i.count) e
+          c.loop-i.invariant.0),
       omega (arith, c.loop-i.invariant.1),
     )
 
@@ -122,12 +129,15 @@ put_posting-requires-2-clause-rising c = subst IsStrictlyIncreasing (sym c.as_sl
 pub put_posting-requires-2-clause-some : goal.put_posting-requires-2-clause-some
 put_posting-requires-2-clause-some c = let f = fit_last c in omega (arith, f.1, ap length c.as_slice-2.ensures.value)
 
-at_exit : (c : goal.After-drop-numbers-2) → IsUnderWay c.args.out.now.items c.put_posting-2.new.out.items c.loop-i.term.now [] (postings_of c.args.pairs.now) (c.loop-i.count + 1)
+at_exit : (c : goal.After-drop-numbers-2) → IsUnderWay c.args.out.now.items c.put_posting-2.new.out.items c.loop-i.term.now [] (postings_of c.args.pairs.now)
+    (c.loop-i.count + 1)
 at_exit c =
     let none : drop c.loop-i.i c.args.pairs.now ≡ [] = past_end c.args.pairs.now c.loop-i.i (omega arith) in
     with_posting c.args.out.now.items c.loop-i.out.items _ c.loop-i.last.now c.loop-i.term.now c.loop-i.numbers.items _ _ _
-    (c.in_ok-put_posting-2.ensures.written ∙ ap (λ ns. c.loop-i.out.items ++ term_after c.loop-i.last.now c.loop-i.term.now ++ gaps ns) c.as_slice-2.ensures.value)
-    (posting_from c.loop-i.term.now c.loop-i.numbers.items _ c.as_slice-2.ensures.value c.in_ok-put_posting-2.ensures.short c.in_ok-put_posting-2.ensures.some c.in_ok-put_posting-2.ensures.list)
+    (c.in_ok-put_posting-2.ensures.written ∙ ap (λ ns. c.loop-i.out.items ++ term_after c.loop-i.last.now c.loop-i.term.now ++ gaps ns)
+    c.as_slice-2.ensures.value)
+    (posting_from c.loop-i.term.now c.loop-i.numbers.items _ c.as_slice-2.ensures.value c.in_ok-put_posting-2.ensures.short c.in_ok-put_posting-2.ensures.some
+    c.in_ok-put_posting-2.ensures.list)
     (subst (λ es. IsUnderWay c.args.out.now.items c.loop-i.out.items c.loop-i.last.now es (postings_of c.args.pairs.now) c.loop-i.count)
     (last_step c.loop-i.term.now c.loop-i.numbers.items _ none) c.loop-i.invariant.0)
 

@@ -8,6 +8,7 @@ loop-preserved c =
     record {
       made = omega (arith, ap length c.push_reserved.ensures.items, length-append c.loop.frames.items (c.in_ok-frame.frame ∷ []), c.loop.invariant.made);
       sizes = subst (All (λ frame. length frame.items ≡ frame_size)) (sym c.push_reserved.ensures.items)
-          (All-push (λ frame. length frame.items ≡ frame_size) c.loop.frames.items c.in_ok-frame.frame c.loop.invariant.sizes (omega (arith, c.in_ok-frame.ensures.len, c.in_ok-frame.frame.ok.0)));
+          (All-push (λ frame. length frame.items ≡ frame_size) c.loop.frames.items c.in_ok-frame.frame c.loop.invariant.sizes
+          (omega (arith, c.in_ok-frame.ensures.len, c.in_ok-frame.frame.ok.0)));
       room = omega (arith, c.loop.invariant.room, c.push_reserved.ensures.capacity);
     }

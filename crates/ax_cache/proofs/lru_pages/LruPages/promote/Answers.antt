@@ -5,7 +5,14 @@ use Rattle.ax_cache.proofs.lru_pages.LruPages.promote.Goals as goal
 
 pub invariant_of-self : goal.invariant_of-self
 invariant_of-self c = record {
-  few = omega (arith, ap (λ cache. length cache.entries) c.promote-there.ensures.entries, ap (λ cache. cache.cap) c.promote-there.ensures.entries, promoted_few (place_eq c.args.key) c.args.self.now.pages.entries, c.args.self.now.few);
+  few = omega (
+    arith,
+    ap (λ cache. length cache.entries) c.promote-there.ensures.entries,
+    ap
+        (λ cache. cache.cap) c.promote-there.ensures.entries,
+    promoted_few (place_eq c.args.key) c.args.self.now.pages.entries,
+    c.args.self.now.few,
+  );
 }
 
 pub returns-clause-pages : goal.returns-clause-pages

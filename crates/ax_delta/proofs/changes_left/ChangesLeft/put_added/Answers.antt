@@ -7,7 +7,8 @@ use Rattle.ax_delta.proofs.changes_left.ChangesLeft.put_added.Goals as goal
 
 pub returns-in_default : goal.returns-in_default
 returns-in_default c =
-    sym (append-nil c.args.out.now.items) ∙ ap (λ ps. c.args.out.now.items ++ ps) (sym (ap added_first (at_end c.args.self.now c.requires c.in_default.ensures)))
+    sym (append-nil c.args.out.now.items) ∙ ap (λ ps. c.args.out.now.items ++ ps)
+    (sym (ap added_first (at_end c.args.self.now c.requires c.in_default.ensures)))
 
 pub returns-then-not-add : goal.returns-then-not-add
 returns-then-not-add c =

@@ -15,16 +15,20 @@ returns-in_default-clause-add c = sym (ap adds_first (at_end c.args.self.now c.r
 
 pub returns-then-add-clause-rest : goal.returns-then-add-clause-rest
 returns-then-add-clause-rest c =
-    ap (λ (ns : List ℕ). changes_with c.args.self.now.term.items ns c.args.self.now.dropped ++ changes_of (changes_in c.args.self.now.count c.args.self.now.term.items c.args.self.now.rest.now)) c.pass.ensures
-    ∙ took c.args.self.now true c.in-Some.field-0-1 (subst (λ (b : Bool). first_is b c.in-Some.field-0-1 ≡ first_number c.args.self.now.added c.args.self.now.dropped) c.if-add.true c.in-Some.ensures)
+    ap (λ (ns : List ℕ). changes_with c.args.self.now.term.items ns c.args.self.now.dropped
+    ++ changes_of (changes_in c.args.self.now.count c.args.self.now.term.items c.args.self.now.rest.now)) c.pass.ensures
+    ∙ took c.args.self.now true c.in-Some.field-0-1 (subst (λ (b : Bool). first_is b c.in-Some.field-0-1
+    ≡ first_number c.args.self.now.added c.args.self.now.dropped) c.if-add.true c.in-Some.ensures)
 
 pub returns-then-add-clause-add : goal.returns-then-add-clause-add
 returns-then-add-clause-add c = adds_it c.args.self.now c.in-Some.add c.in-Some.field-0-1 c.in-Some.ensures
 
 pub returns-else-add-clause-rest : goal.returns-else-add-clause-rest
 returns-else-add-clause-rest c =
-    ap (λ (ns : List ℕ). changes_with c.args.self.now.term.items c.args.self.now.added ns ++ changes_of (changes_in c.args.self.now.count c.args.self.now.term.items c.args.self.now.rest.now)) c.pass-else-add.ensures
-    ∙ took c.args.self.now false c.in-Some.field-0-1 (subst (λ (b : Bool). first_is b c.in-Some.field-0-1 ≡ first_number c.args.self.now.added c.args.self.now.dropped) c.if-add.false c.in-Some.ensures)
+    ap (λ (ns : List ℕ). changes_with c.args.self.now.term.items c.args.self.now.added ns
+    ++ changes_of (changes_in c.args.self.now.count c.args.self.now.term.items c.args.self.now.rest.now)) c.pass-else-add.ensures
+    ∙ took c.args.self.now false c.in-Some.field-0-1 (subst (λ (b : Bool). first_is b c.in-Some.field-0-1
+    ≡ first_number c.args.self.now.added c.args.self.now.dropped) c.if-add.false c.in-Some.ensures)
 
 pub returns-else-add-clause-add : goal.returns-else-add-clause-add
 returns-else-add-clause-add c = adds_it c.args.self.now c.in-Some.add c.in-Some.field-0-1 c.in-Some.ensures

@@ -10,6 +10,7 @@ reach-requires c = spells_list c.new.result.items c.self.inside.list.now c.self.
 pub returns-clause-all : goal.returns-clause-all
 returns-clause-all c =
     c.in_ok-reach.ensures.same
-    ∙ nothing_with c.new.result.items c.none.result c.none-2.result (changes_of (changes_in c.self.inside.count c.new.result.items c.self.inside.list.now)) (record { first = c.none.ensures; second = c.none-2.ensures })
+    ∙ nothing_with c.new.result.items c.none.result c.none-2.result (changes_of (changes_in c.self.inside.count c.new.result.items c.self.inside.list.now))
+    (record { first = c.none.ensures; second = c.none-2.ensures })
     ∙ ap (λ (t : List ℕ). changes_of (changes_in c.self.inside.count t c.self.inside.list.now)) c.new.ensures.items
     ∙ ap changes_of c.self.view_is

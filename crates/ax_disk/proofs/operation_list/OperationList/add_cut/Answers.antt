@@ -7,8 +7,13 @@ use Rattle.ax_disk.proofs.operation_list.OperationList.add_cut.Goals as goal
 pub invariant_of-self : goal.invariant_of-self
 invariant_of-self c = record {
   whole =
-      omega
-      (arith, c.args.self.now.whole, ap written_size c.push_reserved.ensures.items, written_size-append c.args.self.now.operations.items (Cut c.args.ext c.args.len c.args.done));
+      omega (
+        arith,
+        c.args.self.now.whole,
+        ap written_size c.push_reserved.ensures.items,
+        written_size-append c.args.self.now.operations.items
+            (Cut c.args.ext c.args.len c.args.done),
+      );
 }
 
 pub returns-clause-added : goal.returns-clause-added

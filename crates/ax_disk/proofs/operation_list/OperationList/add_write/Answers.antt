@@ -12,8 +12,16 @@ invariant_of-self c =
     ∙ with_room _ _ _ (c.extend_from_slice-taken.ensures.succeeds (omega arith)) in
     record {
       whole =
-          omega
-          (arith, c.args.self.now.whole, ap length bytes, length-append c.args.self.now.bytes.items c.args.bytes.now, ap written_size c.push_reserved.ensures.items, written_size-append c.args.self.now.operations.items (Wrote c.args.ext c.args.at c.args.size (length c.args.bytes.now)));
+          omega (
+            arith,
+            c.args.self.now.whole,
+            ap length bytes,
+            length-append c.args.self.now.bytes.items c.args.bytes.now,
+            ap written_size
+                c.push_reserved.ensures.items,
+            written_size-append c.args.self.now.operations.items
+                (Wrote c.args.ext c.args.at c.args.size (length c.args.bytes.now)),
+          );
     }
 
 pub returns-clause-added : goal.returns-clause-added
