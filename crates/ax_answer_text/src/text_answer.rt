@@ -1,6 +1,6 @@
 //! The answer of a query from texts that are added one by one.
 
-ghost use Rattle.std.specs.Prelude.{◌≡◌, ◌≢◌, true, Err, Some, IfOk};
+ghost use Rattle.std.specs.Prelude.{◌≡◌, ◌≢◌, true, Ok, Err, None, Some, IfOk, IfSome, IsErr};
 ghost use Rattle.ax_tree.specs.CanonicalText.{canonical_text};
 ghost use Rattle.ax_tree.specs.declared.tree.Tree.{Tree as TreeOf};
 ghost use Rattle.ax_excerpt_text.specs.Left.{IsReadable};
@@ -168,6 +168,16 @@ fn read_part(
         Some(excerpt) => read_excerpt(alloc, reader, excerpt, text),
         None => read_excerpt(alloc, reader, &Excerpt::Whole, text),
     };
+    tree_or_fault(read)
+}
+
+/// What is read, or why it is not: bytes that stand for no tree are `Outside`, and only out of memory is
+/// `Memory`.
+fn tree_or_fault(read: Result<Option<Tree>, ax_tree::Memory>) -> Result<Tree, TextFault>
+    ensures tree { IfOk read (λ found. IfSome found (λ tree. result ≡ Ok tree)) }
+    ensures outside { IfOk read (λ found. found ≡ None → result ≡ Err TextFault.Outside) }
+    ensures memory { IsErr read → result ≡ Err TextFault.Memory }
+{
     match read {
         Ok(Some(tree)) => Ok(tree),
         Ok(None) => Err(TextFault::Outside),

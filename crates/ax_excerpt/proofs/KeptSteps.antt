@@ -1,6 +1,5 @@
 -- Steps that an excerpt keeps lead to the same value in what it leaves of a tree.
-use Rattle.std.proofs.Math.Seq.{drop-cons}
-use Rattle.std.proofs.Common.{◌≡◌, ◌<◌, ◌+◌, ℕ, suc, List, [], ◌∷◌, map, length, get_or, drop, cond, Bool, true, false, Option, Some, None, refl, sym, ap, ◌∙◌, subst, rules, arith}
+use Rattle.std.proofs.Common.{◌≡◌, ℕ, List, [], ◌∷◌, map, cond, Bool, true, false, Option, Some, None, refl, sym, ap, ◌∙◌, subst, rules}
 use Rattle.std.specs.Prelude.{find, option_map, option_and_then, slice_get}
 use Rattle.std.specs.Str.{bytes_eq}
 use Rattle.std.proofs.lemmas.Bool.{false≢true}
@@ -35,14 +34,14 @@ value_first name m ms true is =
 value_first name m ms false is =
     ap (λ c. option_map (λ (m : Member Tree). m.value) (cond c (Some m) (find (λ n. bytes_eq n.name name) ms))) is
 
-under_first : {X : Type 0} (name : List ℕ) (m : Member X) (ms : List (Member X)) (b : Bool)
+pub under_first : {X : Type 0} (name : List ℕ) (m : Member X) (ms : List (Member X)) (b : Bool)
     → bytes_eq m.name name ≡ b → under name (m ∷ ms) ≡ cond b (Some m.value) (under name ms)
 under_first {X} name m ms true is =
     ap (λ c. option_map (λ (m : Member X). m.value) (cond c (Some m) (find (λ (n : Member X). bytes_eq n.name name) ms))) is
 under_first {X} name m ms false is =
     ap (λ c. option_map (λ (m : Member X). m.value) (cond c (Some m) (find (λ (n : Member X). bytes_eq n.name name) ms))) is
 
-none_some : {A : Type 0} {a : A} → None ≡ Some a → ⊥
+pub none_some : {A : Type 0} {a : A} → None ≡ Some a → ⊥
 none_some e = cc
 
 -- what is not there is not chosen
@@ -261,7 +260,7 @@ pub keeps_position : (parts : List (Member Excerpt)) (at : ℕ) (steps : List Qu
     → keeps (excerpt.Part parts) (step.Position at ∷ steps) ≡ true
 keeps_position parts at steps = search (rules, excerpt.the_lemmas)
 
-keeps_part : (parts : List (Member Excerpt)) (name : List ℕ) (steps : List QueryStep)
+pub keeps_part : (parts : List (Member Excerpt)) (name : List ℕ) (steps : List QueryStep)
     → keeps (excerpt.Part parts) (step.Member name ∷ steps) ≡ kept_in (under name (map keeping parts)) steps
 keeps_part parts name steps = search (rules, excerpt.the_lemmas)
 
@@ -271,27 +270,3 @@ pub keeps_member : (parts : List (Member Excerpt)) (name : List ℕ) (found : Op
 keeps_member parts name found steps is =
     keeps_part parts name steps
     ∙ ap (λ k. kept_in k steps) (under_map name parts ∙ ap (option_map keeps) (sym is))
-
--- ---- the loop along steps
-
-pub step_here : {X : Type 0} (at : ℕ) (xs : List X) (x : X) → at < length xs → x ≡ get_or xs at x
-    → drop at xs ≡ x ∷ drop (at + 1) xs
-step_here {X} at xs x low is =
-    let next : suc at ≡ at + 1 = omega arith in
-    drop-cons xs at x low ∙ ap (λ (y : X). y ∷ drop (suc at) xs) (sym is)
-    ∙ ap (λ (n : ℕ). x ∷ drop n xs) next
-
-module _ (part : Excerpt) (parts slice : List (Member Excerpt)) (name : List ℕ) (steps rest : List QueryStep)
-    (answer : Bool) (is : part ≡ excerpt.Part parts) (same : slice ≡ parts)
-    (first : steps ≡ step.Member name ∷ rest) (so_far : keeps part steps ≡ answer) where
-  looked : (found : Option Excerpt) → found ≡ part_named name slice
-      → keeps part steps ≡ kept_in (option_map keeps found) rest
-  looked found here =
-      ap (λ e. keeps e steps) is ∙ ap (keeps (excerpt.Part parts)) first
-      ∙ keeps_member parts name found rest (here ∙ ap (part_named name) same)
-
-  pub no_part : None ≡ part_named name slice → false ≡ answer
-  no_part none = sym (looked None none) ∙ so_far
-
-  pub next_part : (next : Excerpt) → Some next ≡ part_named name slice → keeps next rest ≡ answer
-  next_part next here = sym (looked (Some next) here) ∙ so_far

@@ -1,9 +1,12 @@
 pub mod AlikeInGroups
 pub mod EnvsAlike
 pub mod FormMeanings
+pub mod Grown
 pub mod GroupsAlike
 pub mod KeptSteps
+pub mod LookedAt
 pub mod Meanings
+pub mod Needed
 pub mod RisingParts
 pub mod RowsAlike
 pub mod SameRows

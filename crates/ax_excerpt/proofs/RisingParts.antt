@@ -16,21 +16,21 @@ use Rattle.ax_excerpt.specs.Openings.{HasRoom, put_at}
 abbrev cmp : List ℕ → List ℕ → Ordering
 cmp = slice_cmp nat_cmp
 
-both_true : (a b : Bool) → a ≡ true → b ≡ true → (a && b) ≡ true
+pub both_true : (a b : Bool) → a ≡ true → b ≡ true → (a && b) ≡ true
 both_true true b e f = f
 both_true false b e f = e
 
-is_lt_Less : (o : Ordering) → is_lt o ≡ true → o ≡ Less
+pub is_lt_Less : (o : Ordering) → is_lt o ≡ true → o ≡ Less
 is_lt_Less Less e = refl
 is_lt_Less Equal e = absurd (cc)
 is_lt_Less Greater e = absurd (cc)
 
-same_from_Equal : (a b : List ℕ) → cmp a b ≡ Equal → a ≡ b
+pub same_from_Equal : (a b : List ℕ) → cmp a b ≡ Equal → a ≡ b
 same_from_Equal a b e = (bytes_eq-Decides a b).0 (sym (is_eq-slice_cmp a b) ∙ ap is_eq e)
 
 -- ---- searching by halves
 
-skipped : {T : Type 0} (first next : Member T) (rest : List (Member T))
+pub skipped : {T : Type 0} (first next : Member T) (rest : List (Member T))
     → HaveRisingNames (first ∷ next ∷ rest) → HaveRisingNames (first ∷ rest)
 skipped first next [] r = refl
 skipped first next (third ∷ rest) r =
@@ -41,7 +41,7 @@ skipped first next (third ∷ rest) r =
     (is_lt_Less _ two.0)))
     two.1
 
-later : {T : Type 0} (first : Member T) (rest : List (Member T)) → HaveRisingNames (first ∷ rest)
+pub later : {T : Type 0} (first : Member T) (rest : List (Member T)) → HaveRisingNames (first ∷ rest)
     → HaveRisingNames rest
 later first [] r = refl
 later first (next ∷ rest) r = (and_parts (is_lt (cmp first.name next.name)) _ r).1
@@ -142,7 +142,7 @@ parted_there [] at d h = absurd (omega arith)
 parted_there (x ∷ xs) zero d h = refl
 parted_there (x ∷ xs) (suc at) d h = ap (λ l. x ∷ l) (parted_there xs at d (omega arith))
 
-parted : {X : Type 0} (xs : List X) (at : ℕ) (d : X) → at < length xs
+pub parted : {X : Type 0} (xs : List X) (at : ℕ) (d : X) → at < length xs
     → take at xs ++ get_or xs at d ∷ drop (at + 1) xs ≡ xs
 parted xs at d h =
     let next : at + 1 ≡ suc at = omega arith in
@@ -171,7 +171,7 @@ same_names : {T : Type 0} (front rest : List (Member T)) (a b : Member T) → a.
 same_names [] rest a b e = ap (λ n. n ∷ names rest) e
 same_names (m ∷ front) rest a b e = ap (λ l. m.name ∷ l) (same_names front rest a b e)
 
-put_back : (whole parts : List (Member Excerpt)) (name : List ℕ) (at : ℕ) (part : Excerpt)
+pub put_back : (whole parts : List (Member Excerpt)) (name : List ℕ) (at : ℕ) (part : Excerpt)
     → at ≤ length whole → parts ≡ take at whole ++ drop (at + 1) whole
     → put_at at name part parts
     ≡ take at whole ++ record { name = name; value = part } ∷ drop (at + 1) whole

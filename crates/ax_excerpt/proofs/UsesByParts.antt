@@ -8,7 +8,7 @@ use Rattle.ax_mean.specs.declared.expr.Expr.TheOpen.{Expr-F}
 use Rattle.ax_mean.specs.declared.expr.Expr.TheFolds.{map-Expr}
 use Rattle.ax_mean.specs.declared.expr.QueryStep.{QueryStep}
 use Rattle.ax_mean.specs.Parts.{level_parts, parts_of}
-use Rattle.ax_mean.proofs.ByParts.{level_of, where_by_parts}
+use Rattle.ax_mean.proofs.ByParts.{where_by_parts}
 use Rattle.ax_excerpt.specs.Uses.{Uses, Test, all_alone, operands_alone, members_alone, uses_level, uses_in, is_within, parts_alone}
 
 and_true : (a : Bool) → a ≡ a && true

@@ -31,7 +31,8 @@ fn have_plain_names(parts: &Members<Excerpt>) -> bool
     true
 }
 
-fn is_plain(text: &[u8]) -> bool
+/// Whether JSON writes a name without an escape.
+pub(crate) fn is_plain(text: &[u8]) -> bool
     ensures { result ≡ plain_text text.now }
 {
     text.iter()

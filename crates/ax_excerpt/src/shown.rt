@@ -2,7 +2,7 @@
 ghost use Rattle.std.specs.Prelude.{◌≡◌, ◌↔◌, IsTrue};
 ghost use Rattle.ax_excerpt.specs.ShownDocuments.{ShowsDocument, ShowsFrom, PicksAlias};
 
-use crate::enough::is_document;
+use crate::source::is_document;
 use ax_mean::{Expr, FromItem, Pick, Query, Text};
 
 /// Whether each row of the query is a document as it is stored: `SELECT *` or `SELECT VALUE c` from

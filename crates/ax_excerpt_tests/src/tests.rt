@@ -93,7 +93,8 @@ fn paths_of_the_pick_and_of_where(rt: HostRuntime) -> Result<(), Fail> {
     Ok(())
 }
 
-// Of two paths that go one way the shorter counts, and elements of lists are not told apart.
+// Of two paths that go one way the shorter counts. Elements of lists are not told apart: a list is left
+// whole, and nothing of a map that stands where a list is looked for.
 #[test]
 fn paths_within_others_and_into_lists(rt: HostRuntime) -> Result<(), Fail> {
     let alloc = rt.alloc();
@@ -101,8 +102,10 @@ fn paths_within_others_and_into_lists(rt: HostRuntime) -> Result<(), Fail> {
         ("SELECT VALUE c.a FROM c WHERE c.a.b = 1", "{a}"),
         ("SELECT VALUE c.a.b FROM c WHERE c.a", "{a}"),
         ("SELECT VALUE c.a.b FROM c WHERE c.aa.b", "{a{b},aa{b}}"),
-        ("SELECT VALUE c.list[0].x FROM c", "{list}"),
-        ("SELECT VALUE c.a.list[1] FROM c", "{a{list}}"),
+        ("SELECT VALUE c.list[0].x FROM c", "{list{}}"),
+        ("SELECT VALUE c.a.list[1] FROM c", "{a{list{}}}"),
+        ("SELECT VALUE c.list[0] FROM c WHERE c.list", "{list}"),
+        ("SELECT VALUE c[0] FROM c", "{}"),
         ("SELECT VALUE c['a b']['c'] FROM c", "{a b{c}}"),
     ] {
         assert_eq!(rt;
@@ -180,7 +183,24 @@ fn sources(rt: HostRuntime) -> Result<(), Fail> {
     Ok(())
 }
 
-// The document itself, and names that JSON writes with an escape.
+// All is kept that stands around a name that JSON writes with an escape.
+#[test]
+fn names_with_an_escape(rt: HostRuntime) -> Result<(), Fail> {
+    let alloc = rt.alloc();
+    for (text, expected) in [
+        ("SELECT VALUE c.a['x\"y'] FROM c", "{a}"),
+        ("SELECT VALUE c.a.b['\\\\'].d FROM c WHERE c.e", "{a{b},e}"),
+    ] {
+        assert_eq!(rt;
+            looked_at(alloc, text)?.as_slice(),
+            expected.as_bytes(),
+            "{text}"
+        );
+    }
+    Ok(())
+}
+
+// The document itself, and names in it that JSON writes with an escape.
 #[test]
 fn documents_read_whole(rt: HostRuntime) -> Result<(), Fail> {
     let alloc = rt.alloc();

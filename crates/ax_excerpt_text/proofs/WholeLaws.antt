@@ -1,6 +1,7 @@
 -- The canonical text of a tree that reads back stands for that tree alone.
-use Rattle.std.proofs.Common.{◌≡◌, ◌≤◌, ℕ, List, Option, Some, None, Result, Ok, Err, IfOk, IfSome, sym, ap, ◌∙◌, arith, rules}
+use Rattle.std.proofs.Common.{◌≡◌, ◌≢◌, ◌≤◌, ℕ, List, Option, Some, None, Result, Ok, Err, IfOk, IfErr, IsErr, IfSome, refl, sym, ap, subst, ◌∙◌, arith, rules}
 use Rattle.std.specs.Str.{is_utf8, IsUtf8}
+use Rattle.std.proofs.lemmas.Bool.{false≢true}
 use Rattle.std.proofs.lemmas.Str.{is_utf8-from_IsUtf8}
 use Rattle.ax_tree.specs.declared.tree.Tree.{Tree}
 use Rattle.ax_tree.specs.declared.tree.Tree as tree
@@ -8,6 +9,8 @@ use Rattle.ax_tree.specs.CanonicalText.{canonical_text}
 use Rattle.ax_tree.specs.declared.out_of_memory.Memory.{Memory}
 use Rattle.ax_tree.specs.Nesting.{nesting}
 use Rattle.ax_tree.specs.WellFormed.{IsWellFormed, is_well_formed}
+use Rattle.ax_text.specs.declared.text_fault.TextFault.{TextFault}
+use Rattle.ax_text.specs.declared.text_fault.TextFault.TheVariants as fault
 use Rattle.ax_text.specs.Reading.{reading, Stands, NotJson, NotWhole}
 use Rattle.ax_text.proofs.RoundTrip.{text-stands}
 use Rattle.ax_skim.specs.declared.scalar.Scalar.{Scalar}
@@ -34,13 +37,31 @@ pub read_so : (found : Option Tree) (text : List ℕ) → found ≡ tree_read te
     → (tree : Tree) → text ≡ canonical_text tree → IsReadable tree → found ≡ Some tree
 read_so found text read tree is readable = read ∙ ap tree_in (stands tree text is readable)
 
-pub no_json_given : (text : List ℕ) → reading text ≡ NotJson
-    → (tree : Tree) → text ≡ canonical_text tree → IsReadable tree → None ≡ Some tree
-no_json_given text told = read_so None text (no_json text told)
+-- what is told of the reader's answer
+if_none : {X E : Type 0} (P : X → Type 0) (made : Result X E) → IsErr made → IfOk made P
+if_none P (Ok x) err = absurd (false≢true err)
+if_none P (Err fault) err = tt
 
-pub not_whole_given : (text : List ℕ) → reading text ≡ NotWhole
-    → (tree : Tree) → text ≡ canonical_text tree → IsReadable tree → None ≡ Some tree
-not_whole_given text told = read_so None text (not_whole text told)
+pub told_read : (read : Result Tree TextFault) (made : Result (Option Tree) Memory) (text : List ℕ)
+    → IfOk read (λ tree. reading text ≡ Stands tree) → (read ≡ Err fault.Json → reading text ≡ NotJson)
+    → (read ≡ Err fault.Number → reading text ≡ NotWhole) → IfOk read (λ tree. made ≡ Ok (Some tree))
+    → IfErr read (λ cause. cause ≢ fault.Memory → made ≡ Ok None)
+    → IfErr read (λ cause. cause ≡ fault.Memory → IsErr made)
+    → IfOk made (λ found. found ≡ tree_read text)
+told_read (Ok found) made text is json number tree none memory =
+    subst (λ m. IfOk m (λ f. f ≡ tree_read text)) (sym tree) (is_stood found text is)
+told_read (Err fault.Json) made text is json number tree none memory =
+    subst (λ m. IfOk m (λ f. f ≡ tree_read text)) (sym (none (λ e. cc))) (no_json text (json refl))
+told_read (Err fault.Number) made text is json number tree none memory =
+    subst (λ m. IfOk m (λ f. f ≡ tree_read text)) (sym (none (λ e. cc))) (not_whole text (number refl))
+told_read (Err fault.Memory) made text is json number tree none memory =
+    if_none (λ f. f ≡ tree_read text) made (memory refl)
+
+pub all_so : (made : Result (Option Tree) Memory) (text : List ℕ)
+    → IfOk made (λ found. found ≡ tree_read text)
+    → IfOk made (λ found. (tree : Tree) → text ≡ canonical_text tree → IsReadable tree → found ≡ Some tree)
+all_so (Ok found) text read = read_so found text read
+all_so (Err fault) text read = tt
 
 -- ---- scalars
 

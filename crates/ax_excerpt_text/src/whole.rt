@@ -1,5 +1,5 @@
 //! Trees read whole.
-ghost use Rattle.std.specs.Prelude.{◌≡◌, Some, IfOk, IfSome};
+ghost use Rattle.std.specs.Prelude.{◌≡◌, ◌≢◌, None, Some, Ok, IfOk, IfErr, IsErr, IfSome};
 ghost use Rattle.ax_tree.specs.CanonicalText.{canonical_text};
 ghost use Rattle.ax_tree.specs.WellFormed.{IsWellFormed};
 ghost use Rattle.ax_tree.specs.declared.tree.Tree.{Tree as TreeOf};
@@ -62,7 +62,6 @@ fn tree_of(alloc: Global, scalar: &Scalar) -> Result<Option<Tree>, Memory>
 }
 
 /// The tree that the bytes stand for as a JSON text; none of bytes that stand for none.
-#[tactic(auto, using(crate::proofs::WholeLaws::is_stood, crate::proofs::WholeLaws::no_json, crate::proofs::WholeLaws::not_whole, crate::proofs::WholeLaws::read_so, crate::proofs::WholeLaws::no_json_given, crate::proofs::WholeLaws::not_whole_given))]
 fn read_by_reader(
     alloc: Global,
     reader: &mut TreeReader,
@@ -72,7 +71,17 @@ fn read_by_reader(
         → IsReadable tree → found ≡ Some tree) }
     ensures read { IfOk result (λ found. found ≡ tree_read text.now) }
 {
-    match reader.read(alloc, text) {
+    told(reader.read(alloc, text))
+}
+
+/// What the reader's answer tells of bytes: a tree, or none, whatever the cause; out of memory alone stays
+/// an error.
+fn told(read: Result<Tree, TextFault>) -> Result<Option<Tree>, Memory>
+    ensures tree { IfOk read (λ tree. result ≡ Ok (Some tree)) }
+    ensures none { IfErr read (λ fault. fault ≢ TextFault.Memory → result ≡ Ok None) }
+    ensures memory { IfErr read (λ fault. fault ≡ TextFault.Memory → IsErr result) }
+{
+    match read {
         Ok(tree) => Ok(Some(tree)),
         Err(TextFault::Json) => Ok(None),
         Err(TextFault::Number) => Ok(None),

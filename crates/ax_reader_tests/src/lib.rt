@@ -2,8 +2,8 @@
 //! texts by hand. They show what no contract says: that memory suffices, and how a text that is no
 //! canonical one is answered.
 //!
-//! Stands on `ax_excerpt_text` and `ax_excerpt`, and on `ax_tree`, which writes what was read. It has
-//! no contract: it is code of tests alone.
+//! Stands on `ax_excerpt_text` and `ax_excerpt`, on `ax_parse`, which reads a query, and on `ax_tree`,
+//! which writes what was read. It has no contract: it is code of tests alone.
 #![tactic(auto)]
 
 #[cfg(test)]

@@ -1,5 +1,6 @@
 mod excerpts;
 mod large;
+mod named;
 mod random;
 
 use ax_excerpt::{Excerpt, has_plain_names};
@@ -59,6 +60,36 @@ fn members_that_are_named_are_left(rt: HostRuntime) -> Result<(), Fail> {
             continue;
         };
         assert_eq!(rt; left.as_slice(), expected.as_bytes(), "{text}");
+    }
+    Ok(())
+}
+
+/// Whether the members `b` and `d.e` of bytes were found to be none.
+fn are_none(alloc: Global, text: &[u8]) -> Option<bool> {
+    let nested = one(alloc, "e", Excerpt::Whole)?;
+    let excerpt = two(alloc, "b", Excerpt::Whole, "d", nested)?;
+    if !has_plain_names(&excerpt) {
+        return None;
+    }
+    let mut reader = TreeReader::new(alloc);
+    let read = read_excerpt(alloc, &mut reader, &excerpt, text);
+    Some(matches!(read, Ok(None)))
+}
+
+// Bytes that are no JSON, and numbers that are not whole, are told so, and not as out of memory.
+#[test]
+fn bytes_that_stand_for_no_tree_are_told(rt: HostRuntime) -> Result<(), Fail> {
+    for text in [
+        r#"{"b":x}"#,
+        r#"{"b":1.5}"#,
+        r#"{"b":[1e0]}"#,
+        r#"{"d":{"e":-0}}"#,
+        r#"{"d":{"e":"\x"}}"#,
+        "1.5",
+        "[",
+    ] {
+        let told = are_none(rt.alloc(), text.as_bytes());
+        assert_eq!(rt; told, Some(true), "{text}");
     }
     Ok(())
 }
