@@ -13,6 +13,7 @@
 mod counted_files;
 mod file_disk;
 mod file_fault;
+mod file_system;
 mod judging;
 mod opening;
 mod store_file;
