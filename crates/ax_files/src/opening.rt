@@ -77,9 +77,12 @@ fn find_files<F: SystemFile, S: FileSystem<F>>(
 ) -> Result<FoundFiles<F>, FileFault>
     ensures kind { IfErr result (λ fault. IsOfOpening fault) }
     ensures untouched { system.new ≡ system.old }
-    ensures root { IfOk result (λ found. ForSome found.root (λ f. F.is_of f name.now Extent.Root × IsTrue (F.is_locked f))) }
-    ensures a { IfOk result (λ found. ForSome found.a (λ f. F.is_of f name.now Extent.A × IsTrue (F.is_locked f))) }
-    ensures b { IfOk result (λ found. ForSome found.b (λ f. F.is_of f name.now Extent.B × IsTrue (F.is_locked f))) }
+    ensures root { IfOk result (λ found. ForSome found.root
+        (λ f. F.is_of f name.now Extent.Root × IsTrue (F.is_locked f))) }
+    ensures a { IfOk result (λ found. ForSome found.a
+        (λ f. F.is_of f name.now Extent.A × IsTrue (F.is_locked f))) }
+    ensures b { IfOk result (λ found. ForSome found.b
+        (λ f. F.is_of f name.now Extent.B × IsTrue (F.is_locked f))) }
     ensures error { IfErr result (λ fault. HasOpenError (λ extent. S.fails_to_open name.now extent) fault) }
 {
     let root = find_file(system, name, Extent::Root)?;
