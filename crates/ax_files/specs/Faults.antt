@@ -1,6 +1,8 @@
 -- What a fault of a store's files says.
 use Rattle.std.specs.Prelude.{◌≡◌, ◌⊎◌, IsTrue}
+use Rattle.std.specs.IoError.{error_kind}
 use Rattle.std.specs.declared.io.Error.{Error}
+use Rattle.std.specs.declared.io.ErrorKind.TheVariants.{NotFound}
 use Rattle.ax_disk.specs.declared.extent.Extent.{Extent}
 use Rattle.ax_files.specs.Marks.{Marks, is_marked}
 use Rattle.ax_files.specs.SystemCalls.{SystemCall}
@@ -112,3 +114,31 @@ HasItsError fails_with (Arealess area) = Unit {0}
 HasItsError fails_with (Bound extent) = Unit {0}
 HasItsError fails_with Detached = Unit {0}
 HasItsError fails_with Stopped = Unit {0}
+
+-- with such an error a file fails to open, where that is the call
+abbrev pub IsOpenErrorOf : (Error → Type 0) → FileCall → Error → Type 0
+IsOpenErrorOf fails_to_open Open error = fails_to_open error
+IsOpenErrorOf fails_to_open Lock error = Unit {0}
+IsOpenErrorOf fails_to_open Length error = Unit {0}
+IsOpenErrorOf fails_to_open Read error = Unit {0}
+IsOpenErrorOf fails_to_open Write error = Unit {0}
+IsOpenErrorOf fails_to_open Cut error = Unit {0}
+IsOpenErrorOf fails_to_open Sync error = Unit {0}
+
+-- where a fault says that a file did not open, its error is one with which that file fails to open
+abbrev pub HasOpenError : (Extent → Error → Type 0) → FileFault → Type 0
+HasOpenError fails_to_open (Call extent call error) = IsOpenErrorOf (fails_to_open extent) call error
+HasOpenError fails_to_open (Folder error) = Unit {0}
+HasOpenError fails_to_open (Locked extent) = Unit {0}
+HasOpenError fails_to_open (Rootless root area) = Unit {0}
+HasOpenError fails_to_open Foreign = Unit {0}
+HasOpenError fails_to_open (Arealess area) = Unit {0}
+HasOpenError fails_to_open (Bound extent) = Unit {0}
+HasOpenError fails_to_open Detached = Unit {0}
+HasOpenError fails_to_open Stopped = Unit {0}
+
+-- a file fails to open since there is none
+pub record IsAbsent (fails_to_open : Error → Type 0) : Type 0 where
+  pub error : Error
+  pub is_of_it : fails_to_open error
+  pub says_so : error_kind error ≡ NotFound

@@ -1,20 +1,24 @@
-//! The files of a store in use: each call that fails is counted, and why the first one did is kept. After
-//! a write, a cut or a sync that failed every later call fails.
-ghost use Rattle.std.specs.Prelude.{◌≡◌, ◌≢◌, ◌≤◌, ◌^◌, ◌+◌, ◌<◌, ◌↔◌, ◌⊎◌, length, take, IsTrue, IfOk, OnOk, OnErr, IfErr, IsOk, IsErr, IsOkAnd, IsSome, MatchResult};
+//! The disk over files: each call that fails is counted, and why the first one did is kept. After a write, a
+//! cut or a sync that failed every later call fails.
+ghost use Rattle.std.specs.Prelude.{◌≡◌, ◌≢◌, ◌≤◌, ◌^◌, ◌+◌, ◌<◌, ◌↔◌, ◌⊎◌, false, [], Some, length, take, IsTrue, IfOk, OnOk, OnErr, IfErr, IsOk, IsErr, IsOkAnd, IsSome, MatchResult};
+ghost use Rattle.std.proofs.lemmas.Bool.{false≢true};
 ghost use Rattle.ax_disk.specs.model.Calls.{overwritten, bytes_from};
 ghost use Rattle.ax_faults.specs.Faults.{HasCause, CountsOnce, raised};
-ghost use Rattle.ax_files.specs.Faults.{IsOfCall, IsOfCallOnAny, IsOfMarked, HasItsError};
+ghost use Rattle.ax_files.specs.Faults.{IsOfCall, IsOfCallOnAny, IsOfMarked, IsOfOpening, HasItsError, HasOpenError};
+ghost use Rattle.ax_files.specs.Judging.{IsSound};
 ghost use Rattle.ax_files.specs.Marks.{marks, none_marked, all_marked, marked};
 
 use crate::file_fault::{FileCall, FileFault};
+use crate::file_system::FileSystem;
+use crate::opening::open_files;
 use crate::store_files::StoreFiles;
 use crate::system_file::SystemFile;
-use ax_disk::{DiskFailed, Extent};
+use ax_disk::{Disk, DiskFailed, Extent};
 use ax_faults::FaultCount;
 
 /// What calls act on.
 #[derive(Drop)]
-pub(crate) enum State<F: SystemFile> {
+pub enum State<F: SystemFile> {
     /// No store is attached.
     Detached,
     /// The files of the store attached.
@@ -23,23 +27,27 @@ pub(crate) enum State<F: SystemFile> {
     Stopped,
 }
 
-/// The files of a store, once one is attached, how many calls on them have failed, and why the first did.
+/// The files of a store, once one is attached, how many calls have failed, and why the first did. It tells
+/// nothing of what a crash leaves, so to the layers above it is not honest; what each call does is told
+/// where its files tell.
 #[derive(Drop)]
-pub(crate) struct CountedFiles<F: SystemFile> {
+pub struct CountedFiles<F: SystemFile, S> {
+    system: S,
     state: State<F>,
     faults: FaultCount,
     first_fault: Option<FileFault>,
 }
 
-impl<F: SystemFile> CountedFiles<F> {
-    ghost use Rattle.ax_files.specs.CountedFiles.{HasFiles, HasFilesThat, IfFiles, FilesBecome, IsAnswered, IsAnsweredBy, IsOfAttach, Keeps, file_at, first_of, state_marks};
+impl<F: SystemFile, S: FileSystem<F>> CountedFiles<F, S> {
+    ghost use Rattle.ax_files.specs.CountedFiles.{HasFiles, IsOfAttach, Keeps, first_of, state_marks};
 
-    /// With no files attached: until they are, each other call fails.
-    pub fn new() -> CountedFiles<F>
+    /// With no store attached: until one is, each other call fails.
+    pub fn over(system: S) -> CountedFiles<F, S>
         ensures detached { result.state ≡ State.Detached }
         ensures no_fault { (result.faults ≡ 0) × (result.first_fault ≡ None) }
     {
         CountedFiles {
+            system,
             state: State::Detached,
             faults: FaultCount::new(),
             first_fault: None,
@@ -60,6 +68,7 @@ impl<F: SystemFile> CountedFiles<F> {
         ensures first { self.new.first_fault ≡ first_of self.old.first_fault fault }
         ensures explained { IsSome self.new.first_fault }
         ensures state { self.new.state ≡ self.old.state }
+        ensures system { self.new.system ≡ self.old.system }
     {
         self.faults.raise();
         if self.first_fault.is_none() {
@@ -77,6 +86,7 @@ impl<F: SystemFile> CountedFiles<F> {
             (λ fault. self.new.first_fault ≡ first_of self.old.first_fault fault) }
         ensures explained { IsErr result → IsSome self.new.first_fault }
         ensures state { self.new.state ≡ self.old.state }
+        ensures system { self.new.system ≡ self.old.system }
     {
         match outcome {
             Ok(value) => Ok(value),
@@ -111,13 +121,14 @@ impl<F: SystemFile> CountedFiles<F> {
 
     /// Lets go of the files attached, before others are opened. After a write, a cut or a sync that
     /// failed it fails.
-    pub fn leave(&mut self) -> Result<(), DiskFailed>
+    fn leave(&mut self) -> Result<(), DiskFailed>
         ensures cause { HasCause result self.old.faults self.new.faults }
         ensures counts { CountsOnce result self.old.faults self.new.faults }
         ensures explained { IsErr result → IsSome self.new.first_fault }
         ensures kept { MatchResult result (λ _. self.new.first_fault ≡ self.old.first_fault)
             (λ _. Keeps (λ fault. fault ≡ FileFault.Stopped) self.old.first_fault self.new.first_fault) }
         ensures stopped { IsErr result ↔ (self.old.state ≡ State.Stopped) }
+        ensures system { self.new.system ≡ self.old.system }
         ensures detached { MatchResult result (λ _. self.new.state ≡ State.Detached)
             (λ _. self.new.state ≡ State.Stopped) }
     {
@@ -130,7 +141,10 @@ impl<F: SystemFile> CountedFiles<F> {
 
     /// Attaches files that were opened, or counts that they were not. After a write, a cut or a sync that
     /// failed it fails.
-    pub fn attach(&mut self, opened: Result<StoreFiles<F>, FileFault>) -> Result<(), DiskFailed>
+    pub(crate) fn keep(
+        &mut self,
+        opened: Result<StoreFiles<F>, FileFault>,
+    ) -> Result<(), DiskFailed>
         ensures cause { HasCause result self.old.faults self.new.faults }
         ensures counts { CountsOnce result self.old.faults self.new.faults }
         ensures explained { IsErr result → IsSome self.new.first_fault }
@@ -141,15 +155,66 @@ impl<F: SystemFile> CountedFiles<F> {
         ensures stays { (self.old.state ≡ State.Stopped) ↔ (self.new.state ≡ State.Stopped) }
         ensures attached { OnOk result (IsOkAnd opened (λ files. self.new.state ≡ State.Attached files)) }
         ensures works { IsErr result → (self.old.state ≡ State.Stopped) ⊎ IsErr opened }
+        ensures system { self.new.system ≡ self.old.system }
         ensures without { OnErr result ((HasFiles self.new.state → ⊥) × (state_marks self.new.state ≡ all_marked)) }
     {
         self.leave()?;
         self.state = State::Attached(self.counted(opened)?);
         Ok(())
     }
+}
+
+impl<F: SystemFile, S: FileSystem<F>> Disk for CountedFiles<F, S> {
+    ghost use Rattle.ax_disk.specs.DeadDisk.{nothing_told};
+    ghost use Rattle.ax_files.specs.CountedFiles.{HasFiles, HasFilesThat, IfFiles, FilesBecome, IsAnswered, IsAnsweredBy, IsOfAttach, Keeps, file_at, state_marks};
+
+    ghost faults = { λ disk. disk.faults };
+
+    ghost is_honest = { λ _. false };
+
+    ghost store_named = { λ _. [] };
+
+    ghost attached = { λ _. [] };
+
+    ghost history = { λ _ _. nothing_told };
+
+    ghost reads_may_stay = { λ _ _ honest. absurd (false≢true honest) };
+
+    ghost is_current = { λ _ _ honest. absurd (false≢true honest) };
+
+    /// Opens the files of a store and locks them. After a write, a cut or a sync that failed it fails.
+    fn attach(&mut self, name: &str) -> Result<(), DiskFailed>
+        ensures cause { HasCause result self.old.faults self.new.faults }
+        ensures counts { CountsOnce result self.old.faults self.new.faults }
+        ensures explained { IsErr result → IsSome self.new.first_fault }
+        ensures stopped { self.old.state ≡ State.Stopped → IsErr result }
+        ensures stays { (self.old.state ≡ State.Stopped) ↔ (self.new.state ≡ State.Stopped) }
+        ensures attached { IsOk result ↔ HasFiles self.new.state }
+        ensures unsynced { state_marks self.new.state ≡ all_marked }
+        ensures kept { MatchResult result (λ _. self.new.first_fault ≡ self.old.first_fault)
+            (λ _. Keeps (IsOfAttach (λ fault. IsOfOpening fault) self.old.state)
+            self.old.first_fault self.new.first_fault) }
+        ensures untouched { self.old.state ≡ State.Stopped → self.new.system ≡ self.old.system }
+        ensures of { OnOk result (HasFilesThat (λ files. F.is_of files.root.file name.now Extent.Root
+            × F.is_of files.a.file name.now Extent.A × F.is_of files.b.file name.now Extent.B) self.new.state) }
+        ensures locked { OnOk result (HasFilesThat (λ files. IsTrue (F.is_locked files.root.file)
+            × IsTrue (F.is_locked files.a.file) × IsTrue (F.is_locked files.b.file)) self.new.state) }
+        ensures sound { OnOk result (HasFilesThat (λ files. IsTrue (F.is_honest files.root.file)
+            → length (F.content files.root.file) < 2 ^ 63 → IsTrue (F.is_honest files.a.file)
+            → IsTrue (F.is_honest files.b.file) → IsSound (Some (F.content files.root.file))
+            (Some (F.content files.a.file)) (Some (F.content files.b.file))) self.new.state) }
+        ensures folder { OnOk result (IsTrue (S.keeps_files self.new.system name.now)) }
+        ensures error { OnErr result (Keeps (HasOpenError (λ extent. S.fails_to_open name.now extent))
+            self.old.first_fault self.new.first_fault) }
+    {
+        // Their locks are given up before they are taken anew.
+        self.leave()?;
+        let opened = open_files(&mut self.system, name);
+        self.keep(opened)
+    }
 
     /// The length of a file. One of more than 2^62 bytes is a failure.
-    pub fn len(&mut self, ext: Extent) -> Result<u64, DiskFailed>
+    fn len(&mut self, ext: Extent) -> Result<u64, DiskFailed>
         ensures limit { IfOk result (λ n. n ≤ 2 ^ 62) }
         ensures cause { HasCause result self.old.faults self.new.faults }
         ensures counts { CountsOnce result self.old.faults self.new.faults }
@@ -183,7 +248,7 @@ impl<F: SystemFile> CountedFiles<F> {
     }
 
     /// Fills `buf` with the bytes at `at`, and with 0 past the end of the file.
-    pub fn read(&mut self, ext: Extent, at: u64, buf: &mut [u8]) -> Result<(), DiskFailed>
+    fn read(&mut self, ext: Extent, at: u64, buf: &mut [u8]) -> Result<(), DiskFailed>
         ensures cause { HasCause result self.old.faults self.new.faults }
         ensures counts { CountsOnce result self.old.faults self.new.faults }
         ensures explained { IsErr result → IsSome self.new.first_fault }
@@ -209,7 +274,7 @@ impl<F: SystemFile> CountedFiles<F> {
     }
 
     /// Writes all the bytes at `at`. An end above 2^62 is a failure.
-    pub fn write(&mut self, ext: Extent, at: u64, bytes: &[u8]) -> Result<(), DiskFailed>
+    fn write_at(&mut self, ext: Extent, at: u64, bytes: &[u8]) -> Result<(), DiskFailed>
         ensures limit { 2 ^ 62 < at + length bytes.now → IsErr result }
         ensures cause { HasCause result self.old.faults self.new.faults }
         ensures counts { CountsOnce result self.old.faults self.new.faults }
@@ -252,7 +317,7 @@ impl<F: SystemFile> CountedFiles<F> {
     }
 
     /// Shortens a file to `len` bytes, where it is longer.
-    pub fn cut(&mut self, ext: Extent, len: u64) -> Result<(), DiskFailed>
+    fn cut(&mut self, ext: Extent, len: u64) -> Result<(), DiskFailed>
         ensures cause { HasCause result self.old.faults self.new.faults }
         ensures counts { CountsOnce result self.old.faults self.new.faults }
         ensures explained { IsErr result → IsSome self.new.first_fault }
@@ -289,7 +354,7 @@ impl<F: SystemFile> CountedFiles<F> {
     }
 
     /// Syncs the files that count as unsynced. A failure is of one of them.
-    pub fn sync(&mut self) -> Result<(), DiskFailed>
+    fn sync(&mut self) -> Result<(), DiskFailed>
         ensures cause { HasCause result self.old.faults self.new.faults }
         ensures counts { CountsOnce result self.old.faults self.new.faults }
         ensures explained { IsErr result → IsSome self.new.first_fault }

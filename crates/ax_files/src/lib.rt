@@ -1,18 +1,19 @@
-//! The three files of a store on the file system, and the disk over them.
+//! The three files of a store on a file system, and the disk over them.
 //!
-//! It stands on `ax_disk`, whose trait `FileDisk` has, on `ax_frame` for root slots, and on
-//! `ax_faults`. What the system does with a file is trusted. What is proved here is what the program
-//! makes of its answers, over any files that tell what they hold and how their calls fail: that a call
-//! is Ok only where the same call on its file gave or left what it says, that each failure is counted
-//! once and why the first one came is kept as it was, that a file counts as unsynced from a write or a
-//! cut on, whatever came of it, until a sync of it has succeeded, and that after a write, a cut or a
-//! sync that failed every later call fails. `FileDisk` hands each call on to that over the system's
-//! files, which tell nothing: of it only the counts, the faults and the marks are proved.
+//! It stands on `ax_disk`, whose trait the disk has, on `ax_frame` for root slots, and on `ax_faults`.
+//! What the system does with a file is trusted. What is proved here is what the program makes of its
+//! answers, over any files that tell what they hold and how their calls fail, and any file system that
+//! opens them: that opening gives the files of the store named, locked and not lost, that a call is Ok
+//! only where the same call on its file gave or left what it says, that each failure is counted once
+//! and why the first one came is kept, that a file counts as unsynced from a write or a cut on until a
+//! sync of it has succeeded, and that after a write, a cut or a sync that failed every later call
+//! fails. `FileDisk` is that disk over the files of the host, which tell nothing.
 #![tactic(auto)]
 
 mod counted_files;
 mod file_disk;
 mod file_fault;
+mod file_system;
 mod judging;
 mod opening;
 mod store_file;

@@ -1,24 +1,25 @@
 //! Opening the files of a store: each is locked, a store of which files have been lost is refused, and
 //! only then are absent files made.
 
-ghost use Rattle.std.specs.Prelude.{◌≡◌, ◌^◌, ◌<◌, ◌≤◌, ◌+◌, ◌⊎◌, length, take, drop, IsTrue, IsOk, IfOk, IfErr, OnOk, IsSomeAnd, option_map};
+ghost use Rattle.std.specs.Prelude.{◌≡◌, ◌^◌, ◌<◌, ◌≤◌, ◌+◌, ◌⊎◌, ℕ, List, length, take, drop, IsTrue, IsOk, IfOk, IfErr, OnOk, IsSomeAnd, option_map};
 ghost use Rattle.std.specs.Option.{ForSome};
+ghost use Rattle.ax_disk.specs.declared.extent.Extent.{Extent};
 ghost use Rattle.ax_files.specs.Content.{at_extent};
-ghost use Rattle.ax_files.specs.Faults.{IsOfSomeCall, IsOfOpening, HasItsError};
+ghost use Rattle.ax_files.specs.Faults.{IsOfCall, IsOfSomeCall, IsOfOpening, IsAbsent, HasItsError, HasOpenError};
 ghost use Rattle.ax_files.specs.Judging.{IsAtRoot, IsRootFile, IsSound, IsUnsound};
 ghost use Rattle.ax_files.specs.Marks.{marks, all_marked};
 ghost use Rattle.ax_frame.specs.RootSlot.{IsSlot};
 
-use crate::file_fault::{FileCall, FileFault, RootState, ending};
+use crate::file_fault::{FileCall, FileFault, RootState};
+use crate::file_system::FileSystem;
 use crate::judging::{judge, state_of};
 use crate::store_file::fill_from;
 use crate::store_files::{StoreFiles, named};
 use crate::system_file::SystemFile;
 use ax_disk::Extent;
 use ax_frame::{RootSlot, read_slot};
-use std::fs::{File, OpenOptions, TryLockError};
-use std::io::{self, ErrorKind};
-use std::path::Path;
+use std::fs::TryLockError;
+use std::io::ErrorKind;
 
 /// A root of fewer bytes is not whole.
 const WHOLE_ROOT: u64 = 33;
@@ -26,78 +27,121 @@ const WHOLE_ROOT: u64 = 33;
 /// Opens the files of the store of that name and locks each, so that no other program opens them while
 /// they are open; makes those that are absent, and syncs their folder, so that a crash keeps them. A
 /// store of which files have been lost is refused before anything is made. No byte of a file is changed.
-pub(crate) fn open_files(rt: &HostRuntime, name: &str) -> Result<StoreFiles<File>, FileFault>
+pub(crate) fn open_files<F: SystemFile, S: FileSystem<F>>(
+    system: &mut S,
+    name: &str,
+) -> Result<StoreFiles<F>, FileFault>
     ensures unsynced { IfOk result (λ files. marks files.root.is_unsynced files.a.is_unsynced files.b.is_unsynced
         ≡ all_marked) }
     ensures fault { IfErr result (λ fault. IsOfOpening fault) }
+    ensures of { IfOk result (λ files. F.is_of files.root.file name.now Extent.Root
+        × F.is_of files.a.file name.now Extent.A × F.is_of files.b.file name.now Extent.B) }
+    ensures locked { IfOk result (λ files. IsTrue (F.is_locked files.root.file)
+        × IsTrue (F.is_locked files.a.file) × IsTrue (F.is_locked files.b.file)) }
+    ensures sound { IfOk result (λ files. IsTrue (F.is_honest files.root.file)
+        → length (F.content files.root.file) < 2 ^ 63 → IsTrue (F.is_honest files.a.file)
+        → IsTrue (F.is_honest files.b.file) → IsSound (Some (F.content files.root.file))
+        (Some (F.content files.a.file)) (Some (F.content files.b.file))) }
+    ensures kept { OnOk result (IsTrue (S.keeps_files system.new name.now)) }
+    ensures error { IfErr result (λ fault. HasOpenError (λ extent. S.fails_to_open name.now extent) fault) }
 {
-    let root = find_file(rt, name, Extent::Root)?;
-    let a = find_file(rt, name, Extent::A)?;
-    let b = find_file(rt, name, Extent::B)?;
-    refuse_lost(root.as_ref(), a.as_ref(), b.as_ref())?;
-    let root = found_or_made(rt, name, Extent::Root, root)?;
-    let a = found_or_made(rt, name, Extent::A, a)?;
-    let b = found_or_made(rt, name, Extent::B, b)?;
+    let FoundFiles { root, a, b } = find_files(system, name)?;
+    let root = found_or_made(system, name, Extent::Root, root)?;
+    let a = found_or_made(system, name, Extent::A, a)?;
+    let b = found_or_made(system, name, Extent::B, b)?;
     // Another program may have made and filled files while none was locked here.
     refuse_lost(Some(&root), Some(&a), Some(&b))?;
-    if let Err(error) = sync_folder(rt, name) {
+    if let Err(error) = system.sync_folder(name) {
         return Err(FileFault::Folder { error });
     }
     Ok(StoreFiles::new(root, a, b))
 }
 
-/// The file where there is one, locked.
-fn find_file(rt: &HostRuntime, name: &str, extent: Extent) -> Result<Option<File>, FileFault>
-    ensures { IfErr result (λ fault. IsOfOpening fault) }
+/// Files of a store that are there, of which nothing has been lost.
+#[derive(Drop)]
+struct FoundFiles<F: SystemFile> {
+    root: Option<F>,
+    a: Option<F>,
+    b: Option<F>,
+    ghost sound: { ForSome root (λ f. IsTrue (F.is_honest f) × (length (F.content f) < 2 ^ 63))
+        → ForSome a (λ f. IsTrue (F.is_honest f)) → ForSome b (λ f. IsTrue (F.is_honest f))
+        → ∥ IsSound (option_map (λ f. F.content f) root) (option_map (λ f. F.content f) a)
+        (option_map (λ f. F.content f) b) ∥₁ },
+}
+
+/// Opens and locks the files that are there. A store of which files have been lost is refused. Nothing is
+/// made.
+fn find_files<F: SystemFile, S: FileSystem<F>>(
+    system: &mut S,
+    name: &str,
+) -> Result<FoundFiles<F>, FileFault>
+    ensures kind { IfErr result (λ fault. IsOfOpening fault) }
+    ensures untouched { system.new ≡ system.old }
+    ensures root { IfOk result (λ found. ForSome found.root
+        (λ f. F.is_of f name.now Extent.Root × IsTrue (F.is_locked f))) }
+    ensures a { IfOk result (λ found. ForSome found.a
+        (λ f. F.is_of f name.now Extent.A × IsTrue (F.is_locked f))) }
+    ensures b { IfOk result (λ found. ForSome found.b
+        (λ f. F.is_of f name.now Extent.B × IsTrue (F.is_locked f))) }
+    ensures error { IfErr result (λ fault. HasOpenError (λ extent. S.fails_to_open name.now extent) fault) }
 {
-    match open_file(rt, name, extent, false) {
+    let root = find_file(system, name, Extent::Root)?;
+    let a = find_file(system, name, Extent::A)?;
+    let b = find_file(system, name, Extent::B)?;
+    refuse_lost(root.as_ref(), a.as_ref(), b.as_ref())?;
+    Ok(FoundFiles { root, a, b })
+}
+
+/// The file where there is one, locked.
+fn find_file<F: SystemFile, S: FileSystem<F>>(
+    system: &mut S,
+    name: &str,
+    extent: Extent,
+) -> Result<Option<F>, FileFault>
+    ensures kind { IfErr result (λ fault. IsOfOpening fault) }
+    ensures untouched { system.new ≡ system.old }
+    ensures of { IfOk result (λ found. ForSome found (λ f. F.is_of f name.now extent)) }
+    ensures locked { IfOk result (λ found. ForSome found (λ f. IsTrue (F.is_locked f))) }
+    ensures error { IfErr result (λ fault. HasOpenError (λ extent. S.fails_to_open name.now extent) fault) }
+    ensures absent { result ≡ Ok None → IsAbsent (S.fails_to_open name.now extent) }
+{
+    match system.open(name, extent, false) {
         Err(error) if error.kind() == ErrorKind::NotFound => Ok(None),
         outcome => {
             let file = named(extent, FileCall::Open, outcome)?;
-            lock(&file, extent)?;
-            Ok(Some(file))
+            Ok(Some(locked(file, extent)?))
         }
     }
 }
 
 /// The file that was found, or one that is made, locked.
-fn found_or_made(
-    rt: &HostRuntime,
+fn found_or_made<F: SystemFile, S: FileSystem<F>>(
+    system: &mut S,
     name: &str,
     extent: Extent,
-    found: Option<File>,
-) -> Result<File, FileFault>
-    ensures { IfErr result (λ fault. IsOfOpening fault) }
+    found: Option<F>,
+) -> Result<F, FileFault>
+    ensures kind { IfErr result (λ fault. IsOfOpening fault) }
+    ensures of { ForSome found (λ f. F.is_of f name.now extent) → IfOk result (λ f. F.is_of f name.now extent) }
+    ensures locked { ForSome found (λ f. IsTrue (F.is_locked f)) → IfOk result (λ f. IsTrue (F.is_locked f)) }
+    ensures error { IfErr result (λ fault. HasOpenError (λ extent. S.fails_to_open name.now extent) fault) }
 {
     if let Some(file) = found {
         return Ok(file);
     }
-    let file = named(extent, FileCall::Open, open_file(rt, name, extent, true))?;
-    lock(&file, extent)?;
-    Ok(file)
+    let file = named(extent, FileCall::Open, system.open(name, extent, true))?;
+    locked(file, extent)
 }
 
-/// Opens a file of a store to read and write it; where there is none it is made, or the call fails.
-fn open_file(rt: &HostRuntime, name: &str, extent: Extent, makes: bool) -> io::Result<File> {
-    let path = file_path(rt, name, extent)?;
-    OpenOptions::new()
-        .read(true)
-        .write(true)
-        .create(makes)
-        .open(rt, path.as_str())
-}
-
-fn file_path(rt: &HostRuntime, name: &str, extent: Extent) -> io::Result<String> {
-    let ending = ending(extent);
-    Ok(format!(in rt.alloc(); "{name}.{ending}")?)
-}
-
-/// Locks a file for this program alone, without waiting.
-fn lock(file: &File, extent: Extent) -> Result<(), FileFault>
-    ensures { IfErr result (λ fault. IsOfOpening fault) }
+/// The file, locked for this program alone, without waiting.
+fn locked<F: SystemFile>(mut file: F, extent: Extent) -> Result<F, FileFault>
+    ensures of { (name : List ℕ) → (extent : Extent) → F.is_of file name extent
+        → IfOk result (λ now. F.is_of now name extent) }
+    ensures locked { IfOk result (λ now. IsTrue (F.is_locked now)) }
+    ensures told { IfErr result (λ fault. IsOfCall extent FileCall.Lock fault ⊎ (fault ≡ FileFault.Locked extent)) }
 {
-    match file.try_lock() {
-        Ok(()) => Ok(()),
+    match file.lock() {
+        Ok(()) => Ok(file),
         Err(TryLockError::WouldBlock) => Err(FileFault::Locked { extent }),
         Err(TryLockError::Error(error)) => Err(FileFault::Call {
             extent,
@@ -105,16 +149,6 @@ fn lock(file: &File, extent: Extent) -> Result<(), FileFault>
             error,
         }),
     }
-}
-
-/// Syncs the folder of the files, which is that of the root.
-fn sync_folder(rt: &HostRuntime, name: &str) -> io::Result<()> {
-    let root = file_path(rt, name, Extent::Root)?;
-    let folder = match Path::new(root.as_str()).parent() {
-        Some(folder) if !folder.as_str().is_empty() => folder,
-        _ => Path::new("."),
-    };
-    File::open(rt, folder)?.sync_all()
 }
 
 /// Refuses a store of which files have been lost.

@@ -1,5 +1,7 @@
 //! One file of a store, and whether it has to be synced.
 ghost use Rattle.std.specs.Prelude.{◌≡◌, ◌≤◌, ◌<◌, ◌+◌, ◌^◌, ◌↔◌, true, false, length, take, drop, IsTrue, IsOk, IsErr, OnOk, IfOk, IfErr, ◌⊎◌};
+ghost use Rattle.std.specs.IoError.{error_kind};
+ghost use Rattle.std.specs.Result.{IsErrAnd};
 ghost use Rattle.ax_disk.specs.model.Calls.{overwritten, bytes_from};
 ghost use Rattle.ax_files.specs.SystemCalls.{SystemCall};
 
@@ -61,7 +63,7 @@ impl<F: SystemFile> StoreFile<F> {
         ensures error { IfErr result (λ error. F.fails_with self.old.file SystemCall.WriteWhole error) }
         ensures works { IsTrue (F.is_working self.old.file) → IsOk result }
         ensures working { F.is_working self.new.file ≡ F.is_working self.old.file }
-        ensures honest { F.is_honest self.new.file ≡ F.is_honest self.old.file }
+        ensures honest { OnOk result (F.is_honest self.new.file ≡ F.is_honest self.old.file) }
     {
         self.is_unsynced = true;
         self.file.write_whole(bytes, at)
@@ -77,7 +79,7 @@ impl<F: SystemFile> StoreFile<F> {
             ⊎ F.fails_with self.old.file SystemCall.Shorten error) }
         ensures works { IsTrue (F.is_working self.old.file) → IsOk result }
         ensures working { F.is_working self.new.file ≡ F.is_working self.old.file }
-        ensures honest { F.is_honest self.new.file ≡ F.is_honest self.old.file }
+        ensures honest { OnOk result (F.is_honest self.new.file ≡ F.is_honest self.old.file) }
     {
         self.is_unsynced = true;
         if self.file.size()? <= len {
@@ -97,7 +99,7 @@ impl<F: SystemFile> StoreFile<F> {
         ensures error { IfErr result (λ error. F.fails_with self.old.file SystemCall.Sync error) }
         ensures works { IsTrue (F.is_working self.old.file) → IsOk result }
         ensures working { F.is_working self.new.file ≡ F.is_working self.old.file }
-        ensures honest { F.is_honest self.new.file ≡ F.is_honest self.old.file }
+        ensures honest { OnOk result (F.is_honest self.new.file ≡ F.is_honest self.old.file) }
     {
         if !self.is_unsynced {
             return Ok(());
@@ -164,7 +166,9 @@ fn read_uninterrupted<F: SystemFile>(file: &F, at: u64, buf: &mut [u8]) -> io::R
 }
 
 /// Whether the system interrupted the call.
-fn is_interrupted(outcome: &io::Result<usize>) -> bool {
+fn is_interrupted(outcome: &io::Result<usize>) -> bool
+    ensures { IsTrue result ↔ IsErrAnd outcome.now (λ error. error_kind error ≡ ErrorKind.Interrupted) }
+{
     match outcome {
         Ok(_) => false,
         Err(error) => error.kind() == ErrorKind::Interrupted,

@@ -97,8 +97,8 @@ impl<F: SystemFile> StoreFiles<F> {
         ensures fault { IfErr result (λ fault. IsOfCall extent FileCall.Write fault ⊎ (fault ≡ FileFault.Bound extent)) }
         ensures error { IfErr result (λ fault. HasItsError
             (λ extent. F.fails_with (at_extent extent self.old.root.file self.old.a.file self.old.b.file)) fault) }
-        ensures honest { F.is_honest (at_extent extent self.new.root.file self.new.a.file self.new.b.file)
-            ≡ F.is_honest (at_extent extent self.old.root.file self.old.a.file self.old.b.file) }
+        ensures honest { OnOk result (F.is_honest (at_extent extent self.new.root.file self.new.a.file self.new.b.file)
+            ≡ F.is_honest (at_extent extent self.old.root.file self.old.a.file self.old.b.file)) }
         ensures working { F.is_working (at_extent extent self.new.root.file self.new.a.file self.new.b.file)
             ≡ F.is_working (at_extent extent self.old.root.file self.old.a.file self.old.b.file) }
     {
@@ -129,8 +129,8 @@ impl<F: SystemFile> StoreFiles<F> {
             (λ extent. F.fails_with (at_extent extent self.old.root.file self.old.a.file self.old.b.file)) fault) }
         ensures works { IsTrue (F.is_working (at_extent extent self.old.root.file self.old.a.file self.old.b.file))
             → IsOk result }
-        ensures honest { F.is_honest (at_extent extent self.new.root.file self.new.a.file self.new.b.file)
-            ≡ F.is_honest (at_extent extent self.old.root.file self.old.a.file self.old.b.file) }
+        ensures honest { OnOk result (F.is_honest (at_extent extent self.new.root.file self.new.a.file self.new.b.file)
+            ≡ F.is_honest (at_extent extent self.old.root.file self.old.a.file self.old.b.file)) }
         ensures working { F.is_working (at_extent extent self.new.root.file self.new.a.file self.new.b.file)
             ≡ F.is_working (at_extent extent self.old.root.file self.old.a.file self.old.b.file) }
     {
@@ -166,9 +166,9 @@ impl<F: SystemFile> StoreFiles<F> {
         ensures root_settled { IsTrue (F.is_honest self.old.root.file) → OnOk result (IsTrue (F.is_settled self.new.root.file)) }
         ensures a_settled { IsTrue (F.is_honest self.old.a.file) → OnOk result (IsTrue (F.is_settled self.new.a.file)) }
         ensures b_settled { IsTrue (F.is_honest self.old.b.file) → OnOk result (IsTrue (F.is_settled self.new.b.file)) }
-        ensures honest { (F.is_honest self.new.root.file ≡ F.is_honest self.old.root.file)
+        ensures honest { OnOk result ((F.is_honest self.new.root.file ≡ F.is_honest self.old.root.file)
             × (F.is_honest self.new.a.file ≡ F.is_honest self.old.a.file)
-            × (F.is_honest self.new.b.file ≡ F.is_honest self.old.b.file) }
+            × (F.is_honest self.new.b.file ≡ F.is_honest self.old.b.file)) }
         ensures working { (F.is_working self.new.root.file ≡ F.is_working self.old.root.file)
             × (F.is_working self.new.a.file ≡ F.is_working self.old.a.file)
             × (F.is_working self.new.b.file ≡ F.is_working self.old.b.file) }

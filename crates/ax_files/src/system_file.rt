@@ -1,17 +1,18 @@
 //! A file as the system gives it.
-ghost use Rattle.std.specs.Prelude.{◌≡◌, ◌≤◌, ◌<◌, ℕ, Bool, false, List, [], length, take, drop, IsOk, OnOk, IfOk, IfErr, IsTrue, ⊤};
+ghost use Rattle.std.specs.Prelude.{◌≡◌, ◌≤◌, ◌<◌, ℕ, Bool, true, false, List, [], length, take, drop, IsOk, OnOk, IfOk, IfErr, IsTrue, ⊤};
 ghost use Rattle.std.specs.Io.{ReadsAtMost};
 ghost use Rattle.std.specs.declared.io.Error.{Error};
+ghost use Rattle.ax_disk.specs.declared.extent.Extent.{Extent};
 ghost use Rattle.ax_disk.specs.model.Calls.{overwritten};
 ghost use Rattle.ax_files.specs.SystemCalls.{SystemCall};
 
-use std::fs::File;
+use std::fs::{File, TryLockError};
 use std::io;
 use std::os::unix::fs::FileExt;
 
 /// An open file. What it tells of its state and of what it holds it tells only where it is honest: a
 /// file of the system is not, since nothing is known of what is below it.
-pub(crate) trait SystemFile: Drop {
+pub trait SystemFile: Drop {
     /// Whether it tells of its state.
     ghost is_honest: { Self → Bool };
 
@@ -26,6 +27,18 @@ pub(crate) trait SystemFile: Drop {
 
     /// With which errors such a call on it, as it is, may fail. A file of the system leaves that open.
     ghost fails_with: { Self → SystemCall → Error → Type 0 };
+
+    /// Whether it is the file of that extent of the store of that name.
+    ghost is_of: { Self → List ℕ → Extent → Type 0 };
+
+    /// Whether it is locked: then no other program of this kind opens it.
+    ghost is_locked: { Self → Bool };
+
+    /// Locks the file for this program alone, without waiting. Until it has, another program may change
+    /// what the file holds.
+    fn lock(&mut self) -> Result<(), TryLockError>
+        ensures locked { OnOk result (IsTrue (is_locked self.new)) }
+        ensures of { (name : List ℕ) → (extent : Extent) → is_of self.old name extent → is_of self.new name extent };
 
     /// The length in bytes.
     fn size(&self) -> io::Result<u64>
@@ -51,7 +64,7 @@ pub(crate) trait SystemFile: Drop {
         ensures error { IfErr result (λ error. fails_with self.old SystemCall.WriteWhole error) }
         ensures works { IsTrue (is_working self.old) → IsOk result }
         ensures working { is_working self.new ≡ is_working self.old }
-        ensures honest { is_honest self.new ≡ is_honest self.old };
+        ensures honest { OnOk result (is_honest self.new ≡ is_honest self.old) };
 
     /// Makes the file, which is longer, `len` bytes long.
     fn shorten(&mut self, len: u64) -> io::Result<()>
@@ -60,7 +73,7 @@ pub(crate) trait SystemFile: Drop {
         ensures error { IfErr result (λ error. fails_with self.old SystemCall.Shorten error) }
         ensures works { IsTrue (is_working self.old) → IsOk result }
         ensures working { is_working self.new ≡ is_working self.old }
-        ensures honest { is_honest self.new ≡ is_honest self.old };
+        ensures honest { OnOk result (is_honest self.new ≡ is_honest self.old) };
 
     /// Makes a crash leave what reads give.
     fn sync(&mut self) -> io::Result<()>
@@ -70,7 +83,7 @@ pub(crate) trait SystemFile: Drop {
         ensures error { IfErr result (λ error. fails_with self.old SystemCall.Sync error) }
         ensures works { IsTrue (is_working self.old) → IsOk result }
         ensures working { is_working self.new ≡ is_working self.old }
-        ensures honest { is_honest self.new ≡ is_honest self.old };
+        ensures honest { OnOk result (is_honest self.new ≡ is_honest self.old) };
 }
 
 impl SystemFile for File {
@@ -83,6 +96,14 @@ impl SystemFile for File {
     ghost is_working = { λ _. false };
 
     ghost fails_with = { λ _ _ _. ⊤ };
+
+    ghost is_of = { λ _ _ _. ⊤ };
+
+    ghost is_locked = { λ _. true };
+
+    fn lock(&mut self) -> Result<(), TryLockError> {
+        self.try_lock()
+    }
 
     fn size(&self) -> io::Result<u64> {
         Ok(self.metadata()?.len())

@@ -1,18 +1,22 @@
 ghost use Rattle.std.specs.Prelude.{◌≡◌, true, false, [], ⊤};
 ghost use Rattle.std.specs.IoError.{error_kind};
-ghost use Rattle.std.specs.declared.io.ErrorKind.TheVariants.{Interrupted, StorageFull, Other};
+ghost use Rattle.std.specs.declared.io.ErrorKind.TheVariants.{Interrupted, NotFound, StorageFull, Other};
 ghost use Rattle.ax_files.specs.SystemCalls.{SystemCall};
 
 use crate::counted_files::CountedFiles;
+use crate::file_disk::FileDisk;
 use crate::file_fault::{Explained, FileCall, FileFault, RootState};
+use crate::file_system::FileSystem;
 use crate::opening::refuse_lost;
 use crate::store_file::fill_from;
 use crate::store_files::StoreFiles;
 use crate::system_file::SystemFile;
-use ax_disk::Extent;
+use ax_disk::{Disk, Extent};
 use std::cell::Cell;
+use std::fs::{self, TryLockError};
 use std::io::{self, ErrorKind};
 use std::test::Fail;
+use std::{env, process};
 
 /// A file in memory that tells of its state. It gives one byte a read, and interrupts each but every
 /// third one; so many of its syncs fail, and each write and each cut.
@@ -38,6 +42,14 @@ impl SystemFile for FakeFile {
         × (call ≡ SystemCall.WriteWhole → error_kind error ≡ StorageFull)
         × (call ≡ SystemCall.Shorten → error_kind error ≡ StorageFull)
         × (call ≡ SystemCall.Sync → error_kind error ≡ Other) };
+
+    ghost is_of = { λ _ _ _. ⊤ };
+
+    ghost is_locked = { λ _. true };
+
+    fn lock(&mut self) -> Result<(), TryLockError> {
+        Ok(())
+    }
 
     fn size(&self) -> io::Result<u64> {
         Ok(self.bytes.len() as u64)
@@ -93,6 +105,14 @@ impl SystemFile for PlainFile {
 
     ghost fails_with = { λ _ _ _. ⊤ };
 
+    ghost is_of = { λ _ _ _. ⊤ };
+
+    ghost is_locked = { λ _. true };
+
+    fn lock(&mut self) -> Result<(), TryLockError> {
+        Ok(())
+    }
+
     fn size(&self) -> io::Result<u64> {
         Ok(self.bytes.len() as u64)
     }
@@ -142,6 +162,14 @@ impl SystemFile for SteadyFile {
     ghost is_working = { λ _. true };
 
     ghost fails_with = { λ _ _ _. ⊥ };
+
+    ghost is_of = { λ _ _ _. ⊤ };
+
+    ghost is_locked = { λ _. true };
+
+    fn lock(&mut self) -> Result<(), TryLockError> {
+        Ok(())
+    }
 
     fn size(&self) -> io::Result<u64> {
         Ok(0)
@@ -288,6 +316,24 @@ fn nothing_fails_over_files_that_work(rt: HostRuntime) -> Result<(), Fail> {
     Ok(())
 }
 
+/// No files.
+#[derive(Drop)]
+struct NoFiles {}
+
+impl FileSystem<FakeFile> for NoFiles {
+    ghost keeps_files = { λ _ _. true };
+
+    ghost fails_to_open = { λ _ _ error. error_kind error ≡ NotFound };
+
+    fn open(&mut self, _name: &str, _extent: Extent, _makes: bool) -> io::Result<FakeFile> {
+        Err(ErrorKind::NotFound.into())
+    }
+
+    fn sync_folder(&mut self, _name: &str) -> io::Result<()> {
+        Ok(())
+    }
+}
+
 fn fakes(rt: &impl AllocGlobal, failing_syncs: u32) -> Result<StoreFiles<FakeFile>, Fail> {
     let root = fake(rt, 0, 0)?;
     let a = fake(rt, 9, 0)?;
@@ -296,23 +342,23 @@ fn fakes(rt: &impl AllocGlobal, failing_syncs: u32) -> Result<StoreFiles<FakeFil
 
 #[test]
 fn the_first_fault_is_kept_and_a_failed_sync_ends_all(rt: HostRuntime) -> Result<(), Fail> {
-    let mut files = CountedFiles::new();
+    let mut files = CountedFiles::over(NoFiles {});
     let mut buf = [1; 4];
     assert!(rt; files.read(Extent::A, 0, &mut buf).is_err());
     assert!(rt; matches!(files.first_fault(), Some(FileFault::Detached)));
-    assert!(rt; files.attach(Ok(fakes(&rt, 1)?)).is_ok());
+    assert!(rt; files.keep(Ok(fakes(&rt, 1)?)).is_ok());
     assert!(rt; matches!(files.len(Extent::A), Ok(9)));
     assert!(rt; files.read(Extent::A, 7, &mut buf).is_ok() && buf == [7, 7, 0, 0]);
     assert!(rt; files.sync().is_err() && files.len(Extent::A).is_err());
-    assert!(rt; files.attach(Ok(fakes(&rt, 0)?)).is_err());
+    assert!(rt; files.keep(Ok(fakes(&rt, 0)?)).is_err());
     assert!(rt; matches!(files.first_fault(), Some(FileFault::Detached)));
     Ok(())
 }
 
 #[test]
 fn a_failed_change_is_told_with_its_file_and_its_call(rt: HostRuntime) -> Result<(), Fail> {
-    let mut files = CountedFiles::new();
-    assert!(rt; files.attach(Ok(fakes(&rt, 0)?)).is_ok() && files.first_fault().is_none());
+    let mut files = CountedFiles::over(NoFiles {});
+    assert!(rt; files.keep(Ok(fakes(&rt, 0)?)).is_ok() && files.first_fault().is_none());
     assert!(rt; files.sync().is_ok() && files.cut(Extent::A, 9).is_ok());
     assert!(rt; files.cut(Extent::B, 8).is_err());
     assert!(rt;
@@ -360,4 +406,75 @@ fn a_fault_is_told_in_one_line(rt: HostRuntime) -> Result<(), Fail> {
         "\"a\\nb\".a: another program holds the store"
     );
     Ok(())
+}
+
+/// The name of a store in the folder of temporary files, of which no file is there.
+fn fresh_name(rt: &HostRuntime) -> Result<String, Fail> {
+    let folder = env::temp_dir(rt)?;
+    let folder = folder.as_str();
+    let number = process::id(rt.process());
+    let name = format!(in rt.alloc(); "{folder}/ax_files-{number}")?;
+    remove_files(rt, name.as_str())?;
+    Ok(name)
+}
+
+fn remove_files(rt: &HostRuntime, name: &str) -> Result<(), Fail> {
+    for ending in ["root", "a", "b"] {
+        let path = format!(in rt.alloc(); "{name}.{ending}")?;
+        let _ = fs::remove_file(rt, path.as_str());
+    }
+    Ok(())
+}
+
+/// What a file of the store holds, by its own path.
+fn held(rt: &HostRuntime, name: &str, ending: &str) -> Result<Vec<u8>, Fail> {
+    let path = format!(in rt.alloc(); "{name}.{ending}")?;
+    Ok(fs::read(rt, path.as_str())?)
+}
+
+#[test]
+fn a_disk_over_files_does_what_it_is_asked(rt: HostRuntime) -> Result<(), Fail> {
+    let name = fresh_name(&rt)?;
+    let name = name.as_str();
+    let mut disk = FileDisk::new(rt);
+    assert!(rt; disk.attach(name).is_ok());
+    assert!(rt; matches!(disk.len(Extent::Root), Ok(0)));
+    assert!(rt; disk.write_at(Extent::A, 0, b"area a").is_ok());
+    assert!(rt; disk.write_at(Extent::B, 0, b"b").is_ok());
+    assert!(rt; disk.write_at(Extent::A, 5, b"xyz").is_ok());
+    assert!(rt; disk.cut(Extent::A, 7).is_ok() && disk.cut(Extent::B, 9).is_ok());
+    assert!(rt; disk.sync().is_ok());
+    assert_eq!(rt; held(&rt, name, "root")?.as_slice(), b"".as_slice());
+    assert_eq!(rt; held(&rt, name, "a")?.as_slice(), b"area xy".as_slice());
+    assert_eq!(rt; held(&rt, name, "b")?.as_slice(), b"b".as_slice());
+    assert!(rt; matches!(disk.len(Extent::A), Ok(7)));
+    let mut buf = [1; 4];
+    assert!(rt; disk.read(Extent::A, 5, &mut buf).is_ok());
+    assert_eq!(rt; &buf, b"xy\0\0");
+
+    // Another disk finds the files locked, and leaves them as they are.
+    let mut other = FileDisk::new(rt);
+    assert!(rt; other.attach(name).is_err());
+    assert!(rt;
+        matches!(
+            other.first_fault(),
+            Some(FileFault::Locked {
+                extent: Extent::Root
+            })
+        )
+    );
+
+    // The root stands for a fresh store, which the area does not.
+    assert!(rt; disk.attach(name).is_err());
+    assert!(rt;
+        matches!(
+            disk.first_fault(),
+            Some(FileFault::Rootless {
+                root: RootState::Short,
+                area: Extent::A
+            })
+        )
+    );
+    assert_eq!(rt; held(&rt, name, "a")?.as_slice(), b"area xy".as_slice());
+    remove_files(&rt, name)
 }
