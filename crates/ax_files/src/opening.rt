@@ -83,6 +83,9 @@ fn find_files<F: SystemFile, S: FileSystem<F>>(
         (λ f. F.is_of f name.now Extent.A × IsTrue (F.is_locked f))) }
     ensures b { IfOk result (λ found. ForSome found.b
         (λ f. F.is_of f name.now Extent.B × IsTrue (F.is_locked f))) }
+    ensures absent { IfOk result (λ found. (found.root ≡ None → IsAbsent (S.fails_to_open name.now Extent.Root))
+        × (found.a ≡ None → IsAbsent (S.fails_to_open name.now Extent.A))
+        × (found.b ≡ None → IsAbsent (S.fails_to_open name.now Extent.B))) }
     ensures error { IfErr result (λ fault. HasOpenError (λ extent. S.fails_to_open name.now extent) fault) }
 {
     let root = find_file(system, name, Extent::Root)?;
