@@ -16,7 +16,6 @@ use Rattle.ax_faults.specs.Faults.{Rose}
 use Rattle.ax_faults.specs.FaultLaws.{rose_since}
 use Rattle.ax_pages.specs.Contents.{Contents}
 use Rattle.ax_pages.specs.Image.{HasFrames, IsNewer}
-use Rattle.ax_pages.specs.HasContents.{HasContents}
 use Rattle.ax_pages.specs.laws.ImageLaws.{damaged_has_no_frames, newer_has_no_frames, one_frames}
 use Rattle.ax_pages.proofs.ImageContents.{one_contents, either}
 use Rattle.ax_ids.specs.Ids.{number_under}
@@ -31,7 +30,9 @@ use Rattle.ax_store.specs.Store.{IsDamagedStore, IsOpened, TellsFault, store_con
 use Rattle.ax_store.proofs.StoreLemmas.{barrier_weaken}
 use Rattle.ax_container.specs.Container.{Container}
 use Rattle.ax_image.specs.Readable.{AreReadableParts, TellsReadable}
-use Rattle.ax_image.specs.StandsFor.{ContentsStandFor, StandsFor}
+use Rattle.ax_image.specs.Documents.{ContentsStandFor}
+use Rattle.ax_image.specs.StandsFor.{StandsFor}
+use Rattle.ax_image_laws.proofs.InGrammar.{documents_back, readable_back, stands}
 use Rattle.ax_engine.specs.declared.documents.Documents.{Documents}
 use Rattle.ax_engine.specs.Documents.{DocumentsHold, DocumentsWork, number_in}
 use Rattle.ax_engine.specs.Opening.{Numbers, RefusesBy, TellsNumbers}
@@ -39,25 +40,25 @@ use Rattle.ax_engine.specs.Scans.{ScanFails, Scanned}
 use Rattle.ax_engine.specs.Stores.{IsImageOf, IsStore}
 
 -- an image with the log frames of one that stands for a container stands for it too
-image_by : (image : Image) (container : Container) (stands : StandsFor image container)
-    → (other : Image) → HasFrames stands.documents.has.frames other → IsImageOf container other
-image_by image container stands other has =
-    let documents = stands.documents in
-    let readable = stands.readable in
-    record {
-      documents = record {
-        contents = documents.contents;
-        has = record { frames = documents.has.frames; has = has; lead = documents.has.lead };
-        stand = documents.stand;
-      };
-      readable = record {
-        frames = documents.has.frames;
-        has = has;
-        each = subst (AllByRecursion AreReadableParts)
-            (one_frames image readable.frames documents.has.frames readable.has documents.has.has)
-            readable.each;
-      };
-    }
+image_by : (image : Image) (container : Container) (stand : StandsFor image container)
+    → (other : Image) → HasFrames (documents_back image container stand).has.frames other
+    → IsImageOf container other
+image_by image container stand other has =
+    let documents = documents_back image container stand in
+    let readable = readable_back image container stand in
+    stands other container
+    (record {
+      contents = documents.contents;
+      has = record { frames = documents.has.frames; has = has; lead = documents.has.lead };
+      stand = documents.stand;
+    })
+    (record {
+      frames = documents.has.frames;
+      has = has;
+      each = subst (AllByRecursion AreReadableParts)
+          (one_frames image readable.frames documents.has.frames readable.has documents.has.has)
+          readable.each;
+    })
 
 -- the barrier is still to come
 pub idle_since : (old new : History) (P : Image → Type 0) → Idles old new → SinceBarrier old new P
@@ -73,7 +74,7 @@ module _ (old mid : History) where
       → ((frames : List (List ℕ)) → HasFrames frames old.reads → SinceBarrier old mid (HasFrames frames))
       → SinceBarrier old mid (IsImageOf before)
   since_opening before store since =
-      let has = store.reads.documents.has in
+      let has = (documents_back old.reads before store.reads).has in
       barrier_weaken old mid (HasFrames has.frames) (IsImageOf before)
       (image_by old.reads before store.reads) (since has.frames has.has)
 
@@ -82,7 +83,7 @@ module _ (old mid : History) where
       → ((frames : List (List ℕ)) → HasFrames frames old.reads → Rests mid (HasFrames frames))
       → Rests mid (IsImageOf before)
   opened_rests before store kept =
-      let has = store.reads.documents.has in
+      let has = (documents_back old.reads before store.reads).has in
       rests_weaken mid (HasFrames has.frames) (IsImageOf before)
       (image_by old.reads before store.reads) (kept has.frames has.has)
 
@@ -95,7 +96,7 @@ module _ (old mid : History) where
   pub readable_still : (before : Container) (new : History) → Rests mid (IsImageOf before) → Idles mid new
       → Rests new TellsReadable
   readable_still before new rests idles =
-      rests_weaken new (IsImageOf before) TellsReadable (λ image stands. stands.readable)
+      rests_weaken new (IsImageOf before) TellsReadable (λ image stand. readable_back image before stand)
       (idles_rest mid new (IsImageOf before) rests idles)
 
   pub refuses_by : (why : StoreFault) → TellsFault why old.reads
@@ -110,7 +111,7 @@ module _ (old mid : History) where
     -- the contents that the store was opened by are those of the container
     opened_stand : ContentsStandFor (store_contents store) before
     opened_stand =
-        let documents = was.reads.documents in
+        let documents = documents_back old.reads before was.reads in
         subst (λ (contents : Contents). ContentsStandFor contents before)
         (one_contents old.reads documents.contents (store_contents store) documents.has opened.has)
         documents.stand
@@ -183,16 +184,19 @@ pub in_any : {P : Type 0} → (result : Result Documents StoreFault) → P → I
 in_any (Ok documents) p = p
 in_any (Err why) p = tt
 
--- ---- an image with contents is neither damaged nor of a later version
+-- ---- an image that stands for a container is neither damaged nor of a later version
 
-pub not_damaged : (image : Image) (contents : Contents) (extent at : ℕ) → HasContents contents image
+pub not_damaged : (image : Image) (container : Container) (extent at : ℕ) → StandsFor image container
     → IsDamagedStore image extent at → ⊥
-not_damaged image contents extent at has (inl damaged) =
+not_damaged image container extent at stand (inl damaged) =
+    let has = (documents_back image container stand).has in
     damaged_has_no_frames image damaged.list at has.frames damaged.damaged has.has
-not_damaged image contents extent at has (inr spoiled) =
-    either image contents spoiled.0 at has spoiled.2
+not_damaged image container extent at stand (inr spoiled) =
+    let documents = documents_back image container stand in
+    either image documents.contents spoiled.0 at documents.has spoiled.2
 
-pub not_newer : (image : Image) (contents : Contents) (version : ℕ) → HasContents contents image
+pub not_newer : (image : Image) (container : Container) (version : ℕ) → StandsFor image container
     → IsNewer image version → ⊥
-not_newer image contents version has newer =
+not_newer image container version stand newer =
+    let has = (documents_back image container stand).has in
     newer_has_no_frames image version has.frames newer has.has

@@ -6,7 +6,7 @@ use Rattle.ax_disk.specs.model.Calls.{Idles}
 use Rattle.ax_disk.specs.model.Moments.{History}
 use Rattle.ax_faults.specs.Faults.{Rose}
 use Rattle.ax_ids.specs.Ids.{number_under}
-use Rattle.ax_image.specs.StandsFor.{ContentsStandFor}
+use Rattle.ax_image.specs.Documents.{ContentsStandFor}
 use Rattle.ax_log.specs.Opening.{Keeps}
 use Rattle.ax_pages.specs.Image.{IsNewer}
 use Rattle.ax_store.specs.Store.{IsDamagedStore, SameButReads, store_contents}

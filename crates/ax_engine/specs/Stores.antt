@@ -3,7 +3,8 @@ use Rattle.ax_disk.specs.model.Image.{Image}
 use Rattle.ax_disk.specs.model.Moments.{History}
 use Rattle.ax_disk.specs.model.Stays.{Rests}
 use Rattle.ax_container.specs.Container.{Container}
-use Rattle.ax_image.specs.StandsFor.{HasDocuments, StandsFor}
+use Rattle.ax_image.specs.Documents.{HasDocuments}
+use Rattle.ax_image.specs.StandsFor.{StandsFor}
 
 -- the documents of the image are those of the container
 abbrev pub Shows : Container → Image → Type 0

@@ -10,7 +10,7 @@ ghost use Rattle.ax_container.specs.Container.{Container};
 ghost use Rattle.ax_pages.specs.Contents.{Contents};
 ghost use Rattle.ax_pages.specs.HasContents.{HasContents};
 ghost use Rattle.ax_image.specs.Readable.{TellsReadable};
-ghost use Rattle.ax_image.specs.StandsFor.{ContentsStandFor};
+ghost use Rattle.ax_image.specs.Documents.{ContentsStandFor};
 ghost use Rattle.ax_store.specs.Store.{Agrees, store_contents, store_failed};
 ghost use Rattle.ax_tree.specs.declared.tree.Tree.{Tree as TreeOf};
 ghost use Rattle.ax_tree.specs.CanonicalText.{canonical_text};

@@ -8,7 +8,7 @@ ghost use Rattle.ax_container.specs.Container.{Container};
 ghost use Rattle.ax_excerpt_text.specs.Left.{IsReadable};
 ghost use Rattle.ax_excerpt_text.specs.Wholes.{tree_read};
 ghost use Rattle.ax_grammar.specs.Query.{query_in};
-ghost use Rattle.ax_image.specs.StandsFor.{ContentsStandFor};
+ghost use Rattle.ax_image.specs.Documents.{ContentsStandFor};
 ghost use Rattle.ax_machine.specs.Needs.{query_need};
 ghost use Rattle.ax_machine.specs.Querying.{numbered, query_reply, rows_of, rows_or_refusal, rows_reply};
 ghost use Rattle.ax_mean.specs.declared.query.Query as queries;

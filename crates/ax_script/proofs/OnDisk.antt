@@ -189,9 +189,9 @@ pub early_complete : (DiskRose : Type 0) (before : Container) (ended : Status) (
 early_complete D before status.DiskFault old new store refuses early disk no_disk =
     absurd (no_disk (disk refl))
 early_complete D before (status.Damaged extent at) old new store refuses early disk no_disk =
-    absurd (not_damaged old.reads store.reads.documents.contents extent at store.reads.documents.has refuses.0)
+    absurd (not_damaged old.reads before extent at store.reads refuses.0)
 early_complete D before (status.Newer version) old new store refuses early disk no_disk =
-    absurd (not_newer old.reads store.reads.documents.contents version store.reads.documents.has refuses.0)
+    absurd (not_newer old.reads before version store.reads refuses.0)
 early_complete D before status.Memory old new store refuses early disk no_disk = inr (inl refl)
 early_complete D before status.Done old new store refuses early disk no_disk = absurd early
 early_complete D before status.Words old new store refuses early disk no_disk = absurd early
