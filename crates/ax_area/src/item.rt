@@ -5,8 +5,8 @@ ghost use Rattle.ax_frame.specs.Part.{PartValue, Fits, part_value, parts_bytes};
 ghost use Rattle.ax_area.specs.Items.{Item, IsPiece, missing_behind, number_at};
 ghost use Rattle.ax_area.specs.ItemTexts.{HasPieces, BeginsWithItem, IsItemText};
 
-use ax_pages::numbers::{LONG_DOCUMENT, PIECE};
 use ax_frame::{Part, split_part};
+use ax_pages::numbers::{LONG_DOCUMENT, PIECE};
 
 /// The most bytes of a piece.
 const PIECE_BYTES: u32 = 65_536;

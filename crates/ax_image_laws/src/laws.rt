@@ -25,8 +25,8 @@ pub fn contents_agree()
         → (told : List Told) × (new : Contents) × Says newest newest told new image × Agree old new }
     ensures all { (image : Image) (old : log.Contents) (version : ℕ) (told : List Told) (new : Contents)
         → HasContents old image → Says newest version told new image → Agree old new }
-    ensures back { (image : Image) (version : ℕ) (told : List Told) (new : Contents) → Says newest version told new image
-        → (old : log.Contents) × HasContents old image × Agree old new }
+    ensures back { (image : Image) (version : ℕ) (told : List Told) (new : Contents)
+        → Says newest version told new image → (old : log.Contents) × HasContents old image × Agree old new }
 {}
 
 /// Where contents agree, the documents are listed alike.
@@ -40,15 +40,17 @@ pub fn documents_are_listed_alike()
 pub fn an_image_stands_for_what_its_pages_show()
     ensures there { (image : Image) (container : Container) → HasDocuments container image → TellsReadable image
         → StandsFor image container }
-    ensures documents { (image : Image) (container : Container) → StandsFor image container → HasDocuments container image }
+    ensures documents { (image : Image) (container : Container) → StandsFor image container
+        → HasDocuments container image }
     ensures readable { (image : Image) (container : Container) → StandsFor image container → TellsReadable image }
 {}
 
-/// All that an image tells can be read in the words of the store where it can be in those of all versions, and where it
-/// has contents also the other way round.
+/// Where all that an image tells can be read in the words of the store, it can be in those of all versions; and the
+/// other way round where the image has contents.
 pub fn what_is_told_is_read_alike()
     ensures says { (image : Image) → TellsReadable image → SaysReadable image }
-    ensures tells { (image : Image) (old : log.Contents) → HasContents old image → SaysReadable image → TellsReadable image }
+    ensures tells { (image : Image) (old : log.Contents) → HasContents old image → SaysReadable image
+        → TellsReadable image }
 {}
 
 /// An image in the grammar that in the words of the store has the documents of a container stands for it.
@@ -64,7 +66,8 @@ pub fn damage_is_told_alike()
     ensures damaged_back { (image : Image) (extent : Extent) (at : ℕ)
         → IsDamaged newest image extent at → log_image.IsDamaged image extent at ⊎ IsSpoiledImage image extent at }
     ensures newer { (image : Image) (version : ℕ) → log_image.IsNewer image version → IsNewer newest version image }
-    ensures newer_back { (image : Image) (version : ℕ) → IsNewer newest version image → log_image.IsNewer image version }
+    ensures newer_back { (image : Image) (version : ℕ) → IsNewer newest version image
+        → log_image.IsNewer image version }
 {}
 
 /// An image that stands for a container is outside the grammar nowhere.

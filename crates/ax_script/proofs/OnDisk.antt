@@ -15,9 +15,9 @@ use Rattle.ax_image.specs.StandsFor.{StandsFor}
 use Rattle.ax_machine.specs.Run.{Exchange, after_lines}
 use Rattle.ax_script.specs.declared.status.Status.{Status}
 use Rattle.ax_script.specs.declared.status.Status.TheVariants as status
-use Rattle.ax_engine.specs.Stores.{IsStore, IsImageOf}
+use Rattle.ax_engine.specs.Stores.{IsStore, IsImageOf, IsWithin}
 use Rattle.ax_script.specs.DiskScript.{StandsAfter, KeepsAcknowledged, RunsOnDisk}
-use Rattle.ax_script.specs.Opening.{IsWithin, Refuses, RefusesOpening, TellsServed}
+use Rattle.ax_script.specs.Opening.{Refuses, RefusesOpening, TellsServed}
 use Rattle.ax_script.specs.Progress.{Reaches, EndsEarly, Ends, EndsServing}
 use Rattle.ax_script.specs.Streams.{Streams}
 use Rattle.ax_script.proofs.DiskMoments.{reaches_keeps}
