@@ -1,13 +1,10 @@
 -- Documents whose text is none of a document: none where all can be read, and where they stand on the
 -- disk; and texts that a query meets.
-use Rattle.std.proofs.Common.{◌≡◌, ◌≢◌, ℕ, Bool, true, false, ◌==◌, ◌&&◌, ◌∷◌, ◌++◌, List, [], Option, Some, None, Result, Ok, Err, OnOk, drop, length, ◌<◌, ◌≤◌, inl, inr, refl, sym, ap, subst, ◌∙◌, arith}
-use Rattle.std.specs.Prelude.{IsTrue, if◌then◌else◌, is_some, slice_get, slice_index}
+use Rattle.std.proofs.Common.{◌≡◌, ◌≢◌, ℕ, Bool, List, Option, Some, None, Result, Ok, Err, OnOk, drop, length, ◌<◌, ◌≤◌, inl, inr, refl, sym, ap, subst, ◌∙◌, arith}
+use Rattle.std.specs.Prelude.{IsTrue, is_some, slice_get}
 use Rattle.std.specs.FinMap as finite
-use Rattle.std.specs.List.{AllByRecursion}
-use Rattle.std.specs.Option.{option_map, option_to_list, unwrap_or}
-use Rattle.std.specs.Ordering.{nat_cmp}
-use Rattle.std.proofs.lemmas.Bool.{cases_eq, cases_lt, eqb-true}
-use Rattle.std.proofs.lemmas.List.{append-nil}
+use Rattle.std.specs.Option.{option_map, option_to_list}
+use Rattle.std.proofs.lemmas.Bool.{cases_lt}
 use Rattle.ax_answer_text.specs.Parts.{AreReadWhole, AreReadWholeFor, Suffices}
 use Rattle.ax_answer_text.specs.TextAnswers.{IsTo}
 use Rattle.ax_answer_text.specs.declared.text_answer.TextAnswer.{TextAnswer}
@@ -50,10 +47,8 @@ use Rattle.ax_store.specs.declared.store.Store.{Store}
 use Rattle.ax_tree.specs.CanonicalText.{canonical_text}
 use Rattle.ax_tree.specs.Nesting.{nesting}
 use Rattle.ax_tree.specs.declared.tree.Tree.{Tree}
-use Rattle.ax_engine.specs.Damage.{IsMetOutside, IsReadWhole, LooksAtEach}
-use Rattle.ax_engine.specs.InPages.{AreTrees, HasOutside, IsOutsideAt, IsPlaced}
-use Rattle.ax_engine.specs.Damage.{MeetsTrees}
-use Rattle.ax_engine.specs.InPages.{MeetsNone}
+use Rattle.ax_engine.specs.Damage.{IsMetOutside, IsReadWhole, LooksAtEach, MeetsTrees}
+use Rattle.ax_engine.specs.InPages.{AreTrees, HasOutside, IsOutsideAt, IsPlaced, MeetsNone}
 use Rattle.ax_engine.specs.Lists.{list_number}
 use Rattle.ax_engine.proofs.Opened.{same_number}
 use Rattle.ax_engine.proofs.Placing.{alike_on, begins_at, nothing_alike}
