@@ -4,8 +4,8 @@
 //! An item is one part, or the first part of a long document with its pieces. It is read once, by the table of
 //! kinds, to a change in which no version stands; all definitions behind that are the same for each version. It
 //! stands on `ax_pages` for areas and term pages, on `ax_frame` for slots, frames and parts, and on `ax_disk` for
-//! images. What images stand for cites its changes; the log and the store still have the words of
-//! `ax_pages`, and go over to these.
+//! images. What images stand for, the engine's public calls and the top call have these words; the log and the
+//! store have those of `ax_pages`, and laws above tie the two.
 //!
 //! Its one contract: opening finds exactly one thing of each image: a version with what the area tells and the
 //! contents to which that leads, a version above the newest, or damage at one place. What payloads hold is for the

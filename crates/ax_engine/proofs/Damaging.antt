@@ -1,22 +1,22 @@
 -- Documents whose text is none of a document: none where all can be read, and where they stand on the
 -- disk; and texts that a query meets.
-use Rattle.std.proofs.Common.{◌≡◌, ◌≢◌, ℕ, Bool, true, false, ◌==◌, ◌&&◌, ◌∷◌, ◌++◌, List, [], Option, Some, None, Result, Ok, Err, OnOk, drop, length, ◌<◌, ◌≤◌, inl, inr, refl, sym, ap, subst, ◌∙◌, arith}
-use Rattle.std.specs.Prelude.{IsTrue, if◌then◌else◌, is_some, slice_get, slice_index}
+use Rattle.std.proofs.Common.{◌≡◌, ◌≢◌, ℕ, Bool, List, Option, Some, None, Result, Ok, Err, OnOk, drop, length, ◌<◌, ◌≤◌, inl, inr, refl, sym, ap, subst, ◌∙◌, arith}
+use Rattle.std.specs.Prelude.{IsTrue, is_some, slice_get}
 use Rattle.std.specs.FinMap as finite
-use Rattle.std.specs.List.{AllByRecursion}
-use Rattle.std.specs.Option.{option_map, option_to_list, unwrap_or}
-use Rattle.std.specs.Ordering.{nat_cmp}
-use Rattle.std.proofs.lemmas.Bool.{cases_eq, cases_lt, eqb-true}
-use Rattle.std.proofs.lemmas.List.{append-nil}
+use Rattle.std.specs.Option.{option_map, option_to_list}
+use Rattle.std.proofs.lemmas.Bool.{cases_lt}
 use Rattle.ax_answer_text.specs.Parts.{AreReadWhole, AreReadWholeFor, Suffices}
 use Rattle.ax_answer_text.specs.TextAnswers.{IsTo}
 use Rattle.ax_answer_text.specs.declared.text_answer.TextAnswer.{TextAnswer}
 use Rattle.ax_answer_text.specs.declared.text_fault.TextFault.{TextFault}
 use Rattle.ax_answer_text.specs.declared.text_fault.TextFault.TheVariants as text_fault
-use Rattle.ax_area.specs.Changes.{Written, change_by, change_of}
-use Rattle.ax_area.specs.Changes as change
-use Rattle.ax_area.specs.Items.{single}
-use Rattle.ax_area.specs.Kinds.{kind_in}
+use Rattle.ax_area.proofs.KeptSo.{told_so}
+use Rattle.ax_area.proofs.LogWords.{live_image}
+use Rattle.ax_area.proofs.OneTelling.{same_some as told_same, some_or_none}
+use Rattle.ax_area.specs.Contents as area
+use Rattle.ax_area.specs.Contents.{Stored}
+use Rattle.ax_area.specs.Places.{no_places, places_after}
+use Rattle.ax_area.specs.Told.{changes_of}
 use Rattle.ax_cache.specs.Held.{held}
 use Rattle.ax_cache.specs.declared.lru_pages.LruPages.{LruPages}
 use Rattle.ax_disk.specs.model.Image.{Image}
@@ -26,20 +26,14 @@ use Rattle.ax_excerpt.specs.ShownDocuments.{without_pick}
 use Rattle.ax_excerpt.specs.declared.excerpt.Excerpt.{Excerpt}
 use Rattle.ax_excerpt_text.specs.Left.{IsReadable}
 use Rattle.ax_excerpt_text.specs.Wholes.{tree_read}
-use Rattle.ax_frame.proofs.Parts.{one_list}
-use Rattle.ax_frame.specs.Part.{PartValue}
-use Rattle.ax_image.specs.Readable.{AreReadableParts, IsReadablePart, TellsReadable, newest}
-use Rattle.ax_image_grammar.specs.Payloads.{IsDocumentText}
+use Rattle.ax_image.specs.Readable.{TellsReadable, newest}
+use Rattle.ax_image_grammar.specs.Payloads.{IsDocumentText, IsReadable as IsReadableChange}
+use Rattle.ax_image_laws.proofs.InGrammar.{says_readable}
+use Rattle.ax_image_laws.proofs.Telling.{none_agree, tells_on}
+use Rattle.ax_image_laws.specs.Agree.{shown_by, Agree}
 use Rattle.ax_log.specs.Log.{log_area, log_generation}
 use Rattle.ax_mean.specs.declared.query.Query.{Query}
-use Rattle.ax_pages.proofs.LastPart.{get_inserted, get_not_inserted, get_not_removed, get_removed, held as held_by, passed}
-use Rattle.ax_pages.proofs.OneContents.{first_step, same_some}
-use Rattle.ax_pages.specs.AfterPart.{after_kind, after_part, after_parts, is_document, kind_of}
 use Rattle.ax_pages.specs.Contents.{Contents, no_contents}
-use Rattle.ax_pages.specs.Leads.{LeadOn}
-use Rattle.ax_pages.specs.declared.page.Kind.{Kind}
-use Rattle.ax_pages.specs.declared.page.Kind.TheVariants as kind
-use Rattle.ax_pages.specs.laws.ImageLaws.{one_frames}
 use Rattle.ax_store.proofs.LoadLemmas.{lead_on_of}
 use Rattle.ax_store.specs.Kept.{Kept}
 use Rattle.ax_store.specs.Listed.{IsNextAfter}
@@ -53,7 +47,11 @@ use Rattle.ax_store.specs.declared.store.Store.{Store}
 use Rattle.ax_tree.specs.CanonicalText.{canonical_text}
 use Rattle.ax_tree.specs.Nesting.{nesting}
 use Rattle.ax_tree.specs.declared.tree.Tree.{Tree}
-use Rattle.ax_engine.specs.Damage.{AreTrees, HasOutside, IsMetOutside, IsOutsideAt, IsPlaced, LooksAtEach, MeetsNone}
+use Rattle.ax_engine.specs.Damage.{IsMetOutside, IsReadWhole, LooksAtEach, MeetsTrees}
+use Rattle.ax_engine.specs.InPages.{AreTrees, HasOutside, IsOutsideAt, IsPlaced, MeetsNone}
+use Rattle.ax_engine.specs.Lists.{list_number}
+use Rattle.ax_engine.proofs.Opened.{same_number}
+use Rattle.ax_engine.proofs.Placing.{alike_on, begins_at, nothing_alike}
 use Rattle.ax_engine.specs.Printing.{IsPrinted}
 use Rattle.ax_engine.specs.Replies.{OnRows}
 use Rattle.ax_engine.specs.Scans.{ScanFails, Scanned}
@@ -77,133 +75,15 @@ pub payload_of : (part : Option (List ℕ)) → IsTrue (is_some part) → (paylo
 payload_of None is = absurd cc
 payload_of (Some payload) is = (payload, refl)
 
--- ---- where all parts can be read, each document has a text
-
--- the kind of a document is the third
-skipped : (test : Bool) (one : Kind) (others : Option Kind) → one ≢ kind.Document
-    → (if test then Some one else others) ≡ Some kind.Document → others ≡ Some kind.Document
-skipped true one others apart is = absurd (apart (ap (λ found. unwrap_or found one) is))
-skipped false one others apart is = is
-
-third : (n : ℕ) (test : Bool) → (n == 3) ≡ test
-    → (if test then Some kind.Document else (if n == 4 then Some kind.Gone else
-    (if n == 5 then Some kind.Base else (if n == 6 then Some kind.Delta else None)))) ≡ Some kind.Document
-    → n ≡ 3
-third n true same is = eqb-true n 3 same
-third n false other is =
-    let none : None ≡ Some kind.Document =
-    skipped (n == 6) kind.Delta _ (λ e. absurd cc) (skipped (n == 5) kind.Base _ (λ e. absurd cc)
-    (skipped (n == 4) kind.Gone _ (λ e. absurd cc) is)) in
-    absurd cc
-
-document_number : (n : ℕ) → kind_of n ≡ Some kind.Document → n ≡ 3
-document_number n is =
-    third n (n == 3) refl (skipped (n == 2) kind.Policy _ (λ e. absurd cc)
-    (skipped (n == 1) kind.Meta _ (λ e. absurd cc) is))
-
-both_of : (a b : Bool) → (a && b) ≡ true → (a ≡ true) × (b ≡ true)
-both_of true b e = (refl, e)
-both_of false b e = absurd (cc e)
-
-abbrev HaveTexts : Contents → Type 0
-HaveTexts contents =
-    (number : ℕ) (payload : List ℕ) → finite.get contents.documents number ≡ Some payload
-    → IsDocumentText newest (drop 1 payload)
-
--- the payload of a part of a document has a text
-text_of_part : (part : PartValue) (old : Contents) → part.kind ≡ 3 → is_document part.key part.payload old ≡ true
-    → IsReadablePart part → IsDocumentText newest (drop 1 part.payload)
-text_of_part part old is_kind is readable =
-    let given = both_of _ _ (both_of _ _ is).0 in
-    let written : Written = record {
-      policy = slice_index part.payload 0;
-      version = None;
-      text = drop 1 part.payload ++ [];
-    } in
-    let says : change_of newest (single part) ≡ Some (change.Document part.key written) =
-    ap (λ n. change_by (kind_in newest n) part []) is_kind
-    ∙ ap (λ b. if b then Some (change.Document part.key written) else None) given.0 in
-    subst (IsDocumentText newest) (append-nil (drop 1 part.payload))
-    (readable (change.Document part.key written) says)
-
--- so it is with one part more
-module _ (part : PartValue) (old : Contents) (readable : IsReadablePart part) (texts : HaveTexts old)
-    (number : ℕ) (payload : List ℕ) where
-  abbrev HasText : Contents → Type 0
-  HasText contents =
-      finite.get contents.documents number ≡ Some payload → IsDocumentText newest (drop 1 payload)
-
-  with_document : part.kind ≡ 3 → is_document part.key part.payload old ≡ true
-      → HasText (record old { documents = finite.insert old.documents part.key part.payload })
-  with_document is_kind is found = elim (cases_eq number part.key) as (λ _. IsDocumentText newest (drop 1 payload)) [
-    | inl same ↦
-        let found_key = subst (λ n. finite.get (finite.insert old.documents part.key part.payload) n ≡ Some payload)
-        same found in
-        let here : part.payload ≡ payload =
-        some_is part.payload payload (sym (get_inserted old.documents part.key part.payload) ∙ found_key) in
-        subst (λ (bytes : List ℕ). IsDocumentText newest (drop 1 bytes)) here
-        (text_of_part part old is_kind is readable)
-    | inr apart ↦
-        texts number payload (sym (get_not_inserted old.documents part.key number part.payload apart) ∙ found)
-  ]
-
-  without_document : HasText (record old { documents = finite.remove old.documents part.key })
-  without_document found = elim (cases_eq number part.key) as (λ _. IsDocumentText newest (drop 1 payload)) [
-    | inl same ↦
-        let found_key = subst (λ n. finite.get (finite.remove old.documents part.key) n ≡ Some payload) same found in
-        let none : None ≡ Some payload = sym (get_removed old.documents part.key) ∙ found_key in
-        absurd cc
-    | inr apart ↦
-        texts number payload (sym (get_not_removed old.documents part.key number apart) ∙ found)
-  ]
-
-  text_after : (after : Contents) → after_part part old ≡ Some after → HasText after
-  text_after after leads = by_kind (kind_of part.kind) refl leads
-    where
-      by_kind : (found : Option Kind) → kind_of part.kind ≡ found
-          → after_kind found part.key part.payload old ≡ Some after → HasText after
-      by_kind None is e = absurd cc
-      by_kind (Some kind.Meta) is e = subst HasText (sym (passed _ _ after e)) (texts number payload)
-      by_kind (Some kind.Policy) is e = subst HasText (sym (passed _ _ after e)) (texts number payload)
-      by_kind (Some kind.Document) is e =
-          subst HasText (sym (passed _ _ after e)) (with_document (document_number part.kind is) (held_by _ after e))
-      by_kind (Some kind.Gone) is e = subst HasText (sym (passed _ _ after e)) without_document
-      by_kind (Some kind.Base) is e = subst HasText (sym (passed _ _ after e)) (texts number payload)
-      by_kind (Some kind.Delta) is e = subst HasText (sym (passed _ _ after e)) (texts number payload)
-
-texts_after : (parts : List PartValue) (old after : Contents) → AllByRecursion IsReadablePart parts
-    → after_parts parts old ≡ Some after → HaveTexts old → HaveTexts after
-texts_after [] old after all leads texts = subst HaveTexts (same_some old after leads) texts
-texts_after (part ∷ parts) old after all leads texts =
-    let by = first_step part parts old after leads in
-    texts_after parts by.between after all.1 by.others
-    (λ number payload. text_after part old all.0 texts number payload by.between by.first)
-
-texts_on : (frames : List (List ℕ)) (old after : Contents) → AllByRecursion AreReadableParts frames
-    → LeadOn frames old after → HaveTexts old → HaveTexts after
-texts_on [] old after all leads texts = subst HaveTexts leads texts
-texts_on (frame ∷ frames) old after all (between, leads, more) texts =
-    texts_on frames between after all.1 more
-    (texts_after leads.parts old between
-    (subst (AllByRecursion IsReadablePart)
-    (one_list all.0.parts leads.parts all.0.fit leads.fit (sym all.0.spelled ∙ leads.spelled)) all.0.readable)
-    leads.lead texts)
-
-none_at_first : HaveTexts no_contents
-none_at_first number payload found =
-    let none : None ≡ Some payload = sym (finite.get-empty nat_cmp number) ∙ found in
-    absurd cc
+-- ---- where all that is told can be read, each document has a text
 
 -- of an image all of which can be read no document has a text outside the grammar
 pub none_outside : (image : Image) (extent at : ℕ) → TellsReadable image → IsMetOutside image extent at → ⊥
 none_outside image extent at readable met =
-    let all : AllByRecursion AreReadableParts met.frames =
-    subst (AllByRecursion AreReadableParts)
-    (one_frames image readable.frames met.frames readable.has (inr (met.area, met.generation, met.live)))
-    readable.each in
-    met.there.outside (texts_on met.frames no_contents met.pages.contents all
-    (lead_on_of met.frames 0 nothing_kept met.pages met.lead) none_at_first
-    met.there.number met.there.payload met.there.held)
+    let holds = told_so (IsReadableChange newest) (changes_of met.told) met.contents met.live.lead
+    (says_readable image readable newest met.told met.contents (inr met.live)) in
+    let written = holds.documents met.number met.document met.held in
+    met.outside (subst (λ (d : Stored). IsDocumentText newest d.text) (sym written.is) written.so)
 
 -- ---- the text that was read is none of a document
 
@@ -258,16 +138,35 @@ pub met_outside : (store : Store LruPages) (ahead : ReadAhead) (history : Histor
     → IsMetOutside history.reads extent at
 met_outside store ahead history extent at agrees may outside =
     let logged = agrees.agrees.logged in
+    let frames = agrees.agrees.frames in
+    let takes = agrees.agrees.takes in
     let there = logged.rests.each history.reads may in
+    let first = live_image (log_area store.log) (log_generation store.log) frames history.reads
+    (record { counts = logged.counts; has = there.has }) in
+    let on = tells_on frames 0 no_contents store.pages.contents area.no_contents
+    (lead_on_of frames 0 nothing_kept store.pages takes) none_agree in
+    let begins = begins_at store.pages.offsets (places_after on.told no_places) outside.1.number at
+    (alike_on frames 0 on.told nothing_kept store.pages no_places on.tell takes nothing_alike) outside.1.placed in
     record {
-      area = log_area store.log;
-      generation = log_generation store.log;
-      frames = agrees.agrees.frames;
-      live = record { counts = logged.counts; has = there.has };
-      list = outside.0;
-      pages = store.pages;
-      lead = agrees.agrees.takes;
-      there = outside.1;
+      told = on.told;
+      contents = on.reached;
+      live = record {
+        slot = first.slot;
+        version_is = first.version_is;
+        frames = frames;
+        live = first.live;
+        tell = on.tell;
+        lead = on.lead;
+      };
+      list = outside.0 ∙ same_number (log_area store.log) ∙ ap list_number (sym first.area_is);
+      number = outside.1.number;
+      document = shown_by outside.1.number outside.1.payload;
+      held = on.agree.documents outside.1.number ∙ ap (option_map (shown_by outside.1.number)) outside.1.held;
+      front = begins.front;
+      pieces = begins.pieces;
+      placed = begins.placed;
+      place = begins.place;
+      outside = outside.1.outside;
     }
 
 -- what was read ahead of a document that has this text is this text
@@ -345,6 +244,21 @@ keys_met query keys contents these printed trees each number payload low is (inl
     trees (subst LooksAtEach (sym these) each) number payload low is (inr none)
 keys_met query keys contents these printed trees each number payload low is (inr (all, other)) =
     absurd (other printed)
+
+-- the texts of documents are the same in the pages of the store and in what the image says
+pub meets_trees : (query : Query) (old : Contents) (new : area.Contents) → Agree old new → MeetsNone query old
+    → MeetsTrees query new
+meets_trees query old new agree none each number document low is read =
+    by_page (finite.get old.documents number) refl (sym (agree.documents number) ∙ is)
+  where
+    by_page : (found : Option (List ℕ)) → finite.get old.documents number ≡ found
+        → option_map (shown_by number) found ≡ Some document → tree_read document.text ≢ None
+    by_page None there e = absurd (some_or_none document e)
+    by_page (Some payload) there e =
+        let text : drop 1 payload ≡ document.text =
+        ap (λ (d : Stored). d.text) (told_same (shown_by number payload) document e) in
+        subst (λ t. tree_read t ≢ None) text
+        (none each number payload low there (subst (IsReadWhole query) (sym text) read))
 
 pub one_query : (a b : Query) → Some a ≡ Some b → a ≡ b
 one_query a b is = cc

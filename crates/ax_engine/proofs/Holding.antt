@@ -17,7 +17,8 @@ use Rattle.ax_pages.specs.Contents.{Contents}
 use Rattle.ax_pages.specs.AfterPart.{after_parts}
 use Rattle.ax_pages.specs.HasContents.{HasContents}
 use Rattle.ax_image.specs.Readable.{AreReadableParts, IsReadablePart, TellsReadable}
-use Rattle.ax_image.specs.StandsFor.{ContentsStandFor}
+use Rattle.ax_image.specs.Documents.{ContentsStandFor}
+use Rattle.ax_image_laws.proofs.InGrammar.{stands}
 use Rattle.ax_cache.specs.Held.{held}
 use Rattle.ax_cache.specs.declared.lru_pages.LruPages.{LruPages}
 use Rattle.ax_store.specs.declared.store.Store.{Store}
@@ -169,7 +170,7 @@ readable_by old new parts rests may fit readable turns =
 -- an image of the container is one with its documents, all of which can be read
 pub image_of : (container : Container) (image : Image) → Shows container image → TellsReadable image
     → IsImageOf container image
-image_of container image shows readable = record { documents = shows; readable = readable }
+image_of container image shows readable = stands image container shows readable
 
 pub images_rest : (history : History) (container : Container) → Rests history (Shows container)
     → Rests history TellsReadable → Rests history (IsImageOf container)

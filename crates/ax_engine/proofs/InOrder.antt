@@ -16,7 +16,7 @@ use Rattle.ax_container.proofs.Ids.{same_from_eq}
 use Rattle.ax_container.proofs.Upserts.{or_none}
 use Rattle.ax_pages.specs.Contents.{Contents, Numbered}
 use Rattle.ax_pages.proofs.LastPart.{same_number, other_number}
-use Rattle.ax_image.specs.StandsFor.{AreShown, ContentsStandFor}
+use Rattle.ax_image.specs.Documents.{AreShown, ContentsStandFor}
 use Rattle.ax_tree.specs.declared.tree.Tree.{Tree}
 use Rattle.ax_cache.specs.declared.lru_pages.LruPages.{LruPages}
 use Rattle.ax_store.specs.Kept.{Kept}

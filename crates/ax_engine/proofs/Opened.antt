@@ -1,9 +1,11 @@
 -- What a store that was opened stands for; and what is opened is neither damaged nor of a later version.
-use Rattle.std.proofs.Common.{◌≡◌, ◌⊎◌, inl, inr, ℕ, ◌≤◌, Bool, List, Result, Ok, Err, sym, subst, arith}
+use Rattle.std.proofs.Common.{◌≡◌, ◌⊎◌, inl, inr, ℕ, ◌≤◌, Bool, List, Result, Ok, Err, refl, sym, ap, subst, ◌∙◌, arith}
 use Rattle.std.specs.Prelude.{IfOk, IfErr, IsTrue, OnOk}
 use Rattle.std.specs.List.{AllByRecursion}
 use Rattle.ax_cache.specs.Held.{held}
 use Rattle.ax_cache.specs.declared.lru_pages.LruPages.{LruPages}
+use Rattle.ax_disk.specs.declared.extent.Extent.{Extent}
+use Rattle.ax_disk.specs.declared.extent.Extent.TheVariants.{Root, A, B}
 use Rattle.ax_disk.specs.laws.MomentLaws.{progress_stays, progress_within}
 use Rattle.ax_disk.specs.laws.CallLaws.{idles_leave}
 use Rattle.ax_disk.specs.laws.StageLaws.{barrier_goes_on}
@@ -15,10 +17,17 @@ use Rattle.ax_disk.specs.model.Stays.{BarrierStage, Rests, SinceBarrier}
 use Rattle.ax_faults.specs.Faults.{Rose}
 use Rattle.ax_faults.specs.FaultLaws.{rose_since}
 use Rattle.ax_pages.specs.Contents.{Contents}
-use Rattle.ax_pages.specs.Image.{HasFrames, IsNewer}
+use Rattle.ax_pages.specs.Image.{HasFrames, extent_number}
 use Rattle.ax_pages.specs.HasContents.{HasContents}
-use Rattle.ax_pages.specs.laws.ImageLaws.{damaged_has_no_frames, newer_has_no_frames, one_frames}
-use Rattle.ax_pages.proofs.ImageContents.{one_contents, either}
+use Rattle.ax_pages.specs.laws.ImageLaws.{one_frames}
+use Rattle.ax_pages.proofs.ImageContents.{one_contents}
+use Rattle.ax_area.specs.Contents as area
+use Rattle.ax_area.specs.Image.{IsNewer, Says}
+use Rattle.ax_area.specs.Told.{Told}
+use Rattle.ax_area.specs.declared.root.Counting.{Counting}
+use Rattle.ax_area.proofs.LogWords.{newer_image}
+use Rattle.ax_area.proofs.OneOutcome.{says_not_damaged}
+use Rattle.ax_area.proofs.OneRoot.{fresh_counts, one_slot_counts}
 use Rattle.ax_ids.specs.Ids.{number_under}
 use Rattle.ax_log.specs.Opening.{Keeps}
 use Rattle.ax_store.specs.declared.read_ahead.ReadAhead.{ReadAhead}
@@ -30,34 +39,38 @@ use Rattle.ax_store.specs.Kept.{Kept}
 use Rattle.ax_store.specs.Store.{IsDamagedStore, IsOpened, TellsFault, store_contents}
 use Rattle.ax_store.proofs.StoreLemmas.{barrier_weaken}
 use Rattle.ax_container.specs.Container.{Container}
-use Rattle.ax_image.specs.Readable.{AreReadableParts, TellsReadable}
-use Rattle.ax_image.specs.StandsFor.{ContentsStandFor, StandsFor}
+use Rattle.ax_image.specs.Readable.{AreReadableParts, TellsReadable, newest}
+use Rattle.ax_image.specs.Documents.{ContentsStandFor}
+use Rattle.ax_image.specs.StandsFor.{StandsFor}
+use Rattle.ax_image_laws.proofs.InGrammar.{contents_found, documents_back, readable_back, stands}
+use Rattle.ax_image_laws.proofs.Spoiled.{damaged_too}
 use Rattle.ax_engine.specs.declared.documents.Documents.{Documents}
 use Rattle.ax_engine.specs.Documents.{DocumentsHold, DocumentsWork, number_in}
-use Rattle.ax_engine.specs.Opening.{Numbers, RefusesBy, TellsNumbers}
+use Rattle.ax_engine.specs.Lists.{list_number}
+use Rattle.ax_engine.specs.Opening.{IsDamagedIn, Numbers, RefusesBy, TellsNumbers}
 use Rattle.ax_engine.specs.Scans.{ScanFails, Scanned}
-use Rattle.ax_engine.specs.Stores.{IsImageOf, IsStore}
+use Rattle.ax_engine.specs.Stores.{IsImageOf, IsStore, IsWithin}
 
 -- an image with the log frames of one that stands for a container stands for it too
-image_by : (image : Image) (container : Container) (stands : StandsFor image container)
-    → (other : Image) → HasFrames stands.documents.has.frames other → IsImageOf container other
-image_by image container stands other has =
-    let documents = stands.documents in
-    let readable = stands.readable in
-    record {
-      documents = record {
-        contents = documents.contents;
-        has = record { frames = documents.has.frames; has = has; lead = documents.has.lead };
-        stand = documents.stand;
-      };
-      readable = record {
-        frames = documents.has.frames;
-        has = has;
-        each = subst (AllByRecursion AreReadableParts)
-            (one_frames image readable.frames documents.has.frames readable.has documents.has.has)
-            readable.each;
-      };
-    }
+image_by : (image : Image) (container : Container) (stand : StandsFor image container)
+    → (other : Image) → HasFrames (documents_back image container stand).has.frames other
+    → IsImageOf container other
+image_by image container stand other has =
+    let documents = documents_back image container stand in
+    let readable = readable_back image container stand in
+    stands other container
+    (record {
+      contents = documents.contents;
+      has = record { frames = documents.has.frames; has = has; lead = documents.has.lead };
+      stand = documents.stand;
+    })
+    (record {
+      frames = documents.has.frames;
+      has = has;
+      each = subst (AllByRecursion AreReadableParts)
+          (one_frames image readable.frames documents.has.frames readable.has documents.has.has)
+          readable.each;
+    })
 
 -- the barrier is still to come
 pub idle_since : (old new : History) (P : Image → Type 0) → Idles old new → SinceBarrier old new P
@@ -68,12 +81,24 @@ idle_since old new P idle = record {
   rests = inl (record { each = λ image may. idles_leave old new idle image may });
 }
 
+-- a list has one number
+pub same_number : (list : Extent) → extent_number list ≡ list_number list
+same_number Root = refl
+same_number A = refl
+same_number B = refl
+
+-- an image with contents in the words of the store is within the format
+pub is_within : (image : Image) (contents : Contents) → HasContents contents image → IsWithin image
+is_within image contents has =
+    let found = contents_found image contents has in
+    (found.0, found.1, found.2)
+
 module _ (old mid : History) where
   pub since_opening : (before : Container) → IsStore before old
       → ((frames : List (List ℕ)) → HasFrames frames old.reads → SinceBarrier old mid (HasFrames frames))
       → SinceBarrier old mid (IsImageOf before)
   since_opening before store since =
-      let has = store.reads.documents.has in
+      let has = (documents_back old.reads before store.reads).has in
       barrier_weaken old mid (HasFrames has.frames) (IsImageOf before)
       (image_by old.reads before store.reads) (since has.frames has.has)
 
@@ -82,7 +107,7 @@ module _ (old mid : History) where
       → ((frames : List (List ℕ)) → HasFrames frames old.reads → Rests mid (HasFrames frames))
       → Rests mid (IsImageOf before)
   opened_rests before store kept =
-      let has = store.reads.documents.has in
+      let has = (documents_back old.reads before store.reads).has in
       rests_weaken mid (HasFrames has.frames) (IsImageOf before)
       (image_by old.reads before store.reads) (kept has.frames has.has)
 
@@ -95,13 +120,22 @@ module _ (old mid : History) where
   pub readable_still : (before : Container) (new : History) → Rests mid (IsImageOf before) → Idles mid new
       → Rests new TellsReadable
   readable_still before new rests idles =
-      rests_weaken new (IsImageOf before) TellsReadable (λ image stands. stands.readable)
+      rests_weaken new (IsImageOf before) TellsReadable (λ image stand. readable_back image before stand)
       (idles_rest mid new (IsImageOf before) rests idles)
+
+  damaged_in : (extent at : ℕ) → IsDamagedStore old.reads extent at → IsDamagedIn old.reads extent at
+  damaged_in extent at (inl damaged) = (
+    damaged.list,
+    damaged.number ∙ same_number damaged.list,
+    damaged_too old.reads damaged.list at (inl damaged.damaged),
+  )
+  damaged_in extent at (inr (area, is, spoiled)) =
+      (area, is ∙ same_number area, damaged_too old.reads area at (inr spoiled))
 
   pub refuses_by : (why : StoreFault) → TellsFault why old.reads
       → (IsRefused {T = Unit {0}} (Err why) → Keeps old mid) → RefusesBy why old mid
-  refuses_by (fault.Damaged extent at) tells keeps = (tells, keeps tt)
-  refuses_by (fault.Newer version) tells keeps = (tells, keeps tt)
+  refuses_by (fault.Damaged extent at) tells keeps = (damaged_in extent at tells, keeps tt)
+  refuses_by (fault.Newer version) tells keeps = (newer_image version old.reads tells, keeps tt)
   refuses_by fault.Disk tells keeps = tt
   refuses_by fault.Memory tells keeps = tt
 
@@ -110,7 +144,7 @@ module _ (old mid : History) where
     -- the contents that the store was opened by are those of the container
     opened_stand : ContentsStandFor (store_contents store) before
     opened_stand =
-        let documents = was.reads.documents in
+        let documents = documents_back old.reads before was.reads in
         subst (λ (contents : Contents). ContentsStandFor contents before)
         (one_contents old.reads documents.contents (store_contents store) documents.has opened.has)
         documents.stand
@@ -183,16 +217,28 @@ pub in_any : {P : Type 0} → (result : Result Documents StoreFault) → P → I
 in_any (Ok documents) p = p
 in_any (Err why) p = tt
 
--- ---- an image with contents is neither damaged nor of a later version
+-- ---- an image that stands for a container is neither damaged nor of a later version
 
-pub not_damaged : (image : Image) (contents : Contents) (extent at : ℕ) → HasContents contents image
-    → IsDamagedStore image extent at → ⊥
-not_damaged image contents extent at has (inl damaged) =
-    damaged_has_no_frames image damaged.list at has.frames damaged.damaged has.has
-not_damaged image contents extent at has (inr spoiled) =
-    either image contents spoiled.0 at has spoiled.2
+pub not_damaged : (image : Image) (container : Container) (extent at : ℕ) → StandsFor image container
+    → IsDamagedIn image extent at → ⊥
+not_damaged image container extent at stand (list, is, damaged) =
+    says_not_damaged newest image newest stand.told stand.contents list at stand.grammatical.says damaged
 
-pub not_newer : (image : Image) (contents : Contents) (version : ℕ) → HasContents contents image
-    → IsNewer image version → ⊥
-not_newer image contents version has newer =
-    newer_has_no_frames image version has.frames newer has.has
+says_not_newer : (image : Image) (version : ℕ) (told : List Told) (contents : area.Contents)
+    → Says newest newest told contents image → IsNewer newest version image → ⊥
+says_not_newer image version told contents (inl fresh) newer =
+    fresh_counts image.root newer.slot fresh.fresh newer.counts
+says_not_newer image version told contents (inr live) newer =
+    omega (
+      arith,
+      live.live.known.known,
+      newer.later,
+      newer.version_is,
+      ap (λ (slot : Counting). slot.version)
+          (one_slot_counts image.root live.slot newer.slot live.live.counts newer.counts),
+    )
+
+pub not_newer : (image : Image) (container : Container) (version : ℕ) → StandsFor image container
+    → IsNewer newest version image → ⊥
+not_newer image container version stand newer =
+    says_not_newer image version stand.told stand.contents stand.grammatical.says newer

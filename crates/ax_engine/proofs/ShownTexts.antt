@@ -10,7 +10,7 @@ use Rattle.ax_store.specs.ReadAhead.{IsAhead}
 use Rattle.ax_tree.specs.CanonicalText.{canonical_text}
 use Rattle.ax_container.specs.Container.{Entry, Container}
 use Rattle.ax_excerpt.specs.ShownDocuments.{tree_at, tree_numbered}
-use Rattle.ax_image.specs.StandsFor.{AreShown, ContentsStandFor}
+use Rattle.ax_image.specs.Documents.{AreShown, ContentsStandFor}
 use Rattle.ax_pages.specs.Contents.{Contents}
 use Rattle.ax_engine.proofs.InOrder.{found_here, found_later, pairs}
 

@@ -18,7 +18,7 @@ use Rattle.ax_container.proofs.Upserts.{or_none, upsert_keeps_soundness}
 use Rattle.ax_frame.specs.Part.{PartValue}
 use Rattle.ax_pages.specs.Contents.{Contents, meta_bytes, next_number, policy_now, is_given}
 use Rattle.ax_pages.specs.AfterPart.{after_parts, last_policy}
-use Rattle.ax_image.specs.StandsFor.{ContentsStandFor}
+use Rattle.ax_image.specs.Documents.{ContentsStandFor}
 use Rattle.ax_image.specs.UpsertParts.{document_part, replacing_parts, creating_parts, upsert_parts}
 use Rattle.ax_image.proofs.Shown.{as_many}
 use Rattle.ax_image.proofs.Upserting.{Written, written, first_or, second_or, meta_fits, after_document}

@@ -6,7 +6,7 @@ use Rattle.ax_disk.specs.model.Moments.{History}
 use Rattle.ax_disk.specs.model.Stays.{Rests, Turns}
 use Rattle.ax_container.specs.Container.{Container}
 use Rattle.ax_container.specs.Upsert.{Full, upserted}
-use Rattle.ax_image.specs.Readable.{TellsReadable}
+use Rattle.ax_image.specs.Readable.{SaysReadable}
 use Rattle.ax_lines.specs.declared.line.Line.{Line}
 use Rattle.ax_lines.specs.declared.line.Line.TheVariants as line
 use Rattle.ax_machine.specs.Reply as reply
@@ -30,7 +30,7 @@ pub record Holds (engine : Engine) (container : Container) : Type 0 where
 -- and all that can be read which an image tells that a crash may leave
 pub record HoldsOver (engine : Engine) (history : History) (container : Container) : Type 0 where
   pub holds : Holds engine container
-  pub readable : Rests history TellsReadable
+  pub readable : Rests history SaysReadable
 
 -- until it answers a fault its store has not failed, and agrees with the disk where that is honest
 pub record Works (honest : Type 0) (engine : Engine) (history : History) : Type 0 where

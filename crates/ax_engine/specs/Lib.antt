@@ -1,6 +1,8 @@
 pub mod Damage
 pub mod Documents
 pub mod Engine
+pub mod InPages
+pub mod Lists
 pub mod Opening
 pub mod Printing
 pub mod Replies

@@ -1,26 +1,35 @@
 -- What opening a store answers, by what reads of it gave, and what finding the numbers of its ids does.
 use Rattle.std.specs.Prelude.{◌≡◌, ℕ, ◌≤◌, List, Bool, IsTrue, Result, Ok, Err}
+use Rattle.ax_area.specs.Image.{IsDamaged, IsNewer}
 use Rattle.ax_cache.specs.declared.lru_pages.LruPages.{LruPages}
 use Rattle.ax_container.specs.Container.{Container}
+use Rattle.ax_disk.specs.declared.extent.Extent.{Extent}
 use Rattle.ax_disk.specs.model.Calls.{Idles}
+use Rattle.ax_disk.specs.model.Image.{Image}
 use Rattle.ax_disk.specs.model.Moments.{History}
 use Rattle.ax_faults.specs.Faults.{Rose}
 use Rattle.ax_ids.specs.Ids.{number_under}
-use Rattle.ax_image.specs.StandsFor.{ContentsStandFor}
+use Rattle.ax_image.specs.Documents.{ContentsStandFor}
+use Rattle.ax_image.specs.Readable.{newest}
 use Rattle.ax_log.specs.Opening.{Keeps}
-use Rattle.ax_pages.specs.Image.{IsNewer}
-use Rattle.ax_store.specs.Store.{IsDamagedStore, SameButReads, store_contents}
+use Rattle.ax_store.specs.Store.{SameButReads, store_contents}
 use Rattle.ax_store.specs.declared.fault.StoreFault.{StoreFault}
 use Rattle.ax_store.specs.declared.fault.StoreFault.TheVariants as fault
 use Rattle.ax_store.specs.declared.store.Store.{Store}
 use Rattle.ax_engine.specs.Documents.{DocumentsWork, number_in}
+use Rattle.ax_engine.specs.Lists.{list_number}
 use Rattle.ax_engine.specs.declared.documents.Documents.{Documents}
+
+-- opening finds the image damaged at this place of the list of this number
+abbrev pub IsDamagedIn : Image → ℕ → ℕ → Type 0
+IsDamagedIn image extent at =
+    (list : Extent) × (extent ≡ list_number list) × IsDamaged newest image list at
 
 -- why a store is refused: its bytes are outside the format at that offset, or it is of that later
 -- version; its lists are then as they were
 abbrev pub RefusesBy : StoreFault → History → History → Type 0
-RefusesBy (fault.Damaged extent at) old new = IsDamagedStore old.reads extent at × Keeps old new
-RefusesBy (fault.Newer version) old new = IsNewer old.reads version × Keeps old new
+RefusesBy (fault.Damaged extent at) old new = IsDamagedIn old.reads extent at × Keeps old new
+RefusesBy (fault.Newer version) old new = IsNewer newest version old.reads × Keeps old new
 RefusesBy fault.Disk old new = Unit {0}
 RefusesBy fault.Memory old new = Unit {0}
 

@@ -13,7 +13,7 @@ use Rattle.ax_store.specs.declared.fault.StoreFault.{StoreFault}
 use Rattle.ax_store.specs.declared.fault.StoreFault.TheVariants as fault
 use Rattle.ax_store.specs.declared.read_ahead.ReadAhead.{ReadAhead}
 use Rattle.ax_store.specs.declared.store.Store.{Store}
-use Rattle.ax_engine.specs.Damage.{IsOutsideAt}
+use Rattle.ax_engine.specs.InPages.{IsOutsideAt}
 
 -- the store has not failed, and agrees with a disk that is honest, as does what was read ahead
 pub record IsReady (honest : Bool) (store : Store LruPages) (ahead : ReadAhead) (history : History) : Type 0 where

@@ -9,14 +9,12 @@ ghost use Rattle.ax_lines.specs.Asked.{IsAsked, IsStorable};
 ghost use Rattle.ax_lines.specs.declared.line.Line.TheVariants as line;
 ghost use Rattle.ax_image.specs.Readable.{TellsReadable};
 ghost use Rattle.ax_machine.specs.Needs.{most_steps_of};
-ghost use Rattle.ax_pages.specs.Contents.{Contents};
-ghost use Rattle.ax_pages.specs.HasContents.{HasContents};
 ghost use Rattle.ax_engine.specs.Damage.{Meets, PassesOverNone};
 ghost use Rattle.ax_engine.specs.Documents.{DocumentsHold, DocumentsWork};
 ghost use Rattle.ax_engine.specs.Engine.{Applies, FindsFull, Holds, HoldsOver, IsOfLine, LeavesLists, Tells, Works};
 ghost use Rattle.ax_engine.specs.Opening.{RefusesBy};
 ghost use Rattle.ax_engine.specs.Replies.{IsOfReading, read_answer, upsert_answer};
-ghost use Rattle.ax_engine.specs.Stores.{IsImageOf, IsStore};
+ghost use Rattle.ax_engine.specs.Stores.{IsImageOf, IsStore, IsWithin};
 
 use crate::documents::{Documents, UpsertFault};
 use crate::opening::open_documents;
@@ -67,8 +65,8 @@ impl Engine {
         ensures holds { IsTrue (D.is_honest disk.old) → (before : Container)
             → IsStore before (D.history disk.old (D.attached disk.old))
             → IfOk result (λ engine. HoldsOver engine (D.history disk.new (D.attached disk.new)) before) }
-        ensures opened { IsTrue (D.is_honest disk.old) → IfOk result (λ engine. (contents : Contents)
-            × HasContents contents (D.history disk.old (D.attached disk.old)).reads) }
+        ensures opened { IsTrue (D.is_honest disk.old) → IfOk result
+            (λ engine. IsWithin (D.history disk.old (D.attached disk.old)).reads) }
         ensures any_moment { IsTrue (D.is_honest disk.old) → (before : Container)
             → IsStore before (D.history disk.old (D.attached disk.old))
             → SinceBarrier (D.history disk.old (D.attached disk.old)) (D.history disk.new (D.attached disk.new)) (IsImageOf before) }

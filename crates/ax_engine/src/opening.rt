@@ -7,10 +7,8 @@ ghost use Rattle.ax_faults.specs.Faults.{Rose};
 ghost use Rattle.ax_cache.specs.Held.{held};
 ghost use Rattle.ax_disk.specs.model.Stays.{Rests, SinceBarrier};
 ghost use Rattle.ax_container.specs.Container.{Container};
-ghost use Rattle.ax_pages.specs.Contents.{Contents};
-ghost use Rattle.ax_pages.specs.HasContents.{HasContents};
 ghost use Rattle.ax_image.specs.Readable.{TellsReadable};
-ghost use Rattle.ax_image.specs.StandsFor.{ContentsStandFor};
+ghost use Rattle.ax_image.specs.Documents.{ContentsStandFor};
 ghost use Rattle.ax_store.specs.Store.{Agrees, store_contents, store_failed};
 ghost use Rattle.ax_tree.specs.declared.tree.Tree.{Tree as TreeOf};
 ghost use Rattle.ax_tree.specs.CanonicalText.{canonical_text};
@@ -20,7 +18,7 @@ ghost use Rattle.ax_text.specs.Reading.{reading, Stands};
 ghost use Rattle.ax_engine.specs.Documents.{DocumentsHold, DocumentsWork, number_in};
 ghost use Rattle.ax_engine.specs.Opening.{Numbers, RefusesBy};
 ghost use Rattle.ax_engine.specs.Scans.{IsReady, Scans};
-ghost use Rattle.ax_engine.specs.Stores.{IsImageOf, IsStore};
+ghost use Rattle.ax_engine.specs.Stores.{IsImageOf, IsStore, IsWithin};
 
 use crate::documents::Documents;
 use crate::reading::{next_held, read_document};
@@ -47,8 +45,8 @@ pub(crate) fn open_documents<D: Disk>(alloc: Global, disk: &mut D) -> Result<Doc
     ensures readable { IsTrue (D.is_honest disk.old) → (before : Container)
         → IsStore before (D.history disk.old (D.attached disk.old))
         → OnOk result (Rests (D.history disk.new (D.attached disk.new)) TellsReadable) }
-    ensures opened { IsTrue (D.is_honest disk.old) → IfOk result (λ documents. (contents : Contents)
-        × HasContents contents (D.history disk.old (D.attached disk.old)).reads) }
+    ensures opened { IsTrue (D.is_honest disk.old) → IfOk result
+        (λ documents. IsWithin (D.history disk.old (D.attached disk.old)).reads) }
     ensures any_moment { IsTrue (D.is_honest disk.old) → (before : Container)
         → IsStore before (D.history disk.old (D.attached disk.old))
         → SinceBarrier (D.history disk.old (D.attached disk.old)) (D.history disk.new (D.attached disk.new)) (IsImageOf before) }

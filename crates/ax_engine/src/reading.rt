@@ -6,7 +6,7 @@ ghost use Rattle.ax_pages.specs.Image.{extent_number};
 ghost use Rattle.ax_store.specs.Listed.{IsNextAfter};
 ghost use Rattle.ax_store.specs.ReadAhead.{IsAhead, ahead_text};
 ghost use Rattle.ax_store.specs.Store.{store_area, store_contents, store_offsets};
-ghost use Rattle.ax_engine.specs.Damage.{IsPlaced};
+ghost use Rattle.ax_engine.specs.InPages.{IsPlaced};
 ghost use Rattle.ax_engine.specs.Scans.{IsReady, Scans};
 
 use ax_answer_text::TextFault;

@@ -3,7 +3,7 @@
 ghost use Rattle.std.specs.Prelude.{◌≡◌, ◌++◌, map, true, false, IsTrue, IfOk, OnOk};
 ghost use Rattle.ax_container.specs.Container.{Container};
 ghost use Rattle.ax_excerpt.specs.ShownDocuments.{tree_numbered, without_pick};
-ghost use Rattle.ax_image.specs.StandsFor.{ContentsStandFor};
+ghost use Rattle.ax_image.specs.Documents.{ContentsStandFor};
 ghost use Rattle.ax_machine.specs.Querying.{numbered};
 ghost use Rattle.ax_machine.specs.ReplyTexts.{row_text};
 ghost use Rattle.ax_store.specs.ReadAhead.{ahead_text};

@@ -1,26 +1,14 @@
 -- A write of a document that takes the policy now keeps policies apart.
-use Rattle.std.proofs.Common.{◌≡◌, ℕ, List, ◌∷◌, inl, inr, ⊎_elim, refl, sym, ap, subst, ◌∙◌}
-use Rattle.std.specs.Prelude.{Some, None, slice_index}
+use Rattle.std.proofs.Common.{◌≡◌, ℕ, List, ◌∷◌, inl, inr, ⊎_elim, sym, ap, ◌∙◌}
+use Rattle.std.specs.Prelude.{Some, slice_index}
 use Rattle.std.specs.FinMap as map
-use Rattle.std.specs.Ordering.{nat_cmp}
 use Rattle.std.proofs.lemmas.Bool.{cases_eq}
-use Rattle.ax_pages.specs.Contents.{Contents, Numbered, no_contents, policy_now}
+use Rattle.ax_pages.specs.Contents.{Contents, policy_now}
 use Rattle.ax_pages.proofs.LastPart.{get_inserted, get_not_inserted}
 use Rattle.ax_image.specs.Apart.{policy_text, IsUsed, IsTaken, AreApart}
 
 same_payload : (x y : List ℕ) → Some x ≡ Some y → x ≡ y
 same_payload x y is = cc
-
-none_some : (payload : List ℕ) → None ≡ Some payload → ⊥
-none_some payload is = cc
-
--- of no contents the policy now alone is taken
-taken_is : (policy : ℕ) → IsTaken policy no_contents → policy ≡ 0
-taken_is policy (inl is) = is
-taken_is policy (inr u) = absurd (none_some u.payload (sym (map.get-empty nat_cmp u.number) ∙ u.held))
-
-pub none_apart : AreApart no_contents
-none_apart a b ta tb same = taken_is a ta ∙ sym (taken_is b tb)
 
 -- the document of a number is written, under the policy now, and the policies are as they were
 module _ (old new : Contents) (number : ℕ) (text : List ℕ)

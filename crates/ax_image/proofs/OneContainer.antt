@@ -1,52 +1,78 @@
 -- An image stands for one container at most, and the files of a fresh store for the fresh one.
-use Rattle.std.proofs.Common.{◌≡◌, ℕ, List, [], ◌∷◌, length, refl, sym, subst, ◌∙◌, arith, inl}
+use Rattle.std.proofs.Common.{◌≡◌, ℕ, List, [], ◌∷◌, length, refl, sym, ap, subst, ◌∙◌, arith}
+use Rattle.std.specs.List.{AllByRecursion}
 use Rattle.std.specs.Ordering.{nat_cmp}
 use Rattle.std.specs.FinMap as finite
 use Rattle.ax_disk.specs.model.Image.{Image}
-use Rattle.ax_container.specs.Container.{Container, fresh}
-use Rattle.ax_pages.specs.Image.{IsFresh}
-use Rattle.ax_pages.specs.Contents.{Contents, Numbered, no_contents}
-use Rattle.ax_pages.proofs.ImageContents.{one_contents}
-use Rattle.ax_image.specs.StandsFor.{AreShown, ContentsStandFor, StandsFor}
-use Rattle.ax_image.proofs.KeptApart.{none_apart}
-use Rattle.ax_image.proofs.Shown.{one_list}
+use Rattle.ax_tree.specs.CanonicalText.{canonical_text}
+use Rattle.ax_tree.specs.Document.{document_id}
+use Rattle.ax_tree.proofs.OneText.{one_text}
+use Rattle.ax_tree.proofs.Fitting.{numbers_fit-well_formed}
+use Rattle.ax_container.specs.Container.{Entry, Container, IsStored, fresh}
+use Rattle.ax_area.specs.Contents.{Contents, Stored, no_contents}
+use Rattle.ax_area.specs.Image.{IsFresh}
+use Rattle.ax_area.proofs.OneOutcome.{one_contents}
+use Rattle.ax_area.proofs.OneTelling.{same_some}
+use Rattle.ax_image_grammar.proofs.Fresh.{fresh_is}
+use Rattle.ax_image.specs.Readable.{newest}
+use Rattle.ax_image.specs.StandsFor.{ShowsEntry, ShowEntries, ContentsShow, StandsFor}
 
-pub one_by_contents : (contents : Contents) (x y : Container) → ContentsStandFor contents x → ContentsStandFor contents y → x ≡ y
+one_entry : (number : ℕ) (document : Stored) (a b : Entry) → ShowsEntry number document a
+    → ShowsEntry number document b → IsStored a → IsStored b → a ≡ b
+one_entry number document a b sa sb ha hb =
+    let numbers : a.number ≡ b.number = sym sa.number_is ∙ sb.number_is in
+    let texts : canonical_text a.tree ≡ canonical_text b.tree = sym sa.text_is ∙ sb.text_is in
+    let trees : a.tree ≡ b.tree = one_text a.tree b.tree (numbers_fit-well_formed a.tree ha.well_formed)
+    (numbers_fit-well_formed b.tree hb.well_formed) texts in
+    let ids : a.id ≡ b.id = same_some a.id b.id (sym ha.own_id ∙ ap document_id trees ∙ hb.own_id) in
+    λ i. record { number = numbers i; id = ids i; tree = trees i }
+
+one_list : (documents : List (ℕ × Stored)) (xs ys : List Entry) → ShowEntries documents xs
+    → ShowEntries documents ys → AllByRecursion IsStored xs → AllByRecursion IsStored ys → xs ≡ ys
+one_list [] [] [] sx sy hx hy = refl
+one_list [] [] (y ∷ ys) sx sy hx hy = absurd sy
+one_list [] (x ∷ xs) ys sx sy hx hy = absurd sx
+one_list (d ∷ ds) [] ys sx sy hx hy = absurd sx
+one_list (d ∷ ds) (x ∷ xs) [] sx sy hx hy = absurd sy
+one_list (d ∷ ds) (x ∷ xs) (y ∷ ys) sx sy hx hy =
+    let first = one_entry d.0 d.1 x y sx.0 sy.0 hx.0 hy.0 in
+    let others = one_list ds xs ys sx.1 sy.1 hx.1 hy.1 in
+    λ i. first i ∷ others i
+
+one_by_contents : (contents : Contents) (x y : Container) → ContentsShow contents x
+    → ContentsShow contents y → x ≡ y
 one_by_contents contents x y sx sy =
-    let entries : x.entries ≡ y.entries = one_list (finite.entries contents.documents) x.entries y.entries sx.shown sy.shown sx.sound.stored sy.sound.stored in
+    let entries : x.entries ≡ y.entries = one_list (finite.entries contents.documents) x.entries y.entries
+    sx.shown sy.shown sx.sound.stored sy.sound.stored in
     let next : x.next_number ≡ y.next_number = sym sx.next ∙ sy.next in
     λ i. record { entries = entries i; next_number = next i }
 
 pub one_container : (image : Image) (x y : Container) → StandsFor image x → StandsFor image y → x ≡ y
 one_container image x y sx sy =
-    let dx = sx.documents in
-    let dy = sy.documents in
-    let same = one_contents image dx.contents dy.contents dx.has dy.has in
-    one_by_contents dx.contents x y dx.stand (subst (λ contents. ContentsStandFor contents y) (sym same) dy.stand)
+    let same = one_contents newest image newest newest sx.told sy.told sx.contents sy.contents
+    sx.grammatical.says sy.grammatical.says in
+    one_by_contents sx.contents x y sx.show
+    (subst (λ contents. ContentsShow contents y) (sym same) sy.show)
 
 no_element : {A : Type 0} (xs : List A) → length xs ≡ 0 → xs ≡ []
 no_element [] e = refl
 no_element (x ∷ xs) e = absurd (omega arith)
 
-nothing_stands : ContentsStandFor no_contents fresh
-nothing_stands =
-    let nothing : Numbered = finite.empty in
-    let none : finite.entries nothing ≡ [] = no_element _ (sym (finite.len-entries nothing) ∙ finite.len-empty nat_cmp (List ℕ)) in
+nothing_shows : ContentsShow no_contents fresh
+nothing_shows =
+    let nothing : finite.FinMap nat_cmp Stored = finite.empty in
+    let none : finite.entries nothing ≡ [] =
+    no_element _ (sym (finite.len-entries nothing) ∙ finite.len-empty nat_cmp Stored) in
     record {
       next = refl;
-      given = refl;
-      small = omega arith;
-      apart = none_apart;
-      shown = subst (λ pages. AreShown pages []) (sym none) tt;
+      shown = subst (λ documents. ShowEntries documents []) (sym none) tt;
       sound = record { numbers = omega arith; last = omega arith; few = omega arith; distinct = tt; stored = tt };
     }
 
 pub fresh_files : (image : Image) → IsFresh image → StandsFor image fresh
 fresh_files image is = record {
-  documents = record {
-    contents = no_contents;
-    has = record { frames = []; has = inl (is, refl); lead = refl };
-    stand = nothing_stands;
-  };
-  readable = record { frames = []; has = inl (is, refl); each = tt };
+  told = [];
+  contents = no_contents;
+  grammatical = fresh_is newest image is;
+  show = nothing_shows;
 }

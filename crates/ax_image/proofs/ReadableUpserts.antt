@@ -1,18 +1,17 @@
 -- The parts of an upsert can be read, where the tree is a document that a store can hold.
-use Rattle.std.proofs.Common.{◌≡◌, ℕ, ◌+◌, Bool, true, false, List, [], ◌∷◌, ◌++◌, Some, None, length, refl, sym, ap, subst, ◌∙◌}
+use Rattle.std.proofs.Common.{◌≡◌, ℕ, ◌+◌, Bool, true, false, [], ◌++◌, Some, None, refl, sym, subst}
 use Rattle.std.specs.Prelude.{if◌then◌else◌}
 use Rattle.std.specs.List.{AllByRecursion}
 use Rattle.std.proofs.lemmas.List.{append-nil}
 use Rattle.ax_tree.specs.declared.tree.Tree.{Tree}
 use Rattle.ax_tree.specs.CanonicalText.{canonical_text}
-use Rattle.ax_frame.specs.Part.{AllFit, parts_bytes}
 use Rattle.ax_lines.specs.Asked.{IsStorable}
 use Rattle.ax_pages.specs.Contents.{meta_bytes}
 use Rattle.ax_area.specs.Changes.{Change, change_of}
 use Rattle.ax_area.specs.Changes as change
-use Rattle.ax_area.specs.Items.{number_at, single}
+use Rattle.ax_area.specs.Items.{number_at}
 use Rattle.ax_image_grammar.specs.Payloads.{IsReadable, IsDocumentText}
-use Rattle.ax_image.specs.Readable.{newest, IsReadablePart, AreReadableParts}
+use Rattle.ax_image.specs.Readable.{newest, IsReadablePart}
 use Rattle.ax_image.specs.UpsertParts.{document_part, meta_part, replacing_parts, creating_parts}
 
 same_some : (x y : Change) → Some x ≡ Some y → x ≡ y

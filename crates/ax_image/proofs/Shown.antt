@@ -1,7 +1,7 @@
--- Pages that show entries: they show one list alone, and what a page put in place makes of them.
-use Rattle.std.proofs.Common.{◌≡◌, ℕ, suc, ◌<◌, true, false, List, [], ◌∷◌, ◌++◌, length, map, find, drop, Some, is_some, refl, sym, ap, subst, ◌∙◌, arith}
+-- Pages that show entries: what a page put in place makes of them.
+use Rattle.std.proofs.Common.{◌≡◌, ℕ, suc, ◌<◌, true, false, List, [], ◌∷◌, ◌++◌, length, map, find, Some, is_some, refl, sym, ap, subst, ◌∙◌, arith}
 use Rattle.std.specs.Prelude.{if◌then◌else◌}
-use Rattle.std.specs.List.{list_any, AllByRecursion}
+use Rattle.std.specs.List.{list_any}
 use Rattle.std.specs.Option.{unwrap_or}
 use Rattle.std.specs.Ordering.{nat_cmp, eq_by_cmp}
 use Rattle.std.specs.Cmp.{nat_cmp_is}
@@ -12,40 +12,14 @@ use Rattle.ax_pages.proofs.LastPart.{same_number}
 use Rattle.std.specs.FinMap.Entries.{by_order}
 use Rattle.ax_tree.specs.declared.tree.Tree.{Tree}
 use Rattle.ax_tree.specs.CanonicalText.{canonical_text}
-use Rattle.ax_tree.specs.Document.{document_id}
-use Rattle.ax_tree.proofs.OneText.{one_text}
-use Rattle.ax_tree.proofs.Fitting.{numbers_fit-well_formed}
-use Rattle.ax_container.specs.Container.{Entry, has_id, NumbersRise, IdsAreDistinct, IsStored}
+use Rattle.ax_container.specs.Container.{Entry, has_id, NumbersRise, IdsAreDistinct}
 use Rattle.ax_container.specs.Upsert.{with_tree}
 use Rattle.ax_container.proofs.Ids.{same_from_eq}
 use Rattle.ax_container.proofs.Upserts.{or_none, with_tree-own, with_tree-other}
-use Rattle.ax_image.specs.StandsFor.{IsShown, AreShown}
+use Rattle.ax_image.specs.Documents.{IsShown, AreShown}
 
 same_some : {A : Type 0} (x y : A) → Some x ≡ Some y → x ≡ y
 same_some x y e = ap (λ found. unwrap_or found x) e
-
--- ---- one list of entries
-
-one_entry : (number : ℕ) (payload : List ℕ) (a b : Entry) → IsShown number payload a → IsShown number payload b → IsStored a → IsStored b → a ≡ b
-one_entry number payload a b sa sb ha hb =
-    let numbers : a.number ≡ b.number = sym sa.number_is ∙ sb.number_is in
-    let texts : canonical_text a.tree ≡ canonical_text b.tree = ap (drop 1) (sym sa.payload_is ∙ sb.payload_is) in
-    let trees : a.tree ≡ b.tree = one_text a.tree b.tree (numbers_fit-well_formed a.tree ha.well_formed)
-    (numbers_fit-well_formed b.tree hb.well_formed) texts in
-    let ids : a.id ≡ b.id = same_some a.id b.id (sym ha.own_id ∙ ap document_id trees ∙ hb.own_id) in
-    λ i. record { number = numbers i; id = ids i; tree = trees i }
-
-pub one_list : (pages : List (ℕ × List ℕ)) (xs ys : List Entry) → AreShown pages xs → AreShown pages ys → AllByRecursion IsStored xs
-    → AllByRecursion IsStored ys → xs ≡ ys
-one_list [] [] [] sx sy hx hy = refl
-one_list [] [] (y ∷ ys) sx sy hx hy = absurd sy
-one_list [] (x ∷ xs) ys sx sy hx hy = absurd sx
-one_list (p ∷ ps) [] ys sx sy hx hy = absurd sx
-one_list (p ∷ ps) (x ∷ xs) [] sx sy hx hy = absurd sy
-one_list (p ∷ ps) (x ∷ xs) (y ∷ ys) sx sy hx hy =
-    let first = one_entry p.0 p.1 x y sx.0 sy.0 hx.0 hy.0 in
-    let others = one_list ps xs ys sx.1 sy.1 hx.1 hy.1 in
-    λ i. first i ∷ others i
 
 pub as_many : (pages : List (ℕ × List ℕ)) (entries : List Entry) → AreShown pages entries → length pages ≡ length entries
 as_many [] [] shown = refl

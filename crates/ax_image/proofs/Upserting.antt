@@ -18,7 +18,7 @@ use Rattle.ax_container.specs.Upsert.{replaced, created, is_full, upserted}
 use Rattle.ax_container.proofs.Upserts.{or_none, upsert_cases}
 use Rattle.ax_pages.specs.Contents.{Contents, meta_bytes, next_in, now_in, policy_now, is_given}
 use Rattle.ax_pages.specs.AfterPart.{is_meta, is_document, has_room, after_part, after_parts, last_policy}
-use Rattle.ax_image.specs.StandsFor.{AreShown, ContentsStandFor}
+use Rattle.ax_image.specs.Documents.{AreShown, ContentsStandFor}
 use Rattle.ax_image.specs.UpsertParts.{document_part, replacing_parts, creating_parts, upsert_parts}
 use Rattle.ax_image.proofs.KeptApart.{apart_with}
 use Rattle.ax_image.proofs.Shown.{as_many, rises_to, found_above, found_page, shown_behind, shown_over}

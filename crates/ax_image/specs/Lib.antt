@@ -1,4 +1,5 @@
 pub mod Apart
+pub mod Documents
 pub mod Readable
 pub mod StandsFor
 pub mod UpsertParts

@@ -1,46 +1,38 @@
--- What an image of a store stands for: the container whose documents its pages have. A page's payload
--- is the number of the document's policy and its canonical text. The image is in the grammar of the
--- format, whole: also what nothing holds any more can be read.
--- From the store's own file format (docs/FORMAT.md, "Parts"); no other document has it.
-use Rattle.std.specs.Prelude.{◌≡◌, ℕ, ◌≤◌, List, [], ◌∷◌, true}
+-- What an image of a store stands for: it is in the grammar of the format, whole, and its documents, in
+-- the order of their numbers, are those of the container. No version of the format stands here.
+-- From the store's own file format (docs/FORMAT.md); no other document has it.
+use Rattle.std.specs.Prelude.{◌≡◌, ℕ, List, [], ◌∷◌}
 use Rattle.std.specs.FinMap as map
 use Rattle.ax_disk.specs.model.Image.{Image}
 use Rattle.ax_tree.specs.CanonicalText.{canonical_text}
 use Rattle.ax_container.specs.Container.{Entry, Container, IsSound}
-use Rattle.ax_pages.specs.Contents.{Contents, next_number, policy_now, is_given}
-use Rattle.ax_pages.specs.AfterPart.{last_policy}
-use Rattle.ax_pages.specs.HasContents.{HasContents}
-use Rattle.ax_image.specs.Apart.{AreApart}
-use Rattle.ax_image.specs.Readable.{TellsReadable}
+use Rattle.ax_area.specs.Contents.{Contents, Stored}
+use Rattle.ax_area.specs.Told.{Told}
+use Rattle.ax_image_grammar.specs.Grammar.{IsGrammatical}
+use Rattle.ax_image.specs.Readable.{newest}
 
--- a page shows the entry of a document
-pub record IsShown (number : ℕ) (payload : List ℕ) (entry : Entry) : Type 0 where
-  pub policy : ℕ
+-- the document of a number shows an entry
+pub record ShowsEntry (number : ℕ) (document : Stored) (entry : Entry) : Type 0 where
   pub number_is : number ≡ entry.number
-  pub payload_is : payload ≡ policy ∷ canonical_text entry.tree
+  pub text_is : document.text ≡ canonical_text entry.tree
 
--- pages in the order of their numbers show the entries, one each
-abbrev pub AreShown : List (ℕ × List ℕ) → List Entry → Type 0
-AreShown [] [] = Unit {0}
-AreShown [] (entry ∷ entries) = ⊥
-AreShown (page ∷ pages) [] = ⊥
-AreShown (page ∷ pages) (entry ∷ entries) = IsShown page.0 page.1 entry × AreShown pages entries
+-- documents in the order of their numbers show the entries, one each
+abbrev pub ShowEntries : List (ℕ × Stored) → List Entry → Type 0
+ShowEntries [] [] = Unit {0}
+ShowEntries [] (entry ∷ entries) = ⊥
+ShowEntries (document ∷ documents) [] = ⊥
+ShowEntries (document ∷ documents) (entry ∷ entries) =
+    ShowsEntry document.0 document.1 entry × ShowEntries documents entries
 
-pub record ContentsStandFor (contents : Contents) (container : Container) : Type 0 where
-  pub next : next_number contents ≡ container.next_number
-  pub given : is_given (policy_now contents) contents ≡ true
-  pub small : policy_now contents ≤ last_policy
-  pub apart : AreApart contents
-  pub shown : AreShown (map.entries contents.documents) container.entries
+-- the contents are what the container has
+pub record ContentsShow (contents : Contents) (container : Container) : Type 0 where
+  pub next : contents.next_number ≡ container.next_number
+  pub shown : ShowEntries (map.entries contents.documents) container.entries
   pub sound : IsSound container
 
--- the documents of the container are those of the image
-pub record HasDocuments (container : Container) (image : Image) : Type 0 where
-  pub contents : Contents
-  pub has : HasContents contents image
-  pub stand : ContentsStandFor contents container
-
--- and besides all that the image tells can be read
+-- Also what nothing holds any more can be read.
 pub record StandsFor (image : Image) (container : Container) : Type 0 where
-  pub documents : HasDocuments container image
-  pub readable : TellsReadable image
+  pub told : List Told
+  pub contents : Contents
+  pub grammatical : IsGrammatical newest newest told contents image
+  pub show : ContentsShow contents container

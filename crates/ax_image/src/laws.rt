@@ -8,10 +8,11 @@ ghost use Rattle.ax_tree.specs.Nesting.{nesting};
 ghost use Rattle.ax_tree.specs.WellFormed.{IsWellFormed};
 ghost use Rattle.ax_container.specs.Container.{Container, fresh};
 ghost use Rattle.ax_container.specs.Upsert.{upserted};
-ghost use Rattle.ax_pages.specs.Image.{IsFresh};
 ghost use Rattle.ax_pages.specs.Contents.{Contents, policy_now};
 ghost use Rattle.ax_pages.specs.AfterPart.{after_parts};
-ghost use Rattle.ax_image.specs.StandsFor.{ContentsStandFor, StandsFor};
+ghost use Rattle.ax_area.specs.Image.{IsFresh};
+ghost use Rattle.ax_image.specs.Documents.{ContentsStandFor};
+ghost use Rattle.ax_image.specs.StandsFor.{StandsFor};
 ghost use Rattle.ax_image.specs.UpsertParts.{upsert_parts};
 
 /// An image stands for one container at most.

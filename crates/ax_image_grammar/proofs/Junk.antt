@@ -21,9 +21,9 @@ use Rattle.ax_image_grammar.specs.Rows.{junk}
 
 -- ---- the text of a map
 
-record IsMapText (text : List ℕ) : Type 0 where
-  more : List ℕ
-  is : text ≡ 123 ∷ more
+pub record IsMapText (text : List ℕ) : Type 0 where
+  pub more : List ℕ
+  pub is : text ≡ 123 ∷ more
 
 abbrev id_level : Tree-F Tree → Option (List ℕ)
 id_level x =
@@ -39,7 +39,7 @@ at_level (Tree-F.Text value) some = absurd (cc some)
 at_level (Tree-F.List items) some = absurd (cc some)
 at_level (Tree-F.Object members) some = record { more = _; is = refl }
 
-document_text : (t : Tree) → IsDocument t → IsMapText (canonical_text t)
+pub document_text : (t : Tree) → IsDocument t → IsMapText (canonical_text t)
 document_text =
     ind-Tree (λ t. IsDocument t → IsMapText (canonical_text t))
     (λ x y is some. subst IsMapText (sym (fold-roll-Tree (List ℕ) text_level x))

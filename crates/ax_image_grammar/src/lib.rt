@@ -3,7 +3,7 @@
 //!
 //! It stands on `ax_area`, which says what an image tells and to what contents that leads; and, for what payloads
 //! hold, on `ax_lines` (the limits of documents), `ax_policy`, `ax_leaf` and `ax_delta`, and on
-//! `ax_pairs` for the index. `ax_image` cites what payloads are readable from here, and so `run` does.
+//! `ax_pairs` for the index. `ax_image` cites the grammar from here, and so `run` does.
 //!
 //! Its one contract: an image in the grammar is outside it nowhere, all that it holds can be read, a commit of changes
 //! that may be committed keeps it there, and it stands for one container at most.

@@ -52,7 +52,7 @@ by_number one n k others later e =
       | false ↦ λ other found. later found
     ] refl e
 
-kind_number : (n : ℕ) (k : Kind) → kind_of n ≡ Some k → n ≡ number_of k
+pub kind_number : (n : ℕ) (k : Kind) → kind_of n ≡ Some k → n ≡ number_of k
 kind_number n k =
     by_number log_kind.Meta n k _ (by_number log_kind.Policy n k _
     (by_number log_kind.Document n k _ (by_number log_kind.Gone n k _
@@ -61,7 +61,7 @@ kind_number n k =
 
 -- ---- tests
 
-both_of : (a b : Bool) → (a && b) ≡ true → (a ≡ true) × (b ≡ true)
+pub both_of : (a b : Bool) → (a && b) ≡ true → (a ≡ true) × (b ≡ true)
 both_of true b e = (refl, e)
 both_of false b e = absurd (cc e)
 
@@ -88,7 +88,7 @@ pub record Steps (part : PartValue) (after : log.Contents) (new : Contents) : Ty
 module _ (part : PartValue) (old : log.Contents) (new : Contents) (fits : Fits part)
     (agree : Agree old new) where
   -- a part of a kind that has no pieces
-  alone : (n : ℕ) → part.kind ≡ n → (n == 9) ≡ false → IsItem (single part)
+  pub alone : (n : ℕ) → part.kind ≡ n → (n == 9) ≡ false → IsItem (single part)
   alone n is other = record {
     fit = (fits, tt);
     pieces = ap (λ n. if n == 9 && length part.payload == piece_bytes
@@ -97,7 +97,7 @@ module _ (part : PartValue) (old : log.Contents) (new : Contents) (fits : Fits p
         then number_at 9 part.payload - first_bytes else 0) other;
   }
 
-  said_as : (n : ℕ) → part.kind ≡ n
+  pub said_as : (n : ℕ) → part.kind ≡ n
       → change_of newest (single part) ≡ change_by (kind_in newest n) part []
   said_as n is = ap (λ n. change_by (kind_in newest n) part []) is
 
@@ -105,22 +105,28 @@ module _ (part : PartValue) (old : log.Contents) (new : Contents) (fits : Fits p
       → after_change change new ≡ Some (with_change change new)
   leads_to change allowed = ap (λ b. if b then Some (with_change change new) else None) allowed
 
-  given_too : (policy : ℕ) → log.is_given policy old ≡ true → is_given policy new ≡ true
-  given_too policy is =
+  pub given_same : (policy : ℕ) → is_given policy new ≡ log.is_given policy old
+  given_same policy =
       ap (λ (policies : log.Numbered). policy == 0 || finite.contains_key policies policy)
-      agree.policies ∙ is
+      agree.policies
 
-  plain : may_follow None new ≡ true
+  given_too : (policy : ℕ) → log.is_given policy old ≡ true → is_given policy new ≡ true
+  given_too policy is = given_same policy ∙ is
+
+  pub plain : may_follow None new ≡ true
   plain = ap not agree.versioned
 
-  room_too : (number : ℕ) → log_after.has_room number old ≡ true → has_room number new ≡ true
-  room_too number is =
+  pub room_same : (number : ℕ) → has_room number new ≡ log_after.has_room number old
+  room_same number =
       let there : finite.contains_key new.documents number
       ≡ finite.contains_key old.documents number =
       ap is_some (agree.documents number) ∙ there_alike number (finite.get old.documents number) in
       let many : finite.len new.documents ≡ finite.len old.documents =
       as_many old.documents new.documents agree.documents in
-      (λ i. there i || nat_lt (many i) most_documents) ∙ is
+      λ i. there i || nat_lt (many i) most_documents
+
+  room_too : (number : ℕ) → log_after.has_room number old ≡ true → has_room number new ≡ true
+  room_too number is = room_same number ∙ is
 
   -- ---- each kind
 

@@ -4,6 +4,9 @@ use Rattle.std.proofs.Common.{◌≡◌, ℕ, ◌+◌, List, [], ◌∷◌, ◌+
 use Rattle.std.proofs.Common.{◌∙◌}
 use Rattle.std.specs.Prelude.{Some, option_and_then}
 use Rattle.std.specs.List.{AllByRecursion}
+use Rattle.std.specs.Option.{option_map}
+use Rattle.std.specs.Ordering.{nat_cmp}
+use Rattle.std.specs.FinMap as finite
 use Rattle.std.proofs.lemmas.List.{append-nil}
 use Rattle.ax_frame.specs.Part.{PartValue, AllFit, part_bytes, parts_bytes}
 use Rattle.ax_frame.proofs.Parts as parts
@@ -12,27 +15,41 @@ use Rattle.ax_pages.specs.AfterPart.{after_parts}
 use Rattle.ax_pages.specs.Leads.{LeadOn}
 use Rattle.ax_pages.proofs.OneContents.{same_some, first_step}
 use Rattle.ax_area.specs.Items.{item_bytes, single}
-use Rattle.ax_area.specs.Contents.{Contents, after_changes}
+use Rattle.ax_area.specs.Contents.{Contents, no_contents, after_changes}
 use Rattle.ax_area.specs.Told.{Told, changes_of, told_bytes, AreTold, Begins, TellOn, Lead}
 use Rattle.ax_area.proofs.OneMore.{lead_on}
 use Rattle.ax_area.specs.Changes.{Change, change_of}
 use Rattle.ax_image_grammar.specs.Grammar.{AreReadable}
 use Rattle.ax_image_grammar.specs.Payloads.{IsReadable}
 use Rattle.ax_image.specs.Readable.{newest, IsReadablePart, AreReadableParts}
-use Rattle.ax_image_laws.specs.Agree.{Agree}
+use Rattle.ax_image_laws.specs.Agree.{shown_by, Agree}
 use Rattle.ax_image_laws.proofs.Stepping.{step}
+
+-- ---- nothing
+
+pub none_agree : Agree log.no_contents no_contents
+none_agree = record {
+  next_number = refl;
+  next_version = refl;
+  policy_now = refl;
+  policies = refl;
+  documents = λ number. finite.get-empty nat_cmp number
+      ∙ sym (ap (option_map (shown_by number)) (finite.get-empty nat_cmp number));
+  terms = refl;
+  versioned = refl;
+}
 
 -- ---- parts one behind another
 
-record Tells (list : List PartValue) (at : ℕ) (after : log.Contents) (new : Contents) : Type 0 where
-  told : List Told
-  are : AreTold newest at told
-  spelled : parts_bytes list ≡ told_bytes told
-  reached : Contents
-  lead : Lead told new reached
-  agree : Agree after reached
-  readable : AllByRecursion IsReadablePart list → AreReadable newest told
-  parts_too : AreReadable newest told → AllByRecursion IsReadablePart list
+pub record Tells (list : List PartValue) (at : ℕ) (after : log.Contents) (new : Contents) : Type 0 where
+  pub told : List Told
+  pub are : AreTold newest at told
+  pub spelled : parts_bytes list ≡ told_bytes told
+  pub reached : Contents
+  pub lead : Lead told new reached
+  pub agree : Agree after reached
+  pub readable : AllByRecursion IsReadablePart list → AreReadable newest told
+  pub parts_too : AreReadable newest told → AllByRecursion IsReadablePart list
 
 -- a part says one change, so where that can be read the part can
 part_too : (part : PartValue) (change : Change) → change_of newest (single part) ≡ Some change
@@ -40,7 +57,7 @@ part_too : (part : PartValue) (change : Change) → change_of newest (single par
 part_too part change says reads other said =
     subst (IsReadable newest) (same_some change other (sym says ∙ said)) reads
 
-tells : (list : List PartValue) (at : ℕ) (old after : log.Contents) (new : Contents) → AllFit list
+pub tells : (list : List PartValue) (at : ℕ) (old after : log.Contents) (new : Contents) → AllFit list
     → after_parts list old ≡ Some after → Agree old new → Tells list at after new
 tells [] at old after new fit leads agree = record {
   told = [];

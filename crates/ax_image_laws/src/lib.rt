@@ -1,9 +1,10 @@
-//! An image that stands for a container, in the words of the log, is in the grammar of all versions. Definitions and
-//! laws; no program.
+//! The words of the store, which have one version of the format, and those of all versions say the same. Definitions
+//! and laws; no program.
 //!
-//! The log has the words of one version (`ax_pages`), and `ax_image` says in them what an image stands for. `ax_area`
-//! and `ax_image_grammar` have the words of all versions. This ties the two: what the image has in the one and what it
-//! says in the other agree, and where it stands for a container it is in the grammar, and outside it nowhere.
+//! The log and the store have the words of one version (`ax_pages`), and `ax_image` says in them too which documents an
+//! image has. `ax_area`, `ax_image_grammar` and what `ax_image` says of what an image stands for have the words of all
+//! versions. This ties the two, in both directions: contents, what an image stands for, what can be read, damage and a
+//! later version. So what stands on the store can speak in the words of all versions.
 #![tactic(auto)]
 
 pub mod laws;

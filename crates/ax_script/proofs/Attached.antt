@@ -7,17 +7,15 @@ use Rattle.ax_disk.specs.model.Calls.{Idles}
 use Rattle.ax_disk.specs.model.Stays.{Rests, Stays, BarrierStage, SinceBarrier}
 use Rattle.ax_disk.specs.laws.MomentLaws.{progress_stays, progress_join}
 use Rattle.ax_disk.specs.laws.StaysLaws.{idles_stay, stays_join}
-use Rattle.ax_pages.specs.Contents.{Contents}
-use Rattle.ax_pages.specs.HasContents.{HasContents}
-use Rattle.ax_pages.specs.Image.{IsNewer}
+use Rattle.ax_area.specs.Image.{IsNewer}
 use Rattle.ax_log.specs.Opening.{Keeps}
-use Rattle.ax_store.specs.Store.{IsDamagedStore}
 use Rattle.ax_store.specs.declared.fault.StoreFault.{StoreFault}
 use Rattle.ax_store.specs.declared.fault.StoreFault.TheVariants as fault
 use Rattle.ax_container.specs.Container.{Container}
+use Rattle.ax_image.specs.Readable.{newest}
 use Rattle.ax_image.specs.StandsFor.{StandsFor}
-use Rattle.ax_engine.specs.Opening.{RefusesBy}
-use Rattle.ax_engine.specs.Stores.{IsStore, IsImageOf}
+use Rattle.ax_engine.specs.Opening.{IsDamagedIn, RefusesBy}
+use Rattle.ax_engine.specs.Stores.{IsStore, IsImageOf, IsWithin}
 
 -- ---- a barrier, behind a call that changes nothing
 
@@ -66,10 +64,9 @@ module _ (old mid new : List ℕ → History) (name there now : List ℕ) (is : 
     reads = subst (λ (image : Image). StandsFor image before) (sym reads_are) store.reads;
   }
 
-  -- and so are its contents
-  pub contents_named : (contents : Contents) × HasContents contents (mid there).reads
-      → (contents : Contents) × HasContents contents (old name).reads
-  contents_named some = (some.0, subst (HasContents some.0) reads_are some.1)
+  -- and so is what it says
+  pub within_named : IsWithin (mid there).reads → IsWithin (old name).reads
+  within_named within = subst IsWithin reads_are within
 
   pub since_named : (before : Container) → SinceBarrier (mid there) (new now) (IsImageOf before)
       → SinceBarrier (old name) (new name) (IsImageOf before)
@@ -80,12 +77,12 @@ module _ (old mid new : List ℕ → History) (name there now : List ℕ) (is : 
   pub refuses_named : (why : StoreFault) → RefusesBy why (mid there) (new now)
       → RefusesBy why (old name) (new name)
   refuses_named (fault.Damaged extent at) refused = (
-    subst (λ (image : Image). IsDamagedStore image extent at) reads_are refused.0,
+    subst (λ (image : Image). IsDamagedIn image extent at) reads_are refused.0,
     keeps_since (old name) (mid name) (new name) idle
         (of_name Keeps mid new name there now is still refused.1),
   )
   refuses_named (fault.Newer version) refused = (
-    subst (λ (image : Image). IsNewer image version) reads_are refused.0,
+    subst (λ (image : Image). IsNewer newest version image) reads_are refused.0,
     keeps_since (old name) (mid name) (new name) idle
         (of_name Keeps mid new name there now is still refused.1),
   )

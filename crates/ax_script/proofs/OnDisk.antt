@@ -15,9 +15,9 @@ use Rattle.ax_image.specs.StandsFor.{StandsFor}
 use Rattle.ax_machine.specs.Run.{Exchange, after_lines}
 use Rattle.ax_script.specs.declared.status.Status.{Status}
 use Rattle.ax_script.specs.declared.status.Status.TheVariants as status
-use Rattle.ax_engine.specs.Stores.{IsStore, IsImageOf}
+use Rattle.ax_engine.specs.Stores.{IsStore, IsImageOf, IsWithin}
 use Rattle.ax_script.specs.DiskScript.{StandsAfter, KeepsAcknowledged, RunsOnDisk}
-use Rattle.ax_script.specs.Opening.{IsWithin, Refuses, RefusesOpening, TellsServed}
+use Rattle.ax_script.specs.Opening.{Refuses, RefusesOpening, TellsServed}
 use Rattle.ax_script.specs.Progress.{Reaches, EndsEarly, Ends, EndsServing}
 use Rattle.ax_script.specs.Streams.{Streams}
 use Rattle.ax_script.proofs.DiskMoments.{reaches_keeps}
@@ -189,9 +189,9 @@ pub early_complete : (DiskRose : Type 0) (before : Container) (ended : Status) (
 early_complete D before status.DiskFault old new store refuses early disk no_disk =
     absurd (no_disk (disk refl))
 early_complete D before (status.Damaged extent at) old new store refuses early disk no_disk =
-    absurd (not_damaged old.reads store.reads.documents.contents extent at store.reads.documents.has refuses.0)
+    absurd (not_damaged old.reads before extent at store.reads refuses.0)
 early_complete D before (status.Newer version) old new store refuses early disk no_disk =
-    absurd (not_newer old.reads store.reads.documents.contents version store.reads.documents.has refuses.0)
+    absurd (not_newer old.reads before version store.reads refuses.0)
 early_complete D before status.Memory old new store refuses early disk no_disk = inr (inl refl)
 early_complete D before status.Done old new store refuses early disk no_disk = absurd early
 early_complete D before status.Words old new store refuses early disk no_disk = absurd early

@@ -1,34 +1,29 @@
 -- What a status tells of the store: why it was refused, or that it had contents when it was opened.
 use Rattle.std.specs.Prelude.{◌⊎◌}
-use Rattle.ax_disk.specs.model.Image.{Image}
+use Rattle.ax_area.specs.Image.{IsNewer}
 use Rattle.ax_disk.specs.model.Moments.{History}
 use Rattle.ax_engine.specs.Damage.{IsMetOutside}
+use Rattle.ax_engine.specs.Opening.{IsDamagedIn}
+use Rattle.ax_engine.specs.Stores.{IsWithin}
+use Rattle.ax_image.specs.Readable.{newest}
 use Rattle.ax_log.specs.Opening.{Keeps}
-use Rattle.ax_pages.specs.Contents.{Contents}
-use Rattle.ax_pages.specs.HasContents.{HasContents}
-use Rattle.ax_pages.specs.Image.{IsNewer}
-use Rattle.ax_store.specs.Store.{IsDamagedStore}
 use Rattle.ax_script.specs.declared.status.Status.{Status}
 use Rattle.ax_script.specs.declared.status.Status.TheVariants as status
 
 -- why a status refuses to open a store: its bytes are outside the format at that offset, or it is of
 -- that later version; its lists are then as they were
 abbrev pub RefusesOpening : Status → History → History → Type 0
-RefusesOpening (status.Damaged extent at) old new = IsDamagedStore old.reads extent at × Keeps old new
-RefusesOpening (status.Newer version) old new = IsNewer old.reads version × Keeps old new
+RefusesOpening (status.Damaged extent at) old new = IsDamagedIn old.reads extent at × Keeps old new
+RefusesOpening (status.Newer version) old new = IsNewer newest version old.reads × Keeps old new
 RefusesOpening other old new = Unit {0}
-
--- the image is within the format in root, frames and heads of parts
-abbrev pub IsWithin : Image → Type 0
-IsWithin image = (contents : Contents) × HasContents contents image
 
 -- The same of a run. A store that was opened was within the format; it is damaged at the part of a
 -- document whose text is none of a document, in the store that the run has left.
 abbrev pub Refuses : Status → History → History → Type 0
 Refuses (status.Damaged extent at) old new =
-    (IsDamagedStore old.reads extent at × Keeps old new)
+    (IsDamagedIn old.reads extent at × Keeps old new)
     ⊎ (IsWithin old.reads × IsMetOutside new.reads extent at)
-Refuses (status.Newer version) old new = IsNewer old.reads version × Keeps old new
+Refuses (status.Newer version) old new = IsNewer newest version old.reads × Keeps old new
 Refuses other old new = Unit {0}
 
 -- the status tells that the store was opened and served

@@ -5,9 +5,7 @@ ghost use Rattle.ax_faults.specs.Faults.{Rose};
 ghost use Rattle.ax_disk.specs.model.Stays.{SinceBarrier};
 ghost use Rattle.ax_container.specs.Container.{Container};
 ghost use Rattle.ax_engine.specs.Engine.{HoldsOver, Works};
-ghost use Rattle.ax_engine.specs.Stores.{IsImageOf, IsStore};
-ghost use Rattle.ax_pages.specs.Contents.{Contents};
-ghost use Rattle.ax_pages.specs.HasContents.{HasContents};
+ghost use Rattle.ax_engine.specs.Stores.{IsImageOf, IsStore, IsWithin};
 ghost use Rattle.ax_script.specs.Opening.{RefusesOpening};
 ghost use Rattle.ax_script.specs.Progress.{EndsEarly};
 
@@ -26,8 +24,8 @@ pub(crate) fn open_named<D: Disk>(alloc: Global, disk: &mut D, name: &str) -> Re
     ensures holds { IsTrue (D.is_honest disk.old) → (before : Container)
         → IsStore before (D.history disk.old (D.store_named name.now))
         → IfOk result (λ engine. HoldsOver engine (D.history disk.new (D.attached disk.new)) before) }
-    ensures opened { IsTrue (D.is_honest disk.old) → IfOk result (λ engine. (contents : Contents)
-        × HasContents contents (D.history disk.old (D.store_named name.now)).reads) }
+    ensures opened { IsTrue (D.is_honest disk.old) → IfOk result
+        (λ engine. IsWithin (D.history disk.old (D.store_named name.now)).reads) }
     ensures any_moment { IsTrue (D.is_honest disk.old) → (before : Container)
         → IsStore before (D.history disk.old (D.store_named name.now))
         → SinceBarrier (D.history disk.old (D.store_named name.now)) (D.history disk.new (D.store_named name.now)) (IsImageOf before) }

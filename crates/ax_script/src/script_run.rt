@@ -2,10 +2,8 @@ ghost use Rattle.std.specs.Prelude.{◌≡◌, ◌≢◌, ◌↔◌, ◌≤◌, 
 ghost use Rattle.ax_faults.specs.Faults.{Rose};
 ghost use Rattle.ax_container.specs.Container.{Container};
 ghost use Rattle.ax_script.specs.CommandLine.{is_run as is_run_lem, store_word};
-ghost use Rattle.ax_engine.specs.Stores.{IsStore};
+ghost use Rattle.ax_engine.specs.Stores.{IsStore, IsWithin};
 ghost use Rattle.ax_script.specs.DiskScript.{RunsOnDisk};
-ghost use Rattle.ax_pages.specs.Contents.{Contents};
-ghost use Rattle.ax_pages.specs.HasContents.{HasContents};
 ghost use Rattle.ax_script.specs.Opening.{Refuses, TellsServed};
 
 use crate::command_line::{is_run, store_name};
@@ -67,8 +65,8 @@ pub fn run<D: Disk, S: Source, K: Sink, L: Ledger>(
         (D.history disk.new (D.store_named (store_word words.now))) }
 
     // And a store that has no contents, since it is damaged or of a later version, is not served.
-    ensures within { IsTrue (D.is_honest disk.old) → TellsServed result → (contents : Contents)
-        × HasContents contents (D.history disk.old (D.store_named (store_word words.now))).reads }
+    ensures within { IsTrue (D.is_honest disk.old) → TellsServed result
+        → IsWithin (D.history disk.old (D.store_named (store_word words.now))).reads }
 
     ensures complete { is_run_lem words.now ≡ true → IsTrue (D.is_honest disk.old) → (before : Container)
         → IsStore before (D.history disk.old (D.store_named (store_word words.now)))
@@ -112,8 +110,8 @@ fn serve<D: Disk, S: Source, K: Sink, L: Ledger>(
         → Rose (K.faults sink.old) (K.faults sink.new) }
     ensures refused { IsTrue (D.is_honest disk.old) → Refuses result
         (D.history disk.old (D.store_named (store_word words.now))) (D.history disk.new (D.store_named (store_word words.now))) }
-    ensures within { IsTrue (D.is_honest disk.old) → TellsServed result → (contents : Contents)
-        × HasContents contents (D.history disk.old (D.store_named (store_word words.now))).reads }
+    ensures within { IsTrue (D.is_honest disk.old) → TellsServed result
+        → IsWithin (D.history disk.old (D.store_named (store_word words.now))).reads }
     ensures disk_faults { D.faults disk.old ≤ D.faults disk.new }
     ensures source_faults { S.faults source.old ≤ S.faults source.new }
     ensures sink_faults { K.faults sink.old ≤ K.faults sink.new }

@@ -2,7 +2,7 @@ use Rattle.std.proofs.Common.{◌≡◌, ◌-◌, ◌^◌, ℕ, List, find}
 use Rattle.std.specs.Prelude.{IsTrue}
 use Rattle.ax_ids.specs.Ids.{number_under}
 use Rattle.ax_container.specs.Container.{Container, has_id}
-use Rattle.ax_image.specs.StandsFor.{ContentsStandFor}
+use Rattle.ax_image.specs.Documents.{ContentsStandFor}
 use Rattle.ax_store.specs.Store.{store_contents}
 use Rattle.ax_engine.specs.Documents.{number_in}
 use Rattle.ax_engine.specs.Scans.{Scanned}

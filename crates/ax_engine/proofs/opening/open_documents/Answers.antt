@@ -5,7 +5,7 @@ use Rattle.ax_disk.specs.laws.StaysLaws.{idles_start}
 use Rattle.ax_engine.specs.Documents.{DocumentsWork}
 use Rattle.ax_store.specs.Store.{store_contents}
 use Rattle.ax_engine.specs.Stores.{IsImageOf}
-use Rattle.ax_engine.proofs.Opened.{holds_opened, idle_since, in_any, opened_rests, readable_still, refuses_none, rose_numbered, since_opening, since_reading, when_opened, works_numbered}
+use Rattle.ax_engine.proofs.Opened.{holds_opened, idle_since, in_any, is_within, opened_rests, readable_still, refuses_by, refuses_none, rose_numbered, since_opening, since_reading, when_opened, works_numbered}
 use Rattle.ax_engine.proofs.opening.open_documents.Goals as goal
 
 pub returns-in_default-clause-any_moment : goal.returns-in_default-clause-any_moment
@@ -47,6 +47,11 @@ pub returns-in-Err-clause-any_moment : goal.returns-in-Err-clause-any_moment
 returns-in-Err-clause-any_moment g c = λ honest before store.
     since_opening _ _ before store (c.open_store.ensures.frames honest)
 
+pub returns-in-Err-clause-refused : goal.returns-in-Err-clause-refused
+returns-in-Err-clause-refused g c = λ honest.
+    refuses_by _ _ c.in-Err.fault (c.in-Err.ensures.tells honest) (c.in-Err.ensures.refused honest)
+
 pub returns-in-Ok-open_store-clause-opened : goal.returns-in-Ok-open_store-clause-opened
 returns-in-Ok-open_store-clause-opened g c = λ honest.
-    in_any c.number_all.result (store_contents c.in-Ok-open_store.store, (c.in-Ok-open_store.ensures.tells honest).has)
+    in_any c.number_all.result
+    (is_within _ (store_contents c.in-Ok-open_store.store) (c.in-Ok-open_store.ensures.tells honest).has)

@@ -4,7 +4,7 @@ use Rattle.std.specs.Prelude.{IsTrue}
 use Rattle.ax_tree.specs.declared.tree.Tree.{Tree}
 use Rattle.ax_mean.specs.declared.query.Query.{Query}
 use Rattle.ax_container.specs.Container.{Container}
-use Rattle.ax_image.specs.StandsFor.{ContentsStandFor}
+use Rattle.ax_image.specs.Documents.{ContentsStandFor}
 use Rattle.ax_answer_text.specs.Parts.{AreReadWholeFor}
 use Rattle.ax_answer_text.specs.TextAnswers.{Answers, IsTo}
 use Rattle.ax_store.specs.Store.{store_contents}

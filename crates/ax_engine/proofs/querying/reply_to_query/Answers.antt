@@ -2,7 +2,7 @@
 use Rattle.std.proofs.Common.{◌∙◌, subst, sym}
 use Rattle.std.specs.Prelude.{IfOk}
 use Rattle.ax_store.specs.Store.{store_contents}
-use Rattle.ax_engine.specs.Damage.{MeetsNone}
+use Rattle.ax_engine.specs.InPages.{MeetsNone}
 use Rattle.ax_engine.specs.Replies.{OnRows}
 use Rattle.ax_engine.proofs.Damaging.{one_query}
 use Rattle.ax_engine.proofs.querying.reply_to_query.Goals as goal

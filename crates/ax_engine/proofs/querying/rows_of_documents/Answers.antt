@@ -1,12 +1,12 @@
 -- The rows of the keys, each with the text of its document, are the rows of the query.
 use Rattle.std.proofs.Common.{◌∙◌, ap, sym, subst}
 use Rattle.std.specs.Prelude.{IfOk, IsTrue}
-use Rattle.ax_image.specs.StandsFor.{ContentsStandFor}
+use Rattle.ax_image.specs.Documents.{ContentsStandFor}
 use Rattle.ax_machine.specs.Querying.{numbered}
 use Rattle.ax_result.specs.Answers.{answer_of}
 use Rattle.ax_store.specs.Kept.{Kept}
 use Rattle.ax_engine.specs.Replies.{AreRows}
-use Rattle.ax_engine.specs.Damage.{MeetsNone}
+use Rattle.ax_engine.specs.InPages.{MeetsNone}
 use Rattle.ax_store.specs.Store.{store_contents}
 use Rattle.ax_engine.proofs.Damaging.{keys_met, on_ok}
 use Rattle.ax_engine.proofs.Numbers.{shown_rows}

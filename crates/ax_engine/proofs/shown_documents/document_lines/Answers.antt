@@ -1,7 +1,7 @@
 -- A row more.
 use Rattle.std.proofs.Common.{sym, subst, ◌∙◌}
 use Rattle.std.specs.Prelude.{IsTrue}
-use Rattle.ax_image.specs.StandsFor.{ContentsStandFor}
+use Rattle.ax_image.specs.Documents.{ContentsStandFor}
 use Rattle.ax_store.specs.Kept.{Kept}
 use Rattle.ax_engine.proofs.InOrder.{pairs}
 use Rattle.ax_engine.proofs.RowLines.{line_added}

@@ -2,7 +2,7 @@
 use Rattle.std.proofs.Common.{◌≡◌, ◌++◌, drop}
 use Rattle.std.specs.Prelude.{IsTrue}
 use Rattle.ax_container.specs.Container.{Container}
-use Rattle.ax_image.specs.StandsFor.{ContentsStandFor}
+use Rattle.ax_image.specs.Documents.{ContentsStandFor}
 use Rattle.ax_store.specs.Store.{store_contents}
 use Rattle.ax_engine.specs.Scans.{Scanned}
 use Rattle.ax_engine.proofs.InOrder.{pairs}

@@ -1,3 +1,4 @@
+use Rattle.ax_image_laws.proofs.Backward.{contents_back}
 use Rattle.ax_image_laws.proofs.InGrammar.{contents_found, contents_agree}
 use Rattle.ax_image_laws.proofs.laws.contents_agree.Goals as goal
 
@@ -6,3 +7,7 @@ returns-clause-found c = contents_found
 
 pub returns-clause-all : goal.returns-clause-all
 returns-clause-all c = contents_agree
+
+pub returns-clause-back : goal.returns-clause-back
+returns-clause-back c = λ image version told new says.
+    let is = contents_back image version told new says in (is.old, is.has, is.agree)

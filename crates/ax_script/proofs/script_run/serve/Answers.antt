@@ -2,8 +2,7 @@
 use Rattle.std.proofs.Common.{IsTrue, Bool, List, ℕ, Err, subst, sym, ap, refl, inl, inr}
 use Rattle.ax_script.specs.declared.status.Status.TheVariants as status
 use Rattle.ax_engine.specs.Stores.{IsStore}
-use Rattle.ax_pages.specs.Contents.{Contents}
-use Rattle.ax_pages.specs.HasContents.{HasContents}
+use Rattle.ax_engine.specs.Stores.{IsWithin}
 use Rattle.ax_script.specs.DiskScript.{RunsOnDisk}
 use Rattle.ax_script.specs.Opening.{Refuses}
 use Rattle.ax_script.specs.Progress.{Ends}
@@ -64,8 +63,7 @@ returns-in-Ok-open_named-clause-refused g c = λ honest.
 
 pub returns-in-Ok-open_named-clause-within : goal.returns-in-Ok-open_named-clause-within
 returns-in-Ok-open_named-clause-within g c = λ honest served.
-    let R : List ℕ → Type 0 = λ name. (contents : Contents) × HasContents contents
-    (g.D.Disk.history c.args.disk.now (g.D.Disk.store_named name)).reads in
+    let R : List ℕ → Type 0 = λ name. IsWithin (g.D.Disk.history c.args.disk.now (g.D.Disk.store_named name)).reads in
     subst R c.store_name.ensures (c.in-Ok-open_named.ensures.opened honest)
 
 pub returns-clause-within : goal.returns-clause-within
