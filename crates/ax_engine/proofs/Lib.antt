@@ -4,6 +4,7 @@ pub mod Holding
 mod InOrder
 mod Numbers
 pub mod Opened
+mod OwnRefusals
 mod QueryTexts
 mod RowLines
 mod Scanning
