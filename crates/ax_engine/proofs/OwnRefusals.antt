@@ -1,5 +1,5 @@
 -- The own refusal of a query is the one that the causes give to any answer.
-use Rattle.std.proofs.Common.{◌≡◌, ℕ, Bool, true, false, ◌∷◌, List, [], Some, None, Result, Ok, Err, refl, sym, ap, ◌∙◌}
+use Rattle.std.proofs.Common.{◌≡◌, ℕ, Bool, true, false, ◌∷◌, List, [], Some, None, Result, Ok, Err, refl, ap, ◌∙◌}
 use Rattle.std.specs.Prelude.{if◌then◌else◌}
 use Rattle.ax_lines.specs.Causes.{Cause, unless}
 use Rattle.ax_lines.specs.declared.refusal.Refusal.{Refusal}
