@@ -1,5 +1,5 @@
 -- What an engine answers to a line, from what its documents tell.
-use Rattle.std.proofs.Common.{◌≡◌, ℕ, ◌≤◌, Bool, List, Some, None, Result, Ok, Err, OnOk, refl, sym, ap, subst, ◌∙◌}
+use Rattle.std.proofs.Common.{◌≡◌, ℕ, ◌≤◌, Bool, List, Some, None, Result, Ok, Err, OnOk, inl, inr, refl, sym, ap, subst, ◌∙◌}
 use Rattle.std.specs.Prelude.{IfOk, IfErr, IsTrue}
 use Rattle.ax_area.specs.Contents as area
 use Rattle.ax_area.specs.Image.{Says}
@@ -38,7 +38,7 @@ use Rattle.ax_image.specs.Readable.{SaysReadable, TellsReadable, newest}
 use Rattle.ax_image_laws.proofs.InGrammar.{contents_found, says_readable, tells_back}
 use Rattle.ax_pages.specs.Contents.{Contents}
 use Rattle.ax_pages.specs.HasContents.{HasContents}
-use Rattle.ax_engine.specs.Replies.{IsOfReading, IsReply, OnRows, read_answer, upsert_answer}
+use Rattle.ax_engine.specs.Replies.{FitsRefusal, IsOfReading, IsReply, MayReply, OnRows, own_refusal, read_answer, upsert_answer}
 use Rattle.ax_engine.specs.Scans.{Scanned, Scans}
 use Rattle.ax_engine.specs.Stores.{IsImageOf, Shows}
 use Rattle.ax_engine.specs.declared.documents.Documents.{Documents}
@@ -132,6 +132,13 @@ only_disk (Err upsert.Full) = tt
 only_disk (Err upsert.Memory) = tt
 only_disk (Err upsert.Disk) = refl
 
+pub may_upserted : (tree : Tree) (upserted : Result (Unit {0}) UpsertFault)
+    → IfOk (upsert_answer upserted) (λ reply. MayReply (line.Upsert tree) reply)
+may_upserted tree (Ok made) = tt
+may_upserted tree (Err upsert.Full) = inl refl
+may_upserted tree (Err upsert.Memory) = inr refl
+may_upserted tree (Err upsert.Disk) = tt
+
 -- ---- a query changes nothing
 
 -- what reading left, and answered
@@ -223,6 +230,16 @@ passes_read contents body image has (Err store_fault.Disk) met = tt
 passes_read contents body image has (Err (store_fault.Damaged extent at)) met = tt
 passes_read contents body image has (Err (store_fault.Newer version)) met = λ query is. tt
 passes_read contents body image has (Err store_fault.Memory) met = λ query is. tt
+
+-- what fits the own refusal of the query may be its reply, and so may want of memory
+pub may_read : (body : Body) (read : Result Reply StoreFault)
+    → IfOk read (λ reply. FitsRefusal (own_refusal (query_in body.params body.text)) reply)
+    → IfOk (read_answer read) (λ reply. MayReply (line.Query body) reply)
+may_read body (Ok made) fits = inl fits
+may_read body (Err store_fault.Disk) fits = tt
+may_read body (Err (store_fault.Damaged extent at)) fits = tt
+may_read body (Err (store_fault.Newer version)) fits = inr refl
+may_read body (Err store_fault.Memory) fits = inr refl
 
 pub of_reading : (honest : Bool) (read : Result Reply StoreFault) (old new : Store LruPages) (ahead : ReadAhead)
     (entry exit : History) (l m : ℕ) → Scans honest read old new ahead entry exit l m → IfErr read IsOfReading

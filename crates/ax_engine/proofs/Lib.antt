@@ -4,6 +4,7 @@ pub mod Holding
 mod InOrder
 mod Numbers
 pub mod Opened
+mod OwnRefusals
 mod Placing
 mod QueryTexts
 mod RowLines

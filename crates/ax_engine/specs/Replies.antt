@@ -1,9 +1,17 @@
--- The reply that the engine gives as data is one of the definition.
-use Rattle.std.specs.Prelude.{◌≡◌, ℕ, List, length, Result, Ok, Err}
+-- The reply that the engine gives as data is one of the definition; and what a line may be answered, whatever
+-- the store holds.
+use Rattle.std.specs.Prelude.{◌≡◌, ◌⊎◌, ℕ, List, length, Option, None, Some, Result, Ok, Err}
 use Rattle.std.specs.List.{flat_map}
+use Rattle.ax_grammar.specs.Query.{query_in}
+use Rattle.ax_lines.specs.Causes.{unless}
+use Rattle.ax_lines.specs.declared.line.Line.{Line}
+use Rattle.ax_lines.specs.declared.line.Line.TheVariants as line
+use Rattle.ax_lines.specs.declared.refusal.Refusal.{Refusal}
+use Rattle.ax_lines.specs.declared.refusal.Refusal.TheVariants as refusal
+use Rattle.ax_machine.specs.Querying.{causes}
 use Rattle.ax_machine.specs.Reply as reply
 use Rattle.ax_machine.specs.ReplyTexts.{row_text}
-use Rattle.ax_lines.specs.declared.refusal.Refusal.TheVariants as refusal
+use Rattle.ax_mean.specs.declared.query.Query.{Query}
 use Rattle.ax_store.specs.declared.fault.StoreFault.{StoreFault}
 use Rattle.ax_store.specs.declared.fault.StoreFault.TheVariants as store_fault
 use Rattle.ax_engine.specs.declared.documents.UpsertFault.{UpsertFault}
@@ -35,6 +43,36 @@ abbrev pub OnRows : Reply → Type 0 → Type 0
 OnRows given.Ok Is = Unit {0}
 OnRows (given.Rows rows) Is = Is
 OnRows (given.Refused why) Is = Unit {0}
+
+-- ---- what a line may be answered, whatever the store holds
+
+-- the refusal that was answered, if one was
+abbrev pub refusal_in : {A : Type 0} → Result A Refusal → Option Refusal
+refusal_in (Ok answer) = None
+refusal_in (Err why) = Some why
+
+-- The own refusal of a query, which no document has a part in: a text of which the grammar makes no query is
+-- refused as such, and a query by the first of its causes that applies. Where none does there is none.
+abbrev pub own_refusal : Option Query → Option Refusal
+own_refusal None = Some refusal.Query
+own_refusal (Some query) = refusal_in (unless (causes query) (Ok (tt {0})))
+
+-- what a query is answered that has this refusal, or none: it, or rows
+abbrev pub FitsRefusal : Option Refusal → Reply → Type 0
+FitsRefusal own given.Ok = ⊥
+FitsRefusal own (given.Rows rows) = own ≡ None
+FitsRefusal own (given.Refused why) = own ≡ Some why
+
+-- What a line may be answered, whatever the store holds. A query: rows only where it has no refusal of its own,
+-- that refusal, or that memory ran out. An upsert: that it was made, that the store is full, or that memory ran out.
+abbrev pub MayReply : Line → Reply → Type 0
+MayReply (line.Query body) made =
+    FitsRefusal (own_refusal (query_in body.params body.text)) made ⊎ (made ≡ given.Refused refusal.Memory)
+MayReply (line.Upsert tree) given.Ok = Unit {0}
+MayReply (line.Upsert tree) (given.Rows rows) = ⊥
+MayReply (line.Upsert tree) (given.Refused why) = (why ≡ refusal.Full) ⊎ (why ≡ refusal.Memory)
+
+-- ---- what the parts of the engine answered, as the answer to a line
 
 -- the fault is one that reading an open store may answer: not that it is of a later version
 abbrev pub IsOfReading : StoreFault → Type 0

@@ -13,7 +13,7 @@ ghost use Rattle.ax_engine.specs.Damage.{Meets, PassesOverNone};
 ghost use Rattle.ax_engine.specs.Documents.{DocumentsHold, DocumentsWork};
 ghost use Rattle.ax_engine.specs.Engine.{Applies, FindsFull, Holds, HoldsOver, IsOfLine, LeavesLists, Tells, Works};
 ghost use Rattle.ax_engine.specs.Opening.{RefusesBy};
-ghost use Rattle.ax_engine.specs.Replies.{IsOfReading, read_answer, upsert_answer};
+ghost use Rattle.ax_engine.specs.Replies.{IsOfReading, MayReply, read_answer, upsert_answer};
 ghost use Rattle.ax_engine.specs.Stores.{IsImageOf, IsStore, IsWithin};
 
 use crate::documents::{Documents, UpsertFault};
@@ -101,6 +101,10 @@ impl Engine {
     /// document can have, over an honest disk with the place at which its part stands; only a query
     /// answers it, and it leaves the disk's lists as they were. A query without WHERE and LIMIT answers no
     /// rows over such a text, where it reads it whole.
+    ///
+    /// Whatever the store holds, a query is answered rows only where it has no refusal of its own (of its text
+    /// or its ORDER BY), and is refused by that one alone, or for want of memory; an upsert is answered `Ok`,
+    /// or refused as full or for want of memory.
     pub fn apply<D: Disk, L: Ledger>(
         &mut self,
         disk: &mut D,
@@ -115,6 +119,7 @@ impl Engine {
             (D.history disk.old (D.attached disk.old)) (D.history disk.new (D.attached disk.new)) }
         ensures full { (before : Container) → Holds self.old before → FindsFull before line
             → result ≡ Ok (Reply.Refused Refusal.Full) }
+        ensures may_reply { IfOk result (λ reply. MayReply line reply) }
         ensures met { IsTrue (D.is_honest disk.old) → self.old.fault ≡ None
             → IfErr result (λ fault. Meets fault (D.history disk.new (D.attached disk.new)).reads) }
         ensures passes_over_none { IsTrue (D.is_honest disk.old) → self.old.fault ≡ None
@@ -174,6 +179,7 @@ fn answer<D: Disk, L: Ledger>(
         (D.history disk.old (D.attached disk.old)) (D.history disk.new (D.attached disk.new)) }
     ensures full { (before : Container) → DocumentsHold documents.old before → FindsFull before line.now
         → result ≡ Ok (Reply.Refused Refusal.Full) }
+    ensures may_reply { IfOk result (λ reply. MayReply line.now reply) }
     ensures lists { IsTrue (D.is_honest disk.old)
         → LeavesLists line.now (D.history disk.old (D.attached disk.old)) (D.history disk.new (D.attached disk.new)) }
     ensures of_line { IfErr result (λ fault. IsOfLine line.now fault) }
@@ -208,6 +214,7 @@ fn upsert<D: Disk>(documents: &mut Documents, disk: &mut D, tree: &Tree) -> Resu
         (D.history disk.old (D.attached disk.old)) (D.history disk.new (D.attached disk.new)) }
     ensures full { (before : Container) → DocumentsHold documents.old before → FindsFull before (line.Upsert tree.now)
         → result ≡ Ok (Reply.Refused Refusal.Full) }
+    ensures may_reply { IfOk result (λ reply. MayReply (line.Upsert tree.now) reply) }
     ensures only { IfErr result (λ fault. fault ≡ Fault.Disk) }
     ensures works { OnOk result (DocumentsWork (IsTrue (D.is_honest disk.old)) documents.new
         (D.history disk.new (D.attached disk.new))) }
@@ -248,6 +255,7 @@ fn query<D: Disk, L: Ledger>(
         → (before : Container) → DocumentsHold documents.old before
         → Tells (IsTrue (D.is_honest disk.old)) before (line.Query body.now) result documents.new
         (D.history disk.old (D.attached disk.old)) (D.history disk.new (D.attached disk.new)) }
+    ensures may_reply { IfOk result (λ reply. MayReply (line.Query body.now) reply) }
     ensures lists { IsTrue (D.is_honest disk.old)
         → Idles (D.history disk.old (D.attached disk.old)) (D.history disk.new (D.attached disk.new)) }
     ensures met { IsTrue (D.is_honest disk.old)

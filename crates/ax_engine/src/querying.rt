@@ -19,7 +19,7 @@ ghost use Rattle.ax_tree.specs.declared.tree.Tree.{Tree as TreeOf};
 ghost use Rattle.ax_engine.specs.Damage.{LooksAtEach};
 ghost use Rattle.ax_engine.specs.InPages.{AreTrees, MeetsNone};
 ghost use Rattle.ax_engine.specs.Printing.{IsPrinted};
-ghost use Rattle.ax_engine.specs.Replies.{AreRows, IsReply, OnRows};
+ghost use Rattle.ax_engine.specs.Replies.{AreRows, FitsRefusal, IsReply, OnRows, own_refusal};
 ghost use Rattle.ax_engine.specs.Scans.{IsReady, Scans};
 
 use crate::reading::{next_held, read_document, text_fault};
@@ -57,6 +57,7 @@ pub(crate) fn reply_to_query<D: Disk, L: Ledger>(
     requires ready { IsReady (D.is_honest disk.old) store.old ahead.old (D.history disk.old (D.attached disk.old)) }
     ensures reply { IsTrue (D.is_honest disk.old) → (container : Container) → ContentsStandFor (store_contents store.old) container
         → IfOk result (λ reply. IsReply reply (query_reply body.now container)) }
+    ensures fits { IfOk result (λ reply. FitsRefusal (own_refusal (query_in body.now.params body.now.text)) reply) }
     ensures met { IsTrue (D.is_honest disk.old) → (query : queries.Query) → query_in body.now.params body.now.text ≡ Some query
         → IfOk result (λ reply. OnRows reply (MeetsNone query (store_contents store.old))) }
     ensures bound { (container : Container) → ContentsStandFor (store_contents store.old) container
@@ -88,6 +89,7 @@ fn query_of(alloc: Global, body: &Body) -> Result<Option<Query>, Memory>
 }
 
 /// The reply to a query that was read.
+#[tactic(auto, using(crate::proofs::OwnRefusals::is_answered))]
 fn reply_to_read<D: Disk, L: Ledger>(
     alloc: Global,
     store: &mut Store<LruPages>,
@@ -99,6 +101,7 @@ fn reply_to_read<D: Disk, L: Ledger>(
     requires ready { IsReady (D.is_honest disk.old) store.old ahead.old (D.history disk.old (D.attached disk.old)) }
     ensures reply { IsTrue (D.is_honest disk.old) → (container : Container) → ContentsStandFor (store_contents store.old) container
         → IfOk result (λ reply. IsReply reply (rows_reply (rows_or_refusal (Some query) container))) }
+    ensures fits { IfOk result (λ reply. FitsRefusal (own_refusal (Some query)) reply) }
     ensures met { IsTrue (D.is_honest disk.old)
         → IfOk result (λ reply. OnRows reply (MeetsNone query (store_contents store.old))) }
     ensures bound { (container : Container) → ContentsStandFor (store_contents store.old) container

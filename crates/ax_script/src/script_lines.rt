@@ -1,8 +1,11 @@
-ghost use Rattle.std.specs.Prelude.{◌≡◌, ◌++◌, ◌^◌, ◌<◌, ◌≤◌, ◌⊎◌, [], length, OnOk, OnErr, None, Err, IsTrue, IfErr};
+ghost use Rattle.std.specs.Prelude.{◌≡◌, ◌++◌, ◌^◌, ◌<◌, ◌≤◌, ◌⊎◌, [], length};
+ghost use Rattle.std.specs.Prelude.{OnOk, OnErr, None, Some, Err, IsTrue, IfErr};
 ghost use Rattle.ax_faults.specs.Faults.{Rose};
 ghost use Rattle.ax_container.specs.Container.{Container};
 ghost use Rattle.ax_engine.specs.Engine.{HoldsOver, Works};
+ghost use Rattle.ax_engine.specs.declared.engine.Fault.{Fault};
 ghost use Rattle.ax_script.specs.Progress.{outlets, Serves, BeginsToServe, ServesLines, BeginsLines, ServesLast, BeginsLast, Ends, BreaksOffWith, EndsServing, IsOfServing, StopsBy};
+ghost use Rattle.ax_script.specs.Replies.{fault_status};
 ghost use Rattle.ax_lines.specs.ScriptLines.{IsOneLine};
 
 use crate::serving::serve_line;
@@ -18,7 +21,7 @@ use std::sync::ledger::Ledger;
 const MOST_INPUT: u64 = 1 << 40;
 
 /// Reads the source to its end, piece by piece into `buffer`, and serves each line as soon as its
-/// newline has come, and the last piece at the end.
+/// newline has come, and the last piece at the end. A fault of the engine ends it, and is its status.
 pub fn serve_source<D: Disk, S: Source, K: Sink, L: Ledger>(
     alloc: Global,
     engine: &mut Engine,
@@ -50,6 +53,7 @@ pub fn serve_source<D: Disk, S: Source, K: Sink, L: Ledger>(
     ensures steps { steps.old ≤ steps.new }
     ensures sound { IsTrue (D.is_honest disk.old) → (before : Container) → HoldsOver engine.old (D.history disk.old (D.attached disk.old)) before → IsOfServing result }
     ensures of_serving { EndsServing (D.is_honest disk.old) result (D.history disk.new (D.attached disk.new)) }
+    ensures kept { (fault : Fault) → engine.new.fault ≡ Some fault → result ≡ fault_status fault }
 {
     let mut pending = Vec::new(alloc);
     let mut taken = 0u64;
@@ -104,6 +108,7 @@ fn serve_piece<D: Disk, K: Sink, L: Ledger>(
         (outlets (K.written sink.new) (D.history disk.new (D.attached disk.new)) steps.new)) }
     ensures works { OnOk result (Works (IsTrue (D.is_honest disk.old)) engine.new (D.history disk.new (D.attached disk.new))) }
     ensures unfaulted { OnOk result (engine.new.fault ≡ None) }
+    ensures kept { (fault : Fault) → engine.new.fault ≡ Some fault → result ≡ Err (fault_status fault) }
     ensures line { OnOk result (IsOneLine pending.new.items) }
     ensures sound { IsTrue (D.is_honest disk.old) → (before : Container) → HoldsOver engine.old (D.history disk.old (D.attached disk.old)) before → IfErr result BreaksOffWith }
     ensures only { IfErr result (λ status. StopsBy (D.is_honest disk.old) status
@@ -161,6 +166,7 @@ fn serve_head<D: Disk, K: Sink, L: Ledger>(
         (outlets (K.written sink.new) (D.history disk.new (D.attached disk.new)) steps.new)) }
     ensures works { OnOk result (Works (IsTrue (D.is_honest disk.old)) engine.new (D.history disk.new (D.attached disk.new))) }
     ensures unfaulted { OnOk result (engine.new.fault ≡ None) }
+    ensures kept { (fault : Fault) → engine.new.fault ≡ Some fault → result ≡ Err (fault_status fault) }
     ensures sound { IsTrue (D.is_honest disk.old) → (before : Container) → HoldsOver engine.old (D.history disk.old (D.attached disk.old)) before → IfErr result BreaksOffWith }
     ensures only { IfErr result (λ status. StopsBy (D.is_honest disk.old) status
         (D.history disk.new (D.attached disk.new))) }
@@ -209,6 +215,7 @@ fn serve_last<D: Disk, K: Sink, L: Ledger>(
         → (result ≡ Status.Done) ⊎ BreaksOffWith result }
     ensures only { (result ≡ Status.Done) ⊎ StopsBy (D.is_honest disk.old) result
         (D.history disk.new (D.attached disk.new)) }
+    ensures kept { (fault : Fault) → engine.new.fault ≡ Some fault → result ≡ fault_status fault }
     ensures disk_cause { result ≡ Status.DiskFault → Rose (D.faults disk.old) (D.faults disk.new) }
     ensures sink_cause { result ≡ Status.WriteFault → Rose (K.faults sink.old) (K.faults sink.new) }
     ensures disk_faults { D.faults disk.old ≤ D.faults disk.new }

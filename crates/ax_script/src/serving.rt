@@ -25,7 +25,7 @@ use std::sync::ledger::Ledger;
 /// fault comes only where a call on the disk failed in this call, or in an earlier one of this engine, and
 /// a write fault only where one on the sink failed in this call. Over an honest disk damage comes only
 /// where the text of a document is none that a document can have, with the place of its part, and so
-/// never over documents that are those of a container.
+/// never over documents that are those of a container. A fault that the engine has afterwards is the error.
 pub fn serve_line<D: Disk, K: Sink, L: Ledger>(
     alloc: Global,
     engine: &mut Engine,
@@ -61,6 +61,9 @@ pub fn serve_line<D: Disk, K: Sink, L: Ledger>(
     // A fault that the engine has answered is answered again, and then nothing is touched.
     ensures again { (fault : Fault) → engine.old.fault ≡ Some fault → (result ≡ Err (fault_status fault))
         × (engine.new ≡ engine.old) × (disk.new ≡ disk.old) × (sink.new ≡ sink.old) × (steps.new ≡ steps.old) }
+
+    // And one that it has after this line is the error, whether it is of this line or was there before.
+    ensures kept { (fault : Fault) → engine.new.fault ≡ Some fault → result ≡ Err (fault_status fault) }
 {
     let answered = answer(alloc, engine, disk, line, steps);
     write_answer(alloc, sink, answered)
@@ -91,6 +94,7 @@ fn answer<D: Disk, L: Ledger>(
     ensures steps { steps.old ≤ steps.new }
     ensures again { (fault : Fault) → engine.old.fault ≡ Some fault → (result ≡ Err fault)
         × (engine.new ≡ engine.old) × (disk.new ≡ disk.old) × (steps.new ≡ steps.old) }
+    ensures kept { (fault : Fault) → engine.new.fault ≡ Some fault → result ≡ Err fault }
 {
     if let Some(fault) = engine.fault() {
         return Err(fault);
@@ -121,6 +125,7 @@ fn answer_line<D: Disk, L: Ledger>(
     ensures bound { (before : Container) → Holds engine.old before
         → steps.new ≤ steps.old + most_steps before line.now }
     ensures steps { steps.old ≤ steps.new }
+    ensures kept { engine.old.fault ≡ None → (fault : Fault) → engine.new.fault ≡ Some fault → result ≡ Err fault }
 {
     match read_line(alloc, line) {
         Ok(asked) => engine.apply(disk, asked, steps),

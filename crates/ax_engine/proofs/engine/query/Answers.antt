@@ -11,9 +11,10 @@ use Rattle.ax_image.specs.Readable.{TellsReadable}
 use Rattle.ax_engine.specs.Damage.{Meets, PassesOverNone}
 use Rattle.ax_engine.specs.Documents.{contents_in, DocumentsWork}
 use Rattle.ax_engine.specs.Engine.{Tells}
+use Rattle.ax_engine.specs.Replies.{MayReply}
 use Rattle.ax_engine.specs.declared.engine.Fault.{Fault}
 use Rattle.ax_engine.specs.declared.reply.Reply.{Reply}
-use Rattle.ax_engine.proofs.Applying.{lists_read, met_read, never_falls_read, of_reading, passes_read, rose_read, tells_read, works_read}
+use Rattle.ax_engine.proofs.Applying.{lists_read, may_read, met_read, never_falls_read, of_reading, passes_read, rose_read, tells_read, works_read}
 use Rattle.ax_engine.proofs.engine.query.Goals as goal
 
 pub reply_to_query-read-requires : goal.reply_to_query-read-requires
@@ -44,6 +45,12 @@ returns-clause-tells g c = λ honest readable before holds.
     (g.met.D.Disk.reads_may_stay c.reply_to_query-read.new.disk (g.D.Disk.attached c.reply_to_query-read.new.disk)
     (subst IsTrue (sym c.reply_to_query-read.ensures.honest) honest)))
     (c.reply_to_query-read.ensures.reply honest before holds.stand) honest)
+
+pub returns-clause-may_reply : goal.returns-clause-may_reply
+returns-clause-may_reply g c =
+    let P : Result Reply Fault → Type 0 = λ answer. IfOk answer (λ reply. MayReply (line.Query c.args.body.now) reply) in
+    subst P (sym c.answer_of_read.ensures)
+    (may_read c.args.body.now c.reply_to_query-read.result c.reply_to_query-read.ensures.fits)
 
 pub returns-clause-met : goal.returns-clause-met
 returns-clause-met g c = λ honest.

@@ -1,14 +1,14 @@
 -- What the documents tell of an upsert, as the answer to its line.
 use Rattle.std.proofs.Common.{◌≡◌, ap, subst, sym, ◌∙◌}
-use Rattle.std.specs.Prelude.{IfErr, IsTrue, OnOk, Result}
+use Rattle.std.specs.Prelude.{IfErr, IfOk, IsTrue, OnOk, Result}
 use Rattle.ax_lines.specs.declared.line.Line.TheVariants as line
 use Rattle.ax_engine.specs.Documents.{DocumentsWork}
 use Rattle.ax_engine.specs.Engine.{Tells}
-use Rattle.ax_engine.specs.Replies.{upsert_answer}
+use Rattle.ax_engine.specs.Replies.{MayReply, upsert_answer}
 use Rattle.ax_engine.specs.declared.engine.Fault.{Fault}
 use Rattle.ax_engine.specs.declared.engine.Fault.TheVariants as fault
 use Rattle.ax_engine.specs.declared.reply.Reply.{Reply}
-use Rattle.ax_engine.proofs.Applying.{only_disk, rose_upserted, tells_upserted, works_upserted}
+use Rattle.ax_engine.proofs.Applying.{may_upserted, only_disk, rose_upserted, tells_upserted, works_upserted}
 use Rattle.ax_engine.proofs.Holding.{some_id}
 use Rattle.ax_engine.proofs.engine.upsert.Goals as goal
 
@@ -26,6 +26,11 @@ returns-clause-tells g c = λ before holds.
 pub returns-clause-full : goal.returns-clause-full
 returns-clause-full g c = λ before holds full.
     c.answer_of_upsert.ensures ∙ ap upsert_answer (c.upsert-upserted.ensures.full before full.0 holds full.1 full.2)
+
+pub returns-clause-may_reply : goal.returns-clause-may_reply
+returns-clause-may_reply g c =
+    let P : Result Reply Fault → Type 0 = λ answer. IfOk answer (λ reply. MayReply (line.Upsert c.args.tree.now) reply) in
+    subst P (sym c.answer_of_upsert.ensures) (may_upserted c.args.tree.now c.upsert-upserted.result)
 
 pub returns-clause-only : goal.returns-clause-only
 returns-clause-only g c =
