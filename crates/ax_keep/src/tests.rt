@@ -257,7 +257,7 @@ fn pairs_of_several_documents_are_exchanged(rt: HostRuntime) -> Result<(), Fail>
     assert_eq!(rt; made.len(), expected.len());
     for (change, (add, letter, number)) in made.iter().zip(expected) {
         assert_eq!(rt; change.add, add);
-        assert_eq!(rt; change.pair.term.as_slice(), &[letter]);
+        assert_eq!(rt; change.pair.term.as_slice(), [letter].as_slice());
         assert_eq!(rt; change.pair.number, number);
     }
     Ok(())
