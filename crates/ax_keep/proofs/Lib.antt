@@ -1,0 +1,4 @@
+mod Exchanging
+mod NetLaws
+mod Owning
+mod Stepping
