@@ -1,3 +1,5 @@
 mod Reading
 mod Begins
 mod Attaching
+mod Judged
+mod Causes

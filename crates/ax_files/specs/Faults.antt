@@ -3,6 +3,8 @@ use Rattle.std.specs.Prelude.{◌≡◌, ◌⊎◌, IsTrue}
 use Rattle.std.specs.IoError.{error_kind}
 use Rattle.std.specs.declared.io.Error.{Error}
 use Rattle.std.specs.declared.io.ErrorKind.TheVariants.{NotFound}
+use Rattle.std.specs.declared.fs.TryLockError.{TryLockError}
+use Rattle.std.specs.declared.fs.TryLockError.TheVariants.{WouldBlock}
 use Rattle.ax_disk.specs.declared.extent.Extent.{Extent}
 use Rattle.ax_files.specs.Marks.{Marks, is_marked}
 use Rattle.ax_files.specs.SystemCalls.{SystemCall}
@@ -69,29 +71,6 @@ IsOfMarked marks (Bound extent) = ⊥
 IsOfMarked marks Detached = ⊥
 IsOfMarked marks Stopped = ⊥
 
--- a call that is made of a file while a store is opened
-abbrev pub IsOpeningCall : FileCall → Type 0
-IsOpeningCall Open = Unit {0}
-IsOpeningCall Lock = Unit {0}
-IsOpeningCall Length = Unit {0}
-IsOpeningCall Read = Unit {0}
-IsOpeningCall Write = ⊥
-IsOpeningCall Cut = ⊥
-IsOpeningCall Sync = ⊥
-
--- why a store is not opened: that the system failed a call on a file of it or on their folder, that another program
--- holds it, or that files of it have been lost
-abbrev pub IsOfOpening : FileFault → Type 0
-IsOfOpening (Call extent call error) = IsOpeningCall call
-IsOfOpening (Folder error) = Unit {0}
-IsOfOpening (Locked extent) = Unit {0}
-IsOfOpening (Rootless root area) = Unit {0}
-IsOfOpening Foreign = Unit {0}
-IsOfOpening (Arealess area) = Unit {0}
-IsOfOpening (Bound extent) = ⊥
-IsOfOpening Detached = ⊥
-IsOfOpening Stopped = ⊥
-
 -- with such an error one of the calls fails that are made of the system here, none of which opens or locks a file
 abbrev pub IsErrorOf : (SystemCall → Error → Type 0) → FileCall → Error → Type 0
 IsErrorOf fails_with Open error = ⊥
@@ -115,30 +94,75 @@ HasItsError fails_with (Bound extent) = Unit {0}
 HasItsError fails_with Detached = Unit {0}
 HasItsError fails_with Stopped = Unit {0}
 
--- with such an error a file fails to open, where that is the call
-abbrev pub IsOpenErrorOf : (Error → Type 0) → FileCall → Error → Type 0
-IsOpenErrorOf fails_to_open Open error = fails_to_open error
-IsOpenErrorOf fails_to_open Lock error = Unit {0}
-IsOpenErrorOf fails_to_open Length error = Unit {0}
-IsOpenErrorOf fails_to_open Read error = Unit {0}
-IsOpenErrorOf fails_to_open Write error = Unit {0}
-IsOpenErrorOf fails_to_open Cut error = Unit {0}
-IsOpenErrorOf fails_to_open Sync error = Unit {0}
-
--- where a fault says that a file did not open, its error is one with which that file fails to open
-abbrev pub HasOpenError : (Extent → Error → Type 0) → FileFault → Type 0
-HasOpenError fails_to_open (Call extent call error) = IsOpenErrorOf (fails_to_open extent) call error
-HasOpenError fails_to_open (Folder error) = Unit {0}
-HasOpenError fails_to_open (Locked extent) = Unit {0}
-HasOpenError fails_to_open (Rootless root area) = Unit {0}
-HasOpenError fails_to_open Foreign = Unit {0}
-HasOpenError fails_to_open (Arealess area) = Unit {0}
-HasOpenError fails_to_open (Bound extent) = Unit {0}
-HasOpenError fails_to_open Detached = Unit {0}
-HasOpenError fails_to_open Stopped = Unit {0}
-
 -- a file fails to open since there is none
 pub record IsAbsent (fails_to_open : Error → Type 0) : Type 0 where
   pub error : Error
   pub is_of_it : fails_to_open error
   pub says_so : error_kind error ≡ NotFound
+
+-- that files of the store have been lost
+abbrev pub IsOfLost : FileFault → Type 0
+IsOfLost (Call extent call error) = ⊥
+IsOfLost (Folder error) = ⊥
+IsOfLost (Locked extent) = ⊥
+IsOfLost (Rootless root area) = Unit {0}
+IsOfLost Foreign = Unit {0}
+IsOfLost (Arealess area) = Unit {0}
+IsOfLost (Bound extent) = ⊥
+IsOfLost Detached = ⊥
+IsOfLost Stopped = ⊥
+
+-- with such an error the file of that extent fails to open or to lock, where that is the call
+abbrev pub IsFindingErrorOf : (Error → Type 0) → (TryLockError → Type 0) → FileCall → Error → Type 0
+IsFindingErrorOf fails_to_open fails_to_lock Open error = fails_to_open error
+IsFindingErrorOf fails_to_open fails_to_lock Lock error = fails_to_lock (TryLockError.Error error)
+IsFindingErrorOf fails_to_open fails_to_lock Length error = ⊥
+IsFindingErrorOf fails_to_open fails_to_lock Read error = ⊥
+IsFindingErrorOf fails_to_open fails_to_lock Write error = ⊥
+IsFindingErrorOf fails_to_open fails_to_lock Cut error = ⊥
+IsFindingErrorOf fails_to_open fails_to_lock Sync error = ⊥
+
+-- that the file of that extent did not open, or that it is not locked: by an error of the system, or since another
+-- program holds it; each where the file fails so
+abbrev pub IsOfFinding : Extent → (Error → Type 0) → (TryLockError → Type 0) → FileFault → Type 0
+IsOfFinding extent fails_to_open fails_to_lock (Call of_extent call error) =
+    (of_extent ≡ extent) × IsFindingErrorOf fails_to_open fails_to_lock call error
+IsOfFinding extent fails_to_open fails_to_lock (Folder error) = ⊥
+IsOfFinding extent fails_to_open fails_to_lock (Locked of_extent) = (of_extent ≡ extent) × fails_to_lock WouldBlock
+IsOfFinding extent fails_to_open fails_to_lock (Rootless root area) = ⊥
+IsOfFinding extent fails_to_open fails_to_lock Foreign = ⊥
+IsOfFinding extent fails_to_open fails_to_lock (Arealess area) = ⊥
+IsOfFinding extent fails_to_open fails_to_lock (Bound of_extent) = ⊥
+IsOfFinding extent fails_to_open fails_to_lock Detached = ⊥
+IsOfFinding extent fails_to_open fails_to_lock Stopped = ⊥
+
+-- with such an error a call fails that is made of a file while a store is opened
+abbrev pub IsOpeningErrorOf : (Error → Type 0) → (TryLockError → Type 0) → (SystemCall → Error → Type 0) → FileCall
+    → Error → Type 0
+IsOpeningErrorOf fails_to_open fails_to_lock fails_with Open error = fails_to_open error
+IsOpeningErrorOf fails_to_open fails_to_lock fails_with Lock error = fails_to_lock (TryLockError.Error error)
+IsOpeningErrorOf fails_to_open fails_to_lock fails_with Length error = fails_with SystemCall.Size error
+IsOpeningErrorOf fails_to_open fails_to_lock fails_with Read error = fails_with SystemCall.ReadPiece error
+IsOpeningErrorOf fails_to_open fails_to_lock fails_with Write error = ⊥
+IsOpeningErrorOf fails_to_open fails_to_lock fails_with Cut error = ⊥
+IsOpeningErrorOf fails_to_open fails_to_lock fails_with Sync error = ⊥
+
+-- Why a store is not opened: a file does not open, is not locked, or tells no length or no bytes; its folder is not
+-- synced; another program holds it: each with an error that there is for it. Or that files of it have been lost.
+abbrev pub HasOpeningCause : (Extent → Error → Type 0) → (Extent → TryLockError → Type 0)
+    → (Extent → SystemCall → Error → Type 0) → (Error → Type 0) → FileFault → Type 0
+HasOpeningCause fails_to_open fails_to_lock fails_with fails_to_sync (Call extent call error) =
+    IsOpeningErrorOf (fails_to_open extent) (fails_to_lock extent) (fails_with extent) call error
+HasOpeningCause fails_to_open fails_to_lock fails_with fails_to_sync (Folder error) = fails_to_sync error
+HasOpeningCause fails_to_open fails_to_lock fails_with fails_to_sync (Locked extent) = fails_to_lock extent WouldBlock
+HasOpeningCause fails_to_open fails_to_lock fails_with fails_to_sync (Rootless root area) = Unit {0}
+HasOpeningCause fails_to_open fails_to_lock fails_with fails_to_sync Foreign = Unit {0}
+HasOpeningCause fails_to_open fails_to_lock fails_with fails_to_sync (Arealess area) = Unit {0}
+HasOpeningCause fails_to_open fails_to_lock fails_with fails_to_sync (Bound extent) = ⊥
+HasOpeningCause fails_to_open fails_to_lock fails_with fails_to_sync Detached = ⊥
+HasOpeningCause fails_to_open fails_to_lock fails_with fails_to_sync Stopped = ⊥
+
+-- there is a file of which this is so
+pub record IsSoOfSome {F : Type 0} (IsSo : F → Type 0) : Type 0 where
+  pub file : F
+  pub is_so : IsSo file

@@ -1,11 +1,12 @@
 //! The disk over files: each call that fails is counted, and why the first one did is kept. After a write, a
 //! cut or a sync that failed every later call fails.
-ghost use Rattle.std.specs.Prelude.{◌≡◌, ◌≢◌, ◌≤◌, ◌^◌, ◌+◌, ◌<◌, ◌↔◌, ◌⊎◌, false, [], Some, length, take, IsTrue, IfOk, OnOk, OnErr, IfErr, IsOk, IsErr, IsOkAnd, IsSome, MatchResult};
+ghost use Rattle.std.specs.Prelude.{◌≡◌, ◌≢◌, ◌≤◌, ◌^◌, ◌+◌, ◌<◌, ◌↔◌, ◌⊎◌, false, [], Some, length, unwrap_or, take, IsTrue, IfOk, OnOk, OnErr, IfErr, IsOk, IsErr, IsOkAnd, IsSome, MatchResult};
 ghost use Rattle.std.proofs.lemmas.Bool.{false≢true};
 ghost use Rattle.ax_disk.specs.model.Calls.{overwritten, bytes_from};
 ghost use Rattle.ax_faults.specs.Faults.{HasCause, CountsOnce, raised};
-ghost use Rattle.ax_files.specs.Faults.{IsOfCall, IsOfCallOnAny, IsOfMarked, IsOfOpening, HasItsError, HasOpenError};
-ghost use Rattle.ax_files.specs.Judging.{IsSound};
+ghost use Rattle.ax_files.specs.Faults.{IsOfCall, IsOfCallOnAny, IsOfMarked, IsOfLost, HasItsError, HasOpeningCause, IsSoOfSome};
+ghost use Rattle.ax_files.specs.Judging.{IsSound, IsUnsound};
+ghost use Rattle.std.specs.Option.{ForSome};
 ghost use Rattle.ax_files.specs.Marks.{marks, none_marked, all_marked, marked};
 
 use crate::file_fault::{FileCall, FileFault};
@@ -43,6 +44,7 @@ impl<F: SystemFile, S: FileSystem<F>> CountedFiles<F, S> {
 
     /// With no store attached: until one is, each other call fails.
     pub fn over(system: S) -> CountedFiles<F, S>
+        ensures system { result.system ≡ system }
         ensures detached { result.state ≡ State.Detached }
         ensures no_fault { (result.faults ≡ 0) × (result.first_fault ≡ None) }
     {
@@ -192,8 +194,30 @@ impl<F: SystemFile, S: FileSystem<F>> Disk for CountedFiles<F, S> {
         ensures attached { IsOk result ↔ HasFiles self.new.state }
         ensures unsynced { state_marks self.new.state ≡ all_marked }
         ensures kept { MatchResult result (λ _. self.new.first_fault ≡ self.old.first_fault)
-            (λ _. Keeps (IsOfAttach (λ fault. IsOfOpening fault) self.old.state)
-            self.old.first_fault self.new.first_fault) }
+            (λ _. Keeps (IsOfAttach (λ fault. HasOpeningCause (λ extent. S.fails_to_open name.now extent)
+            (λ extent. F.fails_to_lock name.now extent) (λ extent call error. IsSoOfSome (λ f. F.is_of f name.now extent
+            × IsTrue (F.is_locked f) × F.fails_with f call error)) (λ error. S.fails_to_sync name.now error) fault)
+            self.old.state) self.old.first_fault self.new.first_fault) }
+        ensures lost { IsTrue (S.is_honest self.old.system)
+            → ForSome (S.held self.old.system name.now Extent.Root) (λ bytes. length bytes < 2 ^ 63)
+            → OnErr result (Keeps (λ fault. IsOfLost fault → (self.new.system ≡ self.old.system)
+            × IsUnsound (S.held self.old.system name.now Extent.Root) (S.held self.old.system name.now Extent.A)
+            (S.held self.old.system name.now Extent.B) fault) self.old.first_fault self.new.first_fault) }
+        ensures sound_before { IsTrue (S.is_honest self.old.system)
+            → ForSome (S.held self.old.system name.now Extent.Root) (λ bytes. length bytes < 2 ^ 63)
+            → OnOk result (IsSound (S.held self.old.system name.now Extent.Root)
+            (S.held self.old.system name.now Extent.A) (S.held self.old.system name.now Extent.B)) }
+        ensures made_if_sound { IsTrue (S.is_honest self.old.system)
+            → ForSome (S.held self.old.system name.now Extent.Root) (λ bytes. length bytes < 2 ^ 63)
+            → (self.new.system ≡ self.old.system) ⊎ IsSound (S.held self.old.system name.now Extent.Root)
+            (S.held self.old.system name.now Extent.A) (S.held self.old.system name.now Extent.B) }
+        ensures honest { IsTrue (S.is_honest self.old.system)
+            → OnOk result (HasFilesThat (λ files. IsTrue (F.is_honest files.root.file)
+            × IsTrue (F.is_honest files.a.file) × IsTrue (F.is_honest files.b.file)) self.new.state) }
+        ensures content { IsTrue (S.is_honest self.old.system) → OnOk result (HasFilesThat (λ files.
+            (F.content files.root.file ≡ unwrap_or (S.held self.old.system name.now Extent.Root) [])
+            × (F.content files.a.file ≡ unwrap_or (S.held self.old.system name.now Extent.A) [])
+            × (F.content files.b.file ≡ unwrap_or (S.held self.old.system name.now Extent.B) [])) self.new.state) }
         ensures untouched { self.old.state ≡ State.Stopped → self.new.system ≡ self.old.system }
         ensures of { OnOk result (HasFilesThat (λ files. F.is_of files.root.file name.now Extent.Root
             × F.is_of files.a.file name.now Extent.A × F.is_of files.b.file name.now Extent.B) self.new.state) }
@@ -204,8 +228,6 @@ impl<F: SystemFile, S: FileSystem<F>> Disk for CountedFiles<F, S> {
             → IsTrue (F.is_honest files.b.file) → IsSound (Some (F.content files.root.file))
             (Some (F.content files.a.file)) (Some (F.content files.b.file))) self.new.state) }
         ensures folder { OnOk result (IsTrue (S.keeps_files self.new.system name.now)) }
-        ensures error { OnErr result (Keeps (HasOpenError (λ extent. S.fails_to_open name.now extent))
-            self.old.first_fault self.new.first_fault) }
     {
         // Their locks are given up before they are taken anew.
         self.leave()?;

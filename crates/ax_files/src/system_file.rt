@@ -1,6 +1,7 @@
 //! A file as the system gives it.
 ghost use Rattle.std.specs.Prelude.{◌≡◌, ◌≤◌, ◌<◌, ℕ, Bool, true, false, List, [], length, take, drop, IsOk, OnOk, IfOk, IfErr, IsTrue, ⊤};
 ghost use Rattle.std.specs.Io.{ReadsAtMost};
+ghost use Rattle.std.specs.declared.fs.TryLockError.{TryLockError};
 ghost use Rattle.std.specs.declared.io.Error.{Error};
 ghost use Rattle.ax_disk.specs.declared.extent.Extent.{Extent};
 ghost use Rattle.ax_disk.specs.model.Calls.{overwritten};
@@ -34,11 +35,18 @@ pub trait SystemFile: Drop {
     /// Whether it is locked: then no other program of this kind opens it.
     ghost is_locked: { Self → Bool };
 
+    /// With which errors the file of that extent of the store of that name fails to lock.
+    ghost fails_to_lock: { List ℕ → Extent → TryLockError → Type 0 };
+
     /// Locks the file for this program alone, without waiting. Until it has, another program may change
-    /// what the file holds.
+    /// what a file holds that is not honest.
     fn lock(&mut self) -> Result<(), TryLockError>
         ensures locked { OnOk result (IsTrue (is_locked self.new)) }
-        ensures of { (name : List ℕ) → (extent : Extent) → is_of self.old name extent → is_of self.new name extent };
+        ensures of { (name : List ℕ) → (extent : Extent) → is_of self.old name extent → is_of self.new name extent }
+        ensures alone { IsTrue (is_honest self.old)
+            → OnOk result (IsTrue (is_honest self.new) × (content self.new ≡ content self.old)) }
+        ensures error { (name : List ℕ) → (extent : Extent) → is_of self.old name extent
+            → IfErr result (λ error. fails_to_lock name extent error) };
 
     /// The length in bytes.
     fn size(&self) -> io::Result<u64>
@@ -100,6 +108,8 @@ impl SystemFile for File {
     ghost is_of = { λ _ _ _. ⊤ };
 
     ghost is_locked = { λ _. true };
+
+    ghost fails_to_lock = { λ _ _ _. ⊤ };
 
     fn lock(&mut self) -> Result<(), TryLockError> {
         self.try_lock()
