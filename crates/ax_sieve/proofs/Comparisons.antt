@@ -33,7 +33,7 @@ use Rattle.ax_sieve.specs.declared.found.Found.{Found}
 use Rattle.ax_sieve.specs.declared.found.Found.TheVariants as found
 use Rattle.ax_sieve.specs.Comparing.{scalar_order, passes, is_met}
 use Rattle.ax_sieve.specs.Literals.{literal_value}
-use Rattle.ax_sieve.specs.Operands.{document_env}
+use Rattle.ax_sieve.specs.Operands.{StandsFor}
 use Rattle.ax_sieve.specs.FoundValues.{value_of}
 
 then_same : (o : Ordering) → ordering_then o Equal ≡ o
@@ -63,13 +63,13 @@ compare_means env op left right = search (rules, expr.the_lemmas)
 
 pub steps_compared : (alias : List ℕ) (steps : List QueryStep) (op : BinaryOp) (x left right : Expr)
     (b : Literal) → x ≡ expr.Compare op left right
-    → ((tree : Tree) → meaning (document_env alias tree) left ≡ steps_from (Defined tree) steps)
-    → ((env : Env) → meaning env right ≡ literal_value b) → (tree : Tree)
-    → meaning (document_env alias tree) x ≡ binary op (steps_from (Defined tree) steps) (literal_value b)
-steps_compared alias steps op x left right b is first second tree =
-    let env : Env = document_env alias tree in
+    → ((env : Env) (tree : Tree) → StandsFor env alias tree → meaning env left ≡ steps_from (Defined tree) steps)
+    → ((env : Env) → meaning env right ≡ literal_value b)
+    → (env : Env) (tree : Tree) → StandsFor env alias tree
+    → meaning env x ≡ binary op (steps_from (Defined tree) steps) (literal_value b)
+steps_compared alias steps op x left right b is first second env tree stands =
     ap (meaning env) is ∙ compare_means env op left right
-    ∙ ap₂ (binary op) (first tree) (second env)
+    ∙ ap₂ (binary op) (first env tree stands) (second env)
 
 truth_again : (t : Option Bool) → truth_of (of_truth t) ≡ t
 unfolding tree.out-Tree denote.Hole.Carrier.out

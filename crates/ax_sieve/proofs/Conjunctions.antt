@@ -1,5 +1,4 @@
--- An AND is true only where each of its operands is, and a document of which one operand is not true
--- has no rows.
+-- An AND is true only where each of its operands is, and not where a condition that one of them is fails.
 use Rattle.std.proofs.Common.{◌≡◌, ℕ, ◌<◌, List, [], ◌∷◌, ◌++◌, length, get_or, map, Bool, true, false, not, ◌||◌, Option, Some, None, ⊎_elim, refl, sym, ap, ◌∙◌, rules}
 use Rattle.std.specs.List.{list_any}
 use Rattle.std.proofs.lemmas.Bool.{and_from, or_cases, false≢true, not-true}
@@ -15,7 +14,7 @@ use Rattle.ax_mean.specs.Operators.{conjunction}
 use Rattle.ax_mean.specs.Values.{truth_of, of_truth}
 use Rattle.ax_sieve.specs.declared.condition.Condition.{Condition}
 use Rattle.ax_sieve.specs.Conditions.{holds, one_fails, value}
-use Rattle.ax_sieve.specs.Operands.{are_true, document_env, is_true}
+use Rattle.ax_sieve.specs.Operands.{StandsFor, are_true, is_true}
 
 truth_again : (t : Option Bool) → truth_of (of_truth t) ≡ t
 unfolding tree.out-Tree denote.Hole.Carrier.out
@@ -56,33 +55,35 @@ pub and_is_true : (env : Env) (xs : List Expr) → is_true env (expr.And xs) ≡
 and_is_true env xs h = chain_yes env xs (ap (λ v. is_yes (truth_of v)) (sym (and_means env xs)) ∙ h)
 
 -- where a condition is what an expression is, and fails, the expression is not true
-not_true : (alias : List ℕ) (tree : Tree) (x : Expr) (c : Condition)
-    → meaning (document_env alias tree) x ≡ value c tree → not (holds c tree) ≡ true
-    → is_true (document_env alias tree) x ≡ false
-not_true alias tree x c is fails = ap (λ v. is_yes (truth_of v)) is ∙ not-true (holds c tree) fails
+not_true : (env : Env) (tree : Tree) (x : Expr) (c : Condition)
+    → meaning env x ≡ value c tree → not (holds c tree) ≡ true → is_true env x ≡ false
+not_true env tree x c is fails = ap (λ v. is_yes (truth_of v)) is ∙ not-true (holds c tree) fails
+
+-- where a condition fails and the alias stands for the document, one of the expressions is not true
+abbrev pub Tells : List ℕ → List Expr → List Condition → Type 0
+Tells alias xs cs =
+    (env : Env) (tree : Tree) → StandsFor env alias tree → one_fails cs tree ≡ true
+    → are_true env xs ≡ false
 
 -- one condition more, that of one of the expressions
 pub one_more : (alias : List ℕ) (xs : List Expr) (i : ℕ) (x : Expr) (cs : List Condition) (c : Condition)
-    → ((tree : Tree) → one_fails cs tree ≡ true → are_true (document_env alias tree) xs ≡ false)
-    → ((tree : Tree) → meaning (document_env alias tree) x ≡ value c tree)
-    → i < length xs → x ≡ get_or xs i x → (tree : Tree) → one_fails (cs ++ c ∷ []) tree ≡ true
-    → are_true (document_env alias tree) xs ≡ false
-one_more alias xs i x cs c before is within at tree h =
+    → Tells alias xs cs
+    → ((env : Env) (tree : Tree) → StandsFor env alias tree → meaning env x ≡ value c tree)
+    → i < length xs → x ≡ get_or xs i x → Tells alias xs (cs ++ c ∷ [])
+one_more alias xs i x cs c before is within at env tree stands h =
     let fails : Condition → Bool = λ c. not (holds c tree) in
     let two = or_cases (list_any fails cs) _ (sym (list_any-append fails cs (c ∷ [])) ∙ h) in
-    let P : Type 0 = are_true (document_env alias tree) xs ≡ false in
-    ⊎_elim {C = P} (before tree)
+    let P : Type 0 = are_true env xs ≡ false in
+    ⊎_elim {C = P} (before env tree stands)
     (λ (last : (fails c || false) ≡ true). ⊎_elim {C = P}
-    (λ (e : fails c ≡ true). list_all_at (is_true (document_env alias tree)) xs i x within
-    (ap (is_true (document_env alias tree)) (sym at) ∙ not_true alias tree x c (is tree) e))
+    (λ (e : fails c ≡ true). list_all_at (is_true env) xs i x within
+    (ap (is_true env) (sym at) ∙ not_true env tree x c (is env tree stands) e))
     (λ (e : false ≡ true). absurd (false≢true e))
     (or_cases (fails c) false last))
     two
 
 -- the same of equal conditions
 pub along_items : (alias : List ℕ) (xs : List Expr) (new old : List Condition) → new ≡ old
-    → ((tree : Tree) → one_fails old tree ≡ true → are_true (document_env alias tree) xs ≡ false)
-    → (tree : Tree) → one_fails new tree ≡ true
-    → are_true (document_env alias tree) xs ≡ false
-along_items alias xs new old e before tree h =
-    before tree (ap (λ cs. one_fails cs tree) (sym e) ∙ h)
+    → Tells alias xs old → Tells alias xs new
+along_items alias xs new old e before env tree stands h =
+    before env tree stands (ap (λ cs. one_fails cs tree) (sym e) ∙ h)

@@ -23,15 +23,15 @@ impl<'a> Condition<'a> {
     ghost use Rattle.std.specs.Prelude.{false, IsTrue};
     ghost use Rattle.ax_tree.specs.CanonicalText.{canonical_text};
     ghost use Rattle.ax_tree.specs.declared.tree.Tree.{Tree};
-    ghost use Rattle.ax_mean.specs.Meaning.{meaning};
+    ghost use Rattle.ax_mean.specs.Meaning.{Env, meaning};
     ghost use Rattle.ax_sieve.specs.Conditions.{holds, value};
-    ghost use Rattle.ax_sieve.specs.Operands.{document_env};
+    ghost use Rattle.ax_sieve.specs.Operands.{StandsFor};
 
     /// The condition that an expression is, where the alias stands for the document; none of another
     /// expression.
     pub(crate) fn of(alias: &Text, expr: &'a Expr) -> Option<Condition<'a>>
-        ensures { IfSome result (λ condition. (tree : Tree)
-            → meaning (document_env alias.now tree) expr.now ≡ value condition tree) }
+        ensures { IfSome result (λ condition. (env : Env) (tree : Tree) → StandsFor env alias.now tree
+            → meaning env expr.now ≡ value condition tree) }
     {
         let (op, left, right) = comparison_of(expr)?;
         let literal = literal_of(right)?;

@@ -4,7 +4,7 @@ use crate::condition::Condition;
 use crate::conditions::conditions_of;
 use crate::operands::operands;
 use crate::out_of_memory::Memory;
-use crate::source::only_alias;
+use crate::source::document_alias;
 use ax_mean::Query;
 use std::alloc::Global;
 
@@ -21,13 +21,13 @@ impl<'a> Sieve<'a> {
     ghost use Rattle.ax_sieve.specs.Conditions.{IsSieve, is_dropped, DropsNothing};
 
     /// The conditions of WHERE that compare a member of the document with a literal, or with a number
-    /// that has one sign, where the query has one source, without steps and IN. None of another
-    /// query: then nothing is dropped.
+    /// that has one sign, where the first source is the document, without steps and IN, also of a
+    /// query with joins. None of another query: then nothing is dropped.
     pub fn of(alloc: Global, query: &'a Query) -> Result<Sieve<'a>, Memory>
         ensures sifts { IfOk result (λ sieve. IsSieve sieve query.now) }
         ensures nothing { IfOk result (λ sieve. query.now.condition ≡ None → DropsNothing sieve) }
     {
-        let (Some(alias), Some(condition)) = (only_alias(query), &query.condition) else {
+        let (Some(alias), Some(condition)) = (document_alias(query), &query.condition) else {
             return Ok(Sieve {
                 conditions: Vec::new(alloc),
             });

@@ -10,24 +10,35 @@ fn text(alloc: Global, text: &str) -> Result<Text, Memory> {
     Ok(Text::from_string(String::from_str(alloc, text)?))
 }
 
-/// `c.name`, `c.first.second`
-fn member(alloc: Global, path: &str) -> Result<Expr, Memory> {
+/// `name`, `first.second`, each behind an alias
+fn steps_of(alloc: Global, path: &str) -> Result<Items<QueryStep>, Memory> {
     let mut steps = Items::new(alloc);
     for name in path.split('.') {
         steps.push(QueryStep::Member(text(alloc, name)?))?;
     }
-    let base = Boxed::new(alloc, Expr::Alias(text(alloc, "c")?))?;
-    Ok(Expr::Steps(base, steps))
+    Ok(steps)
 }
 
-/// `c.path op literal`
-fn comparison(alloc: Global, path: &str, op: BinaryOp, literal: Tree) -> Result<Expr, Memory> {
+/// `alias.path op literal`
+fn comparison_by(
+    alloc: Global,
+    alias: &str,
+    path: &str,
+    op: BinaryOp,
+    literal: Tree,
+) -> Result<Expr, Memory> {
     let literal = Boxed::new(
         alloc,
         Expr::Literal(Shared::new(alloc, Value::Defined(literal))?),
     )?;
-    let member = Boxed::new(alloc, member(alloc, path)?)?;
+    let base = Boxed::new(alloc, Expr::Alias(text(alloc, alias)?))?;
+    let member = Boxed::new(alloc, Expr::Steps(base, steps_of(alloc, path)?))?;
     Ok(Expr::Compare(op, member, literal))
+}
+
+/// `c.path op literal`
+fn comparison(alloc: Global, path: &str, op: BinaryOp, literal: Tree) -> Result<Expr, Memory> {
+    comparison_by(alloc, "c", path, op, literal)
 }
 
 /// `c.n > 500`, `c.kind = "a"`
@@ -39,19 +50,48 @@ fn two_comparisons(alloc: Global) -> Result<ExprList, Memory> {
     Ok(items)
 }
 
-/// `SELECT * FROM c WHERE condition`
-fn query(alloc: Global, condition: Expr) -> Result<Query, Memory> {
-    let from = FromItem {
+/// The source `c`
+fn document(alloc: Global) -> Result<FromItem, Memory> {
+    Ok(FromItem {
         alias: text(alloc, "c")?,
         base: text(alloc, "c")?,
         steps: Items::new(alloc),
         each: false,
-    };
+    })
+}
+
+/// The source `c.t AS alias`, or `alias IN c.t`
+fn part(alloc: Global, alias: &str, each: bool) -> Result<FromItem, Memory> {
+    Ok(FromItem {
+        alias: text(alloc, alias)?,
+        base: text(alloc, "c")?,
+        steps: steps_of(alloc, "t")?,
+        each,
+    })
+}
+
+/// `SELECT VALUE 1 FROM c WHERE condition`
+fn query(alloc: Global, condition: Expr) -> Result<Query, Memory> {
     let mut froms = Items::new(alloc);
-    froms.push(from)?;
+    froms.push(document(alloc)?)?;
+    query_over(alloc, froms, condition)
+}
+
+/// `SELECT VALUE 1 FROM c JOIN a IN c.t JOIN b IN c.t ... WHERE condition`, a join for each name
+fn query_with_joins(alloc: Global, names: &[&str], condition: Expr) -> Result<Query, Memory> {
+    let mut froms = Items::new(alloc);
+    froms.push(document(alloc)?)?;
+    for name in names {
+        froms.push(part(alloc, name, true)?)?;
+    }
+    query_over(alloc, froms, condition)
+}
+
+fn query_over(alloc: Global, froms: Items<FromItem>, condition: Expr) -> Result<Query, Memory> {
+    let one = Shared::new(alloc, Value::Defined(Tree::Number(1)))?;
     Ok(Query {
         distinct: false,
-        pick: Pick::Star,
+        pick: Pick::Value(Expr::Literal(one)),
         froms,
         condition: Some(condition),
         groups: Items::new(alloc),
@@ -114,5 +154,52 @@ fn of_an_or_nothing_is_dropped(rt: HostRuntime) -> Result<(), Fail> {
     let sieve = Sieve::of(alloc, &query)?;
     let text = "{\"id\":\"1\",\"kind\":\"a\",\"n\":1}";
     assert!(rt; !sieve.drops(text.as_bytes()));
+    Ok(())
+}
+
+/// `alias.id = "x"`
+fn has_id(alloc: Global, alias: &str) -> Result<Expr, Memory> {
+    let id = Tree::Text(text(alloc, "x")?);
+    comparison_by(alloc, alias, "id", BinaryOp::Equal, id)
+}
+
+#[test]
+fn documents_of_joins_are_dropped_by_their_own_members(rt: HostRuntime) -> Result<(), Fail> {
+    let alloc = rt.alloc();
+    let one = query_with_joins(alloc, &["a"], has_id(alloc, "c")?)?;
+    let two = query_with_joins(alloc, &["a", "b"], has_id(alloc, "c")?)?;
+    let of_one = Sieve::of(alloc, &one)?;
+    let of_two = Sieve::of(alloc, &two)?;
+    for (text, expected) in [
+        ("{\"id\":\"x\",\"t\":[{\"id\":\"y\"}]}", false),
+        ("{\"id\":\"y\",\"t\":[{\"id\":\"x\"}]}", true),
+    ] {
+        assert_eq!(rt; of_one.drops(text.as_bytes()), expected, "{text}");
+        assert_eq!(rt; of_two.drops(text.as_bytes()), expected, "{text}");
+    }
+    Ok(())
+}
+
+#[test]
+fn by_members_of_joined_items_nothing_is_dropped(rt: HostRuntime) -> Result<(), Fail> {
+    let alloc = rt.alloc();
+    let one = query_with_joins(alloc, &["a"], has_id(alloc, "a")?)?;
+    let two = query_with_joins(alloc, &["a", "b"], has_id(alloc, "b")?)?;
+    let text = "{\"id\":\"y\",\"t\":[{\"id\":\"x\"}]}";
+    assert!(rt; !Sieve::of(alloc, &one)?.drops(text.as_bytes()));
+    assert!(rt; !Sieve::of(alloc, &two)?.drops(text.as_bytes()));
+    Ok(())
+}
+
+#[test]
+fn where_the_first_source_is_a_part_nothing_is_dropped(rt: HostRuntime) -> Result<(), Fail> {
+    let alloc = rt.alloc();
+    let text = "{\"id\":\"y\",\"t\":[{\"id\":\"x\"}]}";
+    for each in [false, true] {
+        let mut froms = Items::new(alloc);
+        froms.push(part(alloc, "x", each)?)?;
+        let query = query_over(alloc, froms, has_id(alloc, "x")?)?;
+        assert!(rt; !Sieve::of(alloc, &query)?.drops(text.as_bytes()));
+    }
     Ok(())
 }
