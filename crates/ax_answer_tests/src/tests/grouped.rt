@@ -200,25 +200,3 @@ fn a_count_over_two_joins_of_one_list(rt: HostRuntime) -> Result<(), Fail> {
     assert_eq!(rt; rows.as_slice(), b"10000 ".as_slice());
     Ok(())
 }
-
-/// `{"t":[0,1, ..]}`
-fn rising(alloc: Global, count: u32) -> Result<String, Fail> {
-    let mut text = String::from_str(alloc, r#"{"t":[0"#)?;
-    for number in 1..count {
-        let item = format!(in alloc; ",{number}")?;
-        text.push_str(item.as_str())?;
-    }
-    text.push_str("]}")?;
-    Ok(text)
-}
-
-// Each number is a group of its own, and each group has its row.
-#[test]
-fn many_groups(rt: HostRuntime) -> Result<(), Fail> {
-    let alloc = rt.alloc();
-    let text = rising(alloc, 700)?;
-    let query = "SELECT VALUE COUNT(1) FROM t IN c.t GROUP BY t";
-    let (rows, _) = answered(alloc, query, &[(1, text.as_str())])?;
-    assert_eq!(rt; rows.len(), 1400);
-    Ok(())
-}

@@ -90,6 +90,27 @@ fn found_joined(alloc: Global, count: u32) -> Result<Found, Fail> {
     found_in(alloc, text.as_str())
 }
 
+fn push_item(alloc: Global, text: &mut String, at: u32) -> Result<(), AllocError> {
+    let item = format!(in alloc; ", c.a{at} AS a{at}")?;
+    text.push_str(item.as_str())
+}
+
+/// A text that picks so many items, each with a name.
+fn picking(alloc: Global, count: u32) -> Result<String, AllocError> {
+    let mut text = String::from_str(alloc, "SELECT c.a0 AS a0")?;
+    for at in 1..count {
+        push_item(alloc, &mut text, at)?;
+    }
+    text.push_str(" FROM c")?;
+    Ok(text)
+}
+
+/// What the text is that picks so many items, each with a name.
+fn found_picking(alloc: Global, count: u32) -> Result<Found, Fail> {
+    let text = picking(alloc, count)?;
+    found_in(alloc, text.as_str())
+}
+
 #[test]
 fn tokens_are_as_long_as_they_can_be(rt: HostRuntime) -> Result<(), Fail> {
     let alloc = rt.alloc();
@@ -324,7 +345,11 @@ fn texts_names_and_lists_have_limits(rt: HostRuntime) -> Result<(), Fail> {
         ("SELECT * FROM c", " ", 16_369, ""),
         ("SELECT VALUE c.", "a", 255, " FROM c"),
         ("SELECT VALUE c.a IN (1", ",1", 255, ") FROM c"),
+        ("SELECT VALUE [1", ",1", 255, "] FROM c"),
+        ("SELECT VALUE {a: 1", ",a: 1", 255, "} FROM c"),
+        ("SELECT VALUE CONCAT('a'", ",'a'", 15, ") FROM c"),
         ("SELECT * FROM c ORDER BY c.a", ",c.a", 7, ""),
+        ("SELECT VALUE 1 FROM c GROUP BY c.a", ",c.a", 7, ""),
     ] {
         assert_eq!(rt;
             found_built(alloc, front, piece, count, back)?,
@@ -336,7 +361,14 @@ fn texts_names_and_lists_have_limits(rt: HostRuntime) -> Result<(), Fail> {
         ("SELECT * FROM c", " ", 16_370, ""),
         ("SELECT VALUE c.", "a", 256, " FROM c"),
         ("SELECT VALUE c.a IN (1", ",1", 256, ") FROM c"),
+        ("SELECT VALUE [1", ",1", 256, "] FROM c"),
+        ("SELECT VALUE {a: 1", ",a: 1", 256, "} FROM c"),
+        ("SELECT VALUE CONCAT('a'", ",'a'", 16, ") FROM c"),
+        ("SELECT VALUE CONCAT('a'", ",'a'", 256, ") FROM c"),
         ("SELECT * FROM c ORDER BY c.a", ",c.a", 8, ""),
+        ("SELECT * FROM c ORDER BY c.a", ",c.a", 256, ""),
+        ("SELECT VALUE 1 FROM c GROUP BY c.a", ",c.a", 8, ""),
+        ("SELECT VALUE 1 FROM c GROUP BY c.a", ",c.a", 256, ""),
     ] {
         assert_eq!(rt;
             found_built(alloc, front, piece, count, back)?,
@@ -347,10 +379,56 @@ fn texts_names_and_lists_have_limits(rt: HostRuntime) -> Result<(), Fail> {
     Ok(())
 }
 
+// Chains of operators, and steps, have no limit but that of the text.
+#[test]
+fn chains_and_steps_have_no_limit(rt: HostRuntime) -> Result<(), Fail> {
+    let alloc = rt.alloc();
+    for (front, piece, back) in [
+        ("SELECT VALUE 1", "+1", " FROM c"),
+        ("SELECT VALUE 1", "*1", " FROM c"),
+        ("SELECT VALUE 'a'", "||'a'", " FROM c"),
+        ("SELECT VALUE c", " ?? c", " FROM c"),
+        ("SELECT VALUE c", " AND c", " FROM c"),
+        ("SELECT VALUE c", " OR c", " FROM c"),
+        ("SELECT VALUE c", ".a", " FROM c"),
+        ("SELECT VALUE a FROM c", ".a", ""),
+        ("SELECT VALUE t FROM c JOIN t IN c", ".a", ""),
+        ("SELECT * FROM c ORDER BY c", ".a", ""),
+    ] {
+        assert_eq!(rt;
+            found_built(alloc, front, piece, 257, back)?,
+            Found::AQuery,
+            "{front}"
+        );
+    }
+    Ok(())
+}
+
+// An item that has no name is named by how many of these came before it.
+#[test]
+fn picked_items_have_a_limit(rt: HostRuntime) -> Result<(), Fail> {
+    let alloc = rt.alloc();
+    for (count, expected) in [(256, Found::AQuery), (257, Found::NoQuery)] {
+        assert_eq!(rt;
+            found_picking(alloc, count)?,
+            expected,
+            "{count} with names"
+        );
+        let more = (count - 1) as usize;
+        assert_eq!(rt;
+            found_built(alloc, "SELECT 1", ",1", more, " FROM c")?,
+            expected,
+            "{count} without"
+        );
+    }
+    Ok(())
+}
+
 #[test]
 fn joins_have_a_limit(rt: HostRuntime) -> Result<(), Fail> {
     let alloc = rt.alloc();
     assert_eq!(rt; found_joined(alloc, 8)?, Found::AQuery);
     assert_eq!(rt; found_joined(alloc, 9)?, Found::NoQuery);
+    assert_eq!(rt; found_joined(alloc, 257)?, Found::NoQuery);
     Ok(())
 }
