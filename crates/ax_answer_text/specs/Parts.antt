@@ -6,6 +6,7 @@ use Rattle.ax_excerpt.specs.declared.excerpt.Excerpt.{Excerpt}
 use Rattle.ax_excerpt.specs.declared.excerpt.Excerpt.TheVariants.{Whole}
 use Rattle.ax_excerpt.specs.Enough.{is_enough}
 use Rattle.ax_excerpt.specs.Excerpts.{excerpt_of}
+use Rattle.ax_excerpt.specs.Needs.{NeedsAll}
 use Rattle.ax_excerpt.specs.Plain.{are_plain}
 use Rattle.ax_excerpt_text.specs.Wholes.{IsNoMap}
 
@@ -33,11 +34,7 @@ abbrev pub AreReadWhole : Option Excerpt → List ℕ → Type 0
 AreReadWhole None text = Unit {0}
 AreReadWhole (Some excerpt) text = (excerpt ≡ Whole) ⊎ IsNoMap text
 
--- The query looks at all of each document: no part of one is enough for it.
-abbrev pub LooksAtAll : Query → Type 0
-LooksAtAll query = (excerpt : Excerpt) → is_enough excerpt query ≡ true → excerpt ≡ Whole
-
--- The same bytes, told by the query: it looks at all of each document, or they do not begin as a map
--- does.
+-- The same bytes, told by the query: no part of a document is enough for it, or they do not begin as a
+-- map does.
 abbrev pub AreReadWholeFor : Query → List ℕ → Type 0
-AreReadWholeFor query text = LooksAtAll query ⊎ IsNoMap text
+AreReadWholeFor query text = NeedsAll query ⊎ IsNoMap text

@@ -1,7 +1,7 @@
 -- What an engine answers to a line, from what its documents tell.
 use Rattle.std.proofs.Common.{◌≡◌, ℕ, ◌≤◌, Bool, List, Some, None, Result, Ok, Err, OnOk, inl, inr, refl, sym, ap, subst, ◌∙◌}
 use Rattle.std.specs.Prelude.{IfOk, IfErr, IsTrue}
-use Rattle.ax_area.specs.Contents as area
+use Rattle.ax_area.specs.Contents.{Contents}
 use Rattle.ax_area.specs.Image.{Says}
 use Rattle.ax_area.specs.Told.{Told}
 use Rattle.ax_cache.specs.declared.lru_pages.LruPages.{LruPages}
@@ -10,7 +10,7 @@ use Rattle.ax_disk.specs.model.Image.{Image}
 use Rattle.ax_disk.specs.model.Moments.{History}
 use Rattle.ax_disk.specs.model.Pending.{MayLeave}
 use Rattle.ax_disk.specs.model.Stays.{Rests, Stays, Turns}
-use Rattle.ax_disk.specs.laws.StaysLaws.{rests_weaken, stays_start, stays_turn}
+use Rattle.ax_disk.specs.laws.StaysLaws.{stays_start, stays_turn}
 use Rattle.ax_faults.specs.Faults.{Rose}
 use Rattle.ax_store.specs.declared.fault.StoreFault.{StoreFault}
 use Rattle.ax_store.specs.declared.fault.StoreFault.TheVariants as store_fault
@@ -31,12 +31,12 @@ use Rattle.ax_machine.specs.Reply as reply
 use Rattle.ax_machine.specs.Run.{Served, OutOfMemory}
 use Rattle.ax_machine.specs.Step.{served, upsert_by, written}
 use Rattle.ax_engine.specs.Damage.{Meets, MeetsTrees, PassesOverNone}
-use Rattle.ax_engine.specs.InPages.{MeetsNone}
 use Rattle.ax_engine.specs.Documents.{DocumentsHold, DocumentsWork, TellsUpsert, WorksAfterUpsert}
 use Rattle.ax_engine.specs.Engine.{Applies, HoldsOver, Tells, Works, made_by}
-use Rattle.ax_image.specs.Readable.{SaysReadable, TellsReadable, newest}
-use Rattle.ax_image_laws.proofs.InGrammar.{contents_found, says_readable, tells_back}
-use Rattle.ax_pages.specs.Contents.{Contents}
+use Rattle.ax_image.specs.Readable.{SaysReadable, newest}
+use Rattle.ax_area_laws.proofs.Rising.{says_risen}
+use Rattle.ax_area_laws.specs.Risen.{risen}
+use Rattle.ax_pages.specs.Contents as log
 use Rattle.ax_pages.specs.HasContents.{HasContents}
 use Rattle.ax_engine.specs.Replies.{FitsRefusal, IsOfReading, IsReply, MayReply, OnRows, own_refusal, read_answer, upsert_answer}
 use Rattle.ax_engine.specs.Scans.{Scanned, Scans}
@@ -49,7 +49,7 @@ use Rattle.ax_engine.specs.declared.engine.Fault.{Fault}
 use Rattle.ax_engine.specs.declared.engine.Fault.TheVariants as fault
 use Rattle.ax_engine.specs.declared.reply.Reply.{Reply}
 use Rattle.ax_engine.specs.declared.reply.Reply.TheVariants as given
-use Rattle.ax_engine.proofs.Damaging.{meets_trees, met_outside, none_outside, on_rows}
+use Rattle.ax_engine.proofs.Damaging.{met_outside, none_outside, on_rows}
 use Rattle.ax_engine.proofs.Holding.{holds_read, idled, images_rest, images_turn, rests_of}
 
 -- ---- an upsert
@@ -203,7 +203,7 @@ module _ (honest : Bool) (documents : Documents) (store : Store LruPages)
     stands_scanned scanned = holds_read documents store before scanned.same holds
 
     pub tells_read : (read : Result Reply StoreFault) → Scans honest read documents.store store ahead old new l m
-        → MayLeave new.unsynced new.reads → TellsReadable new.reads
+        → MayLeave new.unsynced new.reads → SaysReadable new.reads
         → IfOk read (λ reply. IsReply reply (query_reply body before)) → IsTrue honest
         → Tells (IsTrue honest) before (line.Query body) (read_answer read) after old new
     tells_read (Ok made) scans may readable is h = (Served, is, stands_scanned scans, turns_scanned scans)
@@ -216,16 +216,17 @@ module _ (honest : Bool) (documents : Documents) (store : Store LruPages)
     tells_read (Err store_fault.Memory) scans may readable is h = (OutOfMemory, refl, stands_scanned scans, turns_scanned scans)
 
 -- rows over documents among which the query meets none are so over the image that has them
-pub passes_read : (contents : Contents) (body : Body) (image : Image) → HasContents contents image
+pub passes_read : (contents : log.Contents) (body : Body) (image : Image) → HasContents contents image
     → (read : Result Reply StoreFault)
     → ((query : Query) → query_in body.params body.text ≡ Some query
-    → IfOk read (λ reply. OnRows reply (MeetsNone query contents)))
+    → IfOk read (λ reply. OnRows reply (MeetsTrees query (risen contents))))
     → IfOk (read_answer read) (λ reply. PassesOverNone (line.Query body) reply image)
 passes_read contents body image has (Ok reply) met = λ query is.
-    let found = contents_found image contents has in
-    on_rows reply (MeetsNone query contents)
-    ((told : List Told) × (there : area.Contents) × Says newest newest told there image × MeetsTrees query there)
-    (λ none. (found.0, found.1, found.2, meets_trees query contents found.1 found.3 none)) (met query is)
+    let said = says_risen image contents has in
+    on_rows reply (MeetsTrees query (risen contents))
+    ((version : ℕ) × (told : List Told) × (there : Contents) × Says newest version told there image
+    × MeetsTrees query there)
+    (λ none. (newest, said.0, risen contents, said.1, none)) (met query is)
 passes_read contents body image has (Err store_fault.Disk) met = tt
 passes_read contents body image has (Err (store_fault.Damaged extent at)) met = tt
 passes_read contents body image has (Err (store_fault.Newer version)) met = λ query is. tt
@@ -251,23 +252,12 @@ of_reading honest (Err store_fault.Memory) old new ahead entry exit l m scans = 
 
 -- ---- an engine
 
--- all that its images tell can be read
-pub readable_over : (honest : Type 0) (engine : Engine) (history : History) (before : Container)
-    → Works honest engine history → HoldsOver engine history before → honest → Rests history TellsReadable
-readable_over honest engine history before works over h =
-    let shows = rests_of honest engine.documents history before (works.documents over.holds.unfaulted)
-    over.holds.documents h in
-    record {
-      each = λ image may. let has = shows.each image may in
-          tells_back image has.contents has.has (over.readable.each image may);
-    }
-
 pub rests_over : (honest : Type 0) (engine : Engine) (history : History) (before : Container)
     → Works honest engine history → HoldsOver engine history before → honest → Rests history (IsImageOf before)
 rests_over honest engine history before works over h =
     images_rest history before
     (rests_of honest engine.documents history before (works.documents over.holds.unfaulted) over.holds.documents h)
-    (readable_over honest engine history before works over h)
+    over.readable
 
 -- nothing has happened
 pub still_over : (honest : Type 0) (engine : Engine) (history : History) (before other : Container)
@@ -280,13 +270,13 @@ still_over honest engine history before other works over h =
 -- the documents' answer as the engine's
 pub applies_told : (honest : Type 0) (before : Container) (asked : Line) (result : Result Reply Fault) (engine : Engine)
     (old new : History) → OnOk result (engine.fault ≡ None) → Tells honest before asked result engine.documents old new
-    → Stays old new TellsReadable → Applies honest before asked result engine old new
+    → Stays old new SaysReadable → Applies honest before asked result engine old new
 applies_told honest before asked (Ok reply) engine old new none told stays = (
   told.0,
   told.1,
   record {
     holds = record { unfaulted = none; documents = told.2 };
-    readable = rests_weaken new TellsReadable SaysReadable says_readable stays.rests;
+    readable = stays.rests;
   },
   λ h. images_turn old new before (made_by before asked told.0).0 (told.3 h) stays,
 )

@@ -1,20 +1,20 @@
 -- Documents whose text is none of a document: none where all can be read, and where they stand on the
 -- disk; and texts that a query meets.
-use Rattle.std.proofs.Common.{◌≡◌, ◌≢◌, ℕ, Bool, List, Option, Some, None, Result, Ok, Err, OnOk, drop, length, ◌<◌, ◌≤◌, inl, inr, refl, sym, ap, subst, ◌∙◌, arith}
+use Rattle.std.proofs.Common.{◌≡◌, ◌≢◌, ℕ, Bool, true, List, Option, Some, None, Result, Ok, Err, OnOk, length}
+use Rattle.std.proofs.Common.{◌<◌, ◌≤◌, inl, inr, refl, sym, ap, subst, ◌∙◌, arith}
 use Rattle.std.specs.Prelude.{IsTrue, is_some, slice_get}
 use Rattle.std.specs.FinMap as finite
-use Rattle.std.specs.Option.{option_map, option_to_list}
+use Rattle.std.specs.Option.{option_to_list}
 use Rattle.std.proofs.lemmas.Bool.{cases_lt}
-use Rattle.ax_answer_text.specs.Parts.{AreReadWhole, AreReadWholeFor, Suffices}
+use Rattle.ax_answer_text.specs.Parts.{AreReadWhole, AreReadWholeFor, Suffices, is_plain}
 use Rattle.ax_answer_text.specs.TextAnswers.{IsTo}
 use Rattle.ax_answer_text.specs.declared.text_answer.TextAnswer.{TextAnswer}
 use Rattle.ax_answer_text.specs.declared.text_fault.TextFault.{TextFault}
 use Rattle.ax_answer_text.specs.declared.text_fault.TextFault.TheVariants as text_fault
 use Rattle.ax_area.proofs.KeptSo.{told_so}
 use Rattle.ax_area.proofs.LogWords.{live_image}
-use Rattle.ax_area.proofs.OneTelling.{same_some as told_same, some_or_none}
 use Rattle.ax_area.specs.Contents as area
-use Rattle.ax_area.specs.Contents.{Stored}
+use Rattle.ax_area.specs.Contents.{Contents, Stored}
 use Rattle.ax_area.specs.Places.{no_places, places_after}
 use Rattle.ax_area.specs.Told.{changes_of}
 use Rattle.ax_cache.specs.Held.{held}
@@ -26,20 +26,18 @@ use Rattle.ax_excerpt.specs.ShownDocuments.{without_pick}
 use Rattle.ax_excerpt.specs.declared.excerpt.Excerpt.{Excerpt}
 use Rattle.ax_excerpt_text.specs.Left.{IsReadable}
 use Rattle.ax_excerpt_text.specs.Wholes.{tree_read}
-use Rattle.ax_image.specs.Readable.{TellsReadable, newest}
+use Rattle.ax_image.specs.Readable.{SaysReadable, newest}
 use Rattle.ax_image_grammar.specs.Payloads.{IsDocumentText, IsReadable as IsReadableChange}
-use Rattle.ax_image_laws.proofs.InGrammar.{says_readable}
-use Rattle.ax_image_laws.proofs.Telling.{none_agree, tells_on}
-use Rattle.ax_image_laws.specs.Agree.{shown_by, Agree}
+use Rattle.ax_area_laws.proofs.Telling.{none_agree, tells_on}
+use Rattle.ax_area_laws.proofs.Rising.{is_risen}
 use Rattle.ax_log.specs.Log.{log_area, log_generation}
 use Rattle.ax_mean.specs.declared.query.Query.{Query}
-use Rattle.ax_pages.specs.Contents.{Contents, no_contents}
+use Rattle.ax_pages.specs.Contents as log
+use Rattle.ax_pages.specs.Image.{extent_number}
 use Rattle.ax_store.proofs.LoadLemmas.{lead_on_of}
 use Rattle.ax_store.specs.Kept.{Kept}
-use Rattle.ax_store.specs.Listed.{IsNextAfter}
 use Rattle.ax_store.specs.Loading.{nothing_kept}
-use Rattle.ax_store.specs.ReadAhead.{AgreesAhead, IsAhead}
-use Rattle.ax_store.specs.Store.{store_contents}
+use Rattle.ax_store.specs.ReadAhead.{AgreesAhead}
 use Rattle.ax_store.specs.declared.fault.StoreFault.{StoreFault}
 use Rattle.ax_store.specs.declared.fault.StoreFault.TheVariants as store_fault
 use Rattle.ax_store.specs.declared.read_ahead.ReadAhead.{ReadAhead}
@@ -47,10 +45,9 @@ use Rattle.ax_store.specs.declared.store.Store.{Store}
 use Rattle.ax_tree.specs.CanonicalText.{canonical_text}
 use Rattle.ax_tree.specs.Nesting.{nesting}
 use Rattle.ax_tree.specs.declared.tree.Tree.{Tree}
-use Rattle.ax_engine.specs.Damage.{IsMetOutside, IsReadWhole, LooksAtEach, MeetsTrees}
-use Rattle.ax_engine.specs.InPages.{AreTrees, HasOutside, IsOutsideAt, IsPlaced, MeetsNone}
-use Rattle.ax_engine.specs.Lists.{list_number}
-use Rattle.ax_engine.proofs.Opened.{same_number}
+use Rattle.ax_engine.specs.Damage.{IsMetOutside, LooksAtEach, MeetsTrees, StandForTrees}
+use Rattle.ax_engine.specs.InPages.{HasOutside, IsOutsideAt, IsPlaced}
+use Rattle.ax_engine.specs.StoreSays.{IsFound, IsNext, kept_says, store_says, text_of}
 use Rattle.ax_engine.proofs.Placing.{alike_on, begins_at, nothing_alike}
 use Rattle.ax_engine.specs.Printing.{IsPrinted}
 use Rattle.ax_engine.specs.Replies.{OnRows}
@@ -71,33 +68,33 @@ only_place (Some other) at is = is
 some_is : (a b : List ℕ) → Some a ≡ Some b → a ≡ b
 some_is a b e = cc
 
-pub payload_of : (part : Option (List ℕ)) → IsTrue (is_some part) → (payload : List ℕ) × (part ≡ Some payload)
-payload_of None is = absurd cc
-payload_of (Some payload) is = (payload, refl)
+document_of : (held : Option Stored) → IsTrue (is_some held) → (document : Stored) × (held ≡ Some document)
+document_of None is = absurd cc
+document_of (Some document) is = (document, refl)
 
 -- ---- where all that is told can be read, each document has a text
 
 -- of an image all of which can be read no document has a text outside the grammar
-pub none_outside : (image : Image) (extent at : ℕ) → TellsReadable image → IsMetOutside image extent at → ⊥
+pub none_outside : (image : Image) (extent at : ℕ) → SaysReadable image → IsMetOutside image extent at → ⊥
 none_outside image extent at readable met =
     let holds = told_so (IsReadableChange newest) (changes_of met.told) met.contents met.live.lead
-    (says_readable image readable newest met.told met.contents (inr met.live)) in
+    (readable met.version met.told met.contents (inr met.live)) in
     let written = holds.documents met.number met.document met.held in
     met.outside (subst (λ (d : Stored). IsDocumentText newest d.text) (sym written.is) written.so)
 
 -- ---- the text that was read is none of a document
 
 pub outside_here : (pages : Kept) (number at : ℕ) (text : List ℕ) (found : Bool)
-    → IsTrue (finite.contains_key pages.contents.documents number)
-    → IsAhead (finite.get pages.contents.documents number) found text
+    → IsTrue (finite.contains_key (kept_says pages).documents number)
+    → IsFound (finite.get (kept_says pages).documents number) found text
     → ((tree : Tree) → text ≡ canonical_text tree → IsReadable tree → ⊥)
     → finite.get pages.offsets.documents number ≡ Some at → HasOutside pages at
 outside_here pages number at text found is ahead none placed =
-    let some = payload_of (finite.get pages.contents.documents number) is in
-    let shown : IsAhead (Some some.0) found text = subst (λ part. IsAhead part found text) some.1 ahead in
+    let some = document_of (finite.get (kept_says pages).documents number) is in
+    let shown : IsFound (Some some.0) found text = subst (λ document. IsFound document found text) some.1 ahead in
     record {
       number = number;
-      payload = some.0;
+      document = some.0;
       held = some.1;
       placed = placed;
       outside = λ text_is.
@@ -108,8 +105,8 @@ outside_here pages number at text found is ahead none placed =
 -- what the fault of a text leaves
 pub text_fails : (honest : Bool) (why : TextFault) (given : StoreFault) (old store : Store LruPages) (ahead : ReadAhead)
     (before after : History) (l m number : ℕ) (text : List ℕ) (found : Bool)
-    → Scanned honest old store ahead before after l m → IsTrue (finite.contains_key (store_contents store).documents number)
-    → (IsTrue honest → IsAhead (finite.get (store_contents store).documents number) found text)
+    → Scanned honest old store ahead before after l m → IsTrue (finite.contains_key (store_says store).documents number)
+    → (IsTrue honest → IsFound (finite.get (store_says store).documents number) found text)
     → ((tree : Tree) → text ≡ canonical_text tree → IsReadable tree → why ≢ text_fault.Outside)
     → (why ≡ text_fault.Memory → given ≡ store_fault.Memory) → (why ≡ text_fault.Outside → IsPlaced store number given)
     → ScanFails honest given old store ahead before after l m
@@ -143,11 +140,12 @@ met_outside store ahead history extent at agrees may outside =
     let there = logged.rests.each history.reads may in
     let first = live_image (log_area store.log) (log_generation store.log) frames history.reads
     (record { counts = logged.counts; has = there.has }) in
-    let on = tells_on frames 0 no_contents store.pages.contents area.no_contents
+    let on = tells_on frames 0 log.no_contents store.pages.contents area.no_contents
     (lead_on_of frames 0 nothing_kept store.pages takes) none_agree in
     let begins = begins_at store.pages.offsets (places_after on.told no_places) outside.1.number at
     (alike_on frames 0 on.told nothing_kept store.pages no_places on.tell takes nothing_alike) outside.1.placed in
     record {
+      version = newest;
       told = on.told;
       contents = on.reached;
       live = record {
@@ -158,10 +156,11 @@ met_outside store ahead history extent at agrees may outside =
         tell = on.tell;
         lead = on.lead;
       };
-      list = outside.0 ∙ same_number (log_area store.log) ∙ ap list_number (sym first.area_is);
+      list = outside.0 ∙ ap extent_number (sym first.area_is);
       number = outside.1.number;
-      document = shown_by outside.1.number outside.1.payload;
-      held = on.agree.documents outside.1.number ∙ ap (option_map (shown_by outside.1.number)) outside.1.held;
+      document = outside.1.document;
+      held = ap (λ (contents : Contents). finite.get contents.documents outside.1.number)
+          (is_risen store.pages.contents on.reached on.agree) ∙ outside.1.held;
       front = begins.front;
       pieces = begins.pieces;
       placed = begins.placed;
@@ -170,95 +169,81 @@ met_outside store ahead history extent at agrees may outside =
     }
 
 -- what was read ahead of a document that has this text is this text
-pub text_ahead : (payload : Option (List ℕ)) (found : Bool) (text meant : List ℕ) → IsAhead payload found text
-    → option_map (λ (bytes : List ℕ). drop 1 bytes) payload ≡ Some meant → text ≡ meant
-text_ahead (Some payload) found text meant ahead is = ahead.1 ∙ some_is (drop 1 payload) meant is
+pub text_ahead : (document : Option Stored) (found : Bool) (text meant : List ℕ) → IsFound document found text
+    → text_of document ≡ Some meant → text ≡ meant
+text_ahead (Some document) found text meant ahead is = ahead.1 ∙ some_is document.text meant is
 text_ahead None found text meant ahead is = absurd cc
 
 -- ---- a text that is met
 
 -- what is read whole for a query is read whole by the answer to it
-whole_by : (excerpt : Option Excerpt) (query : Query) (text : List ℕ) → Suffices excerpt query
-    → AreReadWholeFor query text → AreReadWhole excerpt text
-whole_by None query text enough whole = tt
-whole_by (Some excerpt) query text enough (inl all) = inl (all excerpt enough)
-whole_by (Some excerpt) query text enough (inr none) = inr none
+whole_by : (excerpt : Option Excerpt) (query : Query) (text : List ℕ) → is_plain excerpt ≡ true
+    → Suffices excerpt query → AreReadWholeFor query text → AreReadWhole excerpt text
+whole_by None query text plain enough whole = tt
+whole_by (Some excerpt) query text plain enough (inl all) = inl (all excerpt plain enough)
+whole_by (Some excerpt) query text plain enough (inr none) = inr none
 
 pub read_whole : (answer : TextAnswer) (query : Query) (text : List ℕ) → IsTo answer query
     → AreReadWholeFor query text → AreReadWhole answer.excerpt text
-read_whole answer query text asked whole = whole_by answer.excerpt query text asked.enough whole
+read_whole answer query text asked whole =
+    whole_by answer.excerpt query text answer.plain asked.enough whole
 
 -- up to a number the texts stand for trees, where they are such that are read
 abbrev pub AreTreesTo : ℕ → (List ℕ → Type 0) → Contents → Type 0
 AreTreesTo last IsRead contents =
-    (number : ℕ) (payload : List ℕ) → 0 < number → number ≤ last
-    → finite.get contents.documents number ≡ Some payload → IsRead (drop 1 payload)
-    → tree_read (drop 1 payload) ≢ None
+    (number : ℕ) (document : Stored) → 0 < number → number ≤ last
+    → finite.get contents.documents number ≡ Some document → IsRead document.text
+    → tree_read document.text ≢ None
 
 module _ (contents : Contents) (IsRead : List ℕ → Type 0) (n : ℕ) (before : AreTreesTo n IsRead contents) where
   -- the next one too
-  pub one_tree_more : (k : ℕ) → IsNextAfter contents.documents n k
-      → ((text : List ℕ) → option_map (λ (payload : List ℕ). drop 1 payload) (finite.get contents.documents k) ≡ Some text
+  pub one_tree_more : (k : ℕ) → IsNext contents n k
+      → ((text : List ℕ) → text_of (finite.get contents.documents k) ≡ Some text
       → IsRead text → tree_read text ≢ None)
       → AreTreesTo k IsRead contents
-  one_tree_more k next here number payload low high is read =
-      elim (cases_lt n number) as (λ _. tree_read (drop 1 payload) ≢ None) [
-        | inl behind ↦ elim (cases_lt number k) as (λ _. tree_read (drop 1 payload) ≢ None) [
+  one_tree_more k next here number document low high is read =
+      elim (cases_lt n number) as (λ _. tree_read document.text ≢ None) [
+        | inl behind ↦ elim (cases_lt number k) as (λ _. tree_read document.text ≢ None) [
           | inl less ↦
-              let none : None ≡ Some payload = sym (next.least number behind less) ∙ is in
+              let none : None ≡ Some document = sym (next.least number behind less) ∙ is in
               absurd cc
           | inr le ↦
               let same : number ≡ k = omega (arith, high, le) in
-              here (drop 1 payload) (ap (option_map (λ (bytes : List ℕ). drop 1 bytes))
+              here document.text (ap text_of
               (ap (finite.get contents.documents) (sym same) ∙ is)) read
         ]
-        | inr le ↦ before number payload low le is read
+        | inr le ↦ before number document low le is read
       ]
 
   -- none comes behind
-  pub all_trees : ((b : ℕ) → n < b → finite.get contents.documents b ≡ None) → AreTrees IsRead contents
-  all_trees last number payload low is read =
-      elim (cases_lt n number) as (λ _. tree_read (drop 1 payload) ≢ None) [
+  pub all_trees : ((b : ℕ) → n < b → finite.get contents.documents b ≡ None) → StandForTrees IsRead contents
+  all_trees last number document low is read =
+      elim (cases_lt n number) as (λ _. tree_read document.text ≢ None) [
         | inl behind ↦
-            let none : None ≡ Some payload = sym (last number behind) ∙ is in
+            let none : None ≡ Some document = sym (last number behind) ∙ is in
             absurd cc
-        | inr le ↦ before number payload low le is read
+        | inr le ↦ before number document low le is read
       ]
 
 pub no_trees : (contents : Contents) (IsRead : List ℕ → Type 0) → AreTreesTo 0 IsRead contents
-no_trees contents IsRead number payload low high is read =
+no_trees contents IsRead number document low high is read =
     let not : ⊥ = omega (arith, low, high) in
     absurd not
 
 -- rows that are written
 pub rows_met : (query : Query) (contents : Contents)
-    → (LooksAtEach query → AreTrees (AreReadWholeFor query) contents) → MeetsNone query contents
-rows_met query contents trees each number payload low is (inl none) = trees each number payload low is (inr none)
-rows_met query contents trees each number payload low is (inr (all, printed)) =
-    trees each number payload low is (inl all)
+    → (LooksAtEach query → StandForTrees (AreReadWholeFor query) contents) → MeetsTrees query contents
+rows_met query contents trees each number document low is (inl none) = trees each number document low is (inr none)
+rows_met query contents trees each number document low is (inr (all, printed)) =
+    trees each number document low is (inl all)
 
 -- rows that are printed as they are stored, found by their keys
 pub keys_met : (query keys : Query) (contents : Contents) → keys ≡ without_pick query → IsPrinted query
-    → (LooksAtEach keys → AreTrees (AreReadWholeFor keys) contents) → MeetsNone query contents
-keys_met query keys contents these printed trees each number payload low is (inl none) =
-    trees (subst LooksAtEach (sym these) each) number payload low is (inr none)
-keys_met query keys contents these printed trees each number payload low is (inr (all, other)) =
+    → (LooksAtEach keys → StandForTrees (AreReadWholeFor keys) contents) → MeetsTrees query contents
+keys_met query keys contents these printed trees each number document low is (inl none) =
+    trees (subst LooksAtEach (sym these) each) number document low is (inr none)
+keys_met query keys contents these printed trees each number document low is (inr (all, other)) =
     absurd (other printed)
-
--- the texts of documents are the same in the pages of the store and in what the image says
-pub meets_trees : (query : Query) (old : Contents) (new : area.Contents) → Agree old new → MeetsNone query old
-    → MeetsTrees query new
-meets_trees query old new agree none each number document low is read =
-    by_page (finite.get old.documents number) refl (sym (agree.documents number) ∙ is)
-  where
-    by_page : (found : Option (List ℕ)) → finite.get old.documents number ≡ found
-        → option_map (shown_by number) found ≡ Some document → tree_read document.text ≢ None
-    by_page None there e = absurd (some_or_none document e)
-    by_page (Some payload) there e =
-        let text : drop 1 payload ≡ document.text =
-        ap (λ (d : Stored). d.text) (told_same (shown_by number payload) document e) in
-        subst (λ t. tree_read t ≢ None) text
-        (none each number payload low there (subst (IsReadWhole query) (sym text) read))
 
 pub one_query : (a b : Query) → Some a ≡ Some b → a ≡ b
 one_query a b is = cc

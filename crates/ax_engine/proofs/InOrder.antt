@@ -2,8 +2,8 @@
 use Rattle.std.proofs.Common.{◌≡◌, ℕ, ◌+◌, ◌<◌, ◌≤◌, true, false, cond, List, [], ◌∷◌, ◌++◌, map, length}
 use Rattle.std.proofs.Common.{find, Option, Some, None, is_some, refl, sym, ap, subst, ◌∙◌}
 use Rattle.std.proofs.Common.{inl, inr, arith}
-use Rattle.std.proofs.Common.{append_assoc, drop}
-use Rattle.std.specs.Prelude.{◌≢◌, IsTrue, option_map, nat_lt, if◌then◌else◌}
+use Rattle.std.proofs.Common.{append_assoc}
+use Rattle.std.specs.Prelude.{◌≢◌, option_map, nat_lt, if◌then◌else◌}
 use Rattle.std.specs.List.{list_any, AllByRecursion}
 use Rattle.std.specs.Ordering.{nat_cmp, eq_by_cmp}
 use Rattle.std.specs.Str.{bytes_eq}
@@ -14,17 +14,18 @@ use Rattle.ax_container.specs.Container.{Entry, Container, has_id}
 use Rattle.ax_container.specs.Container.{NumbersRise, IdsAreDistinct, IsStored}
 use Rattle.ax_container.proofs.Ids.{same_from_eq}
 use Rattle.ax_container.proofs.Upserts.{or_none}
-use Rattle.ax_pages.specs.Contents.{Contents, Numbered}
+use Rattle.ax_area.specs.Contents.{Contents, Stored}
 use Rattle.ax_pages.proofs.LastPart.{same_number, other_number}
-use Rattle.ax_image.specs.Documents.{AreShown, ContentsStandFor}
+use Rattle.ax_image.specs.Documents.{ContentsHold}
+use Rattle.ax_image.specs.StandsFor.{ShowEntries}
 use Rattle.ax_tree.specs.declared.tree.Tree.{Tree}
 use Rattle.ax_cache.specs.declared.lru_pages.LruPages.{LruPages}
 use Rattle.ax_store.specs.Kept.{Kept}
-use Rattle.ax_store.specs.Listed.{IsNextAfter}
-use Rattle.ax_store.specs.Store.{SameButReads, store_contents}
+use Rattle.ax_store.specs.Store.{SameButReads}
 use Rattle.ax_store.specs.declared.store.Store.{Store}
 use Rattle.ax_text.proofs.RoundTrip.{text-stands}
 use Rattle.ax_text.specs.Reading.{reading, Stands}
+use Rattle.ax_engine.specs.StoreSays.{IsNext, kept_says, store_says, text_of}
 
 -- the entries from the first on whose number is above
 abbrev pub above : ℕ → List Entry → List Entry
@@ -44,18 +45,18 @@ all_above n before next (e ∷ es) le rise = stops n e es (omega (arith, rise.0)
 
 -- ---- pages
 
-pub found_here : (k : ℕ) (p : ℕ × List ℕ) (ps : List (ℕ × List ℕ)) → k ≡ p.0
+pub found_here : (k : ℕ) (p : ℕ × Stored) (ps : List (ℕ × Stored)) → k ≡ p.0
     → finite.find nat_cmp k (p ∷ ps) ≡ Some p.1
 found_here k p ps e = ap (λ b. if b then Some p.1 else finite.find nat_cmp k ps)
     (ap (eq_by_cmp nat_cmp k) (sym e) ∙ same_number k)
 
-pub found_later : (k : ℕ) (p : ℕ × List ℕ) (ps : List (ℕ × List ℕ)) → k ≢ p.0
+pub found_later : (k : ℕ) (p : ℕ × Stored) (ps : List (ℕ × Stored)) → k ≢ p.0
     → finite.find nat_cmp k (p ∷ ps) ≡ finite.find nat_cmp k ps
 found_later k p ps apart = ap (λ b. if b then Some p.1 else finite.find nat_cmp k ps)
     (other_number k p.0 apart)
 
-none_below : (k before next : ℕ) (pages : List (ℕ × List ℕ)) (entries : List Entry) → k ≤ before
-    → NumbersRise before entries next → AreShown pages entries → finite.find nat_cmp k pages ≡ None
+none_below : (k before next : ℕ) (pages : List (ℕ × Stored)) (entries : List Entry) → k ≤ before
+    → NumbersRise before entries next → ShowEntries pages entries → finite.find nat_cmp k pages ≡ None
 none_below k before next [] [] le rise shown = refl
 none_below k before next [] (e ∷ es) le rise shown = absurd shown
 none_below k before next (p ∷ ps) [] le rise shown = absurd shown
@@ -64,21 +65,22 @@ none_below k before next (p ∷ ps) (e ∷ es) le rise shown =
     found_later k p ps apart
     ∙ none_below k e.number next ps es (omega (arith, rise.0)) rise.1 shown.1
 
-not_none : (o : Option (List ℕ)) → is_some o ≡ true → o ≡ None → ⊥
+not_none : (o : Option Stored) → is_some o ≡ true → o ≡ None → ⊥
 not_none None is e = absurd cc
 not_none (Some x) is e = cc
 
 -- the next number, its entry, what comes behind it, and its page
-pub record Next (n k : ℕ) (pages : List (ℕ × List ℕ)) (entries : List Entry) : Type 0 where
+pub record Next (n k : ℕ) (pages : List (ℕ × Stored)) (entries : List Entry) : Type 0 where
   pub entry : Entry
   pub later : List Entry
   pub number_is : k ≡ entry.number
   pub here : above n entries ≡ entry ∷ later
   pub left : above k entries ≡ later
-  pub policy : ℕ
-  pub payload : finite.find nat_cmp k pages ≡ Some (policy ∷ canonical_text entry.tree)
+  pub document : Stored
+  pub found : finite.find nat_cmp k pages ≡ Some document
+  pub text_is : document.text ≡ canonical_text entry.tree
 
-behind : (n k : ℕ) (p : ℕ × List ℕ) (ps : List (ℕ × List ℕ)) (e : Entry) (es : List Entry)
+behind : (n k : ℕ) (p : ℕ × Stored) (ps : List (ℕ × Stored)) (e : Entry) (es : List Entry)
     → e.number ≤ n → n < k → p.0 ≡ e.number → Next n k ps es → Next n k (p ∷ ps) (e ∷ es)
 behind n k p ps e es le lt same found =
     let apart : k ≢ p.0 = omega arith in
@@ -88,12 +90,13 @@ behind n k p ps e es le lt same found =
       number_is = found.number_is;
       here = skips n e es le ∙ found.here;
       left = skips k e es (omega arith) ∙ found.left;
-      policy = found.policy;
-      payload = found_later k p ps apart ∙ found.payload;
+      document = found.document;
+      found = found_later k p ps apart ∙ found.found;
+      text_is = found.text_is;
     }
 
-module _ (n k next : ℕ) (p : ℕ × List ℕ) (ps : List (ℕ × List ℕ)) (e : Entry) (es : List Entry)
-    (rise : NumbersRise e.number es next) (shown : AreShown (p ∷ ps) (e ∷ es))
+module _ (n k next : ℕ) (p : ℕ × Stored) (ps : List (ℕ × Stored)) (e : Entry) (es : List Entry)
+    (rise : NumbersRise e.number es next) (shown : ShowEntries (p ∷ ps) (e ∷ es))
     (below : n < e.number) (lt : n < k) (held : is_some (finite.find nat_cmp k (p ∷ ps)) ≡ true)
     (least : (b : ℕ) → n < b → b < k → finite.find nat_cmp b (p ∷ ps) ≡ None) where
   not_above : k ≤ e.number
@@ -120,12 +123,13 @@ module _ (n k next : ℕ) (p : ℕ × List ℕ) (ps : List (ℕ × List ℕ)) (e
         number_is = omega arith;
         here = stops n e es below;
         left = skips k e es b ∙ all_above k e.number next es a rise;
-        policy = shown.0.policy;
-        payload = found_here k p ps (omega (arith, shown.0.number_is)) ∙ ap Some shown.0.payload_is;
+        document = p.1;
+        found = found_here k p ps (omega (arith, shown.0.number_is));
+        text_is = shown.0.text_is;
       }
 
-next_of : (n k before next : ℕ) (pages : List (ℕ × List ℕ)) (entries : List Entry)
-    → NumbersRise before entries next → AreShown pages entries → n < k
+next_of : (n k before next : ℕ) (pages : List (ℕ × Stored)) (entries : List Entry)
+    → NumbersRise before entries next → ShowEntries pages entries → n < k
     → is_some (finite.find nat_cmp k pages) ≡ true
     → ((b : ℕ) → n < b → b < k → finite.find nat_cmp b pages ≡ None) → Next n k pages entries
 next_of n k before next [] [] rise shown lt held least = absurd cc
@@ -144,7 +148,7 @@ next_of n k before next (p ∷ ps) (e ∷ es) rise shown lt held least =
           sym (found_later b p ps other) ∙ least b low high))
     ]
 
-none_above : (n : ℕ) (pages : List (ℕ × List ℕ)) (entries : List Entry) → AreShown pages entries
+none_above : (n : ℕ) (pages : List (ℕ × Stored)) (entries : List Entry) → ShowEntries pages entries
     → ((b : ℕ) → n < b → finite.find nat_cmp b pages ≡ None) → above n entries ≡ []
 none_above n [] [] shown none = refl
 none_above n [] (e ∷ es) shown none = absurd shown
@@ -216,57 +220,43 @@ stored_above n (e ∷ es) stored =
       | false ↦ stored_above n es stored.1
     ]
 
--- a number that is held has a text
-pub has_text : (payloads : Numbered) (number : ℕ) (text : Option (List ℕ))
-    → IsTrue (finite.contains_key payloads number)
-    → text ≡ option_map (λ (payload : List ℕ). drop 1 payload) (finite.get payloads number)
-    → is_some text ≡ true
-has_text payloads number text held is =
-    ap is_some is ∙ some_of (finite.get payloads number) held
-  where
-    some_of : (found : Option (List ℕ)) → is_some found ≡ true
-        → is_some (option_map (λ (payload : List ℕ). drop 1 payload) found) ≡ true
-    some_of None e = absurd cc
-    some_of (Some payload) e = refl
-
--- ---- of what stands for a container
+-- ---- of what holds a container
 
 module _ (contents : Contents) (container : Container)
-    (stand : ContentsStandFor contents container) where
-  abbrev pages : List (ℕ × List ℕ)
+    (hold : ContentsHold contents container) where
+  abbrev pages : List (ℕ × Stored)
   pages = finite.entries contents.documents
 
-  pub next_entry : (n k : ℕ) → IsNextAfter contents.documents n k → Next n k pages container.entries
+  pub next_entry : (n k : ℕ) → IsNext contents n k → Next n k pages container.entries
   next_entry n k next = next_of n k 0 container.next_number pages container.entries
-      stand.sound.numbers stand.shown next.above
+      hold.show.sound.numbers hold.show.shown next.above
       (ap is_some (sym (finite.get-entries contents.documents k)) ∙ next.held)
       (λ b low high. sym (finite.get-entries contents.documents b) ∙ next.least b low high)
 
   pub at_the_end : (n : ℕ) → ((b : ℕ) → n < b → finite.get contents.documents b ≡ None)
       → above n container.entries ≡ []
-  at_the_end n none = none_above n pages container.entries stand.shown
+  at_the_end n none = none_above n pages container.entries hold.show.shown
       (λ b low. sym (finite.get-entries contents.documents b) ∙ none b low)
 
   pub at_the_start : above 0 container.entries ≡ container.entries
   at_the_start = all_above 0 0 container.next_number container.entries (omega arith)
-      stand.sound.numbers
+      hold.show.sound.numbers
 
   -- the text that the next document's page has
   pub text_here : (n k : ℕ) (next : Next n k pages container.entries)
-      → option_map (λ (payload : List ℕ). drop 1 payload) (finite.get contents.documents k)
-      ≡ Some (canonical_text next.entry.tree)
-  text_here n k next = ap (option_map (λ (payload : List ℕ). drop 1 payload))
-      (finite.get-entries contents.documents k ∙ next.payload)
+      → text_of (finite.get contents.documents k) ≡ Some (canonical_text next.entry.tree)
+  text_here n k next =
+      ap text_of (finite.get-entries contents.documents k ∙ next.found) ∙ ap Some next.text_is
 
   -- the next document is one that is stored
   pub stored_here : (n k : ℕ) (next : Next n k pages container.entries) → IsStored next.entry
   stored_here n k next = (subst (AllByRecursion IsStored) next.here
-      (stored_above n container.entries stand.sound.stored)).0
+      (stored_above n container.entries hold.show.sound.stored)).0
 
   pub distinct_here : (n k : ℕ) (next : Next n k pages container.entries)
       → IdsAreDistinct (next.entry ∷ next.later)
   distinct_here n k next = subst IdsAreDistinct next.here
-      (distinct_above n container.entries stand.sound.distinct)
+      (distinct_above n container.entries hold.show.sound.distinct)
 
   -- the next document's text stands for its tree
   pub reads_here : (n k : ℕ) (next : Next n k pages container.entries)
@@ -307,18 +297,18 @@ module _ (contents : Contents) (container : Container)
 -- ---- over calls that read
 
 pub next_same : (old new : Store LruPages) (n k : ℕ) → SameButReads old new
-    → IsNextAfter (store_contents new).documents n k → IsNextAfter (store_contents old).documents n k
-next_same old new n k same next = subst (λ (kept : Kept). IsNextAfter kept.contents.documents n k) same.pages next
+    → IsNext (store_says new) n k → IsNext (store_says old) n k
+next_same old new n k same next = subst (λ (kept : Kept). IsNext (kept_says kept) n k) same.pages next
 
 pub none_same : (old new : Store LruPages) (n : ℕ) → SameButReads old new
-    → ((b : ℕ) → n < b → finite.get (store_contents new).documents b ≡ None)
-    → (b : ℕ) → n < b → finite.get (store_contents old).documents b ≡ None
+    → ((b : ℕ) → n < b → finite.get (store_says new).documents b ≡ None)
+    → (b : ℕ) → n < b → finite.get (store_says old).documents b ≡ None
 none_same old new n same none =
-    subst (λ (kept : Kept). (b : ℕ) → n < b → finite.get kept.contents.documents b ≡ None) same.pages none
+    subst (λ (kept : Kept). (b : ℕ) → n < b → finite.get (kept_says kept).documents b ≡ None) same.pages none
 
 pub text_same : (old new : Store LruPages) (k : ℕ) (text : List ℕ) → SameButReads old new
-    → option_map (λ (payload : List ℕ). drop 1 payload) (finite.get (store_contents old).documents k) ≡ Some text
-    → option_map (λ (payload : List ℕ). drop 1 payload) (finite.get (store_contents new).documents k) ≡ Some text
+    → text_of (finite.get (store_says old).documents k) ≡ Some text
+    → text_of (finite.get (store_says new).documents k) ≡ Some text
 text_same old new k text same is =
-    subst (λ (kept : Kept). option_map (λ (payload : List ℕ). drop 1 payload) (finite.get kept.contents.documents k) ≡ Some text)
+    subst (λ (kept : Kept). text_of (finite.get (kept_says kept).documents k) ≡ Some text)
     (sym same.pages) is

@@ -8,6 +8,9 @@ mod OwnRefusals
 mod Placing
 mod QueryTexts
 mod RowLines
+mod Saying
 mod Scanning
 mod ShownTexts
+mod StayReadable
+mod WholeEnough
 mod Writing

@@ -11,13 +11,14 @@ use Rattle.ax_mean.specs.declared.query.KeyedRow.{KeyedRow}
 use Rattle.ax_mean.specs.declared.query.Query.{Query}
 use Rattle.ax_container.specs.Container.{Container, Entry, IsSound, NumbersRise}
 use Rattle.ax_excerpt.specs.Excerpts.{excerpts}
-use Rattle.ax_excerpt.specs.ShownDocuments.{showing, tree_numbered, without_pick}
+use Rattle.ax_excerpt.specs.ShownDocuments.{ShowsDocument, showing, tree_numbered, without_pick}
 use Rattle.ax_excerpt.proofs.GroupsAlike.{same_answer}
 use Rattle.ax_excerpt.proofs.ShownAnswers.{shown_answer}
+use Rattle.ax_excerpt.specs.declared.excerpt.Excerpt as excerpt
 use Rattle.ax_machine.specs.Querying.{numbered, rows_of}
 use Rattle.ax_result.specs.Answers.{answer_of}
-use Rattle.ax_engine.specs.Printing.{IsPrinted}
 use Rattle.ax_engine.proofs.InOrder.{pairs}
+use Rattle.ax_engine.proofs.WholeEnough.{whole_is_enough}
 
 all_above : (n before next : ℕ) (entries : List Entry) → n ≤ before → NumbersRise before entries next
     → AllByRecursion (λ m. nat_cmp n m ≡ Less) (map (λ (e : ℕ × Tree). e.0) (pairs entries))
@@ -55,19 +56,20 @@ same_texts entries (row ∷ rows) =
     ap (λ rest. canonical_text (tree_numbered row.number entries) ∷ rest) (same_texts entries rows)
 
 -- the texts of the rows are those of the documents of the rows' keys
-pub shown_rows : (query : Query) (container : Container) → IsPrinted query → IsSound container
+pub shown_rows : (query : Query) (container : Container) → ShowsDocument query → IsSound container
     → (rows : List KeyedRow) → rows ≡ answer_of (without_pick query) (numbered container)
     → map (λ (row : KeyedRow). canonical_text (tree_numbered row.number (numbered container))) rows
     ≡ rows_of query container
 shown_rows query container is sound rows these =
     let entries = numbered container in
+    let all = whole_is_enough (without_pick query) in
     let whole : answer_of query entries
     ≡ map (λ (row : KeyedRow). showing (tree_numbered row.number entries) row)
-    (answer_of (without_pick query) (excerpts is.1.0 entries)) =
-    shown_answer is.1.0 query entries is.0 is.1.1 (numbers_rise container sound) in
-    let same : answer_of (without_pick query) (excerpts is.1.0 entries)
+    (answer_of (without_pick query) (excerpts excerpt.Whole entries)) =
+    shown_answer excerpt.Whole query entries is all (numbers_rise container sound) in
+    let same : answer_of (without_pick query) (excerpts excerpt.Whole entries)
     ≡ answer_of (without_pick query) entries =
-    same_answer is.1.0 (without_pick query) entries is.1.1 in
+    same_answer excerpt.Whole (without_pick query) entries all in
     sym (ap (map (λ (row : KeyedRow). canonical_text row.shown))
     (whole ∙ ap (map (λ (row : KeyedRow). showing (tree_numbered row.number entries) row))
     (same ∙ sym these))

@@ -1,11 +1,8 @@
 -- What a store that was opened stands for; and what is opened is neither damaged nor of a later version.
-use Rattle.std.proofs.Common.{◌≡◌, ◌⊎◌, inl, inr, ℕ, ◌≤◌, Bool, List, Result, Ok, Err, refl, sym, ap, subst, ◌∙◌, arith}
+use Rattle.std.proofs.Common.{◌≡◌, ◌⊎◌, inl, inr, ℕ, ◌≤◌, Bool, List, Result, Ok, Err, sym, ap, subst, arith}
 use Rattle.std.specs.Prelude.{IfOk, IfErr, IsTrue, OnOk}
-use Rattle.std.specs.List.{AllByRecursion}
 use Rattle.ax_cache.specs.Held.{held}
 use Rattle.ax_cache.specs.declared.lru_pages.LruPages.{LruPages}
-use Rattle.ax_disk.specs.declared.extent.Extent.{Extent}
-use Rattle.ax_disk.specs.declared.extent.Extent.TheVariants.{Root, A, B}
 use Rattle.ax_disk.specs.laws.MomentLaws.{progress_stays, progress_within}
 use Rattle.ax_disk.specs.laws.CallLaws.{idles_leave}
 use Rattle.ax_disk.specs.laws.StageLaws.{barrier_goes_on}
@@ -16,12 +13,10 @@ use Rattle.ax_disk.specs.model.Moments.{History}
 use Rattle.ax_disk.specs.model.Stays.{BarrierStage, Rests, SinceBarrier}
 use Rattle.ax_faults.specs.Faults.{Rose}
 use Rattle.ax_faults.specs.FaultLaws.{rose_since}
-use Rattle.ax_pages.specs.Contents.{Contents}
-use Rattle.ax_pages.specs.Image.{HasFrames, extent_number}
+use Rattle.ax_pages.specs.Contents as log
+use Rattle.ax_pages.specs.Image.{HasFrames}
 use Rattle.ax_pages.specs.HasContents.{HasContents}
-use Rattle.ax_pages.specs.laws.ImageLaws.{one_frames}
-use Rattle.ax_pages.proofs.ImageContents.{one_contents}
-use Rattle.ax_area.specs.Contents as area
+use Rattle.ax_area.specs.Contents.{Contents}
 use Rattle.ax_area.specs.Image.{IsNewer, Says}
 use Rattle.ax_area.specs.Told.{Told}
 use Rattle.ax_area.specs.declared.root.Counting.{Counting}
@@ -39,38 +34,56 @@ use Rattle.ax_store.specs.Kept.{Kept}
 use Rattle.ax_store.specs.Store.{IsDamagedStore, IsOpened, TellsFault, store_contents}
 use Rattle.ax_store.proofs.StoreLemmas.{barrier_weaken}
 use Rattle.ax_container.specs.Container.{Container}
-use Rattle.ax_image.specs.Readable.{AreReadableParts, TellsReadable, newest}
-use Rattle.ax_image.specs.Documents.{ContentsStandFor}
-use Rattle.ax_image.specs.StandsFor.{StandsFor}
-use Rattle.ax_image_laws.proofs.InGrammar.{contents_found, documents_back, readable_back, stands}
-use Rattle.ax_image_laws.proofs.Spoiled.{damaged_too}
+use Rattle.ax_image.specs.Readable.{SaysReadable, newest}
+use Rattle.ax_image.specs.Documents.{ContentsHold}
+use Rattle.ax_image.specs.StandsFor.{ContentsShow, StandsFor}
+use Rattle.ax_image_grammar.specs.Grammar.{AreReadable}
+use Rattle.ax_image_grammar.specs.Table.{AreApart}
+use Rattle.ax_area_laws.proofs.Rising.{risen_back, said_is_risen, says_risen}
+use Rattle.ax_area_laws.specs.Risen.{risen}
+use Rattle.ax_area_laws.proofs.Spoiled.{damaged_too}
+use Rattle.ax_image.proofs.InGrammar.{documents_back, readable_back}
 use Rattle.ax_engine.specs.declared.documents.Documents.{Documents}
 use Rattle.ax_engine.specs.Documents.{DocumentsHold, DocumentsWork, number_in}
-use Rattle.ax_engine.specs.Lists.{list_number}
 use Rattle.ax_engine.specs.Opening.{IsDamagedIn, Numbers, RefusesBy, TellsNumbers}
 use Rattle.ax_engine.specs.Scans.{ScanFails, Scanned}
+use Rattle.ax_engine.specs.StoreSays.{kept_says, store_says}
+use Rattle.ax_engine.proofs.StayReadable.{told_alike}
 use Rattle.ax_engine.specs.Stores.{IsImageOf, IsStore, IsWithin}
+
+-- an image that stands for a container has contents in the words of the store
+abbrev contents_of : (image : Image) (container : Container) (stand : StandsFor image container)
+    → (old : log.Contents) × HasContents old image × (stand.contents ≡ risen old)
+contents_of image container stand =
+    risen_back image stand.version stand.told stand.contents stand.grammatical.says
+
+abbrev frames_of : (image : Image) (container : Container) → StandsFor image container → List (List ℕ)
+frames_of image container stand = (contents_of image container stand).1.frames
+
+has_frames : (image : Image) (container : Container) (stand : StandsFor image container)
+    → HasFrames (frames_of image container stand) image
+has_frames image container stand = (contents_of image container stand).1.has
 
 -- an image with the log frames of one that stands for a container stands for it too
 image_by : (image : Image) (container : Container) (stand : StandsFor image container)
-    → (other : Image) → HasFrames (documents_back image container stand).has.frames other
+    → (other : Image) → HasFrames (frames_of image container stand) other
     → IsImageOf container other
 image_by image container stand other has =
-    let documents = documents_back image container stand in
-    let readable = readable_back image container stand in
-    stands other container
-    (record {
-      contents = documents.contents;
-      has = record { frames = documents.has.frames; has = has; lead = documents.has.lead };
-      stand = documents.stand;
-    })
-    (record {
-      frames = documents.has.frames;
-      has = has;
-      each = subst (AllByRecursion AreReadableParts)
-          (one_frames image readable.frames documents.has.frames readable.has documents.has.has)
-          readable.each;
-    })
+    let (old, is, same) = contents_of image container stand in
+    let said = says_risen other old (record { frames = is.frames; has = has; lead = is.lead }) in
+    let told = told_alike is.frames image other is.has has stand.version newest stand.told said.0
+    stand.contents (risen old) stand.grammatical.says said.1 in
+    record {
+      version = newest;
+      told = said.0;
+      contents = risen old;
+      grammatical = record {
+        says = said.1;
+        readable = subst (AreReadable newest) told stand.grammatical.readable;
+        apart = subst AreApart same stand.grammatical.apart;
+      };
+      show = subst (λ contents. ContentsShow contents container) same stand.show;
+    }
 
 -- the barrier is still to come
 pub idle_since : (old new : History) (P : Image → Type 0) → Idles old new → SinceBarrier old new P
@@ -81,35 +94,29 @@ idle_since old new P idle = record {
   rests = inl (record { each = λ image may. idles_leave old new idle image may });
 }
 
--- a list has one number
-pub same_number : (list : Extent) → extent_number list ≡ list_number list
-same_number Root = refl
-same_number A = refl
-same_number B = refl
-
 -- an image with contents in the words of the store is within the format
-pub is_within : (image : Image) (contents : Contents) → HasContents contents image → IsWithin image
+pub is_within : (image : Image) (contents : log.Contents) → HasContents contents image → IsWithin image
 is_within image contents has =
-    let found = contents_found image contents has in
-    (found.0, found.1, found.2)
+    let said = says_risen image contents has in
+    (newest, said.0, risen contents, said.1)
 
 module _ (old mid : History) where
   pub since_opening : (before : Container) → IsStore before old
       → ((frames : List (List ℕ)) → HasFrames frames old.reads → SinceBarrier old mid (HasFrames frames))
       → SinceBarrier old mid (IsImageOf before)
   since_opening before store since =
-      let has = (documents_back old.reads before store.reads).has in
-      barrier_weaken old mid (HasFrames has.frames) (IsImageOf before)
-      (image_by old.reads before store.reads) (since has.frames has.has)
+      let frames = frames_of old.reads before store.reads in
+      barrier_weaken old mid (HasFrames frames) (IsImageOf before)
+      (image_by old.reads before store.reads) (since frames (has_frames old.reads before store.reads))
 
   -- after the opening a crash leaves the log frames that were there
   pub opened_rests : (before : Container) → IsStore before old
       → ((frames : List (List ℕ)) → HasFrames frames old.reads → Rests mid (HasFrames frames))
       → Rests mid (IsImageOf before)
   opened_rests before store kept =
-      let has = (documents_back old.reads before store.reads).has in
-      rests_weaken mid (HasFrames has.frames) (IsImageOf before)
-      (image_by old.reads before store.reads) (kept has.frames has.has)
+      let frames = frames_of old.reads before store.reads in
+      rests_weaken mid (HasFrames frames) (IsImageOf before)
+      (image_by old.reads before store.reads) (kept frames (has_frames old.reads before store.reads))
 
   -- calls that read came behind it
   pub since_reading : (before : Container) (new : History) → Rests mid (IsImageOf before)
@@ -118,19 +125,19 @@ module _ (old mid : History) where
       barrier_goes_on old mid new (IsImageOf before) since rests (idles_stay mid new (IsImageOf before) rests idles)
 
   pub readable_still : (before : Container) (new : History) → Rests mid (IsImageOf before) → Idles mid new
-      → Rests new TellsReadable
+      → Rests new SaysReadable
   readable_still before new rests idles =
-      rests_weaken new (IsImageOf before) TellsReadable (λ image stand. readable_back image before stand)
+      rests_weaken new (IsImageOf before) SaysReadable (λ image stand. readable_back image before stand)
       (idles_rest mid new (IsImageOf before) rests idles)
 
   damaged_in : (extent at : ℕ) → IsDamagedStore old.reads extent at → IsDamagedIn old.reads extent at
   damaged_in extent at (inl damaged) = (
     damaged.list,
-    damaged.number ∙ same_number damaged.list,
+    damaged.number,
     damaged_too old.reads damaged.list at (inl damaged.damaged),
   )
   damaged_in extent at (inr (area, is, spoiled)) =
-      (area, is ∙ same_number area, damaged_too old.reads area at (inr spoiled))
+      (area, is, damaged_too old.reads area at (inr spoiled))
 
   pub refuses_by : (why : StoreFault) → TellsFault why old.reads
       → (IsRefused {T = Unit {0}} (Err why) → Keeps old mid) → RefusesBy why old mid
@@ -142,27 +149,28 @@ module _ (old mid : History) where
   module _ (store : Store LruPages) (before : Container) (was : IsStore before old)
       (opened : IsOpened held store old.reads mid) where
     -- the contents that the store was opened by are those of the container
-    opened_stand : ContentsStandFor (store_contents store) before
-    opened_stand =
+    opened_hold : ContentsHold (store_says store) before
+    opened_hold =
         let documents = documents_back old.reads before was.reads in
-        subst (λ (contents : Contents). ContentsStandFor contents before)
-        (one_contents old.reads documents.contents (store_contents store) documents.has opened.has)
-        documents.stand
+        subst (λ (contents : Contents). ContentsHold contents before)
+        (said_is_risen old.reads (store_contents store) documents.version documents.told documents.contents
+        opened.has documents.says)
+        documents.hold
 
     pub holds_opened : (honest : Bool) (result : Result Documents StoreFault) (new : History) (l m : ℕ)
         → TellsNumbers honest result store new l m → IsTrue honest
         → IfOk result (λ documents. DocumentsHold documents before)
     holds_opened honest (Err why) new l m tells h = tt
     holds_opened honest (Ok documents) new l m tells h = record {
-      stand = subst (λ (kept : Kept). ContentsStandFor kept.contents before) (sym tells.same.pages) opened_stand;
-      numbers = tells.numbers h before opened_stand;
+      hold = subst (λ (kept : Kept). ContentsHold (kept_says kept) before) (sym tells.same.pages) opened_hold;
+      numbers = tells.numbers h before opened_hold;
     }
 
 -- ---- what finding the numbers answers
 
 pub numbers_made : (honest : Bool) (store : Store LruPages) (documents : Documents) (ahead : ReadAhead)
     (before after : History) (l m : ℕ) → Scanned honest store documents.store ahead before after l m
-    → (IsTrue honest → (container : Container) → ContentsStandFor (store_contents store) container
+    → (IsTrue honest → (container : Container) → ContentsHold (store_says store) container
     → (id : List ℕ) → number_under documents.numbers id ≡ number_in id container)
     → Numbers honest (Ok documents) store before after l m
 numbers_made honest store documents ahead before after l m scanned numbers = record {
@@ -222,13 +230,13 @@ in_any (Err why) p = tt
 pub not_damaged : (image : Image) (container : Container) (extent at : ℕ) → StandsFor image container
     → IsDamagedIn image extent at → ⊥
 not_damaged image container extent at stand (list, is, damaged) =
-    says_not_damaged newest image newest stand.told stand.contents list at stand.grammatical.says damaged
+    says_not_damaged newest image stand.version stand.told stand.contents list at stand.grammatical.says damaged
 
-says_not_newer : (image : Image) (version : ℕ) (told : List Told) (contents : area.Contents)
-    → Says newest newest told contents image → IsNewer newest version image → ⊥
-says_not_newer image version told contents (inl fresh) newer =
+says_not_newer : (image : Image) (known version : ℕ) (told : List Told) (contents : Contents)
+    → Says newest known told contents image → IsNewer newest version image → ⊥
+says_not_newer image known version told contents (inl fresh) newer =
     fresh_counts image.root newer.slot fresh.fresh newer.counts
-says_not_newer image version told contents (inr live) newer =
+says_not_newer image known version told contents (inr live) newer =
     omega (
       arith,
       live.live.known.known,
@@ -241,4 +249,4 @@ says_not_newer image version told contents (inr live) newer =
 pub not_newer : (image : Image) (container : Container) (version : ℕ) → StandsFor image container
     → IsNewer newest version image → ⊥
 not_newer image container version stand newer =
-    says_not_newer image version stand.told stand.contents stand.grammatical.says newer
+    says_not_newer image stand.version version stand.told stand.contents stand.grammatical.says newer

@@ -1,6 +1,6 @@
 -- The offsets at which the store keeps the parts of documents are the places at which the documents that
 -- were told begin.
-use Rattle.std.proofs.Common.{◌≡◌, ℕ, ◌+◌, Bool, true, false, List, [], ◌∷◌, ◌++◌, map, length, drop, Option, refl}
+use Rattle.std.proofs.Common.{◌≡◌, ℕ, ◌+◌, Bool, true, false, List, [], ◌∷◌, ◌++◌, length, drop, Option, refl}
 use Rattle.std.proofs.Common.{sym, ap, subst, ◌∙◌, ⊎_elim}
 use Rattle.std.specs.Prelude.{Some, None, if◌then◌else◌, slice_index}
 use Rattle.std.specs.FinMap as finite
@@ -9,7 +9,7 @@ use Rattle.std.specs.Ordering.{nat_cmp}
 use Rattle.std.proofs.lemmas.Bool.{cases_eq}
 use Rattle.std.proofs.lemmas.List.{append-nil}
 use Rattle.ax_frame.proofs.Parts.{one_list}
-use Rattle.ax_frame.specs.Part.{PartValue, AllFit, part_bytes, parts_bytes}
+use Rattle.ax_frame.specs.Part.{PartValue, part_bytes}
 use Rattle.ax_pages.proofs.LastPart.{get_inserted, get_not_inserted, get_removed, get_not_removed}
 use Rattle.ax_pages.specs.AfterPart.{kind_of}
 use Rattle.ax_pages.specs.declared.page.Kind.{Kind}
@@ -21,8 +21,9 @@ use Rattle.ax_area.specs.Places.{Place, PagePlaces, no_places, places_after, pla
 use Rattle.ax_area.specs.Told.{Told, IsTold, AreTold, TellOn, told_bytes}
 use Rattle.ax_area.proofs.OneTelling.{same_some, some_or_none}
 use Rattle.ax_image.specs.Readable.{newest}
-use Rattle.ax_image_laws.proofs.Refusing.{by_itself, known_alone, no_kind}
-use Rattle.ax_image_laws.proofs.Stepping.{kind_number}
+use Rattle.ax_area_laws.proofs.Parts.{one_part_told, parts_told, are_parts}
+use Rattle.ax_area_laws.proofs.Refusing.{no_kind}
+use Rattle.ax_area_laws.proofs.Stepping.{kind_number}
 use Rattle.ax_store.specs.Kept.{Kept, PageOffsets, no_offsets, offsets_after, offsets_after_parts}
 use Rattle.ax_store.specs.Loading.{TakesOn}
 use Rattle.ax_store.specs.Rows.{Offsets}
@@ -93,15 +94,6 @@ module _ (t : Told) (at : ℕ) (is : IsTold newest at t) where
       → change_of newest (single (record { kind = n; key = first.key; payload = first.payload })) ≡ Some t.change
   says_kind n same says = ap (λ k. change_of newest (single (record { kind = k; key = first.key; payload = first.payload }))) (sym same) ∙ says
 
-  -- it is one part
-  pub one_part_told : t.item ≡ single first
-  one_part_told = by_kind (kind_of first.kind) refl
-    where
-      by_kind : (found : Option Kind) → kind_of first.kind ≡ found → t.item ≡ single first
-      by_kind None none = absurd (some_or_none t.change (sym (ap (λ k. change_by k first t.item.pieces)
-          (no_kind first.kind none)) ∙ is.says))
-      by_kind (Some k) found = by_itself t.item is.item (known_alone k first.kind found)
-
   abbrev new_places : List Place
   new_places = record { at = t.at; kind = first.kind; len = length first.payload } ∷ []
 
@@ -147,26 +139,10 @@ module _ (t : Told) (at : ℕ) (is : IsTold newest at t) where
         (with_places t.change (places_from t.at (item_parts t.item)) places).documents
     one_alike =
         subst (λ (item : Item). Alike (offsets_after (kind_of first.kind) first.key at offsets).documents
-        (with_places t.change (places_from t.at (item_parts item)) places).documents) (sym one_part_told)
-        (by_found (kind_of first.kind) refl (ap (change_of newest) (sym one_part_told) ∙ is.says))
+        (with_places t.change (places_from t.at (item_parts item)) places).documents) (sym (one_part_told t at is))
+        (by_found (kind_of first.kind) refl (ap (change_of newest) (sym (one_part_told t at is)) ∙ is.says))
 
 -- ---- one behind another
-
-abbrev parts_told : List Told → List PartValue
-parts_told told = map (λ (t : Told). t.item.first) told
-
-record AreParts (told : List Told) : Type 0 where
-  fit : AllFit (parts_told told)
-  spelled : told_bytes told ≡ parts_bytes (parts_told told)
-
-are_parts : (told : List Told) (at : ℕ) → AreTold newest at told → AreParts told
-are_parts [] at are = record { fit = tt; spelled = refl }
-are_parts (t ∷ told) at are =
-    let others = are_parts told (at + length (item_bytes t.item)) are.1 in record {
-      fit = (are.0.item.fit.0, others.fit);
-      spelled = λ i. (ap item_bytes (one_part_told t at are.0) ∙ append-nil (part_bytes t.item.first)) i
-          ++ others.spelled i;
-    }
 
 all_alike : (told : List Told) (at : ℕ) (offsets : PageOffsets) (places : PagePlaces) → AreTold newest at told
     → Alike offsets.documents places.documents

@@ -1,76 +1,150 @@
--- The parts of an upsert: they are within the format, and they lead to the upserted container.
-use Rattle.std.proofs.Common.{◌≡◌, ℕ, ◌+◌, ◌<◌, ◌≤◌, Bool, true, false, cond, List, [], ◌∷◌, ◌++◌, map, length}
+-- The batches of an upsert: they are within the format, and they lead to the upserted container.
+use Rattle.std.proofs.Common.{◌≡◌, ℕ, ◌+◌, ◌^◌, ◌<◌, ◌≤◌, Bool, true, false, cond, List, [], ◌∷◌, ◌++◌, map, length}
 use Rattle.std.proofs.Common.{find, Option, Some, None, is_some, Ok, Err, refl, sym, ap, subst, ◌∙◌, arith}
-use Rattle.std.specs.Prelude.{option_map, option_and_then, if◌then◌else◌, ◌||◌, nat_le, nat_lt}
+use Rattle.std.specs.Prelude.{option_map, option_and_then, if◌then◌else◌, ◌&&◌, ◌||◌, nat_le, nat_lt}
 use Rattle.std.specs.List.{list_any}
 use Rattle.std.specs.Option.{option_map_or}
 use Rattle.std.specs.Str.{bytes_eq}
 use Rattle.std.specs.FinMap as finite
-use Rattle.std.proofs.lemmas.Bool.{lt-ltb, leb-false}
+use Rattle.std.proofs.lemmas.Bool.{lt-ltb, lt-leb, le-leb, leb-false}
+use Rattle.std.proofs.lemmas.Nat.{from_le_bytes-to_le_bytes_4}
 use Rattle.ax_tree.specs.declared.tree.Tree.{Tree}
+use Rattle.ax_tree.specs.CanonicalText.{canonical_text}
 use Rattle.ax_tree.specs.Document.{document_id}
 use Rattle.ax_tree.specs.Nesting.{nesting}
 use Rattle.ax_tree.specs.WellFormed.{IsWellFormed}
+use Rattle.ax_area.specs.Changes.{Change}
+use Rattle.ax_area.specs.Contents.{after_changes, Contents, is_given}
+use Rattle.ax_area_laws.specs.Risen.{risen}
 use Rattle.ax_container.specs.Container.{Entry, Container, has_id, entry_of, most_documents, last_number}
 use Rattle.ax_container.specs.Upsert.{Full, with_tree, replaced, created, creation, is_full, upserted}
 use Rattle.ax_container.proofs.Ids.{same_from_eq, bytes_eq-false_sym}
 use Rattle.ax_container.proofs.Upserts.{or_none, upsert_keeps_soundness}
 use Rattle.ax_frame.specs.Part.{PartValue}
-use Rattle.ax_pages.specs.Contents.{Contents, meta_bytes, next_number, policy_now, is_given}
-use Rattle.ax_pages.specs.AfterPart.{after_parts, last_policy}
-use Rattle.ax_image.specs.Documents.{ContentsStandFor}
-use Rattle.ax_image.specs.UpsertParts.{document_part, replacing_parts, creating_parts, upsert_parts}
+use Rattle.ax_image.specs.Documents.{ContentsHold}
+use Rattle.ax_image.specs.UpsertChanges.{replacing_changes, creating_changes, upsert_changes}
 use Rattle.ax_image.proofs.Shown.{as_many}
-use Rattle.ax_image.proofs.Upserting.{Written, written, first_or, second_or, meta_fits, after_document}
-use Rattle.ax_image.proofs.Upserting.{with_document, any_found}
+use Rattle.ax_image.proofs.Upserting.{Written, written, any_found}
+use Rattle.ax_pages.specs.AfterPart.{after_part, after_parts, has_room, is_meta, last_policy}
+use Rattle.ax_pages.specs.Contents as log
 use Rattle.ax_store.specs.Putting.{AreWithin}
+use Rattle.ax_engine.specs.Batches.{document_part, replacing_parts, creating_parts}
 use Rattle.ax_engine.specs.Documents.{number_in, is_full_of}
 use Rattle.ax_engine.proofs.Holding.{LeadsTo}
+use Rattle.ax_engine.proofs.Saying.{held_alike, many_alike}
 
 -- ---- within the format
 
-pub within_replacing : (number policy : ℕ) (tree : Tree) (contents : Contents) → 0 < number
-    → is_given policy contents ≡ true → finite.contains_key contents.documents number ≡ true
-    → AreWithin (replacing_parts number policy tree) contents
-within_replacing number policy tree contents some given held = (
-  with_document contents number policy tree,
+first_or : (a b : Bool) → a ≡ true → (a || b) ≡ true
+first_or a b x = ap (λ c. c || b) x
+
+second_or : (a b : Bool) → b ≡ true → (a || b) ≡ true
+second_or true b x = refl
+second_or false b x = x
+
+both : (a b : Bool) → a ≡ true → b ≡ true → (a && b) ≡ true
+both a b x y = λ i. x i && y i
+
+meta_fits : (next policy : ℕ) (old : log.Contents) → 0 < next → next < 2 ^ 32 → policy ≤ last_policy
+    → log.is_given policy old ≡ true → is_meta 0 (log.meta_bytes next policy) old ≡ true
+meta_fits next policy old some fits small given =
+    let bytes = log.meta_bytes next policy in
+    let next_is : log.next_in bytes ≡ next = from_le_bytes-to_le_bytes_4 next fits in
+    let now_is : log.now_in bytes ≡ policy = from_le_bytes-to_le_bytes_4 policy (omega (arith, small)) in
+    both _ _ (both _ _ (both _ _ refl (lt-ltb 0 (log.next_in bytes) (omega (arith, some, next_is))))
+    (le-leb (log.now_in bytes) last_policy (omega (arith, small, now_is))))
+    (ap (λ n. log.is_given n old) now_is ∙ given)
+
+abbrev with_payload : log.Contents → ℕ → ℕ → Tree → log.Contents
+with_payload old number policy tree =
+    record old { documents = finite.insert old.documents number (policy ∷ canonical_text tree) }
+
+after_document : (number policy : ℕ) (tree : Tree) (old : log.Contents) → 0 < number
+    → log.is_given policy old ≡ true → has_room number old ≡ true
+    → after_part (document_part number policy tree) old ≡ Some (with_payload old number policy tree)
+after_document number policy tree old some given room =
+    let payload = policy ∷ canonical_text tree in
+    ap (λ b. if b then Some (with_payload old number policy tree) else None)
+    (both _ _ (both _ _ (both _ _ (lt-ltb 0 number some) (lt-ltb 0 (length payload) (omega arith))) given) room)
+
+pub within_replacing : (number policy : ℕ) (tree : Tree) (old : log.Contents) → 0 < number
+    → is_given policy (risen old) ≡ true → finite.contains_key (risen old).documents number ≡ true
+    → AreWithin (replacing_parts number policy tree) old
+within_replacing number policy tree old some given held = (
+  with_payload old number policy tree,
   ap (option_and_then (after_parts []))
-      (after_document number policy tree contents some given (first_or _ _ held)),
+      (after_document number policy tree old some given (first_or _ _ (sym (held_alike old number) ∙ held))),
 )
 
-pub within_creating : (next policy : ℕ) (tree : Tree) (contents : Contents) → 0 < next
-    → is_full_of contents ≡ false → next ≡ next → policy ≤ last_policy
-    → is_given policy contents ≡ true → finite.len contents.documents < most_documents
-    → next < last_number → AreWithin (creating_parts next policy tree) contents
-within_creating next policy tree contents some full _ small given few left =
-    let with_meta : Contents = record contents { meta = Some (meta_bytes (next + 1) policy) } in
-    let fits = meta_fits (next + 1) policy contents (omega arith) (omega (arith, left)) small given in
-    let room = second_or (finite.contains_key contents.documents next)
-    (nat_lt (finite.len contents.documents) most_documents)
-    (lt-ltb (finite.len contents.documents) most_documents few) in (
-      with_document with_meta next policy tree,
+not_full : (old : log.Contents) → is_full_of (risen old) ≡ false
+    → (finite.len (risen old).documents < most_documents) × ((risen old).next_number < last_number)
+not_full old full =
+    let parts = or_none (nat_le most_documents (finite.len (risen old).documents))
+    (nat_le last_number (risen old).next_number) full in (
+      leb-false most_documents (finite.len (risen old).documents) parts.0,
+      leb-false last_number (risen old).next_number parts.1,
+    )
+
+pub not_last : (old : log.Contents) → is_full_of (risen old) ≡ false → (risen old).next_number < last_number
+not_last old full = (not_full old full).1
+
+pub within_creating : (next policy : ℕ) (tree : Tree) (old : log.Contents) → 0 < next
+    → is_full_of (risen old) ≡ false → next ≡ (risen old).next_number → policy ≤ 8
+    → is_given policy (risen old) ≡ true → AreWithin (creating_parts next policy tree) old
+within_creating next policy tree old some full is small given =
+    let below = not_full old full in
+    let left : next < last_number = omega (arith, below.1, is) in
+    let few : finite.len old.documents < most_documents = omega (arith, below.0, many_alike old) in
+    let with_meta : log.Contents = record old { meta = Some (log.meta_bytes (next + 1) policy) } in
+    let fits = meta_fits (next + 1) policy old (omega arith) (omega (arith, left)) small given in
+    let room = second_or (finite.contains_key old.documents next) (nat_lt (finite.len old.documents) most_documents)
+    (lt-ltb (finite.len old.documents) most_documents few) in (
+      with_payload with_meta next policy tree,
       ap (λ b. option_and_then (after_parts (document_part next policy tree ∷ []))
           (if b then Some with_meta else None)) fits
           ∙ ap (option_and_then (after_parts []))
           (after_document next policy tree with_meta some given room),
     )
 
+-- the count and the next number that the store answers tell whether it is full
+pub full_by_count : (old : log.Contents) (count : ℕ) → count ≡ finite.len old.documents → most_documents ≤ count
+    → nat_le most_documents count ≡ is_full_of (risen old)
+full_by_count old count is most =
+    let long : most_documents ≤ finite.len (risen old).documents = omega (arith, is, most, many_alike old) in
+    le-leb most_documents count most
+    ∙ sym (first_or (nat_le most_documents (finite.len (risen old).documents)) (nat_le last_number (risen old).next_number)
+    (le-leb most_documents (finite.len (risen old).documents) long))
+
+pub full_by_next : (old : log.Contents) (count next : ℕ) → count ≡ finite.len old.documents → count < most_documents
+    → next ≡ log.next_number old → nat_le last_number next ≡ is_full_of (risen old)
+full_by_next old count next is few same =
+    let short : finite.len (risen old).documents < most_documents = omega (arith, is, few, many_alike old) in
+    ap (nat_le last_number) same
+    ∙ sym (ap (λ b. b || nat_le last_number (risen old).next_number)
+    (lt-leb most_documents (finite.len (risen old).documents) short))
+
+-- the parts are those, and room was made
+pub within_same : (parts meant : List PartValue) (roomy old : log.Contents) → parts ≡ meant → roomy ≡ old
+    → AreWithin meant old → AreWithin parts roomy
+within_same parts meant roomy old are same within =
+    subst (λ list. AreWithin list roomy) (sym are) (subst (λ contents. AreWithin meant contents) (sym same) within)
+
 -- ---- what leads to the upserted container
 
-leads : (contents : Contents) (before after : Container) (tree : Tree) (id : List ℕ)
-    → ContentsStandFor contents before → document_id tree ≡ Some id → IsWellFormed tree
+leads : (contents : Contents) (before after : Container) (tree : Tree) (id : List ℕ) → contents.versioned ≡ false
+    → ContentsHold contents before → document_id tree ≡ Some id → IsWellFormed tree
     → nesting tree ≤ 127 → upserted id tree before ≡ Ok after → Written contents id tree before after
-leads contents before after tree id stand doc formed shallow =
-    written contents before id tree stand after (λ container. upsert_keeps_soundness before container id tree
-    (λ number own same. record { own_id = doc ∙ ap Some (sym same); well_formed = formed; shallow = shallow }) stand.sound)
+leads contents before after tree id plain hold doc formed shallow =
+    written contents before id tree plain hold after (λ container. upsert_keeps_soundness before container id tree
+    (λ number own same. record { own_id = doc ∙ ap Some (sym same); well_formed = formed; shallow = shallow }) hold.show.sound)
 
-by_parts : (contents : Contents) (before after : Container) (tree : Tree) (id : List ℕ)
-    (parts : List PartValue) → upsert_parts id tree (policy_now contents) before ≡ parts
-    → Written contents id tree before after → LeadsTo contents parts after
-by_parts contents before after tree id parts are w = record {
+by_changes : (contents : Contents) (before after : Container) (tree : Tree) (id : List ℕ)
+    (changes : List Change) → upsert_changes id tree contents.policy_now before ≡ changes
+    → Written contents id tree before after → LeadsTo contents changes after
+by_changes contents before after tree id changes are w = record {
   new = w.0;
-  lead = subst (λ ps. after_parts ps contents ≡ Some w.0) are w.1;
-  stand = w.2;
+  lead = subst (λ list. after_changes list contents ≡ Some w.0) are w.1;
+  hold = w.2;
 }
 
 -- what a line may nest, a text may nest
@@ -90,7 +164,7 @@ made_or_full : {made : Container} → Ok made ≡ Err Full → ⊥
 made_or_full is = cc
 
 module _ (contents : Contents) (before : Container) (tree : Tree) (id : List ℕ)
-    (stand : ContentsStandFor contents before) (doc : document_id tree ≡ Some id)
+    (plain : contents.versioned ≡ false) (hold : ContentsHold contents before) (doc : document_id tree ≡ Some id)
     (formed : IsWellFormed tree) (shallow : nesting tree ≤ 127) where
   pub replaces : (number : ℕ) → number_in id before ≡ Some number
       → upserted id tree before ≡ Ok (replaced id tree before)
@@ -99,21 +173,21 @@ module _ (contents : Contents) (before : Container) (tree : Tree) (id : List ℕ
       ap (λ b. if b then Ok (replaced id tree before) else creation id tree before)
       (any_found id before.entries ∙ ap is_some e.1)
 
-  pub replaced_leads : (number policy : ℕ) → number_in id before ≡ Some number → policy ≡ policy_now contents
-      → LeadsTo contents (replacing_parts number policy tree) (replaced id tree before)
+  pub replaced_leads : (number policy : ℕ) → number_in id before ≡ Some number → policy ≡ contents.policy_now
+      → LeadsTo contents (replacing_changes number policy tree) (replaced id tree before)
   replaced_leads number policy at now =
       let e = some_entry (entry_of id before) number at in
-      by_parts contents before (replaced id tree before) tree id (replacing_parts number policy tree)
-      (ap (λ found. option_map_or (λ (entry : Entry). replacing_parts entry.number (policy_now contents) tree) found
-      (creating_parts before.next_number (policy_now contents) tree)) e.1
-      ∙ (λ i. replacing_parts (e.2 i) (sym now i) tree))
-      (leads contents before (replaced id tree before) tree id stand doc formed shallow (replaces number at))
+      by_changes contents before (replaced id tree before) tree id (replacing_changes number policy tree)
+      (ap (λ found. option_map_or (λ (entry : Entry). replacing_changes entry.number contents.policy_now tree) found
+      (creating_changes before.next_number contents.policy_now tree)) e.1
+      ∙ (λ i. replacing_changes (e.2 i) (sym now i) tree))
+      (leads contents before (replaced id tree before) tree id plain hold doc formed shallow (replaces number at))
 
   full_same : is_full_of contents ≡ is_full before
   full_same =
       let count : finite.len contents.documents ≡ length before.entries =
-      finite.len-entries contents.documents ∙ as_many (finite.entries contents.documents) before.entries stand.shown in
-      λ i. nat_le most_documents (count i) || nat_le last_number (stand.next i)
+      finite.len-entries contents.documents ∙ as_many (finite.entries contents.documents) before.entries hold.show.shown in
+      λ i. nat_le most_documents (count i) || nat_le last_number (hold.show.next i)
 
   created_or_full : number_in id before ≡ None
       → upserted id tree before ≡ (if is_full_of contents then Err Full else Ok (created id tree before))
@@ -144,14 +218,14 @@ module _ (contents : Contents) (before : Container) (tree : Tree) (id : List ℕ
       ] (sym (created_or_full at) ∙ is)
 
   pub created_leads : (number policy : ℕ) → number_in id before ≡ None → is_full_of contents ≡ false
-      → number ≡ before.next_number → policy ≡ policy_now contents
-      → LeadsTo contents (creating_parts number policy tree) (created id tree before)
+      → number ≡ before.next_number → policy ≡ contents.policy_now
+      → LeadsTo contents (creating_changes number policy tree) (created id tree before)
   created_leads number policy at full next now =
-      by_parts contents before (created id tree before) tree id (creating_parts number policy tree)
-      (ap (λ found. option_map_or (λ (entry : Entry). replacing_parts entry.number (policy_now contents) tree) found
-      (creating_parts before.next_number (policy_now contents) tree)) (no_entry (entry_of id before) at)
-      ∙ (λ i. creating_parts (sym next i) (sym now i) tree))
-      (leads contents before (created id tree before) tree id stand doc formed shallow (creates at full))
+      by_changes contents before (created id tree before) tree id (creating_changes number policy tree)
+      (ap (λ found. option_map_or (λ (entry : Entry). replacing_changes entry.number contents.policy_now tree) found
+      (creating_changes before.next_number contents.policy_now tree)) (no_entry (entry_of id before) at)
+      ∙ (λ i. creating_changes (sym next i) (sym now i) tree))
+      (leads contents before (created id tree before) tree id plain hold doc formed shallow (creates at full))
 
 -- ---- the numbers of ids
 
@@ -223,13 +297,3 @@ pub numbers_created : (other id : List ℕ) (tree : Tree) (before : Container)
 numbers_created other id tree before at =
     numbers_behind other (record { number = before.next_number; id = id; tree = tree }) before.entries
     (any_found id before.entries ∙ ap is_some (no_entry (entry_of id before) at))
-
-pub within_next : (next policy : ℕ) (tree : Tree) (contents : Contents) → 0 < next
-    → is_full_of contents ≡ false → next ≡ next_number contents → policy ≤ 8
-    → is_given policy contents ≡ true → AreWithin (creating_parts next policy tree) contents
-within_next next policy tree contents some full is small given =
-    let parts = or_none (nat_le most_documents (finite.len contents.documents))
-    (nat_le last_number (next_number contents)) full in
-    within_creating next policy tree contents some full refl small given
-    (leb-false most_documents (finite.len contents.documents) parts.0)
-    (omega (arith, leb-false last_number (next_number contents) parts.1, is))

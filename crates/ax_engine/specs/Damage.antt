@@ -3,12 +3,12 @@
 -- It is this project's own; it comes from no public document.
 use Rattle.std.specs.Prelude.{◌≡◌, ◌≢◌, ◌⊎◌, ℕ, ◌<◌, List, ◌∷◌, Some, None}
 use Rattle.std.specs.FinMap as map
-use Rattle.ax_answer_text.specs.Parts.{LooksAtAll}
 use Rattle.ax_area.specs.Contents.{Contents, Stored}
 use Rattle.ax_area.specs.Image.{IsLiveWith, Says}
 use Rattle.ax_area.specs.Places.{Place, no_places, places_after}
 use Rattle.ax_area.specs.Told.{Told}
 use Rattle.ax_disk.specs.model.Image.{Image}
+use Rattle.ax_excerpt.specs.Needs.{NeedsAll}
 use Rattle.ax_excerpt_text.specs.Wholes.{IsNoMap, tree_read}
 use Rattle.ax_grammar.specs.Query.{query_in}
 use Rattle.ax_image.specs.Readable.{newest}
@@ -16,7 +16,7 @@ use Rattle.ax_image_grammar.specs.Payloads.{IsDocumentText}
 use Rattle.ax_lines.specs.declared.line.Line.{Line}
 use Rattle.ax_lines.specs.declared.line.Line.TheVariants as line
 use Rattle.ax_mean.specs.declared.query.Query.{Query}
-use Rattle.ax_engine.specs.Lists.{list_number}
+use Rattle.ax_pages.specs.Image.{extent_number}
 use Rattle.ax_engine.specs.Printing.{IsPrinted}
 use Rattle.ax_engine.specs.Replies.{OnRows}
 use Rattle.ax_engine.specs.declared.engine.Fault.{Fault}
@@ -28,10 +28,11 @@ use Rattle.ax_engine.specs.declared.reply.Reply.{Reply}
 -- The image is live, and a document that it has begins at this place of this list, and its text is none
 -- of a document.
 pub record IsMetOutside (image : Image) (extent at : ℕ) : Type 0 where
+  pub version : ℕ
   pub told : List Told
   pub contents : Contents
-  pub live : IsLiveWith newest newest told contents image
-  pub list : extent ≡ list_number live.slot.area
+  pub live : IsLiveWith newest version told contents image
+  pub list : extent ≡ extent_number live.slot.area
   pub number : ℕ
   pub document : Stored
   pub held : map.get contents.documents number ≡ Some document
@@ -58,10 +59,10 @@ StandForTrees IsRead contents =
 abbrev pub LooksAtEach : Query → Type 0
 LooksAtEach query = (query.condition ≡ None) × (query.limit ≡ None)
 
--- The text is read whole for the rows of the query: it does not begin as that of a map, or the query
--- looks at all of each document, and does not print it as it is stored.
+-- The text is read whole for the rows of the query: it does not begin as that of a map, or no part of a
+-- document is enough for the query, and it does not print documents as they are stored.
 abbrev pub IsReadWhole : Query → List ℕ → Type 0
-IsReadWhole query text = IsNoMap text ⊎ (LooksAtAll query × (IsPrinted query → ⊥))
+IsReadWhole query text = IsNoMap text ⊎ (NeedsAll query × (IsPrinted query → ⊥))
 
 -- Among these documents a query that looks at each meets none whose text it reads whole and which is that of
 -- no tree.
@@ -74,5 +75,5 @@ abbrev pub PassesOverNone : Line → Reply → Image → Type 0
 PassesOverNone (line.Upsert tree) reply image = Unit {0}
 PassesOverNone (line.Query body) reply image =
     (query : Query) → query_in body.params body.text ≡ Some query
-    → OnRows reply ((told : List Told) × (contents : Contents) × Says newest newest told contents image
-    × MeetsTrees query contents)
+    → OnRows reply ((version : ℕ) × (told : List Told) × (contents : Contents)
+    × Says newest version told contents image × MeetsTrees query contents)

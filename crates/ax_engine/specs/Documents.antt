@@ -1,23 +1,24 @@
--- The documents of an open store: what its pages have, and under which number each id stands.
+-- The documents of an open store: what it says, and under which number each id stands.
 use Rattle.std.specs.Prelude.{◌≡◌, ℕ, List, Bool, ◌||◌, nat_le, false, Option, option_map, Result, Ok, Err}
 use Rattle.std.specs.FinMap as map
 use Rattle.ax_ids.specs.Ids.{number_under}
 use Rattle.ax_cache.specs.Held.{held}
 use Rattle.ax_disk.specs.model.Moments.{History}
 use Rattle.ax_disk.specs.model.Stays.{Turns}
-use Rattle.ax_pages.specs.Contents.{Contents, next_number}
-use Rattle.ax_store.specs.Store.{Agrees, store_contents, store_failed}
+use Rattle.ax_area.specs.Contents.{Contents}
+use Rattle.ax_store.specs.Store.{Agrees, store_failed}
 use Rattle.ax_tree.specs.declared.tree.Tree.{Tree}
 use Rattle.ax_container.specs.Container.{Container, entry_of, most_documents, last_number}
 use Rattle.ax_container.specs.Upsert.{Full, upserted}
-use Rattle.ax_image.specs.Documents.{ContentsStandFor}
+use Rattle.ax_image.specs.Documents.{ContentsHold}
+use Rattle.ax_engine.specs.StoreSays.{store_says}
 use Rattle.ax_engine.specs.Stores.{Shows}
 use Rattle.ax_engine.specs.declared.documents.Documents.{Documents}
 use Rattle.ax_engine.specs.declared.documents.UpsertFault.{UpsertFault}
 use Rattle.ax_engine.specs.declared.documents.UpsertFault.TheVariants as upsert
 
 abbrev pub contents_in : Documents → Contents
-contents_in documents = store_contents documents.store
+contents_in documents = store_says documents.store
 
 -- the number that the container has under an id
 abbrev pub number_in : List ℕ → Container → Option ℕ
@@ -25,7 +26,7 @@ number_in id container = option_map (λ entry. entry.number) (entry_of id contai
 
 -- the documents are those of the container
 pub record DocumentsHold (documents : Documents) (container : Container) : Type 0 where
-  pub stand : ContentsStandFor (contents_in documents) container
+  pub hold : ContentsHold (contents_in documents) container
   pub numbers : (id : List ℕ) → number_under documents.numbers id ≡ number_in id container
 
 -- the store under the documents has not failed, and agrees with the disk where that is honest
@@ -36,7 +37,7 @@ pub record DocumentsWork (honest : Type 0) (documents : Documents) (history : Hi
 -- no document can be created
 abbrev pub is_full_of : Contents → Bool
 is_full_of contents =
-    nat_le most_documents (map.len contents.documents) || nat_le last_number (next_number contents)
+    nat_le most_documents (map.len contents.documents) || nat_le last_number contents.next_number
 
 -- what an upsert answers
 abbrev pub TellsUpsert : Type 0 → Container → List ℕ → Tree → Result (Unit {0}) UpsertFault → Documents

@@ -9,21 +9,22 @@ use Rattle.ax_disk.specs.model.Image.{Image}
 use Rattle.ax_disk.specs.model.Moments.{History}
 use Rattle.ax_faults.specs.Faults.{Rose}
 use Rattle.ax_ids.specs.Ids.{number_under}
-use Rattle.ax_image.specs.Documents.{ContentsStandFor}
+use Rattle.ax_image.specs.Documents.{ContentsHold}
 use Rattle.ax_image.specs.Readable.{newest}
 use Rattle.ax_log.specs.Opening.{Keeps}
-use Rattle.ax_store.specs.Store.{SameButReads, store_contents}
+use Rattle.ax_pages.specs.Image.{extent_number}
+use Rattle.ax_store.specs.Store.{SameButReads}
 use Rattle.ax_store.specs.declared.fault.StoreFault.{StoreFault}
 use Rattle.ax_store.specs.declared.fault.StoreFault.TheVariants as fault
 use Rattle.ax_store.specs.declared.store.Store.{Store}
 use Rattle.ax_engine.specs.Documents.{DocumentsWork, number_in}
-use Rattle.ax_engine.specs.Lists.{list_number}
+use Rattle.ax_engine.specs.StoreSays.{store_says}
 use Rattle.ax_engine.specs.declared.documents.Documents.{Documents}
 
 -- opening finds the image damaged at this place of the list of this number
 abbrev pub IsDamagedIn : Image → ℕ → ℕ → Type 0
 IsDamagedIn image extent at =
-    (list : Extent) × (extent ≡ list_number list) × IsDamaged newest image list at
+    (list : Extent) × (extent ≡ extent_number list) × IsDamaged newest image list at
 
 -- why a store is refused: its bytes are outside the format at that offset, or it is of that later
 -- version; its lists are then as they were
@@ -38,7 +39,7 @@ RefusesBy fault.Memory old new = Unit {0}
 pub record Numbered (honest : Bool) (store : Store LruPages) (documents : Documents) (after : History) : Type 0 where
   pub same : SameButReads store documents.store
   pub works : DocumentsWork (IsTrue honest) documents after
-  pub numbers : IsTrue honest → (container : Container) → ContentsStandFor (store_contents store) container
+  pub numbers : IsTrue honest → (container : Container) → ContentsHold (store_says store) container
       → (id : List ℕ) → number_under documents.numbers id ≡ number_in id container
 
 abbrev pub TellsNumbers : Bool → Result Documents StoreFault → Store LruPages → History → ℕ → ℕ → Type 0

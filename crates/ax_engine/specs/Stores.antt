@@ -1,5 +1,5 @@
 -- Disks whose store stands for a container.
-use Rattle.std.specs.Prelude.{List}
+use Rattle.std.specs.Prelude.{ℕ, List}
 use Rattle.ax_disk.specs.model.Image.{Image}
 use Rattle.ax_disk.specs.model.Moments.{History}
 use Rattle.ax_disk.specs.model.Stays.{Rests}
@@ -11,7 +11,7 @@ use Rattle.ax_image.specs.Documents.{HasDocuments}
 use Rattle.ax_image.specs.Readable.{newest}
 use Rattle.ax_image.specs.StandsFor.{StandsFor}
 
--- the documents of the image are those of the container, in the words of the store: for private calls
+-- the documents of the image are those of the container
 abbrev pub Shows : Container → Image → Type 0
 Shows container image = HasDocuments container image
 
@@ -21,7 +21,8 @@ IsImageOf container image = StandsFor image container
 
 -- the image is within the format in root, frames and heads of parts
 abbrev pub IsWithin : Image → Type 0
-IsWithin image = (told : List Told) × (contents : Contents) × Says newest newest told contents image
+IsWithin image =
+    (version : ℕ) × (told : List Told) × (contents : Contents) × Says newest version told contents image
 
 -- Each image that a crash may leave stands for some container, and what reads give stands for this
 -- one. An empty store is such, and so is every store that a run leaves.

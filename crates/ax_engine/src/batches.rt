@@ -4,8 +4,8 @@ ghost use Rattle.std.specs.Prelude.{◌≡◌, ◌<◌, ◌≤◌, ◌+◌, ◌^
 ghost use Rattle.ax_tree.specs.CanonicalText.{canonical_text};
 ghost use Rattle.ax_lines.specs.Lines.{most_bytes};
 ghost use Rattle.ax_pages.specs.Contents.{meta_bytes};
-ghost use Rattle.ax_image.specs.UpsertParts.{replacing_parts, creating_parts};
 ghost use Rattle.ax_store.specs.Batch.{batch_parts, is_sealed};
+ghost use Rattle.ax_engine.specs.Batches.{replacing_parts, creating_parts};
 
 use ax_frame::Part;
 use ax_pages::numbers::{PLAIN_DOCUMENT, PLAIN_META};

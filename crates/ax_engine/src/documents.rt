@@ -9,8 +9,8 @@ ghost use Rattle.ax_ids.specs.Ids.{number_under};
 ghost use Rattle.ax_lines.specs.Asked.{IsStorable};
 ghost use Rattle.ax_container.specs.Container.{Container};
 ghost use Rattle.ax_container.specs.Upsert.{Full, upserted};
-ghost use Rattle.ax_image.specs.Readable.{TellsReadable};
-ghost use Rattle.ax_pages.specs.Contents.{next_number as next_number_of, policy_now, is_given};
+ghost use Rattle.ax_image.specs.Readable.{SaysReadable};
+ghost use Rattle.ax_area.specs.Contents.{is_given};
 ghost use Rattle.ax_engine.specs.Documents.{contents_in, DocumentsHold, DocumentsWork, is_full_of, TellsUpsert, WorksAfterUpsert};
 
 use crate::batches::{creating, replacing};
@@ -65,8 +65,8 @@ impl Documents {
         ensures works { WorksAfterUpsert (IsTrue (D.is_honest disk.old)) result self.new
             (D.history disk.new (D.attached disk.new)) }
         ensures readable { IsTrue (D.is_honest disk.old)
-            → Rests (D.history disk.old (D.attached disk.old)) TellsReadable
-            → Stays (D.history disk.old (D.attached disk.old)) (D.history disk.new (D.attached disk.new)) TellsReadable }
+            → Rests (D.history disk.old (D.attached disk.old)) SaysReadable
+            → Stays (D.history disk.old (D.attached disk.old)) (D.history disk.new (D.attached disk.new)) SaysReadable }
         ensures cause { result ≡ Err UpsertFault.Disk → Rose (D.faults disk.old) (D.faults disk.new) }
         ensures never_falls { D.faults disk.old ≤ D.faults disk.new }
         ensures attached { D.attached disk.new ≡ D.attached disk.old }
@@ -90,7 +90,7 @@ impl Documents {
 
     /// The number that the next creation takes.
     fn next_number(&self) -> u32
-        ensures { result ≡ next_number_of (contents_in self.now) }
+        ensures { result ≡ (contents_in self.now).next_number }
     {
         self.store.meta().next
     }
@@ -112,7 +112,7 @@ impl Documents {
 
     /// The number of the policy now, which a part gave.
     fn policy(&self) -> Option<u8>
-        ensures now { IfSome result (λ policy. policy ≡ policy_now (contents_in self.now)) }
+        ensures now { IfSome result (λ policy. policy ≡ (contents_in self.now).policy_now) }
         ensures small { IfSome result (λ policy. policy ≤ 8) }
         ensures given { IfSome result (λ policy. is_given policy (contents_in self.now) ≡ true) }
     {
@@ -143,8 +143,8 @@ impl Documents {
         ensures works { WorksAfterUpsert (IsTrue (D.is_honest disk.old)) result self.new
             (D.history disk.new (D.attached disk.new)) }
         ensures readable { IsTrue (D.is_honest disk.old)
-            → Rests (D.history disk.old (D.attached disk.old)) TellsReadable
-            → Stays (D.history disk.old (D.attached disk.old)) (D.history disk.new (D.attached disk.new)) TellsReadable }
+            → Rests (D.history disk.old (D.attached disk.old)) SaysReadable
+            → Stays (D.history disk.old (D.attached disk.old)) (D.history disk.new (D.attached disk.new)) SaysReadable }
         ensures cause { result ≡ Err UpsertFault.Disk → Rose (D.faults disk.old) (D.faults disk.new) }
         ensures never_falls { D.faults disk.old ≤ D.faults disk.new }
         ensures attached { D.attached disk.new ≡ D.attached disk.old }
@@ -182,8 +182,8 @@ impl Documents {
         ensures works { WorksAfterUpsert (IsTrue (D.is_honest disk.old)) result self.new
             (D.history disk.new (D.attached disk.new)) }
         ensures readable { IsTrue (D.is_honest disk.old)
-            → Rests (D.history disk.old (D.attached disk.old)) TellsReadable
-            → Stays (D.history disk.old (D.attached disk.old)) (D.history disk.new (D.attached disk.new)) TellsReadable }
+            → Rests (D.history disk.old (D.attached disk.old)) SaysReadable
+            → Stays (D.history disk.old (D.attached disk.old)) (D.history disk.new (D.attached disk.new)) SaysReadable }
         ensures cause { result ≡ Err UpsertFault.Disk → Rose (D.faults disk.old) (D.faults disk.new) }
         ensures never_falls { D.faults disk.old ≤ D.faults disk.new }
         ensures attached { D.attached disk.new ≡ D.attached disk.old }

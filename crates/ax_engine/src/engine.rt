@@ -7,7 +7,7 @@ ghost use Rattle.ax_disk.specs.model.Stays.{Rests, SinceBarrier, Stays};
 ghost use Rattle.ax_container.specs.Container.{Container};
 ghost use Rattle.ax_lines.specs.Asked.{IsAsked, IsStorable};
 ghost use Rattle.ax_lines.specs.declared.line.Line.TheVariants as line;
-ghost use Rattle.ax_image.specs.Readable.{TellsReadable};
+ghost use Rattle.ax_image.specs.Readable.{SaysReadable};
 ghost use Rattle.ax_machine.specs.Needs.{most_steps_of};
 ghost use Rattle.ax_engine.specs.Damage.{Meets, PassesOverNone};
 ghost use Rattle.ax_engine.specs.Documents.{DocumentsHold, DocumentsWork};
@@ -173,7 +173,7 @@ fn answer<D: Disk, L: Ledger>(
     requires asked { IsAsked line.now }
     requires works { DocumentsWork (IsTrue (D.is_honest disk.old)) documents.old (D.history disk.old (D.attached disk.old)) }
     ensures tells { IsTrue (D.is_honest disk.old)
-        → Rests (D.history disk.old (D.attached disk.old)) TellsReadable
+        → Rests (D.history disk.old (D.attached disk.old)) SaysReadable
         → (before : Container) → DocumentsHold documents.old before
         → Tells (IsTrue (D.is_honest disk.old)) before line.now result documents.new
         (D.history disk.old (D.attached disk.old)) (D.history disk.new (D.attached disk.new)) }
@@ -190,8 +190,8 @@ fn answer<D: Disk, L: Ledger>(
     ensures works { OnOk result (DocumentsWork (IsTrue (D.is_honest disk.old)) documents.new
         (D.history disk.new (D.attached disk.new))) }
     ensures readable { IsTrue (D.is_honest disk.old)
-        → Rests (D.history disk.old (D.attached disk.old)) TellsReadable
-        → Stays (D.history disk.old (D.attached disk.old)) (D.history disk.new (D.attached disk.new)) TellsReadable }
+        → Rests (D.history disk.old (D.attached disk.old)) SaysReadable
+        → Stays (D.history disk.old (D.attached disk.old)) (D.history disk.new (D.attached disk.new)) SaysReadable }
     ensures cause { result ≡ Err Fault.Disk → Rose (D.faults disk.old) (D.faults disk.new) }
     ensures never_falls { D.faults disk.old ≤ D.faults disk.new }
     ensures attached { D.attached disk.new ≡ D.attached disk.old }
@@ -219,8 +219,8 @@ fn upsert<D: Disk>(documents: &mut Documents, disk: &mut D, tree: &Tree) -> Resu
     ensures works { OnOk result (DocumentsWork (IsTrue (D.is_honest disk.old)) documents.new
         (D.history disk.new (D.attached disk.new))) }
     ensures readable { IsTrue (D.is_honest disk.old)
-        → Rests (D.history disk.old (D.attached disk.old)) TellsReadable
-        → Stays (D.history disk.old (D.attached disk.old)) (D.history disk.new (D.attached disk.new)) TellsReadable }
+        → Rests (D.history disk.old (D.attached disk.old)) SaysReadable
+        → Stays (D.history disk.old (D.attached disk.old)) (D.history disk.new (D.attached disk.new)) SaysReadable }
     ensures cause { result ≡ Err Fault.Disk → Rose (D.faults disk.old) (D.faults disk.new) }
     ensures never_falls { D.faults disk.old ≤ D.faults disk.new }
     ensures attached { D.attached disk.new ≡ D.attached disk.old }
@@ -251,7 +251,7 @@ fn query<D: Disk, L: Ledger>(
 ) -> Result<Reply, Fault>
     requires works { DocumentsWork (IsTrue (D.is_honest disk.old)) documents.old (D.history disk.old (D.attached disk.old)) }
     ensures tells { IsTrue (D.is_honest disk.old)
-        → Rests (D.history disk.old (D.attached disk.old)) TellsReadable
+        → Rests (D.history disk.old (D.attached disk.old)) SaysReadable
         → (before : Container) → DocumentsHold documents.old before
         → Tells (IsTrue (D.is_honest disk.old)) before (line.Query body.now) result documents.new
         (D.history disk.old (D.attached disk.old)) (D.history disk.new (D.attached disk.new)) }
@@ -265,8 +265,8 @@ fn query<D: Disk, L: Ledger>(
     ensures works { OnOk result (DocumentsWork (IsTrue (D.is_honest disk.old)) documents.new
         (D.history disk.new (D.attached disk.new))) }
     ensures readable { IsTrue (D.is_honest disk.old)
-        → Rests (D.history disk.old (D.attached disk.old)) TellsReadable
-        → Stays (D.history disk.old (D.attached disk.old)) (D.history disk.new (D.attached disk.new)) TellsReadable }
+        → Rests (D.history disk.old (D.attached disk.old)) SaysReadable
+        → Stays (D.history disk.old (D.attached disk.old)) (D.history disk.new (D.attached disk.new)) SaysReadable }
     ensures cause { result ≡ Err Fault.Disk → Rose (D.faults disk.old) (D.faults disk.new) }
     ensures never_falls { D.faults disk.old ≤ D.faults disk.new }
     ensures attached { D.attached disk.new ≡ D.attached disk.old }

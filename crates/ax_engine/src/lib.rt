@@ -7,10 +7,9 @@
 //!
 //! Stands on `ax_machine`, whose definitions say what a line's step is, on `ax_image`, which says what a
 //! disk image stands for, on `ax_store` for the pages on a disk, and on `ax_parse` and `ax_answer_text`
-//! for queries. What opening and applying say of images is in the words of all versions; private calls have
-//! those of the store, and `ax_image_laws` leads from the one to the other. No text is kept in memory: a
-//! scan reads texts ahead, window by window. A text that is none of a document is answered as damage, with
-//! its place.
+//! for queries. What opening and applying say is in the words of all versions, in private calls too;
+//! where the store is called, `ax_area_laws` leads over from its own. No text is kept in memory: a scan reads texts
+//! ahead, window by window. A text that is none of a document is answered as damage, with its place.
 #![tactic(auto)]
 
 mod batches;

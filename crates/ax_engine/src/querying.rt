@@ -1,6 +1,6 @@
 //! The rows of a query over all documents of an open store, and the reply that has them.
 
-ghost use Rattle.std.specs.Prelude.{◌≡◌, ◌≢◌, ◌≤◌, ◌+◌, ℕ, List, [], ◌∷◌, ◌++◌, length, Some, None, IsTrue, IfOk, OnOk, true, drop, option_map};
+ghost use Rattle.std.specs.Prelude.{◌≡◌, ◌≢◌, ◌≤◌, ◌+◌, ◌*◌, ◌<◌, ℕ, List, [], ◌∷◌, ◌++◌, length, Some, None, IsTrue, IfOk, OnOk, true, drop, option_map};
 ghost use Rattle.std.specs.FinMap as map;
 ghost use Rattle.ax_answer_text.specs.Parts.{AreReadWholeFor};
 ghost use Rattle.ax_answer_text.specs.TextAnswers.{Answers, IsTo};
@@ -8,21 +8,20 @@ ghost use Rattle.ax_container.specs.Container.{Container};
 ghost use Rattle.ax_excerpt_text.specs.Left.{IsReadable};
 ghost use Rattle.ax_excerpt_text.specs.Wholes.{tree_read};
 ghost use Rattle.ax_grammar.specs.Query.{query_in};
-ghost use Rattle.ax_image.specs.Documents.{ContentsStandFor};
+ghost use Rattle.ax_image.specs.Documents.{ContentsHold};
 ghost use Rattle.ax_machine.specs.Needs.{query_need};
 ghost use Rattle.ax_machine.specs.Querying.{numbered, query_reply, rows_of, rows_or_refusal, rows_reply};
 ghost use Rattle.ax_mean.specs.declared.query.Query as queries;
 ghost use Rattle.ax_result.specs.Answers.{answer_of};
-ghost use Rattle.ax_store.specs.Store.{store_contents};
 ghost use Rattle.ax_tree.specs.CanonicalText.{canonical_text};
 ghost use Rattle.ax_tree.specs.declared.tree.Tree.{Tree as TreeOf};
-ghost use Rattle.ax_engine.specs.Damage.{LooksAtEach};
-ghost use Rattle.ax_engine.specs.InPages.{AreTrees, MeetsNone};
+ghost use Rattle.ax_engine.specs.Damage.{LooksAtEach, MeetsTrees, StandForTrees};
 ghost use Rattle.ax_engine.specs.Printing.{IsPrinted};
 ghost use Rattle.ax_engine.specs.Replies.{AreRows, FitsRefusal, IsReply, OnRows, own_refusal};
 ghost use Rattle.ax_engine.specs.Scans.{IsReady, Scans};
+ghost use Rattle.ax_engine.specs.StoreSays.{store_says, text_of};
 
-use crate::reading::{next_held, read_document, text_fault};
+use crate::reading::{fetch_document, next_held, text_fault};
 use crate::reply::Reply;
 use crate::rows::{Rows, rows_shown};
 use crate::shown_documents::{document_rows, keys_of};
@@ -42,7 +41,8 @@ use std::sync::ledger::Ledger;
 
 /// The reply to a query, which changes nothing: a refusal where the body's text is no
 /// query, or one that is refused; else the rows of its answer over all documents, and how many
-/// there are. Each document that is evaluated takes one step of work.
+/// there are. Each document that is fetched to find the rows takes one step of work, and each that is
+/// evaluated another.
 ///
 /// `Disk` where a read failed; `Damaged` where the text of a document that was evaluated is outside the
 /// format, with the place of its part; `Memory`.
@@ -55,13 +55,13 @@ pub(crate) fn reply_to_query<D: Disk, L: Ledger>(
     steps: &mut Steps<L>,
 ) -> Result<Reply, StoreFault>
     requires ready { IsReady (D.is_honest disk.old) store.old ahead.old (D.history disk.old (D.attached disk.old)) }
-    ensures reply { IsTrue (D.is_honest disk.old) → (container : Container) → ContentsStandFor (store_contents store.old) container
+    ensures reply { IsTrue (D.is_honest disk.old) → (container : Container) → ContentsHold (store_says store.old) container
         → IfOk result (λ reply. IsReply reply (query_reply body.now container)) }
     ensures fits { IfOk result (λ reply. FitsRefusal (own_refusal (query_in body.now.params body.now.text)) reply) }
     ensures met { IsTrue (D.is_honest disk.old) → (query : queries.Query) → query_in body.now.params body.now.text ≡ Some query
-        → IfOk result (λ reply. OnRows reply (MeetsNone query (store_contents store.old))) }
-    ensures bound { (container : Container) → ContentsStandFor (store_contents store.old) container
-        → steps.new ≤ steps.old + query_need (rows_or_refusal (query_in body.now.params body.now.text) container) container }
+        → IfOk result (λ reply. OnRows reply (MeetsTrees query (store_says store.old))) }
+    ensures bound { (container : Container) → ContentsHold (store_says store.old) container
+        → steps.new ≤ steps.old + 2 * query_need (rows_or_refusal (query_in body.now.params body.now.text) container) container }
     ensures never_falls { steps.old ≤ steps.new }
     ensures scans { Scans (D.is_honest disk.old) result store.old store.new ahead.new
         (D.history disk.old (D.attached disk.old)) (D.history disk.new (D.attached disk.new))
@@ -99,13 +99,13 @@ fn reply_to_read<D: Disk, L: Ledger>(
     steps: &mut Steps<L>,
 ) -> Result<Reply, StoreFault>
     requires ready { IsReady (D.is_honest disk.old) store.old ahead.old (D.history disk.old (D.attached disk.old)) }
-    ensures reply { IsTrue (D.is_honest disk.old) → (container : Container) → ContentsStandFor (store_contents store.old) container
+    ensures reply { IsTrue (D.is_honest disk.old) → (container : Container) → ContentsHold (store_says store.old) container
         → IfOk result (λ reply. IsReply reply (rows_reply (rows_or_refusal (Some query) container))) }
     ensures fits { IfOk result (λ reply. FitsRefusal (own_refusal (Some query)) reply) }
     ensures met { IsTrue (D.is_honest disk.old)
-        → IfOk result (λ reply. OnRows reply (MeetsNone query (store_contents store.old))) }
-    ensures bound { (container : Container) → ContentsStandFor (store_contents store.old) container
-        → steps.new ≤ steps.old + query_need (rows_or_refusal (Some query) container) container }
+        → IfOk result (λ reply. OnRows reply (MeetsTrees query (store_says store.old))) }
+    ensures bound { (container : Container) → ContentsHold (store_says store.old) container
+        → steps.new ≤ steps.old + 2 * query_need (rows_or_refusal (Some query) container) container }
     ensures never_falls { steps.old ≤ steps.new }
     ensures scans { Scans (D.is_honest disk.old) result store.old store.new ahead.new
         (D.history disk.old (D.attached disk.old)) (D.history disk.new (D.attached disk.new))
@@ -133,10 +133,10 @@ fn rows_of_query<D: Disk, L: Ledger>(
     steps: &mut Steps<L>,
 ) -> Result<Rows, StoreFault>
     requires ready { IsReady (D.is_honest disk.old) store.old ahead.old (D.history disk.old (D.attached disk.old)) }
-    ensures rows { IsTrue (D.is_honest disk.old) → (container : Container) → ContentsStandFor (store_contents store.old) container
+    ensures rows { IsTrue (D.is_honest disk.old) → (container : Container) → ContentsHold (store_says store.old) container
         → IfOk result (λ rows. AreRows rows (rows_of query container)) }
-    ensures met { IsTrue (D.is_honest disk.old) → OnOk result (MeetsNone query (store_contents store.old)) }
-    ensures bound { (container : Container) → ContentsStandFor (store_contents store.old) container → steps.new ≤ steps.old + length container.entries }
+    ensures met { IsTrue (D.is_honest disk.old) → OnOk result (MeetsTrees query (store_says store.old)) }
+    ensures bound { (container : Container) → ContentsHold (store_says store.old) container → steps.new ≤ steps.old + 2 * length container.entries }
     ensures never_falls { steps.old ≤ steps.new }
     ensures scans { Scans (D.is_honest disk.old) result store.old store.new ahead.new
         (D.history disk.old (D.attached disk.old)) (D.history disk.new (D.attached disk.new))
@@ -165,6 +165,7 @@ fn rows_of_query<D: Disk, L: Ledger>(
 
 /// Whether the rows are documents that are printed as they are stored: where the query looks at all of
 /// a document to find its rows, they are written as any other rows are.
+#[tactic(auto, using(crate::proofs::WholeEnough::part_is_enough))]
 fn prints_documents(alloc: Global, query: &Query) -> Result<bool, Memory>
     ensures { IfOk result (λ yes. yes ≡ true → IsPrinted query.now) }
 {
@@ -193,10 +194,10 @@ fn rows_of_documents<D: Disk, L: Ledger>(
 ) -> Result<Rows, StoreFault>
     requires printed { IsPrinted query }
     requires ready { IsReady (D.is_honest disk.old) store.old ahead.old (D.history disk.old (D.attached disk.old)) }
-    ensures rows { IsTrue (D.is_honest disk.old) → (container : Container) → ContentsStandFor (store_contents store.old) container
+    ensures rows { IsTrue (D.is_honest disk.old) → (container : Container) → ContentsHold (store_says store.old) container
         → IfOk result (λ rows. AreRows rows (rows_of query container)) }
-    ensures met { IsTrue (D.is_honest disk.old) → OnOk result (MeetsNone query (store_contents store.old)) }
-    ensures bound { (container : Container) → ContentsStandFor (store_contents store.old) container → steps.new ≤ steps.old + length container.entries }
+    ensures met { IsTrue (D.is_honest disk.old) → OnOk result (MeetsTrees query (store_says store.old)) }
+    ensures bound { (container : Container) → ContentsHold (store_says store.old) container → steps.new ≤ steps.old + 2 * length container.entries }
     ensures never_falls { steps.old ≤ steps.new }
     ensures scans { Scans (D.is_honest disk.old) result store.old store.new ahead.new
         (D.history disk.old (D.attached disk.old)) (D.history disk.new (D.attached disk.new))
@@ -225,11 +226,13 @@ fn answer_rows<D: Disk, L: Ledger>(
     steps: &mut Steps<L>,
 ) -> Result<Vec<KeyedRow>, StoreFault>
     requires ready { IsReady (D.is_honest disk.old) store.old ahead.old (D.history disk.old (D.attached disk.old)) }
-    ensures rows { IsTrue (D.is_honest disk.old) → (container : Container) → ContentsStandFor (store_contents store.old) container
+    ensures rows { IsTrue (D.is_honest disk.old) → (container : Container) → ContentsHold (store_says store.old) container
         → IfOk result (λ rows. rows.items ≡ answer_of query.now (numbered container)) }
     ensures met { IsTrue (D.is_honest disk.old) → LooksAtEach query.now
-        → OnOk result (AreTrees (AreReadWholeFor query.now) (store_contents store.old)) }
-    ensures bound { (container : Container) → ContentsStandFor (store_contents store.old) container → steps.new ≤ steps.old + length container.entries }
+        → OnOk result (StandForTrees (AreReadWholeFor query.now) (store_says store.old)) }
+    ensures fetched { (container : Container) → ContentsHold (store_says store.old) container
+        → query.now.limit ≡ None → OnOk result (steps.old + length container.entries ≤ steps.new) }
+    ensures bound { (container : Container) → ContentsHold (store_says store.old) container → steps.new ≤ steps.old + 2 * length container.entries }
     ensures never_falls { steps.old ≤ steps.new }
     ensures scans { Scans (D.is_honest disk.old) result store.old store.new ahead.new
         (D.history disk.old (D.attached disk.old)) (D.history disk.new (D.attached disk.new))
@@ -262,12 +265,17 @@ fn add_documents<D: Disk, L: Ledger>(
     steps: &mut Steps<L>,
 ) -> Result<(), StoreFault>
     requires ready { IsReady (D.is_honest disk.old) store.old ahead.old (D.history disk.old (D.attached disk.old)) }
-    ensures added { IsTrue (D.is_honest disk.old) → (container : Container) → ContentsStandFor (store_contents store.old) container
+    ensures added { IsTrue (D.is_honest disk.old) → (container : Container) → ContentsHold (store_says store.old) container
         → (query : queries.Query) → Answers answer.old query []
         → OnOk result (Answers answer.new query (numbered container)) }
     ensures met { IsTrue (D.is_honest disk.old) → (query : queries.Query) → IsTo answer.old query → LooksAtEach query
-        → OnOk result (AreTrees (AreReadWholeFor query) (store_contents store.old)) }
-    ensures bound { (container : Container) → ContentsStandFor (store_contents store.old) container → steps.new ≤ steps.old + length container.entries }
+        → OnOk result (StandForTrees (AreReadWholeFor query) (store_says store.old)) }
+
+    // Without a limit each document is fetched, for one step of work.
+    ensures fetched { (container : Container) → ContentsHold (store_says store.old) container
+        → (query : queries.Query) → IsTo answer.old query → query.limit ≡ None
+        → OnOk result (steps.old + length container.entries ≤ steps.new) }
+    ensures bound { (container : Container) → ContentsHold (store_says store.old) container → steps.new ≤ steps.old + 2 * length container.entries }
     ensures never_falls { steps.old ≤ steps.new }
     ensures scans { Scans (D.is_honest disk.old) result store.old store.new ahead.new
         (D.history disk.old (D.attached disk.old)) (D.history disk.new (D.attached disk.new))
@@ -289,7 +297,8 @@ fn add_documents<D: Disk, L: Ledger>(
     Ok(())
 }
 
-/// Takes a document that is held into the answer. A text that is none of a document is damage.
+/// Takes a document that is held into the answer, for one step of work or two. A text that is none of a
+/// document is damage.
 fn add_document<D: Disk, L: Ledger>(
     alloc: Global,
     store: &mut Store<LruPages>,
@@ -299,28 +308,28 @@ fn add_document<D: Disk, L: Ledger>(
     answer: &mut TextAnswer<'_>,
     steps: &mut Steps<L>,
 ) -> Result<(), StoreFault>
-    requires held { IsTrue (map.contains_key (store_contents store.old).documents number) }
+    requires held { IsTrue (map.contains_key (store_says store.old).documents number) }
     requires ready { IsReady (D.is_honest disk.old) store.old ahead.old (D.history disk.old (D.attached disk.old)) }
     ensures added { IsTrue (D.is_honest disk.old) → (tree : TreeOf)
-        → option_map (λ payload. drop 1 payload) (map.get (store_contents store.old).documents number) ≡ Some (canonical_text tree)
+        → text_of (map.get (store_says store.old).documents number) ≡ Some (canonical_text tree)
         → IsReadable tree → OnOk result ((query : queries.Query) → (entries : List (ℕ × TreeOf))
         → Answers answer.old query entries → Answers answer.new query (entries ++ (number, tree) ∷ [])) }
 
     // Bytes that are read whole and stand for no tree are never passed over, where the query has no condition.
     ensures outside { IsTrue (D.is_honest disk.old) → (text : List ℕ)
-        → option_map (λ payload. drop 1 payload) (map.get (store_contents store.old).documents number) ≡ Some text
+        → text_of (map.get (store_says store.old).documents number) ≡ Some text
         → (query : queries.Query) → IsTo answer.old query → query.condition ≡ None
         → AreReadWholeFor query text → OnOk result (tree_read text ≢ None) }
     ensures asked { (query : queries.Query) → IsTo answer.old query → IsTo answer.new query }
-    ensures one { steps.new ≤ steps.old + 1 }
-    ensures never_falls { steps.old ≤ steps.new }
+    ensures fetched { steps.old < steps.new }
+    ensures two { steps.new ≤ steps.old + 2 }
     ensures scans { Scans (D.is_honest disk.old) result store.old store.new ahead.new
         (D.history disk.old (D.attached disk.old)) (D.history disk.new (D.attached disk.new))
         (D.faults disk.old) (D.faults disk.new) }
     ensures attached { D.attached disk.new ≡ D.attached disk.old }
     ensures honest { D.is_honest disk.new ≡ D.is_honest disk.old }
 {
-    match read_document(store, disk, ahead, number) {
+    match fetch_document(store, disk, ahead, number, steps) {
         Ok(_) => {}
         Err(fault) => return Err(fault),
     }

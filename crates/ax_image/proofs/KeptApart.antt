@@ -1,38 +1,36 @@
 -- A write of a document that takes the policy now keeps policies apart.
-use Rattle.std.proofs.Common.{◌≡◌, ℕ, List, ◌∷◌, inl, inr, ⊎_elim, sym, ap, ◌∙◌}
-use Rattle.std.specs.Prelude.{Some, slice_index}
+use Rattle.std.proofs.Common.{◌≡◌, ℕ, inl, inr, ⊎_elim, sym, ap, ◌∙◌}
+use Rattle.std.specs.Prelude.{Some}
 use Rattle.std.specs.FinMap as map
 use Rattle.std.proofs.lemmas.Bool.{cases_eq}
-use Rattle.ax_pages.specs.Contents.{Contents, policy_now}
+use Rattle.ax_area.specs.Contents.{Contents, Stored}
 use Rattle.ax_pages.proofs.LastPart.{get_inserted, get_not_inserted}
-use Rattle.ax_image.specs.Apart.{policy_text, IsUsed, IsTaken, AreApart}
+use Rattle.ax_image_grammar.specs.Table.{policy_text, IsUsed, IsTaken, AreApart}
 
-same_payload : (x y : List ℕ) → Some x ≡ Some y → x ≡ y
-same_payload x y is = cc
+same_document : (x y : Stored) → Some x ≡ Some y → x ≡ y
+same_document x y is = cc
 
 -- the document of a number is written, under the policy now, and the policies are as they were
-module _ (old new : Contents) (number : ℕ) (text : List ℕ)
-    (now : policy_now new ≡ policy_now old)
+module _ (old new : Contents) (number : ℕ) (written : Stored)
+    (by_now : written.policy ≡ old.policy_now)
+    (now : new.policy_now ≡ old.policy_now)
     (texts : new.policies ≡ old.policies)
-    (documents : new.documents ≡ map.insert old.documents number (policy_now old ∷ text)) where
-  abbrev payload : List ℕ
-  payload = policy_now old ∷ text
-
+    (documents : new.documents ≡ map.insert old.documents number written) where
   used_before : (policy : ℕ) → IsUsed policy new → IsTaken policy old
   used_before policy u =
-      let held : map.get (map.insert old.documents number payload) u.number ≡ Some u.payload =
+      let held : map.get (map.insert old.documents number written) u.number ≡ Some u.document =
       ap (λ docs. map.get docs u.number) (sym documents) ∙ u.held in
       ⊎_elim
       (λ (same : u.number ≡ number).
-      let is : payload ≡ u.payload =
-      same_payload payload u.payload (sym (get_inserted old.documents number payload)
-      ∙ ap (map.get (map.insert old.documents number payload)) (sym same) ∙ held) in
-      inl (sym (ap (λ bytes. slice_index bytes 0) is ∙ u.indexed_by)))
+      let is : written ≡ u.document =
+      same_document written u.document (sym (get_inserted old.documents number written)
+      ∙ ap (map.get (map.insert old.documents number written)) (sym same) ∙ held) in
+      inl (sym (ap (λ (d : Stored). d.policy) is ∙ u.indexed_by) ∙ by_now))
       (λ (apart : u.number ≡ number → ⊥).
       inr (record {
         number = u.number;
-        payload = u.payload;
-        held = sym (get_not_inserted old.documents number u.number payload apart) ∙ held;
+        document = u.document;
+        held = sym (get_not_inserted old.documents number u.number written apart) ∙ held;
         indexed_by = u.indexed_by;
       }))
       (cases_eq u.number number)

@@ -3,3 +3,4 @@ pub mod Shown
 pub mod Upserting
 pub mod OneContainer
 pub mod ReadableUpserts
+pub mod InGrammar

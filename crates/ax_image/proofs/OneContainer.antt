@@ -49,7 +49,7 @@ one_by_contents contents x y sx sy =
 
 pub one_container : (image : Image) (x y : Container) → StandsFor image x → StandsFor image y → x ≡ y
 one_container image x y sx sy =
-    let same = one_contents newest image newest newest sx.told sy.told sx.contents sy.contents
+    let same = one_contents newest image sx.version sy.version sx.told sy.told sx.contents sy.contents
     sx.grammatical.says sy.grammatical.says in
     one_by_contents sx.contents x y sx.show
     (subst (λ contents. ContentsShow contents y) (sym same) sy.show)
@@ -71,6 +71,7 @@ nothing_shows =
 
 pub fresh_files : (image : Image) → IsFresh image → StandsFor image fresh
 fresh_files image is = record {
+  version = newest;
   told = [];
   contents = no_contents;
   grammatical = fresh_is newest image is;

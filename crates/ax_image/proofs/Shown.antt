@@ -1,4 +1,4 @@
--- Pages that show entries: what a page put in place makes of them.
+-- Documents that show entries: what a document put in place makes of them.
 use Rattle.std.proofs.Common.{◌≡◌, ℕ, suc, ◌<◌, true, false, List, [], ◌∷◌, ◌++◌, length, map, find, Some, is_some, refl, sym, ap, subst, ◌∙◌, arith}
 use Rattle.std.specs.Prelude.{if◌then◌else◌}
 use Rattle.std.specs.List.{list_any}
@@ -16,12 +16,13 @@ use Rattle.ax_container.specs.Container.{Entry, has_id, NumbersRise, IdsAreDisti
 use Rattle.ax_container.specs.Upsert.{with_tree}
 use Rattle.ax_container.proofs.Ids.{same_from_eq}
 use Rattle.ax_container.proofs.Upserts.{or_none, with_tree-own, with_tree-other}
-use Rattle.ax_image.specs.Documents.{IsShown, AreShown}
+use Rattle.ax_area.specs.Contents.{Stored}
+use Rattle.ax_image.specs.StandsFor.{ShowsEntry, ShowEntries}
 
 same_some : {A : Type 0} (x y : A) → Some x ≡ Some y → x ≡ y
 same_some x y e = ap (λ found. unwrap_or found x) e
 
-pub as_many : (pages : List (ℕ × List ℕ)) (entries : List Entry) → AreShown pages entries → length pages ≡ length entries
+pub as_many : (pages : List (ℕ × Stored)) (entries : List Entry) → ShowEntries pages entries → length pages ≡ length entries
 as_many [] [] shown = refl
 as_many [] (e ∷ es) shown = absurd shown
 as_many (p ∷ ps) [] shown = absurd shown
@@ -42,28 +43,29 @@ found_above id before next (e ∷ es) found rise is =
       | false ↦ λ other same. let above = found_above id e.number next es found rise.1 same in omega (arith, rise.0, above)
     ] refl is
 
-after_greater : (k : ℕ) (payload : List ℕ) (page : ℕ × List ℕ) (pages : List (ℕ × List ℕ)) → page.0 < k
-    → put nat_cmp k payload (page ∷ pages) ≡ page ∷ put nat_cmp k payload pages
-after_greater k payload page pages lt =
-    ap (λ r. by_order r ((k, payload) ∷ page ∷ pages) ((page.0, payload) ∷ pages) (page ∷ put nat_cmp k payload pages)) (sym (nat_cmp_is k page.0 Greater lt))
+after_greater : (k : ℕ) (document : Stored) (page : ℕ × Stored) (pages : List (ℕ × Stored)) → page.0 < k
+    → put nat_cmp k document (page ∷ pages) ≡ page ∷ put nat_cmp k document pages
+after_greater k document page pages lt =
+    ap (λ r. by_order r ((k, document) ∷ page ∷ pages) ((page.0, document) ∷ pages) (page ∷ put nat_cmp k document pages))
+    (sym (nat_cmp_is k page.0 Greater lt))
 
-at_equal : (k : ℕ) (payload : List ℕ) (page : ℕ × List ℕ) (pages : List (ℕ × List ℕ)) → k ≡ page.0
-    → put nat_cmp k payload (page ∷ pages) ≡ (page.0, payload) ∷ pages
-at_equal k payload page pages e =
-    ap (λ r. by_order r ((k, payload) ∷ page ∷ pages) ((page.0, payload) ∷ pages) (page ∷ put nat_cmp k payload pages)) (sym (nat_cmp_is k page.0 Equal e))
+at_equal : (k : ℕ) (document : Stored) (page : ℕ × Stored) (pages : List (ℕ × Stored)) → k ≡ page.0
+    → put nat_cmp k document (page ∷ pages) ≡ (page.0, document) ∷ pages
+at_equal k document page pages e =
+    ap (λ r. by_order r ((k, document) ∷ page ∷ pages) ((page.0, document) ∷ pages) (page ∷ put nat_cmp k document pages)) (sym (nat_cmp_is k page.0 Equal e))
 
 -- ---- a page put behind all others, and one put over the page of an entry
 
-pub shown_behind : (pages : List (ℕ × List ℕ)) (entries : List Entry) (before next : ℕ) (payload : List ℕ) (new : Entry)
-    → NumbersRise before entries next → AreShown pages entries → IsShown next payload new
-    → AreShown (put nat_cmp next payload pages) (entries ++ new ∷ [])
-shown_behind [] [] before next payload new rise shown is = (is, tt)
-shown_behind [] (e ∷ es) before next payload new rise shown is = absurd shown
-shown_behind (p ∷ ps) [] before next payload new rise shown is = absurd shown
-shown_behind (p ∷ ps) (e ∷ es) before next payload new rise shown is =
+pub shown_behind : (pages : List (ℕ × Stored)) (entries : List Entry) (before next : ℕ) (document : Stored) (new : Entry)
+    → NumbersRise before entries next → ShowEntries pages entries → ShowsEntry next document new
+    → ShowEntries (put nat_cmp next document pages) (entries ++ new ∷ [])
+shown_behind [] [] before next document new rise shown is = (is, tt)
+shown_behind [] (e ∷ es) before next document new rise shown is = absurd shown
+shown_behind (p ∷ ps) [] before next document new rise shown is = absurd shown
+shown_behind (p ∷ ps) (e ∷ es) before next document new rise shown is =
     let below : p.0 < next = omega (arith, rises_to e.number next es rise.1, shown.0.number_is) in
-    subst (λ pages. AreShown pages (e ∷ es ++ new ∷ [])) (sym (after_greater next payload p ps below))
-    (shown.0, shown_behind ps es e.number next payload new rise.1 shown.1 is)
+    subst (λ pages. ShowEntries pages (e ∷ es ++ new ∷ [])) (sym (after_greater next document p ps below))
+    (shown.0, shown_behind ps es e.number next document new rise.1 shown.1 is)
 
 -- where no entry is of the id, none changes
 unchanged : (id : List ℕ) (tree : Tree) (entries : List Entry) → list_any (has_id id) entries ≡ false → map (with_tree id tree) entries ≡ entries
@@ -73,45 +75,45 @@ unchanged id tree (e ∷ es) none =
     λ i. with_tree-other id tree e parts.0 i ∷ unchanged id tree es parts.1 i
 
 -- one page and one entry in front, which is of the id or is not
-over_first : (p : ℕ × List ℕ) (ps : List (ℕ × List ℕ)) (e : Entry) (es : List Entry) (id : List ℕ) (tree : Tree) (policy : ℕ) (found : Entry)
-    → IdsAreDistinct (e ∷ es) → AreShown (p ∷ ps) (e ∷ es)
-    → has_id id e ≡ true → e ≡ found → AreShown (put nat_cmp found.number (policy ∷ canonical_text tree) (p ∷ ps)) (map (with_tree id tree) (e ∷ es))
-over_first p ps e es id tree policy found distinct shown own same =
-    let payload : List ℕ = policy ∷ canonical_text tree in
+over_first : (p : ℕ × Stored) (ps : List (ℕ × Stored)) (e : Entry) (es : List Entry) (id : List ℕ) (tree : Tree) (document : Stored)
+    (text_is : document.text ≡ canonical_text tree) (found : Entry)
+    → IdsAreDistinct (e ∷ es) → ShowEntries (p ∷ ps) (e ∷ es)
+    → has_id id e ≡ true → e ≡ found → ShowEntries (put nat_cmp found.number document (p ∷ ps)) (map (with_tree id tree) (e ∷ es))
+over_first p ps e es id tree document text_is found distinct shown own same =
     let number : found.number ≡ p.0 = ap (λ (x : Entry). x.number) (sym same) ∙ sym shown.0.number_is in
     let others : map (with_tree id tree) es ≡ es = unchanged id tree es (ap (λ x. list_any (has_id x) es) (sym (same_from_eq e.id id own)) ∙ distinct.0) in
-    let first : IsShown p.0 payload (record { number = e.number; id = e.id; tree = tree }) =
-    record { policy = policy; number_is = shown.0.number_is; payload_is = refl } in
-    subst (λ pages. AreShown pages (map (with_tree id tree) (e ∷ es))) (sym (at_equal found.number payload p ps number))
-    (subst (λ x. IsShown p.0 payload x) (sym (with_tree-own id tree e own)) first, subst (AreShown ps) (sym others) shown.1)
+    let first : ShowsEntry p.0 document (record { number = e.number; id = e.id; tree = tree }) =
+    record { number_is = shown.0.number_is; text_is = text_is } in
+    subst (λ pages. ShowEntries pages (map (with_tree id tree) (e ∷ es))) (sym (at_equal found.number document p ps number))
+    (subst (λ x. ShowsEntry p.0 document x) (sym (with_tree-own id tree e own)) first, subst (ShowEntries ps) (sym others) shown.1)
 
-over_later : (p : ℕ × List ℕ) (ps : List (ℕ × List ℕ)) (e : Entry) (es : List Entry) (next : ℕ) (id : List ℕ) (tree : Tree) (policy : ℕ)
-    (found : Entry) → NumbersRise e.number es next → AreShown (p ∷ ps) (e ∷ es)
+over_later : (p : ℕ × Stored) (ps : List (ℕ × Stored)) (e : Entry) (es : List Entry) (next : ℕ) (id : List ℕ) (tree : Tree) (document : Stored)
+    (found : Entry) → NumbersRise e.number es next → ShowEntries (p ∷ ps) (e ∷ es)
     → has_id id e ≡ false → find (has_id id) es ≡ Some found
-    → AreShown (put nat_cmp found.number (policy ∷ canonical_text tree) ps) (map (with_tree id tree) es)
-    → AreShown (put nat_cmp found.number (policy ∷ canonical_text tree) (p ∷ ps)) (map (with_tree id tree) (e ∷ es))
-over_later p ps e es next id tree policy found rise shown other same later =
-    let payload : List ℕ = policy ∷ canonical_text tree in
+    → ShowEntries (put nat_cmp found.number document ps) (map (with_tree id tree) es)
+    → ShowEntries (put nat_cmp found.number document (p ∷ ps)) (map (with_tree id tree) (e ∷ es))
+over_later p ps e es next id tree document found rise shown other same later =
     let below : p.0 < found.number = omega (arith, found_above id e.number next es found rise same, shown.0.number_is) in
-    subst (λ pages. AreShown pages (map (with_tree id tree) (e ∷ es))) (sym (after_greater found.number payload p ps below))
-    (subst (λ x. IsShown p.0 p.1 x) (sym (with_tree-other id tree e other)) shown.0, later)
+    subst (λ pages. ShowEntries pages (map (with_tree id tree) (e ∷ es))) (sym (after_greater found.number document p ps below))
+    (subst (λ x. ShowsEntry p.0 p.1 x) (sym (with_tree-other id tree e other)) shown.0, later)
 
-pub shown_over : (pages : List (ℕ × List ℕ)) (entries : List Entry) (before next : ℕ) (id : List ℕ) (tree : Tree) (policy : ℕ) (found : Entry)
-    → NumbersRise before entries next → IdsAreDistinct entries → AreShown pages entries
-    → find (has_id id) entries ≡ Some found → AreShown (put nat_cmp found.number (policy ∷ canonical_text tree) pages) (map (with_tree id tree) entries)
-shown_over [] [] before next id tree policy found rise distinct shown is = absurd cc
-shown_over [] (e ∷ es) before next id tree policy found rise distinct shown is = absurd shown
-shown_over (p ∷ ps) [] before next id tree policy found rise distinct shown is = absurd shown
-shown_over (p ∷ ps) (e ∷ es) before next id tree policy found rise distinct shown is =
+pub shown_over : (pages : List (ℕ × Stored)) (entries : List Entry) (before next : ℕ) (id : List ℕ) (tree : Tree) (document : Stored)
+    (text_is : document.text ≡ canonical_text tree) (found : Entry)
+    → NumbersRise before entries next → IdsAreDistinct entries → ShowEntries pages entries
+    → find (has_id id) entries ≡ Some found → ShowEntries (put nat_cmp found.number document pages) (map (with_tree id tree) entries)
+shown_over [] [] before next id tree document text_is found rise distinct shown is = absurd cc
+shown_over [] (e ∷ es) before next id tree document text_is found rise distinct shown is = absurd shown
+shown_over (p ∷ ps) [] before next id tree document text_is found rise distinct shown is = absurd shown
+shown_over (p ∷ ps) (e ∷ es) before next id tree document text_is found rise distinct shown is =
     elim (has_id id e) as (λ b. has_id id e ≡ b → (if b then Some e else find (has_id id) es) ≡ Some found
-    → AreShown (put nat_cmp found.number (policy ∷ canonical_text tree) (p ∷ ps)) (map (with_tree id tree) (e ∷ es))) [
-      | true ↦ λ own same. over_first p ps e es id tree policy found distinct shown own (same_some e found same)
-      | false ↦ λ other same. over_later p ps e es next id tree policy found rise.1 shown other same
-          (shown_over ps es e.number next id tree policy found rise.1 distinct.1 shown.1 same)
+    → ShowEntries (put nat_cmp found.number document (p ∷ ps)) (map (with_tree id tree) (e ∷ es))) [
+      | true ↦ λ own same. over_first p ps e es id tree document text_is found distinct shown own (same_some e found same)
+      | false ↦ λ other same. over_later p ps e es next id tree document found rise.1 shown other same
+          (shown_over ps es e.number next id tree document text_is found rise.1 distinct.1 shown.1 same)
     ] refl is
 
 -- the number of an entry has a page
-pub found_page : (pages : List (ℕ × List ℕ)) (entries : List Entry) (id : List ℕ) (found : Entry) → AreShown pages entries
+pub found_page : (pages : List (ℕ × Stored)) (entries : List Entry) (id : List ℕ) (found : Entry) → ShowEntries pages entries
     → find (has_id id) entries ≡ Some found → is_some (finite.find nat_cmp found.number pages) ≡ true
 found_page [] [] id found shown is = absurd cc
 found_page [] (e ∷ es) id found shown is = absurd shown

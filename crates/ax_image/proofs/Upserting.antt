@@ -1,27 +1,26 @@
--- The parts of an upsert lead to the upserted container.
-use Rattle.std.proofs.Common.{◌≡◌, ℕ, ◌+◌, ◌^◌, ◌<◌, ◌≤◌, Bool, true, false, List, [], ◌∷◌, length}
+-- The changes of an upsert lead to the upserted container.
+use Rattle.std.proofs.Common.{◌≡◌, ℕ, ◌+◌, ◌<◌, Bool, true, false, List, [], ◌∷◌, length}
 use Rattle.std.proofs.Common.{find, Option, Some, None, Ok, is_some, refl, sym, ap, subst, ◌∙◌}
 use Rattle.std.proofs.Common.{arith}
-use Rattle.std.specs.Prelude.{◌&&◌, ◌||◌, nat_lt, nat_le, if◌then◌else◌, option_and_then}
+use Rattle.std.specs.Prelude.{◌&&◌, ◌||◌, not, nat_lt, nat_le, if◌then◌else◌, option_and_then}
 use Rattle.std.specs.List.{list_any}
 use Rattle.std.specs.Option.{option_map_or}
 use Rattle.std.specs.Ordering.{nat_cmp}
 use Rattle.std.specs.Cmp.{nat_cmp_total}
 use Rattle.std.specs.FinMap as finite
-use Rattle.std.proofs.lemmas.Bool.{lt-ltb, le-leb, leb-false}
-use Rattle.std.proofs.lemmas.Nat.{from_le_bytes-to_le_bytes_4}
-use Rattle.ax_frame.specs.Part.{PartValue}
+use Rattle.std.proofs.lemmas.Bool.{lt-ltb, leb-false}
 use Rattle.ax_tree.specs.declared.tree.Tree.{Tree}
 use Rattle.ax_tree.specs.CanonicalText.{canonical_text}
 use Rattle.ax_container.specs.Container.{Entry, Container, has_id, contains, entry_of, most_documents, last_number, IsSound}
 use Rattle.ax_container.specs.Upsert.{replaced, created, is_full, upserted}
 use Rattle.ax_container.proofs.Upserts.{or_none, upsert_cases}
-use Rattle.ax_pages.specs.Contents.{Contents, meta_bytes, next_in, now_in, policy_now, is_given}
-use Rattle.ax_pages.specs.AfterPart.{is_meta, is_document, has_room, after_part, after_parts, last_policy}
-use Rattle.ax_image.specs.Documents.{AreShown, ContentsStandFor}
-use Rattle.ax_image.specs.UpsertParts.{document_part, replacing_parts, creating_parts, upsert_parts}
+use Rattle.ax_area.specs.Changes.{Change}
+use Rattle.ax_area.specs.Contents.{Contents, Stored, is_given, has_room, after_change, after_changes}
+use Rattle.ax_image.specs.Documents.{ContentsHold}
+use Rattle.ax_image.specs.StandsFor.{ShowEntries}
+use Rattle.ax_image.specs.UpsertChanges.{document_change, replacing_changes, creating_changes, upsert_changes}
 use Rattle.ax_image.proofs.KeptApart.{apart_with}
-use Rattle.ax_image.proofs.Shown.{as_many, rises_to, found_above, found_page, shown_behind, shown_over}
+use Rattle.ax_image.proofs.Shown.{as_many, found_page, shown_behind, shown_over}
 
 both : (a b : Bool) → a ≡ true → b ≡ true → (a && b) ≡ true
 both a b x y = λ i. x i && y i
@@ -33,34 +32,22 @@ pub second_or : (a b : Bool) → b ≡ true → (a || b) ≡ true
 second_or true b x = refl
 second_or false b x = x
 
--- the payload of the meta
-next_in-meta : (next policy : ℕ) → next < 2 ^ 32 → next_in (meta_bytes next policy) ≡ next
-next_in-meta next policy fits = from_le_bytes-to_le_bytes_4 next fits
-
-now_in-meta : (next policy : ℕ) → policy < 2 ^ 32 → now_in (meta_bytes next policy) ≡ policy
-now_in-meta next policy fits = from_le_bytes-to_le_bytes_4 policy fits
-
-pub meta_fits : (next policy : ℕ) (contents : Contents) → 0 < next → next < 2 ^ 32 → policy ≤ last_policy → is_given policy contents ≡ true
-    → is_meta 0 (meta_bytes next policy) contents ≡ true
-meta_fits next policy contents some fits small given =
-    let next_is = next_in-meta next policy fits in
-    let now_is = now_in-meta next policy (omega (arith, small)) in
-    both _ _ (both _ _ (both _ _ refl (lt-ltb 0 (next_in (meta_bytes next policy)) (omega (arith, some, next_is))))
-    (le-leb (now_in (meta_bytes next policy)) last_policy (omega (arith, small, now_is))))
-    (ap (λ n. is_given n contents) now_is ∙ given)
-
-pub document_fits : (number policy : ℕ) (text : List ℕ) (contents : Contents) → 0 < number → is_given policy contents ≡ true
-    → has_room number contents ≡ true → is_document number (policy ∷ text) contents ≡ true
-document_fits number policy text contents some given room =
-    both _ _ (both _ _ (both _ _ (lt-ltb 0 number some) (lt-ltb 0 (length (policy ∷ text)) (omega arith))) given) room
+-- the document that is written: its version is its number
+abbrev pub document_of : ℕ → ℕ → Tree → Stored
+document_of number policy tree =
+    record { policy = policy; version = number; text = canonical_text tree }
 
 abbrev pub with_document : Contents → ℕ → ℕ → Tree → Contents
-with_document contents number policy tree = record contents { documents = finite.insert contents.documents number (policy ∷ canonical_text tree) }
+with_document contents number policy tree =
+    record contents { documents = finite.insert contents.documents number (document_of number policy tree) }
 
-pub after_document : (number policy : ℕ) (tree : Tree) (contents : Contents) → 0 < number → is_given policy contents ≡ true → has_room number contents ≡ true
-    → after_part (document_part number policy tree) contents ≡ Some (with_document contents number policy tree)
-after_document number policy tree contents some given room =
-    ap (λ b. if b then Some (with_document contents number policy tree) else None) (document_fits number policy (canonical_text tree) contents some given room)
+pub after_document : (number policy : ℕ) (tree : Tree) (contents : Contents) → contents.versioned ≡ false
+    → is_given policy contents ≡ true → has_room number contents ≡ true
+    → after_change (document_change number policy tree) contents ≡ Some (with_document contents number policy tree)
+after_document number policy tree contents plain given room =
+    ap (λ b. if b then Some (with_document contents number policy tree) else None)
+    (both (is_given policy contents) (has_room number contents && not contents.versioned) given
+    (both (has_room number contents) (not contents.versioned) room (ap not plain)))
 
 pub any_found : (id : List ℕ) (entries : List Entry) → list_any (has_id id) entries ≡ is_some (find (has_id id) entries)
 any_found id [] = refl
@@ -78,21 +65,22 @@ none_of (Some x) is = absurd (cc)
 -- what an upsert is to be written as
 abbrev pub Written : Contents → List ℕ → Tree → Container → Container → Type 0
 Written contents id tree before after = (new : Contents) ×
-    (after_parts (upsert_parts id tree (policy_now contents) before) contents ≡ Some new) × ContentsStandFor new after
+    (after_changes (upsert_changes id tree contents.policy_now before) contents ≡ Some new) × ContentsHold new after
 
-module _ (contents : Contents) (before : Container) (id : List ℕ) (tree : Tree) (stand : ContentsStandFor contents before) where
+module _ (contents : Contents) (before : Container) (id : List ℕ) (tree : Tree)
+    (plain : contents.versioned ≡ false) (hold : ContentsHold contents before) where
   abbrev policy : ℕ
-  policy = policy_now contents
+  policy = contents.policy_now
 
-  abbrev pages : List (ℕ × List ℕ)
-  pages = finite.entries contents.documents
+  abbrev documents : List (ℕ × Stored)
+  documents = finite.entries contents.documents
 
-  abbrev parts_for : Option Entry → List PartValue
-  parts_for found = option_map_or (λ (entry : Entry). replacing_parts entry.number policy tree) found (creating_parts before.next_number policy tree)
+  abbrev changes_for : Option Entry → List Change
+  changes_for found = option_map_or (λ (entry : Entry). replacing_changes entry.number policy tree) found (creating_changes before.next_number policy tree)
 
-  put_entries : (number : ℕ) → finite.entries (finite.insert contents.documents number (policy ∷ canonical_text tree)) ≡ finite.put nat_cmp number
-      (policy ∷ canonical_text tree) pages
-  put_entries number = finite.entries-insert nat_cmp_total contents.documents number (policy ∷ canonical_text tree)
+  put_entries : (number : ℕ) → finite.entries (finite.insert contents.documents number (document_of number policy tree))
+      ≡ finite.put nat_cmp number (document_of number policy tree) documents
+  put_entries number = finite.entries-insert nat_cmp_total contents.documents number (document_of number policy tree)
 
   -- ---- a document that the container has
 
@@ -101,20 +89,21 @@ module _ (contents : Contents) (before : Container) (id : List ℕ) (tree : Tree
   replaced_by found is sound =
       let number = found.number in
       let new : Contents = with_document contents number policy tree in
-      let above : 0 < number = found_above id 0 before.next_number before.entries found stand.sound.numbers is in
-      let held = ap is_some (finite.get-entries contents.documents number) ∙ found_page pages before.entries id found stand.shown is in
-      let leads : after_parts (replacing_parts number policy tree) contents ≡ Some new =
-      ap (option_and_then (after_parts [])) (after_document number policy tree contents above stand.given (first_or _ _ held)) in (
+      let held = ap is_some (finite.get-entries contents.documents number) ∙ found_page documents before.entries id found hold.show.shown is in
+      let leads : after_changes (replacing_changes number policy tree) contents ≡ Some new =
+      ap (option_and_then (after_changes [])) (after_document number policy tree contents plain hold.given (first_or _ _ held)) in (
         new,
-        ap (λ entry. after_parts (parts_for entry) contents) is ∙ leads,
+        ap (λ entry. after_changes (changes_for entry) contents) is ∙ leads,
         record {
-          next = stand.next;
-          given = stand.given;
-          small = stand.small;
-          apart = apart_with contents new number (canonical_text tree) refl refl refl stand.apart;
-          shown = subst (λ shown. AreShown shown (replaced id tree before).entries) (sym (put_entries number))
-              (shown_over pages before.entries 0 before.next_number id tree policy found stand.sound.numbers stand.sound.distinct stand.shown is);
-          sound = sound;
+          show = record {
+            next = hold.show.next;
+            shown = subst (λ shown. ShowEntries shown (replaced id tree before).entries) (sym (put_entries number))
+                (shown_over documents before.entries 0 before.next_number id tree (document_of number policy tree) refl found
+                hold.show.sound.numbers hold.show.sound.distinct hold.show.shown is);
+            sound = sound;
+          };
+          given = hold.given;
+          apart = apart_with contents new number (document_of number policy tree) refl refl refl refl hold.apart;
         },
       )
 
@@ -124,56 +113,40 @@ module _ (contents : Contents) (before : Container) (id : List ℕ) (tree : Tree
   next = before.next_number
 
   abbrev with_meta : Contents
-  with_meta = record contents { meta = Some (meta_bytes (next + 1) policy) }
+  with_meta = record contents { next_number = next + 1; policy_now = policy; next_version = next + 1; versioned = contents.versioned }
 
   few : is_full before ≡ false → finite.len contents.documents < most_documents
   few space =
       let parts = or_none (nat_le most_documents (length before.entries)) (nat_le last_number next) space in
       let less = leb-false most_documents (length before.entries) parts.0 in
-      omega (arith, less, finite.len-entries contents.documents, as_many pages before.entries stand.shown)
+      omega (arith, less, finite.len-entries contents.documents, as_many documents before.entries hold.show.shown)
 
-  left : is_full before ≡ false → next < last_number
-  left space =
-      let parts = or_none (nat_le most_documents (length before.entries)) (nat_le last_number next) space in
-      leb-false last_number next parts.1
-
-  some_number : 0 < next
-  some_number = rises_to 0 next before.entries stand.sound.numbers
-
-  creates : is_full before ≡ false → after_parts (creating_parts next policy tree) contents ≡ Some (with_document with_meta next policy tree)
+  creates : is_full before ≡ false → after_changes (creating_changes next policy tree) contents ≡ Some (with_document with_meta next policy tree)
   creates space =
-      let below : next < last_number = left space in
       let few_held : finite.len contents.documents < most_documents = few space in
-      let fits = meta_fits (next + 1) policy contents (omega arith) (omega arith) stand.small stand.given in
       let room = second_or (finite.contains_key contents.documents next) (nat_lt (finite.len contents.documents) most_documents)
       (lt-ltb (finite.len contents.documents) most_documents few_held) in
-      ap (λ b. option_and_then (after_parts (document_part next policy tree ∷ [])) (if b then Some with_meta else None)) fits
-      ∙ ap (option_and_then (after_parts [])) (after_document next policy tree with_meta some_number stand.given room)
+      ap (λ b. option_and_then (after_changes (document_change next policy tree ∷ [])) (if b then Some with_meta else None))
+      (both (is_given policy contents) (not contents.versioned) hold.given (ap not plain))
+      ∙ ap (option_and_then (after_changes [])) (after_document next policy tree with_meta plain hold.given room)
 
   created_by : entry_of id before ≡ None → is_full before ≡ false → IsSound (created id tree before) → Written contents id tree before (created id tree before)
-  created_by none space sound =
-      let below : next < last_number = left space in
-      let next_is : next_in (meta_bytes (next + 1) policy) ≡ next + 1 = next_in-meta (next + 1) policy (omega arith) in
-      let small : policy ≤ last_policy = stand.small in
-      let now_is : now_in (meta_bytes (next + 1) policy) ≡ policy = now_in-meta (next + 1) policy (omega arith) in (
-        with_document with_meta next policy tree,
-        ap (λ entry. after_parts (parts_for entry) contents) none ∙ creates space,
-        record {
-          next = next_is;
-          given = ap (λ n. is_given n contents) now_is ∙ stand.given;
-          small = omega (arith, now_is, small);
-          apart = apart_with contents (with_document with_meta next policy tree) next (canonical_text tree) now_is refl refl stand.apart;
-          shown = subst (λ shown. AreShown shown (created id tree before).entries) (sym (put_entries next))
-              (shown_behind pages before.entries 0 next (policy ∷ canonical_text tree) (record {
-                number = next;
-                id = id;
-                tree =
-                    tree;
-              }) stand.sound.numbers stand.shown
-              (record { policy = policy; number_is = refl; payload_is = refl }));
-          sound = sound;
-        },
-      )
+  created_by none space sound = (
+    with_document with_meta next policy tree,
+    ap (λ entry. after_changes (changes_for entry) contents) none ∙ creates space,
+    record {
+      show = record {
+        next = refl;
+        shown = subst (λ shown. ShowEntries shown (created id tree before).entries) (sym (put_entries next))
+            (shown_behind documents before.entries 0 next (document_of next policy tree)
+            (record { number = next; id = id; tree = tree }) hold.show.sound.numbers hold.show.shown
+            (record { number_is = refl; text_is = refl }));
+        sound = sound;
+      };
+      given = hold.given;
+      apart = apart_with contents (with_document with_meta next policy tree) next (document_of next policy tree) refl refl refl refl hold.apart;
+    },
+  )
 
   -- ---- both
 

@@ -1,5 +1,4 @@
-pub mod Apart
 pub mod Documents
 pub mod Readable
 pub mod StandsFor
-pub mod UpsertParts
+pub mod UpsertChanges

@@ -1,5 +1,5 @@
 -- What an image of a store stands for: it is in the grammar of the format, whole, and its documents, in
--- the order of their numbers, are those of the container. No version of the format stands here.
+-- the order of their numbers, are those of the container. The image may be of any version that is known.
 -- From the store's own file format (docs/FORMAT.md); no other document has it.
 use Rattle.std.specs.Prelude.{◌≡◌, ℕ, List, [], ◌∷◌}
 use Rattle.std.specs.FinMap as map
@@ -32,7 +32,9 @@ pub record ContentsShow (contents : Contents) (container : Container) : Type 0 w
 
 -- Also what nothing holds any more can be read.
 pub record StandsFor (image : Image) (container : Container) : Type 0 where
+  -- the version of the image, up to the newest
+  pub version : ℕ
   pub told : List Told
   pub contents : Contents
-  pub grammatical : IsGrammatical newest newest told contents image
+  pub grammatical : IsGrammatical newest version told contents image
   pub show : ContentsShow contents container

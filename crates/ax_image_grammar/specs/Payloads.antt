@@ -22,8 +22,7 @@ use Rattle.ax_area.specs.Changes.{Change}
 use Rattle.ax_area.specs.Changes as change
 
 -- The text is the normal text of the policy, which is one: of its own text it is read again. It is
--- a
--- text, too: its names are UTF-8.
+-- a text, too: its names are UTF-8.
 pub record IsTextOf (text : List ℕ) (policy : Policy) : Type 0 where
   pub well_formed : IsWellFormed (normal_tree policy)
   pub is_policy : policy_of (normal_tree policy) ≡ Some policy
@@ -38,8 +37,7 @@ abbrev pub most_text_bytes : ℕ → ℕ
 most_text_bytes newest = if nat_lt newest PIECES_SINCE then most_bytes else 2097152
 
 -- The text is the canonical text of a document within the limits of a program that knows versions
--- up
--- to this one, whatever the version of the area is.
+-- up to this one, whatever the version of the area is.
 pub record IsDocumentText (newest : ℕ) (text : List ℕ) : Type 0 where
   pub tree : Tree
   pub document : IsDocument tree

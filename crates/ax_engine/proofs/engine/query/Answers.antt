@@ -7,9 +7,10 @@ use Rattle.ax_pages.specs.HasContents.{HasContents}
 use Rattle.ax_store.proofs.AheadLemmas.{ahead_of_nothing}
 use Rattle.ax_store.proofs.StoreLemmas.{agrees_rests}
 use Rattle.ax_disk.specs.laws.StaysLaws.{idles_rest, idles_stay}
-use Rattle.ax_image.specs.Readable.{TellsReadable}
+use Rattle.ax_image.specs.Readable.{SaysReadable}
 use Rattle.ax_engine.specs.Damage.{Meets, PassesOverNone}
-use Rattle.ax_engine.specs.Documents.{contents_in, DocumentsWork}
+use Rattle.ax_store.specs.Store.{store_contents}
+use Rattle.ax_engine.specs.Documents.{DocumentsWork}
 use Rattle.ax_engine.specs.Engine.{Tells}
 use Rattle.ax_engine.specs.Replies.{MayReply}
 use Rattle.ax_engine.specs.declared.engine.Fault.{Fault}
@@ -40,11 +41,11 @@ returns-clause-tells g c = λ honest readable before holds.
     c.reply_to_query-read.result c.reply_to_query-read.ensures.scans
     (g.met.D.Disk.reads_may_stay c.reply_to_query-read.new.disk (g.D.Disk.attached c.reply_to_query-read.new.disk)
     (subst IsTrue (sym c.reply_to_query-read.ensures.honest) honest))
-    ((idles_rest _ _ TellsReadable readable
+    ((idles_rest _ _ SaysReadable readable
     (lists_read _ c.args.documents.now _ _ _ _ _ _ c.reply_to_query-read.result c.reply_to_query-read.ensures.scans honest)).each _
     (g.met.D.Disk.reads_may_stay c.reply_to_query-read.new.disk (g.D.Disk.attached c.reply_to_query-read.new.disk)
     (subst IsTrue (sym c.reply_to_query-read.ensures.honest) honest)))
-    (c.reply_to_query-read.ensures.reply honest before holds.stand) honest)
+    (c.reply_to_query-read.ensures.reply honest before holds.hold) honest)
 
 pub returns-clause-may_reply : goal.returns-clause-may_reply
 returns-clause-may_reply g c =
@@ -63,7 +64,7 @@ returns-clause-met g c = λ honest.
 
 pub returns-clause-passes_over_none : goal.returns-clause-passes_over_none
 returns-clause-passes_over_none g c = λ honest.
-    let contents = contents_in c.args.documents.now in
+    let contents = store_contents c.args.documents.now.store in
     let P : Result Reply Fault → Type 0 = λ answer. IfOk answer (λ reply. PassesOverNone (line.Query c.args.body.now) reply
     (g.D.Disk.history c.reply_to_query-read.new.disk (g.D.Disk.attached c.reply_to_query-read.new.disk)).reads) in
     subst P (sym c.answer_of_read.ensures)
@@ -99,5 +100,5 @@ returns-clause-lists g c = λ honest.
 
 pub returns-clause-readable : goal.returns-clause-readable
 returns-clause-readable g c = λ honest rests.
-    idles_stay _ _ TellsReadable rests
+    idles_stay _ _ SaysReadable rests
     (lists_read _ c.args.documents.now _ _ _ _ _ _ c.reply_to_query-read.result c.reply_to_query-read.ensures.scans honest)

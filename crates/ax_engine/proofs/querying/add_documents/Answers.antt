@@ -1,11 +1,11 @@
--- Each turn takes in the next document, for one step at most.
+-- Each turn takes in the next document, for one step or two.
 use Rattle.std.proofs.Common.{◌++◌, ◌∙◌, [], ap, sym, subst, arith, length, refl}
 use Rattle.std.proofs.lemmas.Bool.{false≢true}
 use Rattle.std.proofs.lemmas.List.{append-nil}
 use Rattle.std.specs.Prelude.{IsTrue}
 use Rattle.ax_answer_text.specs.Parts.{AreReadWholeFor}
 use Rattle.ax_answer_text.specs.TextAnswers.{Answers}
-use Rattle.ax_store.specs.Store.{store_contents}
+use Rattle.ax_engine.specs.StoreSays.{store_says}
 use Rattle.ax_engine.proofs.Damaging.{all_trees, no_trees, one_tree_more}
 use Rattle.ax_engine.proofs.InOrder.{above, pairs, next_entry, next_same, stored_here, text_here, taken_on}
 use Rattle.ax_engine.proofs.InOrder.{one_less, at_the_end, at_the_start, none_same, text_same}
@@ -14,12 +14,14 @@ use Rattle.ax_engine.proofs.querying.add_documents.Goals as goal
 
 pub texts-init : goal.texts-init
 texts-init g c = record {
-  added = λ honest container stand query answers.
-      ([], ap pairs (at_the_start (store_contents c.args.store.now) container stand), answers);
+  added = λ honest container hold query answers.
+      ([], ap pairs (at_the_start (store_says c.args.store.now) container hold), answers);
   asked = λ query asked. asked;
-  met = λ honest query asked each. no_trees (store_contents c.args.store.now) (AreReadWholeFor query);
-  bound = λ container stand.
-      omega (arith, ap length (at_the_start (store_contents c.args.store.now) container stand));
+  met = λ honest query asked each. no_trees (store_says c.args.store.now) (AreReadWholeFor query);
+  fetched = λ container hold.
+      omega (arith, ap length (at_the_start (store_says c.args.store.now) container hold));
+  bound = λ container hold.
+      omega (arith, ap length (at_the_start (store_says c.args.store.now) container hold));
   never_falls = omega arith;
   scans = nothing_scanned _ c.args.store.now _ _ _ c.requires.ready;
   attached = refl;
@@ -29,18 +31,18 @@ texts-init g c = record {
 pub texts-preserved : goal.texts-preserved
 texts-preserved g c =
     let inv = c.texts.invariant in
-    let contents = store_contents c.args.store.now in
+    let contents = store_says c.args.store.now in
     let found = next_same c.args.store.now c.texts.store c.texts.number c.in-Some.next inv.scans.same c.in-Some.ensures.found in
     record {
-      added = λ honest container stand query answers.
-          let next = next_entry contents container stand c.texts.number c.in-Some.next found in
-          let stored = stored_here contents container stand c.texts.number c.in-Some.next next in
-          let before = inv.added honest container stand query answers in (
+      added = λ honest container hold query answers.
+          let next = next_entry contents container hold c.texts.number c.in-Some.next found in
+          let stored = stored_here contents container hold c.texts.number c.in-Some.next next in
+          let before = inv.added honest container hold query answers in (
             _,
-            taken_on contents container stand c.texts.number c.in-Some.next before.0 next before.1,
+            taken_on contents container hold c.texts.number c.in-Some.next before.0 next before.1,
             c.in-Ok.ensures.added (subst IsTrue (sym inv.honest) honest) next.entry.tree
                 (text_same c.args.store.now c.texts.store c.in-Some.next _ inv.scans.same
-                (text_here contents container stand c.texts.number c.in-Some.next next))
+                (text_here contents container hold c.texts.number c.in-Some.next next))
                 (stored.well_formed, stored.shallow) query before.0 before.2,
           );
       asked = λ query asked. c.in-Ok.ensures.asked query (inv.asked query asked);
@@ -49,15 +51,23 @@ texts-preserved g c =
           (λ text is whole. c.in-Ok.ensures.outside (subst IsTrue (sym inv.honest) honest) text
           (text_same c.args.store.now c.texts.store c.in-Some.next text inv.scans.same is)
           query (inv.asked query asked) each.0 whole);
-      bound = λ container stand.
-          let next = next_entry contents container stand c.texts.number c.in-Some.next found in
+      fetched = λ container hold.
+          let next = next_entry contents container hold c.texts.number c.in-Some.next found in
           omega (
             arith,
-            inv.bound container stand,
-            c.in-Ok.ensures.one,
-            one_less contents container stand c.texts.number c.in-Some.next next,
+            inv.fetched container hold,
+            c.in-Ok.ensures.fetched,
+            one_less contents container hold c.texts.number c.in-Some.next next,
           );
-      never_falls = omega (arith, inv.never_falls, c.in-Ok.ensures.never_falls);
+      bound = λ container hold.
+          let next = next_entry contents container hold c.texts.number c.in-Some.next found in
+          omega (
+            arith,
+            inv.bound container hold,
+            c.in-Ok.ensures.two,
+            one_less contents container hold c.texts.number c.in-Some.next next,
+          );
+      never_falls = omega (arith, inv.never_falls, c.in-Ok.ensures.fetched);
       scans = scanned_on _ _ _ _ _ _ _ _ _ _ _ _ _ inv.honest inv.scans c.in-Ok.ensures.scans;
       attached = c.in-Ok.ensures.attached ∙ inv.attached;
       honest = c.in-Ok.ensures.honest ∙ inv.honest;
@@ -68,8 +78,8 @@ add_document-requires-clause-ready g c =
     ready_now _ _ c.texts.store _ _ c.texts.invariant.honest c.texts.invariant.scans.ready
 
 pub returns-then-is_done-clause-added : goal.returns-then-is_done-clause-added
-returns-then-is_done-clause-added g c = λ honest container stand query answers.
-    let all = c.texts.invariant.added honest container stand query answers in
+returns-then-is_done-clause-added g c = λ honest container hold query answers.
+    let all = c.texts.invariant.added honest container hold query answers in
     subst (Answers c.texts.answer query) all.1
     (c.is_done.ensures.sound c.if-is_done.true query all.0
     (pairs (above c.texts.number container.entries)) all.2)
@@ -79,34 +89,46 @@ returns-then-is_done-clause-met g c = λ honest query asked each.
     absurd (false≢true (sym (c.is_done.ensures.unlimited query (c.texts.invariant.asked query asked) each.1)
     ∙ c.if-is_done.true))
 
+pub returns-then-is_done-clause-fetched : goal.returns-then-is_done-clause-fetched
+returns-then-is_done-clause-fetched g c = λ container hold query asked unlimited.
+    absurd (false≢true (sym (c.is_done.ensures.unlimited query (c.texts.invariant.asked query asked) unlimited)
+    ∙ c.if-is_done.true))
+
 pub returns-in-Err-clause-bound : goal.returns-in-Err-clause-bound
-returns-in-Err-clause-bound g c = λ container stand.
+returns-in-Err-clause-bound g c = λ container hold.
     let inv = c.texts.invariant in
     let found = next_same c.args.store.now c.texts.store c.texts.number c.in-Some.next inv.scans.same c.in-Some.ensures.found in
-    let contents = store_contents c.args.store.now in
-    let next = next_entry contents container stand c.texts.number c.in-Some.next found in
+    let contents = store_says c.args.store.now in
+    let next = next_entry contents container hold c.texts.number c.in-Some.next found in
     omega (
       arith,
-      inv.bound container stand,
-      c.in-Err.ensures.one,
-      one_less contents container stand c.texts.number c.in-Some.next next,
+      inv.bound container hold,
+      c.in-Err.ensures.two,
+      one_less contents container hold c.texts.number c.in-Some.next next,
     )
 
 pub returns-in-Err-clause-scans : goal.returns-in-Err-clause-scans
 returns-in-Err-clause-scans g c =
     fails_on _ _ _ _ _ _ _ _ _ _ _ _ _ c.texts.invariant.honest c.texts.invariant.scans c.in-Err.fault c.in-Err.ensures.scans
 
-pub returns-clause-added : goal.returns-clause-added
-returns-clause-added g c = λ honest container stand query answers.
+pub returns-clause-fetched : goal.returns-clause-fetched
+returns-clause-fetched g c = λ container hold query asked unlimited.
     let inv = c.texts.invariant in
-    let end = at_the_end (store_contents c.args.store.now) container stand c.texts.number
+    let end = at_the_end (store_says c.args.store.now) container hold c.texts.number
     (none_same c.args.store.now c.texts.store c.texts.number inv.scans.same c.in_default.ensures.none) in
-    let all = inv.added honest container stand query answers in
+    omega (arith, inv.fetched container hold, ap length end)
+
+pub returns-clause-added : goal.returns-clause-added
+returns-clause-added g c = λ honest container hold query answers.
+    let inv = c.texts.invariant in
+    let end = at_the_end (store_says c.args.store.now) container hold c.texts.number
+    (none_same c.args.store.now c.texts.store c.texts.number inv.scans.same c.in_default.ensures.none) in
+    let all = inv.added honest container hold query answers in
     subst (λ entries. Answers c.texts.answer query entries)
     (sym (append-nil all.0) ∙ ap (λ es. all.0 ++ pairs es) (sym end) ∙ all.1) all.2
 
 pub returns-clause-met : goal.returns-clause-met
 returns-clause-met g c = λ honest query asked each.
     let inv = c.texts.invariant in
-    all_trees (store_contents c.args.store.now) (AreReadWholeFor query) c.texts.number (inv.met honest query asked each)
+    all_trees (store_says c.args.store.now) (AreReadWholeFor query) c.texts.number (inv.met honest query asked each)
     (none_same c.args.store.now c.texts.store c.texts.number inv.scans.same c.in_default.ensures.none)

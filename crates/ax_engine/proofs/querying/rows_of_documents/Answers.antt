@@ -1,26 +1,26 @@
 -- The rows of the keys, each with the text of its document, are the rows of the query.
 use Rattle.std.proofs.Common.{◌∙◌, ap, sym, subst}
 use Rattle.std.specs.Prelude.{IfOk, IsTrue}
-use Rattle.ax_image.specs.Documents.{ContentsStandFor}
+use Rattle.ax_image.specs.Documents.{ContentsHold}
 use Rattle.ax_machine.specs.Querying.{numbered}
 use Rattle.ax_result.specs.Answers.{answer_of}
 use Rattle.ax_store.specs.Kept.{Kept}
 use Rattle.ax_engine.specs.Replies.{AreRows}
-use Rattle.ax_engine.specs.InPages.{MeetsNone}
-use Rattle.ax_store.specs.Store.{store_contents}
+use Rattle.ax_engine.specs.Damage.{MeetsTrees}
+use Rattle.ax_engine.specs.StoreSays.{kept_says, store_says}
 use Rattle.ax_engine.proofs.Damaging.{keys_met, on_ok}
 use Rattle.ax_engine.proofs.Numbers.{shown_rows}
 use Rattle.ax_engine.proofs.Scanning.{scans_on}
 use Rattle.ax_engine.proofs.querying.rows_of_documents.Goals as goal
 
 pub returns-in-Ok-rows-clause-rows : goal.returns-in-Ok-rows-clause-rows
-returns-in-Ok-rows-clause-rows g c = λ honest container stand.
+returns-in-Ok-rows-clause-rows g c = λ honest container hold.
     subst (λ texts. IfOk c.document_rows.result (λ rows. AreRows rows texts))
-    (shown_rows c.args.query container c.requires.printed stand.sound c.as_slice.result.now
-    (c.as_slice.ensures.value ∙ c.in-Ok-rows.ensures.rows honest container stand
+    (shown_rows c.args.query container c.requires.printed.0 hold.show.sound c.as_slice.result.now
+    (c.as_slice.ensures.value ∙ c.in-Ok-rows.ensures.rows honest container hold
     ∙ ap (λ query. answer_of query (numbered container)) c.in-Ok.ensures))
     (c.document_rows.ensures.rows (subst IsTrue (sym c.in-Ok-rows.ensures.honest) honest) container
-    (subst (λ (kept : Kept). ContentsStandFor kept.contents container) (sym c.in-Ok-rows.ensures.scans.same.pages) stand))
+    (subst (λ (kept : Kept). ContentsHold (kept_says kept) container) (sym c.in-Ok-rows.ensures.scans.same.pages) hold))
 
 pub returns-in-Ok-rows-clause-scans : goal.returns-in-Ok-rows-clause-scans
 returns-in-Ok-rows-clause-scans g c =
@@ -29,6 +29,6 @@ returns-in-Ok-rows-clause-scans g c =
 
 pub returns-in-Ok-rows-clause-met : goal.returns-in-Ok-rows-clause-met
 returns-in-Ok-rows-clause-met g c = λ honest.
-    on_ok c.document_rows.result (MeetsNone c.args.query (store_contents c.args.store.now))
-    (keys_met c.args.query _ (store_contents c.args.store.now) c.in-Ok.ensures c.requires.printed
+    on_ok c.document_rows.result (MeetsTrees c.args.query (store_says c.args.store.now))
+    (keys_met c.args.query _ (store_says c.args.store.now) c.in-Ok.ensures c.requires.printed
     (c.in-Ok-rows.ensures.met honest))

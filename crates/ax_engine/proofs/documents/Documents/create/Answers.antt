@@ -1,27 +1,27 @@
--- The parts lead from the container to the one in which the document is created.
-use Rattle.std.proofs.Common.{◌≡◌, ◌<◌, List, ℕ, Some, cond, sym, subst, ◌∙◌, arith}
+-- The changes lead from the container to the one in which the document is created.
+use Rattle.std.proofs.Common.{◌≡◌, ◌<◌, ◌-◌, ◌^◌, List, ℕ, Some, cond, refl, ap, sym, ◌∙◌, arith}
 use Rattle.std.specs.Str.{bytes_eq}
 use Rattle.ax_cache.specs.Held.{held}
 use Rattle.ax_container.specs.Upsert.{created}
-use Rattle.ax_frame.specs.Part.{PartValue}
 use Rattle.ax_disk.specs.laws.StaysLaws.{stays_start}
-use Rattle.ax_image.specs.Readable.{IsReadablePart, TellsReadable}
+use Rattle.ax_image.specs.Readable.{SaysReadable}
 use Rattle.ax_image.proofs.ReadableUpserts.{creating_readable}
-use Rattle.std.specs.List.{AllByRecursion}
-use Rattle.ax_image.specs.UpsertParts.{creating_parts}
-use Rattle.ax_pages.specs.Contents.{Contents}
+use Rattle.ax_image.specs.UpsertChanges.{creating_changes}
+use Rattle.ax_area_laws.specs.Risen.{changes_said}
+use Rattle.ax_engine.specs.Batches.{creating_parts}
 use Rattle.ax_store.specs.Store.{store_contents}
 use Rattle.ax_store.specs.Batch.{batch_parts}
-use Rattle.ax_store.specs.Putting.{AreWithin}
-use Rattle.ax_store.proofs.StoreLemmas.{agrees_same}
+use Rattle.ax_store.proofs.StoreLemmas.{agrees_rests, agrees_same}
 use Rattle.ax_engine.specs.Documents.{contents_in}
-use Rattle.ax_engine.proofs.Holding.{still, holds_room, holds_same, works_room, made_by, readable_by, turned_by}
-use Rattle.ax_engine.proofs.Writing.{within_text, within_next, is_refused, creates, created_leads, numbers_created}
+use Rattle.ax_engine.proofs.Holding.{still, holds_room, holds_same, works_room, made_by, turned_by}
+use Rattle.ax_engine.proofs.Saying.{creating_said}
+use Rattle.ax_engine.proofs.StayReadable.{readable_by}
+use Rattle.ax_engine.proofs.Writing.{not_last, within_same, within_text, within_creating, is_refused, creates, created_leads, numbers_created}
 use Rattle.ax_engine.proofs.documents.Documents.create.Goals as goal
 
 pub returns-then-is_full-clause-tells : goal.returns-then-is_full-clause-tells
 returns-then-is_full-clause-tells g c = λ before holds doc at. (
-  is_refused (contents_in c.args.self.now) before c.args.tree.now c.args.id.now holds.stand doc
+  is_refused (contents_in c.args.self.now) before c.args.tree.now c.args.id.now refl holds.hold doc
       c.requires.storable.well_formed (within_text c.requires.storable.shallow) (sym (holds.numbers c.args.id.now) ∙ at)
       (sym c.is_full.ensures ∙ c.if-is_full.true),
   holds,
@@ -71,95 +71,139 @@ pub commit-requires-clause-within : goal.commit-requires-clause-within
 commit-requires-clause-within g c =
     let next : ℕ = c.next_number-number.result in
     let some : 0 < next = omega (arith, c.if-number-eq0.false) in
-    let P : List PartValue → Type 0 = λ parts. AreWithin parts (store_contents c.reserve.new.self) in
-    let Q : Contents → Type 0 = λ contents. AreWithin
-    (creating_parts next c.in-Some.policy c.args.tree.now) contents in
-    subst P (sym c.in-Ok.ensures.parts)
-    (subst Q (sym c.reserve.ensures.same.contents)
-    (within_next next c.in-Some.policy c.args.tree.now (contents_in c.args.self.now) some
-    (sym c.is_full.ensures ∙ c.if-is_full.false) c.next_number-number.ensures
-    c.in-Some.ensures.small
-    c.in-Some.ensures.given))
+    within_same (batch_parts c.in-Ok.batch) (creating_parts next c.in-Some.policy c.args.tree.now)
+    (store_contents c.reserve.new.self) (store_contents c.args.self.now.store) c.in-Ok.ensures.parts c.reserve.ensures.same.contents
+    (within_creating next c.in-Some.policy c.args.tree.now (store_contents c.args.self.now.store) some
+    (sym c.is_full.ensures ∙ c.if-is_full.false) c.next_number-number.ensures c.in-Some.ensures.small
+    c.in-Some.ensures.given)
 
 pub returns-in-Ok-commit-clause-tells : goal.returns-in-Ok-commit-clause-tells
 returns-in-Ok-commit-clause-tells g c = λ before holds doc at.
+    let old = store_contents c.args.self.now.store in
+    let parts = batch_parts c.in-Ok.batch in
+    let next : ℕ = c.next_number-number.result in
+    let some : 0 < next = omega (arith, c.if-number-eq0.false) in
+    let left = not_last old (sym c.is_full.ensures ∙ c.if-is_full.false) in
+    let below : next < 2 ^ 32 - 1 = omega (arith, left, c.next_number-number.ensures) in
+    let changes = creating_changes next c.in-Some.policy c.args.tree.now in
+    let said : changes_said parts ≡ Some changes =
+    ap changes_said c.in-Ok.ensures.parts
+    ∙ creating_said next c.in-Some.policy c.args.tree.now some below c.in-Some.ensures.small in
     let id : List ℕ = c.args.id.now in
     let placed = sym (holds.numbers id) ∙ at in
     let full = sym c.is_full.ensures ∙ c.if-is_full.false in
-    let next : c.next_number-number.result ≡ before.next_number =
-    c.next_number-number.ensures ∙ holds.stand.next in
-    let leads = created_leads (contents_in c.args.self.now) before c.args.tree.now id holds.stand doc
+    let first : c.next_number-number.result ≡ before.next_number =
+    c.next_number-number.ensures ∙ holds.hold.show.next in
+    let leads = created_leads (contents_in c.args.self.now) before c.args.tree.now id refl holds.hold doc
     c.requires.storable.well_formed (within_text c.requires.storable.shallow)
     c.next_number-number.result c.in-Some.policy
-    placed full next c.in-Some.ensures.now in (
+    placed full first c.in-Some.ensures.now in
+    let within = within_same (batch_parts c.in-Ok.batch) (creating_parts next c.in-Some.policy c.args.tree.now)
+    (store_contents c.reserve.new.self) (store_contents c.args.self.now.store) c.in-Ok.ensures.parts c.reserve.ensures.same.contents
+    (within_creating next c.in-Some.policy c.args.tree.now (store_contents c.args.self.now.store) some
+    (sym c.is_full.ensures ∙ c.if-is_full.false) c.next_number-number.ensures c.in-Some.ensures.small
+    c.in-Some.ensures.given) in (
       created id c.args.tree.now before,
-      creates (contents_in c.args.self.now) before c.args.tree.now id holds.stand doc
+      creates (contents_in c.args.self.now) before c.args.tree.now id refl holds.hold doc
           c.requires.storable.well_formed (within_text c.requires.storable.shallow) placed full,
       record {
-        stand = made_by (contents_in c.args.self.now) (store_contents c.reserve.new.self)
-            (store_contents c.commit.new.self) (batch_parts c.in-Ok.batch) _ (created id c.args.tree.now before)
-            leads c.in-Ok.ensures.parts c.reserve.ensures.same.contents c.in-Ok-commit.ensures.ok;
+        hold = made_by old (store_contents c.reserve.new.self) parts changes (created id c.args.tree.now before) leads
+            c.commit.ensures.fit said c.reserve.ensures.same.contents (store_contents c.commit.new.self)
+            c.in-Ok-commit.ensures.ok;
         numbers = λ other.
             c.in-Ok-insert.ensures.ok other
-            ∙ (λ i. cond (bytes_eq id other) (Some (next i)) (holds.numbers other i))
+            ∙ (λ i. cond (bytes_eq id other) (Some (first i)) (holds.numbers other i))
             ∙ sym (numbers_created other id c.args.tree.now before placed);
       },
-      λ honest. turned_by (contents_in c.args.self.now) (store_contents c.reserve.new.self) (batch_parts c.in-Ok.batch) _
-          before (created id c.args.tree.now before) _ _ holds.stand leads c.in-Ok.ensures.parts
-          c.reserve.ensures.same.contents
+      λ honest. turned_by old (store_contents c.reserve.new.self) parts changes (created id c.args.tree.now before) leads
+          c.commit.ensures.fit said c.reserve.ensures.same.contents before _ _ holds.hold within
           (c.commit.ensures.any_moment honest (c.reserve.ensures.same.failed ∙ c.requires.works.unfailed)),
     )
 
 pub returns-in-Err-clause-tells : goal.returns-in-Err-clause-tells
 returns-in-Err-clause-tells g c = λ before holds doc at.
+    let old = store_contents c.args.self.now.store in
+    let parts = batch_parts c.in-Ok.batch in
+    let next : ℕ = c.next_number-number.result in
+    let some : 0 < next = omega (arith, c.if-number-eq0.false) in
+    let left = not_last old (sym c.is_full.ensures ∙ c.if-is_full.false) in
+    let below : next < 2 ^ 32 - 1 = omega (arith, left, c.next_number-number.ensures) in
+    let changes = creating_changes next c.in-Some.policy c.args.tree.now in
+    let said : changes_said parts ≡ Some changes =
+    ap changes_said c.in-Ok.ensures.parts
+    ∙ creating_said next c.in-Some.policy c.args.tree.now some below c.in-Some.ensures.small in
     let id : List ℕ = c.args.id.now in
     let placed = sym (holds.numbers id) ∙ at in
     let full = sym c.is_full.ensures ∙ c.if-is_full.false in
-    let next : c.next_number-number.result ≡ before.next_number =
-    c.next_number-number.ensures ∙ holds.stand.next in
-    let leads = created_leads (contents_in c.args.self.now) before c.args.tree.now id holds.stand doc
+    let first : c.next_number-number.result ≡ before.next_number =
+    c.next_number-number.ensures ∙ holds.hold.show.next in
+    let leads = created_leads (contents_in c.args.self.now) before c.args.tree.now id refl holds.hold doc
     c.requires.storable.well_formed (within_text c.requires.storable.shallow)
     c.next_number-number.result c.in-Some.policy
-    placed full next c.in-Some.ensures.now in (
+    placed full first c.in-Some.ensures.now in
+    let within = within_same (batch_parts c.in-Ok.batch) (creating_parts next c.in-Some.policy c.args.tree.now)
+    (store_contents c.reserve.new.self) (store_contents c.args.self.now.store) c.in-Ok.ensures.parts c.reserve.ensures.same.contents
+    (within_creating next c.in-Some.policy c.args.tree.now (store_contents c.args.self.now.store) some
+    (sym c.is_full.ensures ∙ c.if-is_full.false) c.next_number-number.ensures c.in-Some.ensures.small
+    c.in-Some.ensures.given) in (
       created id c.args.tree.now before,
-      creates (contents_in c.args.self.now) before c.args.tree.now id holds.stand doc
+      creates (contents_in c.args.self.now) before c.args.tree.now id refl holds.hold doc
           c.requires.storable.well_formed (within_text c.requires.storable.shallow) placed full,
-      λ honest. turned_by (contents_in c.args.self.now) (store_contents c.reserve.new.self) (batch_parts c.in-Ok.batch) _
-          before (created id c.args.tree.now before) _ _ holds.stand leads c.in-Ok.ensures.parts
-          c.reserve.ensures.same.contents
+      λ honest. turned_by old (store_contents c.reserve.new.self) parts changes (created id c.args.tree.now before) leads
+          c.commit.ensures.fit said c.reserve.ensures.same.contents before _ _ holds.hold within
           (c.commit.ensures.any_moment honest (c.reserve.ensures.same.failed ∙ c.requires.works.unfailed)),
     )
 
 pub returns-then-is_full-clause-readable : goal.returns-then-is_full-clause-readable
-returns-then-is_full-clause-readable g c = λ honest rests. stays_start _ TellsReadable rests
+returns-then-is_full-clause-readable g c = λ honest rests. stays_start _ SaysReadable rests
 
 pub returns-in_default-clause-readable : goal.returns-in_default-clause-readable
-returns-in_default-clause-readable g c = λ honest rests. stays_start _ TellsReadable rests
+returns-in_default-clause-readable g c = λ honest rests. stays_start _ SaysReadable rests
 
 pub returns-then-number-eq0-clause-readable : goal.returns-then-number-eq0-clause-readable
-returns-then-number-eq0-clause-readable g c = λ honest rests. stays_start _ TellsReadable rests
+returns-then-number-eq0-clause-readable g c = λ honest rests. stays_start _ SaysReadable rests
 
 pub returns-in_default-creating-clause-readable : goal.returns-in_default-creating-clause-readable
-returns-in_default-creating-clause-readable g c = λ honest rests. stays_start _ TellsReadable rests
+returns-in_default-creating-clause-readable g c = λ honest rests. stays_start _ SaysReadable rests
 
 pub returns-in_default-reserve-clause-readable : goal.returns-in_default-reserve-clause-readable
-returns-in_default-reserve-clause-readable g c = λ honest rests. stays_start _ TellsReadable rests
+returns-in_default-reserve-clause-readable g c = λ honest rests. stays_start _ SaysReadable rests
 
 pub returns-in_default-insert-clause-readable : goal.returns-in_default-insert-clause-readable
-returns-in_default-insert-clause-readable g c = λ honest rests. stays_start _ TellsReadable rests
+returns-in_default-insert-clause-readable g c = λ honest rests. stays_start _ SaysReadable rests
 
 pub returns-in-Ok-commit-clause-readable : goal.returns-in-Ok-commit-clause-readable
 returns-in-Ok-commit-clause-readable g c = λ honest rests.
-    readable_by _ _ (batch_parts c.in-Ok.batch) rests
-    (g.met.D.Disk.reads_may_stay c.args.disk.now (g.D.Disk.attached c.args.disk.now) honest) c.commit.ensures.fit
-    (subst (AllByRecursion IsReadablePart) (sym c.in-Ok.ensures.parts)
-    (creating_readable c.next_number-number.result c.in-Some.policy c.args.tree.now c.requires.storable))
+    let old = store_contents c.args.self.now.store in
+    let parts = batch_parts c.in-Ok.batch in
+    let next : ℕ = c.next_number-number.result in
+    let some : 0 < next = omega (arith, c.if-number-eq0.false) in
+    let left = not_last old (sym c.is_full.ensures ∙ c.if-is_full.false) in
+    let below : next < 2 ^ 32 - 1 = omega (arith, left, c.next_number-number.ensures) in
+    let changes = creating_changes next c.in-Some.policy c.args.tree.now in
+    let said : changes_said parts ≡ Some changes =
+    ap changes_said c.in-Ok.ensures.parts
+    ∙ creating_said next c.in-Some.policy c.args.tree.now some below c.in-Some.ensures.small in
+    readable_by parts changes c.commit.ensures.fit said
+    (creating_readable next c.in-Some.policy c.args.tree.now c.requires.storable)
+    _ _ old (agrees_rests held c.args.self.now.store _ (c.requires.works.agrees honest)) rests
+    (g.met.D.Disk.reads_may_stay c.args.disk.now (g.D.Disk.attached c.args.disk.now) honest)
     (c.commit.ensures.frames honest (c.reserve.ensures.same.failed ∙ c.requires.works.unfailed))
 
 pub returns-in-Err-clause-readable : goal.returns-in-Err-clause-readable
 returns-in-Err-clause-readable g c = λ honest rests.
-    readable_by _ _ (batch_parts c.in-Ok.batch) rests
-    (g.met.D.Disk.reads_may_stay c.args.disk.now (g.D.Disk.attached c.args.disk.now) honest) c.commit.ensures.fit
-    (subst (AllByRecursion IsReadablePart) (sym c.in-Ok.ensures.parts)
-    (creating_readable c.next_number-number.result c.in-Some.policy c.args.tree.now c.requires.storable))
+    let old = store_contents c.args.self.now.store in
+    let parts = batch_parts c.in-Ok.batch in
+    let next : ℕ = c.next_number-number.result in
+    let some : 0 < next = omega (arith, c.if-number-eq0.false) in
+    let left = not_last old (sym c.is_full.ensures ∙ c.if-is_full.false) in
+    let below : next < 2 ^ 32 - 1 = omega (arith, left, c.next_number-number.ensures) in
+    let changes = creating_changes next c.in-Some.policy c.args.tree.now in
+    let said : changes_said parts ≡ Some changes =
+    ap changes_said c.in-Ok.ensures.parts
+    ∙ creating_said next c.in-Some.policy c.args.tree.now some below c.in-Some.ensures.small in
+    readable_by parts changes c.commit.ensures.fit said
+    (creating_readable next c.in-Some.policy c.args.tree.now c.requires.storable)
+    _ _ old (agrees_rests held c.args.self.now.store _ (c.requires.works.agrees honest)) rests
+    (g.met.D.Disk.reads_may_stay c.args.disk.now (g.D.Disk.attached c.args.disk.now) honest)
     (c.commit.ensures.frames honest (c.reserve.ensures.same.failed ∙ c.requires.works.unfailed))

@@ -1,0 +1,31 @@
+-- The changes by which an upsert of a document is written: the document under its number; and before it,
+-- where it is created, the next number.
+-- From the store's own file format (docs/FORMAT.md, "Parts"); no other document has it.
+use Rattle.std.specs.Prelude.{ℕ, ◌+◌, List, [], ◌∷◌, None}
+use Rattle.std.specs.Option.{option_map_or}
+use Rattle.ax_area.specs.Changes.{Change}
+use Rattle.ax_area.specs.Changes as change
+use Rattle.ax_tree.specs.declared.tree.Tree.{Tree}
+use Rattle.ax_tree.specs.CanonicalText.{canonical_text}
+use Rattle.ax_container.specs.Container.{Container, entry_of}
+
+-- the document of that number, under that policy; it says no version
+abbrev pub document_change : ℕ → ℕ → Tree → Change
+document_change number policy tree =
+    change.Document number (record { policy = policy; version = None; text = canonical_text tree })
+
+-- the next number, and the number of the policy now
+abbrev pub meta_change : ℕ → ℕ → Change
+meta_change next policy = change.Meta (record { next = next; policy = policy; version = None })
+
+abbrev pub replacing_changes : ℕ → ℕ → Tree → List Change
+replacing_changes number policy tree = document_change number policy tree ∷ []
+
+abbrev pub creating_changes : ℕ → ℕ → Tree → List Change
+creating_changes number policy tree =
+    meta_change (number + 1) policy ∷ document_change number policy tree ∷ []
+
+abbrev pub upsert_changes : List ℕ → Tree → ℕ → Container → List Change
+upsert_changes id tree policy container =
+    option_map_or (λ entry. replacing_changes entry.number policy tree) (entry_of id container)
+    (creating_changes container.next_number policy tree)

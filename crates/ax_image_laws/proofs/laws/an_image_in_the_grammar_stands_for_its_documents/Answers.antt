@@ -1,5 +1,0 @@
-use Rattle.ax_image_laws.proofs.InGrammar.{stands_by_grammar}
-use Rattle.ax_image_laws.proofs.laws.an_image_in_the_grammar_stands_for_its_documents.Goals as goal
-
-pub returns : goal.returns
-returns c = stands_by_grammar

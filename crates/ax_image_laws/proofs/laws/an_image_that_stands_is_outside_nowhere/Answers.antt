@@ -1,5 +1,0 @@
-use Rattle.ax_image_laws.proofs.InGrammar.{outside_nowhere}
-use Rattle.ax_image_laws.proofs.laws.an_image_that_stands_is_outside_nowhere.Goals as goal
-
-pub returns : goal.returns
-returns c = outside_nowhere
