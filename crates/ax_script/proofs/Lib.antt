@@ -1,3 +1,4 @@
+mod AnsweredLines
 mod Answering
 mod Attached
 mod Counting

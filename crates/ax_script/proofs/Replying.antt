@@ -1,6 +1,6 @@
 -- What the answer to a line and the writing of its reply make together.
 use Rattle.std.proofs.Common.{◌≡◌, inl, inr, ℕ, Bool, ◌+◌, ◌≤◌, List, Option, Some, None, Result, Ok, Err, OnOk, OnErr}
-use Rattle.std.proofs.Common.{refl, sym, ap, subst}
+use Rattle.std.proofs.Common.{◌++◌, refl, sym, ap, subst, ◌∙◌}
 use Rattle.std.specs.Prelude.{◌≢◌, IfErr, IsTrue}
 use Rattle.ax_disk.specs.model.Moments.{History}
 use Rattle.ax_disk.specs.model.Stays.{Turns}
@@ -22,13 +22,13 @@ use Rattle.ax_engine.specs.declared.reply.Reply.{Reply}
 use Rattle.ax_engine.specs.declared.reply.Reply.TheVariants as given
 use Rattle.ax_machine.specs.Needs.{most_steps}
 use Rattle.ax_machine.specs.Reply as reply
-use Rattle.ax_machine.specs.ReplyTexts.{reply_text}
+use Rattle.ax_machine.specs.ReplyTexts.{end_text, reply_text}
 use Rattle.ax_machine.specs.Run.{Outcome, Served, OutOfMemory, after_line, reply_to}
 use Rattle.ax_machine.specs.Step.{served, step, upsert_by, written}
 use Rattle.ax_script.specs.declared.status.Status.{Status}
 use Rattle.ax_script.specs.declared.status.Status.TheVariants as status
 use Rattle.ax_script.specs.Progress.{Serves, BeginsToServe, BreaksOffWith, IsLineFault, StopsBy, outlets}
-use Rattle.ax_script.specs.Replies.{IsTextOf, TellsLine, WritesPart, WritesWhole}
+use Rattle.ax_script.specs.Replies.{IsTextOf, TellsLine, WritesPart, WritesWhole, text_of_reply}
 use Rattle.ax_script.proofs.Outcomes.{OnOk-map, OnErr-map}
 use Rattle.ax_script.proofs.Written.{serves_by, begins_by, begins_without}
 
@@ -63,6 +63,13 @@ not_ok (given.Refused why) meant is not = λ same. cc
 
 -- ---- what is written for a line
 
+-- the text of a reply is that of the one which it is
+text_meant : (made : Reply) (meant : reply.Reply) → IsReply made meant → text_of_reply made ≡ reply_text meant
+text_meant given.Ok meant is = sym (ap reply_text is)
+text_meant (given.Rows rows) meant is =
+    (λ i. is.1.lines i ++ end_text reply.End (is.1.count i)) ∙ sym (ap reply_text is.2)
+text_meant (given.Refused why) meant is = sym (ap reply_text is)
+
 module _ (honest : Type 0) (before : Container) (line : List ℕ) (engine : Engine)
     (written now : Option (List ℕ)) (old new : History) (steps later : ℕ) where
   by_text : (made : Reply) (text : List ℕ) → IsTextOf made text
@@ -70,7 +77,8 @@ module _ (honest : Type 0) (before : Container) (line : List ℕ) (engine : Engi
       → (outcome : Outcome) × (text ≡ reply_text (reply_to before line outcome))
       × HoldsOver engine new (after_line before line outcome)
       × (honest → Turns old new (IsImageOf before) (IsImageOf (after_line before line outcome)))
-  by_text made text (inl whole) told = (told.0, whole (reply_to before line told.0) told.1, told.2, told.3)
+  by_text made text (inl whole) told =
+      (told.0, whole ∙ text_meant made (reply_to before line told.0) told.1, told.2, told.3)
   by_text made text (inr short) told =
       let same = unchanged before line told.0 (not_ok made (reply_to before line told.0) told.1 short.0) in (
         OutOfMemory,

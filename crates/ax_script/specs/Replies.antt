@@ -1,5 +1,5 @@
 -- What is written for what an engine answers to a line.
-use Rattle.std.specs.Prelude.{◌≡◌, ◌≢◌, ◌⊎◌, ℕ, List, Option, Result, Ok, Err}
+use Rattle.std.specs.Prelude.{◌≡◌, ◌≢◌, ◌⊎◌, ℕ, List, [], ◌∷◌, ◌++◌, Option, Result, Ok, Err}
 use Rattle.std.specs.Global.{Vec}
 use Rattle.std.specs.Io.KnownBytes.{Appends}
 use Rattle.ax_base.specs.Appends.{AppendsPrefix}
@@ -7,27 +7,36 @@ use Rattle.ax_disk.specs.model.Moments.{History}
 use Rattle.ax_disk.specs.model.Stays.{Turns}
 use Rattle.ax_container.specs.Container.{Container}
 use Rattle.ax_engine.specs.Engine.{HoldsOver}
-use Rattle.ax_engine.specs.Replies.{IsReply}
+use Rattle.ax_engine.specs.Replies.{IsReply, MayReply}
 use Rattle.ax_engine.specs.Stores.{IsImageOf}
 use Rattle.ax_engine.specs.declared.engine.Engine.{Engine}
 use Rattle.ax_engine.specs.declared.engine.Fault.{Fault}
 use Rattle.ax_engine.specs.declared.engine.Fault.TheVariants as fault
 use Rattle.ax_engine.specs.declared.reply.Reply.{Reply}
 use Rattle.ax_engine.specs.declared.reply.Reply.TheVariants as given
+use Rattle.ax_lines.specs.Lines.{line_of}
+use Rattle.ax_lines.specs.declared.line.Line.{Line}
+use Rattle.ax_lines.specs.declared.refusal.Refusal.{Refusal}
+use Rattle.ax_lines.specs.declared.refusal.Refusal.TheVariants as refusal
 use Rattle.ax_tree.specs.declared.out_of_memory.Memory.{Memory}
 use Rattle.ax_machine.specs.Reply as reply
-use Rattle.ax_machine.specs.ReplyTexts.{reply_text}
+use Rattle.ax_machine.specs.ReplyTexts.{end_text, refusal_text, reply_text}
 use Rattle.ax_machine.specs.Run.{Outcome, after_line, reply_to}
 use Rattle.ax_machine.specs.Step.{step}
 use Rattle.ax_script.specs.declared.status.Status.{Status}
 use Rattle.ax_script.specs.declared.status.Status.TheVariants as status
 
+-- the text of a reply: of rows their lines, and behind these how many there are
+abbrev pub text_of_reply : Reply → List ℕ
+text_of_reply given.Ok = reply_text reply.Ok
+text_of_reply (given.Rows rows) = rows.lines.items ++ end_text reply.End rows.count
+text_of_reply (given.Refused why) = refusal_text why
+
 -- The text of the reply; of one by which nothing has changed also that of out of memory, where no
 -- memory is left to write it.
 abbrev pub IsTextOf : Reply → List ℕ → Type 0
 IsTextOf made text =
-    ((meant : reply.Reply) → IsReply made meant → text ≡ reply_text meant)
-    ⊎ ((made ≢ given.Ok) × (text ≡ reply_text reply.out_of_memory))
+    (text ≡ text_of_reply made) ⊎ ((made ≢ given.Ok) × (text ≡ reply_text reply.out_of_memory))
 
 -- such a text was written whole; none is where the engine answers a fault
 abbrev pub WritesWhole : Result Reply Fault → Option (List ℕ) → Option (List ℕ) → Type 0
@@ -58,3 +67,21 @@ text_or_memory (Err memory) = reply_text reply.out_of_memory
 abbrev pub fault_status : Fault → Status
 fault_status fault.Disk = status.DiskFault
 fault_status (fault.Damaged extent at) = status.Damaged extent at
+
+-- ---- what a line may be answered, whatever the store holds
+
+-- What a line may be answered: one that was read what the engine may reply to it; one that is refused that
+-- refusal, or that memory ran out.
+abbrev pub MayAnswer : Result Line Refusal → Reply → Type 0
+MayAnswer (Ok asked) made = MayReply asked made
+MayAnswer (Err why) made = (made ≡ given.Refused why) ⊎ (made ≡ given.Refused refusal.Memory)
+
+-- the text is that of a reply which the bytes of a line may be answered
+abbrev pub IsTextFor : List ℕ → List ℕ → Type 0
+IsTextFor bytes text = (made : Reply) × MayAnswer (line_of bytes) made × IsTextOf made text
+
+-- the text has one such text for each of the lines, in their order, and no more
+abbrev pub AreTextsFor : List (List ℕ) → List ℕ → Type 0
+AreTextsFor [] text = text ≡ []
+AreTextsFor (line ∷ lines) text =
+    (first : List ℕ) × (rest : List ℕ) × IsTextFor line first × AreTextsFor lines rest × (text ≡ first ++ rest)

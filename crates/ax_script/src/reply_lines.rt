@@ -1,7 +1,6 @@
 //! The texts of replies.
 
-ghost use Rattle.std.specs.Prelude.{◌≡◌, ◌++◌, ℕ, List, IfOk, OnOk};
-ghost use Rattle.ax_engine.specs.Replies.{AreRows};
+ghost use Rattle.std.specs.Prelude.{◌≡◌, ◌++◌, IfOk, OnOk};
 ghost use Rattle.ax_machine.specs.Reply as reply;
 ghost use Rattle.ax_machine.specs.ReplyTexts.{reply_text, end_text, refusal_text};
 
@@ -27,8 +26,7 @@ pub fn ok_line() -> &'static [u8]
 
 /// The reply to a query with these rows: a line for each, and a last line with their count.
 pub fn rows_text(alloc: Global, rows: Rows) -> Result<Vec<u8>, Memory>
-    ensures { (texts : List (List ℕ)) → AreRows rows texts
-        → IfOk result (λ text. text.items ≡ reply_text (reply.Rows texts reply.End)) }
+    ensures { IfOk result (λ text. text.items ≡ rows.lines.items ++ end_text reply.End rows.count) }
 {
     let Rows { mut lines, count } = rows;
     push_end(alloc, &mut lines, count)?;

@@ -3,6 +3,7 @@ ghost use Rattle.ax_faults.specs.Faults.{Rose};
 ghost use Rattle.ax_container.specs.Container.{Container};
 ghost use Rattle.ax_script.specs.CommandLine.{is_run as is_run_lem, store_word};
 ghost use Rattle.ax_engine.specs.Stores.{IsStore, IsWithin};
+ghost use Rattle.ax_script.specs.Answered.{TellsAnswered};
 ghost use Rattle.ax_script.specs.DiskScript.{RunsOnDisk};
 ghost use Rattle.ax_script.specs.Opening.{Refuses, TellsServed};
 
@@ -30,7 +31,10 @@ const PIECE: usize = 65_536;
 /// is none; `Done`, `ReadFault`, `WriteFault` and `Long` only where the store had contents; where
 /// it also stands for a container, `Long` exactly where more than 2^40 bytes were taken, and
 /// without a failed call only `Done`, `Memory` or `Long`. `Memory` comes where memory ran out
-/// outside the serving of a line; at `Done` all input was read and served.
+/// outside the serving of a line; at `Done` all input was read and served. Over any store, also one whose
+/// documents are those of no container, `Done` comes only where each line that was taken has a reply that it
+/// may have, so that none which met damage was passed over, and `Long` only where more than 2^40 bytes were
+/// taken.
 pub fn run<D: Disk, S: Source, K: Sink, L: Ledger>(
     alloc: Global,
     words: &[String],
@@ -53,6 +57,11 @@ pub fn run<D: Disk, S: Source, K: Sink, L: Ledger>(
         (record { remaining = S.rest source.new; written = K.written sink.new; steps = steps.new })
         (D.history disk.old (D.store_named (store_word words.now)))
         (D.history disk.new (D.store_named (store_word words.now))) }
+
+    // Over any store: at `Done` each line has a reply that it may have, and `Long` has its cause.
+    ensures answered { TellsAnswered result
+        (record { remaining = S.rest source.old; written = K.written sink.old; steps = steps.old })
+        (record { remaining = S.rest source.new; written = K.written sink.new; steps = steps.new }) }
 
     // Each status has its cause.
     ensures disk_fault { result ≡ Status.DiskFault → Rose (D.faults disk.old) (D.faults disk.new) }
@@ -89,6 +98,7 @@ pub fn run<D: Disk, S: Source, K: Sink, L: Ledger>(
 }
 
 /// Opens the store that the words name, and serves the source over it.
+#[tactic(auto, using(crate::proofs::AnsweredLines::early_answered))]
 fn serve<D: Disk, S: Source, K: Sink, L: Ledger>(
     alloc: Global,
     words: &[String],
@@ -103,6 +113,9 @@ fn serve<D: Disk, S: Source, K: Sink, L: Ledger>(
         (record { remaining = S.rest source.old; written = K.written sink.old; steps = steps.old })
         (record { remaining = S.rest source.new; written = K.written sink.new; steps = steps.new })
         (D.history disk.old (D.store_named (store_word words.now))) (D.history disk.new (D.store_named (store_word words.now))) }
+    ensures answered { TellsAnswered result
+        (record { remaining = S.rest source.old; written = K.written sink.old; steps = steps.old })
+        (record { remaining = S.rest source.new; written = K.written sink.new; steps = steps.new }) }
     ensures disk_fault { result ≡ Status.DiskFault → Rose (D.faults disk.old) (D.faults disk.new) }
     ensures read_fault { result ≡ Status.ReadFault
         → Rose (S.faults source.old) (S.faults source.new) }

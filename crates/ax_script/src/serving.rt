@@ -1,4 +1,4 @@
-ghost use Rattle.std.specs.Prelude.{◌≡◌, ◌≤◌, ◌+◌, ℕ, List, None, Some, Err, IsTrue, IfErr, OnOk, OnErr};
+ghost use Rattle.std.specs.Prelude.{◌≡◌, ◌≤◌, ◌+◌, ℕ, List, None, Some, Err, IsTrue, IfErr, IfOk, OnOk, OnErr};
 ghost use Rattle.std.specs.Io.KnownBytes.{Appends};
 ghost use Rattle.ax_base.specs.Appends.{AppendsPrefix};
 ghost use Rattle.ax_faults.specs.Faults.{Rose};
@@ -6,8 +6,10 @@ ghost use Rattle.ax_container.specs.Container.{Container};
 ghost use Rattle.ax_engine.specs.Engine.{Holds, HoldsOver, Works};
 ghost use Rattle.ax_machine.specs.Needs.{most_steps};
 ghost use Rattle.ax_engine.specs.Damage.{Meets};
+ghost use Rattle.ax_lines.specs.Lines.{line_of};
+ghost use Rattle.ax_script.specs.Answered.{AnswersLine};
 ghost use Rattle.ax_script.specs.Progress.{outlets, Serves, BeginsToServe, BreaksOffWith, IsLineFault, StopsBy};
-ghost use Rattle.ax_script.specs.Replies.{IsTextOf, TellsLine, WritesPart, WritesWhole, fault_status, text_or_memory};
+ghost use Rattle.ax_script.specs.Replies.{IsTextOf, MayAnswer, TellsLine, WritesPart, WritesWhole, fault_status, text_or_memory};
 
 use crate::reply_lines::{ok_line, out_of_memory_line, refusal_line, rows_text};
 use crate::status::Status;
@@ -26,6 +28,7 @@ use std::sync::ledger::Ledger;
 /// a write fault only where one on the sink failed in this call. Over an honest disk damage comes only
 /// where the text of a document is none that a document can have, with the place of its part, and so
 /// never over documents that are those of a container. A fault that the engine has afterwards is the error.
+/// What is written at `Ok` is a reply that the line may have, whatever the documents are.
 pub fn serve_line<D: Disk, K: Sink, L: Ledger>(
     alloc: Global,
     engine: &mut Engine,
@@ -58,6 +61,10 @@ pub fn serve_line<D: Disk, K: Sink, L: Ledger>(
     ensures honest { D.is_honest disk.new ≡ D.is_honest disk.old }
     ensures steps { steps.old ≤ steps.new }
 
+    // Over any documents what is written is a reply that the line may have: what may be replied to what it
+    // asks for, or its own refusal.
+    ensures answered { OnOk result (AnswersLine line.now (K.written sink.old) (K.written sink.new)) }
+
     // A fault that the engine has answered is answered again, and then nothing is touched.
     ensures again { (fault : Fault) → engine.old.fault ≡ Some fault → (result ≡ Err (fault_status fault))
         × (engine.new ≡ engine.old) × (disk.new ≡ disk.old) × (sink.new ≡ sink.old) × (steps.new ≡ steps.old) }
@@ -82,6 +89,7 @@ fn answer<D: Disk, L: Ledger>(
         → TellsLine (IsTrue (D.is_honest disk.old)) before line.now result engine.new
         (D.history disk.old (D.attached disk.old)) (D.history disk.new (D.attached disk.new)) }
     ensures works { Works (IsTrue (D.is_honest disk.old)) engine.new (D.history disk.new (D.attached disk.new)) }
+    ensures may_answer { IfOk result (λ reply. MayAnswer (line_of line.now) reply) }
     ensures met { IsTrue (D.is_honest disk.old) → engine.old.fault ≡ None
         → IfErr result (λ fault. Meets fault (D.history disk.new (D.attached disk.new)).reads) }
     ensures cause { engine.old.fault ≡ None → result ≡ Err Fault.Disk → Rose (D.faults disk.old) (D.faults disk.new) }
@@ -103,6 +111,7 @@ fn answer<D: Disk, L: Ledger>(
 }
 
 /// What the engine answers to a line, or its refusal.
+#[tactic(auto, using(crate::proofs::AnsweredLines::read_may, crate::proofs::AnsweredLines::refused_may, crate::proofs::AnsweredLines::memory_may))]
 fn answer_line<D: Disk, L: Ledger>(
     alloc: Global,
     engine: &mut Engine,
@@ -115,6 +124,7 @@ fn answer_line<D: Disk, L: Ledger>(
         → TellsLine (IsTrue (D.is_honest disk.old)) before line.now result engine.new
         (D.history disk.old (D.attached disk.old)) (D.history disk.new (D.attached disk.new)) }
     ensures works { Works (IsTrue (D.is_honest disk.old)) engine.new (D.history disk.new (D.attached disk.new)) }
+    ensures may_answer { IfOk result (λ reply. MayAnswer (line_of line.now) reply) }
     ensures met { IsTrue (D.is_honest disk.old) → engine.old.fault ≡ None
         → IfErr result (λ fault. Meets fault (D.history disk.new (D.attached disk.new)).reads) }
     ensures cause { engine.old.fault ≡ None → result ≡ Err Fault.Disk → Rose (D.faults disk.old) (D.faults disk.new) }

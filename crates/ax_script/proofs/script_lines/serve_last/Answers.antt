@@ -1,6 +1,7 @@
 -- A last piece that is not empty is a line.
 use Rattle.std.proofs.Common.{◌≡◌, List, [], ℕ, length, refl, IsTrue, ◌∙◌, sym, subst}
 use Rattle.ax_script.specs.Progress.{ServesLast, outlets}
+use Rattle.ax_script.proofs.AnsweredLines.{last_answered, no_last}
 use Rattle.ax_script.proofs.ServedLines.{serves_last, serves_no_last, begins_last}
 use Rattle.ax_engine.proofs.Applying.{rests_over}
 use Rattle.ax_script.proofs.Written.{empty_list}
@@ -23,3 +24,12 @@ returns-then-is_empty-clause-done g c = λ honest before holds _.
     (g.D.Disk.history c.args.disk.now (g.D.Disk.attached c.args.disk.now)) c.args.steps.now in
     let P : List ℕ → Type 0 = λ last. ServesLast (IsTrue (g.D.Disk.is_honest c.args.disk.now)) before last here here in
     subst P (sym none) (serves_no_last _ before here (rests_over _ c.args.engine.now _ before c.requires.works holds))
+
+pub returns-in-Ok-clause-answered : goal.returns-in-Ok-clause-answered
+returns-in-Ok-clause-answered g c = λ _.
+    last_answered c.args.pending.now _ _ c.if-is_empty.ensures c.in-Ok.ensures.answered
+
+pub returns-then-is_empty-clause-answered : goal.returns-then-is_empty-clause-answered
+returns-then-is_empty-clause-answered g c = λ _.
+    no_last c.args.pending.now _
+    (empty_list c.args.pending.now (length c.args.pending.now) refl (sym c.if-is_empty.true ∙ c.is_empty.ensures))

@@ -4,7 +4,9 @@ use Rattle.ax_container.specs.Container.{Container}
 use Rattle.ax_lines.specs.ScriptLines.{IsOneLine}
 use Rattle.ax_lines.proofs.Splits.{IsOneLine-append}
 use Rattle.ax_engine.specs.Engine.{HoldsOver, Works}
+use Rattle.ax_script.specs.Answered.{AnswersLines}
 use Rattle.ax_script.specs.Progress.{outlets, Serves, BeginsToServe, ServesLines, StopsBy}
+use Rattle.ax_script.proofs.AnsweredLines.{AnsweredIn, answered_begins, answered_ends, answered_goes_on}
 use Rattle.ax_script.proofs.ServedLines.{InPiece, piece_begins, piece_goes_on, piece_fails}
 use Rattle.ax_script.proofs.ServedLines.{piece_ends, piece_breaks_off}
 use Rattle.ax_engine.proofs.Applying.{rests_over}
@@ -18,6 +20,7 @@ lines-init g c = record {
     piece_begins _ before _ c.args.piece.now _ c.requires.line
         (rests_over _ c.args.engine.now _ before c.requires.works holds),
   );
+  answered = answered_begins c.args.pending.now.items c.args.piece.now _ c.requires.line;
   line = c.requires.line;
   works = c.requires.works;
   unfaulted = c.requires.unfaulted;
@@ -53,6 +56,12 @@ lines-preserved g c = record {
             (piece_goes_on _ before p.0 _ _ _ _ _ _ p.2 served.0 c.in-Some.head.now
             c.in-Some.tail.now _ c.in-Some.ensures.split c.in-Some.ensures.line served.2),
       );
+  answered =
+      let P : List ℕ → Type 0 = λ pending. AnsweredIn c.args.pending.now.items pending c.args.piece.now
+      c.in-Some.tail.now (g.K.Sink.written c.args.sink.now) (g.K.Sink.written c.serve_head.new.sink) in
+      subst P (sym c.in_default-serve_head.ensures.empty)
+      (answered_goes_on _ _ _ _ _ _ c.lines.invariant.answered c.in-Some.head.now c.in-Some.tail.now _
+      c.in-Some.ensures.split c.in-Some.ensures.line c.in_default-serve_head.ensures.answered);
   line = subst IsOneLine (sym c.in_default-serve_head.ensures.empty) refl;
   works = subst (λ honest. Works (IsTrue honest) c.serve_head.new.engine
       (g.D.Disk.history c.serve_head.new.disk (g.D.Disk.attached c.serve_head.new.disk)))
@@ -113,3 +122,10 @@ pub returns-in-Err-clause-only : goal.returns-in-Err-clause-only
 returns-in-Err-clause-only g c =
     subst (λ h. StopsBy h c.in-Err.status (g.D.Disk.history c.serve_head.new.disk (g.D.Disk.attached c.serve_head.new.disk)))
     c.lines.invariant.honest c.in-Err.ensures.only
+
+pub returns-in-Ok-clause-answered : goal.returns-in-Ok-clause-answered
+returns-in-Ok-clause-answered g c =
+    let P : List ℕ → Type 0 = λ pending. AnswersLines (c.args.pending.now.items ++ c.args.piece.now) pending
+    (g.K.Sink.written c.args.sink.now) (g.K.Sink.written c.lines.sink) in
+    subst P (sym c.in-Ok.ensures.items)
+    (answered_ends _ _ _ _ _ _ c.lines.invariant.answered c.in_default.ensures.none)

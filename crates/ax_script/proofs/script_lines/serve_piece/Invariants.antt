@@ -4,6 +4,7 @@ use Rattle.ax_container.specs.Container.{Container}
 use Rattle.ax_lines.specs.ScriptLines.{IsOneLine}
 use Rattle.ax_engine.specs.Engine.{HoldsOver, Works}
 use Rattle.ax_script.specs.Progress.{outlets}
+use Rattle.ax_script.proofs.AnsweredLines.{AnsweredIn}
 use Rattle.ax_script.proofs.ServedLines.{InPiece}
 use Rattle.ax_script.proofs.script_lines.serve_piece.Given as goal
 
@@ -17,6 +18,8 @@ invariant-lines g l = record {
       (g.D.Disk.history l.fn.disk (g.D.Disk.attached l.fn.disk)) l.fn.steps)
       (outlets (g.K.Sink.written l.sink) (g.D.Disk.history l.disk
       (g.D.Disk.attached l.disk)) l.steps);
+  answered : AnsweredIn l.fn.pending.items l.pending.items l.piece l.rest (g.K.Sink.written l.fn.sink)
+      (g.K.Sink.written l.sink);
   line : IsOneLine l.pending.items;
   works : Works (IsTrue (g.D.Disk.is_honest l.disk)) l.engine
       (g.D.Disk.history l.disk (g.D.Disk.attached l.disk));

@@ -5,6 +5,7 @@ use Rattle.ax_engine.specs.Engine.{HoldsOver, Works}
 use Rattle.ax_lines.specs.ScriptLines.{IsOneLine}
 use Rattle.ax_script.specs.Script.{most_input}
 use Rattle.ax_script.specs.Progress.{Progress}
+use Rattle.ax_script.proofs.AnsweredLines.{AnswersSoMany}
 use Rattle.ax_script.proofs.Endings.{streams}
 use Rattle.ax_script.proofs.script_lines.serve_source.Given as goal
 
@@ -18,6 +19,9 @@ invariant-pieces g l = record {
       (g.D.Disk.history l.fn.disk (g.D.Disk.attached l.fn.disk))
       (g.D.Disk.history l.disk (g.D.Disk.attached l.disk))
       now l.pending.items l.taken;
+  answered : AnswersSoMany
+      (streams (g.S.Source.rest l.fn.source) (g.K.Sink.written l.fn.sink) l.fn.steps)
+      (streams (g.S.Source.rest l.source) (g.K.Sink.written l.sink) l.steps) l.pending.items l.taken;
   line : IsOneLine l.pending.items;
   works : Works (IsTrue (g.D.Disk.is_honest l.disk)) l.engine
       (g.D.Disk.history l.disk (g.D.Disk.attached l.disk));

@@ -1,4 +1,5 @@
 -- The line was answered, and its reply was written, or a prefix of it.
+use Rattle.ax_script.proofs.AnsweredLines.{line_answered}
 use Rattle.ax_script.proofs.Replying.{whole_of, part_of, sound_of, stops_of}
 use Rattle.ax_script.proofs.serving.serve_line.Goals as goal
 
@@ -29,3 +30,8 @@ returns-clause-again g c = λ fault kept.
     let before = c.answer-answered.ensures.again fault kept in
     let told = c.write_answer.ensures.fault fault before.0 in
     (told.0, before.1, before.2, told.1, before.3)
+
+pub returns-clause-answered : goal.returns-clause-answered
+returns-clause-answered g c =
+    line_answered c.args.line.now c.write_answer.result c.answer-answered.result _ _ c.answer-answered.ensures.may_answer
+    c.write_answer.ensures.whole
