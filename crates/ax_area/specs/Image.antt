@@ -24,6 +24,11 @@ pub record IsLive (newest : ℕ) (slot : Counting) (frames : List (List ℕ))
   pub known : IsKnown newest slot
   pub has : IsArea (list_of slot.area image) frames
 
+-- The image has these log frames: it is live with them, or it is fresh and they are none.
+abbrev pub HasFrames : ℕ → List (List ℕ) → Image → Type 0
+HasFrames newest frames image =
+    (IsFresh image × (frames ≡ [])) ⊎ ((slot : Counting) × IsLive newest slot frames image)
+
 -- The image is live, its area tells this in its version, in order, and that leads from nothing to
 -- these contents.
 pub record IsLiveWith (newest version : ℕ) (told : List Told) (contents : Contents)
@@ -70,6 +75,13 @@ pub record IsBrokenArea (newest : ℕ) (area : Extent) (at : ℕ) (image : Image
   pub counts : IsRoot image.root (Counts slot)
   pub known : IsKnown newest slot
   pub broken : IsBroken (list_of area image) at
+
+-- The image is broken at this place of this list, whatever its frames would tell: its root is damaged or worn, or a
+-- frame of the area that counts is broken.
+abbrev pub IsBrokenImage : ℕ → Image → Extent → ℕ → Type 0
+IsBrokenImage newest image Root at = IsRoot image.root (Damaged at) ⊎ IsWorn newest at image
+IsBrokenImage newest image A at = IsBrokenArea newest A at image
+IsBrokenImage newest image B at = IsBrokenArea newest B at image
 
 -- the area that counts has frames, and they are spoiled at this place
 pub record IsSpoiledArea (newest : ℕ) (area : Extent) (at : ℕ) (image : Image) : Type 0 where

@@ -10,6 +10,7 @@ pub mod Kept
 pub mod Writing
 pub mod WellMade
 pub mod Leading
+pub mod Parts
 pub mod Placed
 pub mod ItemTexts
 pub mod Sample

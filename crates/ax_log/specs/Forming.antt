@@ -5,14 +5,22 @@ use Rattle.std.specs.Prelude.{◌≡◌, List, ℕ, [], ◌∷◌, ◌++◌, rep
 use Rattle.ax_disk.specs.model.Image.{Image}
 use Rattle.ax_disk.specs.model.Pending.{all_settled}
 use Rattle.ax_disk.specs.model.Moments.{History}
+use Rattle.ax_area.specs.declared.root.Counting.{Counting}
+use Rattle.ax_area.specs.declared.root.Which.TheVariants.{First}
+use Rattle.ax_disk.specs.declared.extent.Extent.TheVariants.{A}
 use Rattle.ax_frame.specs.RootSlot.{slot_bytes}
+use Rattle.ax_pages.specs.declared.numbers.TheConstants.{NEWEST_VERSION}
 
 abbrev pub empty_image : Image
 empty_image = record { root = []; a = []; b = [] }
 
--- the open slot of version 1, area 1 and generation 1, and a closed one
+-- the slot of a store that was formed
+abbrev pub formed_slot : Counting
+formed_slot = record { which = First; version = NEWEST_VERSION; area = A; generation = 1 }
+
+-- the open slot of the newest version, area 1 and generation 1, and a closed one
 abbrev pub fresh_slots : List ℕ
-fresh_slots = slot_bytes 1 1 1 ++ replicate 16 0
+fresh_slots = slot_bytes NEWEST_VERSION 1 1 ++ replicate 16 0
 
 abbrev pub laid_image : Image
 laid_image = record { root = fresh_slots; a = 0 ∷ []; b = [] }

@@ -8,33 +8,36 @@ use Rattle.ax_disk.specs.model.Image.{Image}
 use Rattle.ax_disk.specs.model.Pending.{MayLeave}
 use Rattle.ax_disk.specs.model.Moments.{History}
 use Rattle.ax_disk.specs.model.Stays.{Stays}
-use Rattle.ax_pages.specs.Image.{IsFresh, IsLive, IsNewer, IsDamaged, extent_number}
+use Rattle.ax_area.specs.Image.{IsFresh, IsLive, IsNewer, IsBrokenImage}
+use Rattle.ax_pages.specs.Area.{extent_number}
+use Rattle.ax_pages.specs.declared.numbers.TheConstants.{NEWEST_VERSION}
 use Rattle.ax_log.specs.declared.log.Log.{Log}
 use Rattle.ax_log.specs.declared.fault.LogFault.{LogFault}
 use Rattle.ax_log.specs.declared.fault.LogFault.TheVariants.{Disk, Damaged, Newer, Memory}
-use Rattle.ax_log.specs.Log.{log_area, log_generation}
+use Rattle.ax_log.specs.Log.{log_slot}
 use Rattle.ax_log.specs.Agreement.{Agrees}
+use Rattle.ax_log.specs.Forming.{formed_slot}
 
--- The log agrees with the disk by the frames that the image before has: its area and generation are
--- those of that image, or that was fresh, and it has none.
+-- The log agrees with the disk by the frames that the image before has: its slot is the one that counts there,
+-- or that image was fresh, it has none, and its slot is that of a store which was formed.
 pub record IsOpened (log : Log) (before : Image) (history : History) : Type 0 where
   pub frames : List (List ℕ)
   pub agrees : Agrees log frames history
-  pub from : (IsFresh before × (frames ≡ [])) ⊎ IsLive (log_area log)
-      (log_generation log) frames before
+  pub from : (IsFresh before × (frames ≡ []) × (log_slot log ≡ formed_slot))
+      ⊎ IsLive NEWEST_VERSION (log_slot log) frames before
 
--- the image before is damaged at this place
+-- the image before is broken at this place
 pub record IsDamagedAt (before : Image) (extent at : ℕ) : Type 0 where
   pub list : Extent
   pub number : extent ≡ extent_number list
-  pub damaged : IsDamaged before list at
+  pub damaged : IsBrokenImage NEWEST_VERSION before list at
 
 -- what each answer says
 abbrev pub Tells : Result Log LogFault → Image → History → Type 0
 Tells (Ok log) before history = IsOpened log before history
 Tells (Err Disk) before history = Unit {0}
 Tells (Err (Damaged extent at)) before history = IsDamagedAt before extent at
-Tells (Err (Newer version)) before history = IsNewer before version
+Tells (Err (Newer version)) before history = IsNewer NEWEST_VERSION version before
 Tells (Err Memory) before history = Unit {0}
 
 -- This is the answer, but that the disk may fail, and memory run out.

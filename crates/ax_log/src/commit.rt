@@ -7,14 +7,15 @@ ghost use Rattle.ax_disk.specs.model.Image.{list_of};
 ghost use Rattle.ax_disk.specs.model.Pending.{all_settled};
 ghost use Rattle.ax_disk.specs.model.Stays.{Rests, Stays, Turns};
 ghost use Rattle.ax_pages.specs.Area.{frames_bytes};
-ghost use Rattle.ax_pages.specs.Image.{HasFrames};
-ghost use Rattle.ax_log.specs.Log.{log_area, log_generation, log_end};
+ghost use Rattle.ax_area.specs.Image.{HasFrames};
+ghost use Rattle.ax_log.specs.Log.{log_slot, log_end};
 ghost use Rattle.ax_log.specs.Agreement.{HasLog, Agrees};
 ghost use Rattle.ax_log.specs.Commit.{IsCommitSpelling, IsStaged, IsReady};
 
 use crate::fault::LogFault;
 use crate::log::Log;
 use ax_disk::{Disk, DiskFailed, Extent};
+use ax_pages::numbers::NEWEST_VERSION;
 
 impl Log {
     /// Puts one frame behind the others. `frame` is what `ax_frame::write_frame` gives.
@@ -34,10 +35,9 @@ impl Log {
         ensures any_moment { IsTrue (D.is_honest disk.old) → (frames : List (List ℕ)) → (span : List ℕ)
             → Agrees self.old frames (D.history disk.old (D.attached disk.old)) → IsCommitSpelling frame.now span
             → Turns (D.history disk.old (D.attached disk.old)) (D.history disk.new (D.attached disk.new))
-            (HasFrames frames) (HasFrames (frames ++ span ∷ [])) }
+            (HasFrames NEWEST_VERSION frames) (HasFrames NEWEST_VERSION (frames ++ span ∷ [])) }
 
-        ensures area { log_area self.new ≡ log_area self.old }
-        ensures generation { log_generation self.new ≡ log_generation self.old }
+        ensures slot { log_slot self.new ≡ log_slot self.old }
         ensures end { OnOk result (log_end self.new ≡ log_end self.old + length frame.now) }
         ensures end_stays { OnErr result (log_end self.new ≡ log_end self.old) }
         ensures disk_alone { IfErr result (λ fault. fault ≡ LogFault.Disk) }
@@ -45,10 +45,10 @@ impl Log {
         ensures attached { D.attached disk.new ≡ D.attached disk.old }
         ensures honest { D.is_honest disk.new ≡ D.is_honest disk.old }
     {
-        let Ok(()) = write_behind(disk, self.area, self.end, frame) else {
+        let Ok(()) = write_behind(disk, self.slot.area, self.end, frame) else {
             return Err(LogFault::Disk);
         };
-        let Ok(()) = open_gate(disk, self.area, self.end) else {
+        let Ok(()) = open_gate(disk, self.slot.area, self.end) else {
             return Err(LogFault::Disk);
         };
         self.end += frame.len() as u64;

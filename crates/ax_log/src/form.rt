@@ -5,13 +5,16 @@ ghost use Rattle.std.specs.Prelude.{◌≡◌, List, ℕ, [], ◌∷◌, length,
 ghost use Rattle.ax_faults.specs.Faults.{HasCause};
 ghost use Rattle.ax_disk.specs.model.Pending.{all_settled};
 ghost use Rattle.ax_disk.specs.model.Stays.{Stays};
-ghost use Rattle.ax_pages.specs.Image.{IsFresh, HasFrames};
+ghost use Rattle.ax_area.specs.Image.{IsFresh, HasFrames};
 ghost use Rattle.ax_log.specs.Agreement.{Agrees};
-ghost use Rattle.ax_log.specs.Forming.{empty_image, fresh_slots, laid_image, formed_image, IsSettledAt};
+ghost use Rattle.ax_log.specs.Forming.{empty_image, fresh_slots, formed_slot, laid_image, formed_image, IsSettledAt};
+ghost use Rattle.ax_log.specs.Log.{log_slot};
 
 use crate::log::Log;
+use ax_area::{Counting, Which};
 use ax_disk::{Disk, DiskFailed, Extent};
 use ax_frame::write_slot;
+use ax_pages::numbers::NEWEST_VERSION;
 
 /// The byte that makes a root whole.
 const LAST_BYTE: u8 = b'E';
@@ -23,8 +26,9 @@ pub(crate) fn form<D: Disk>(disk: &mut D) -> Result<Log, DiskFailed>
     requires fresh { IsTrue (D.is_honest disk.old) → IsFresh (D.history disk.old (D.attached disk.old)).reads }
     ensures agrees { IsTrue (D.is_honest disk.old)
         → IfOk result (λ log. Agrees log [] (D.history disk.new (D.attached disk.new))) }
+    ensures slot { IfOk result (λ log. log_slot log ≡ formed_slot) }
     ensures any_moment { IsTrue (D.is_honest disk.old)
-        → Stays (D.history disk.old (D.attached disk.old)) (D.history disk.new (D.attached disk.new)) (HasFrames []) }
+        → Stays (D.history disk.old (D.attached disk.old)) (D.history disk.new (D.attached disk.new)) (HasFrames NEWEST_VERSION []) }
     ensures cause { HasCause result (D.faults disk.old) (D.faults disk.new) }
     ensures attached { D.attached disk.new ≡ D.attached disk.old }
     ensures honest { D.is_honest disk.new ≡ D.is_honest disk.old }
@@ -33,8 +37,12 @@ pub(crate) fn form<D: Disk>(disk: &mut D) -> Result<Log, DiskFailed>
     lay_out(disk)?;
     complete_root(disk)?;
     Ok(Log {
-        area: Extent::A,
-        generation: 1,
+        slot: Counting {
+            which: Which::First,
+            version: NEWEST_VERSION,
+            area: Extent::A,
+            generation: 1,
+        },
         end: 0,
     })
 }
@@ -77,7 +85,7 @@ fn first_slots() -> [u8; 32]
     ensures { result ≡ fresh_slots }
 {
     let mut slots = [0; 32];
-    slots[..16].copy_from_slice(&write_slot(1, 1, 1));
+    slots[..16].copy_from_slice(&write_slot(NEWEST_VERSION, 1, 1));
     slots
 }
 
@@ -86,7 +94,7 @@ fn complete_root<D: Disk>(disk: &mut D) -> Result<(), DiskFailed>
     requires laid { IsTrue (D.is_honest disk.old) → IsSettledAt laid_image (D.history disk.old (D.attached disk.old)) }
     ensures formed { IsTrue (D.is_honest disk.old) → OnOk result (IsSettledAt formed_image (D.history disk.new (D.attached disk.new))) }
     ensures any_moment { IsTrue (D.is_honest disk.old)
-        → Stays (D.history disk.old (D.attached disk.old)) (D.history disk.new (D.attached disk.new)) (HasFrames []) }
+        → Stays (D.history disk.old (D.attached disk.old)) (D.history disk.new (D.attached disk.new)) (HasFrames NEWEST_VERSION []) }
     ensures cause { HasCause result (D.faults disk.old) (D.faults disk.new) }
     ensures attached { D.attached disk.new ≡ D.attached disk.old }
     ensures honest { D.is_honest disk.new ≡ D.is_honest disk.old }

@@ -4,9 +4,10 @@ ghost use Rattle.std.specs.Prelude.{◌≡◌, ◌^◌, ◌≤◌, ℕ, List, []
 ghost use Rattle.ax_disk.specs.model.Pending.{all_settled};
 ghost use Rattle.ax_disk.specs.model.Calls.{Idles};
 ghost use Rattle.ax_disk.specs.model.Stays.{Stays, SinceBarrier};
-ghost use Rattle.ax_pages.specs.Root.{IsRoot};
-ghost use Rattle.ax_pages.specs.declared.root.RootChoice.TheVariants.{Counts};
-ghost use Rattle.ax_pages.specs.Image.{IsFresh, IsDamaged, IsNewer, HasFrames, extent_number};
+ghost use Rattle.ax_area.specs.Root.{IsRoot, IsKnown, slot_offset};
+ghost use Rattle.ax_area.specs.declared.root.RootChoice.TheVariants.{Counts};
+ghost use Rattle.ax_area.specs.Image.{IsFresh, IsBrokenImage, IsNewer, HasFrames};
+ghost use Rattle.ax_pages.specs.Area.{extent_number};
 ghost use Rattle.ax_log.specs.Faults.{FailsOtherwise, HasDiskCause};
 ghost use Rattle.ax_log.specs.Opening.{Tells, IsAnswer, Keeps};
 
@@ -15,12 +16,10 @@ use crate::form::form;
 use crate::log::Log;
 use crate::root::read_root;
 use crate::walk::frames_end;
+use ax_area::{Counting, Judgement, RootChoice, Which, judge};
 use ax_disk::{Disk, Extent};
-use ax_pages::RootChoice;
+use ax_pages::numbers::NEWEST_VERSION;
 use std::alloc::Global;
-
-/// The latest version of the format that this program knows.
-const NEWEST_VERSION: u16 = 1;
 
 impl Log {
     /// Opens the log of the store attached, or forms one where the store is fresh.
@@ -34,10 +33,10 @@ impl Log {
 
         // Wherever the store is damaged, or of a later version, that is the answer.
         ensures damaged { IsTrue (D.is_honest disk.old) → (ext : Extent) → (at : ℕ)
-            → IsDamaged (D.history disk.old (D.attached disk.old)).reads ext at
+            → IsBrokenImage NEWEST_VERSION (D.history disk.old (D.attached disk.old)).reads ext at
             → IsAnswer (LogFault.Damaged (extent_number ext) at) result }
         ensures newer { IsTrue (D.is_honest disk.old) → (version : ℕ)
-            → IsNewer (D.history disk.old (D.attached disk.old)).reads version
+            → IsNewer NEWEST_VERSION version (D.history disk.old (D.attached disk.old)).reads
             → IsAnswer (LogFault.Newer version) result }
 
         // Only a fresh store is changed, and no store where the answer is an error other than of the disk.
@@ -49,8 +48,8 @@ impl Log {
 
         // A crash at any moment since the barrier, and after the call, leaves the frames that were there.
         ensures any_moment { IsTrue (D.is_honest disk.old) → (frames : List (List ℕ))
-            → HasFrames frames (D.history disk.old (D.attached disk.old)).reads
-            → SinceBarrier (D.history disk.old (D.attached disk.old)) (D.history disk.new (D.attached disk.new)) (HasFrames frames) }
+            → HasFrames NEWEST_VERSION frames (D.history disk.old (D.attached disk.old)).reads
+            → SinceBarrier (D.history disk.old (D.attached disk.old)) (D.history disk.new (D.attached disk.new)) (HasFrames NEWEST_VERSION frames) }
 
         ensures cause { HasDiskCause result (D.faults disk.old) (D.faults disk.new) }
         ensures attached { D.attached disk.new ≡ D.attached disk.old }
@@ -75,8 +74,8 @@ fn recover<D: Disk>(alloc: Global, disk: &mut D) -> Result<Log, LogFault>
     ensures refused { IsTrue (D.is_honest disk.old) → FailsOtherwise result
         → Idles (D.history disk.old (D.attached disk.old)) (D.history disk.new (D.attached disk.new)) }
     ensures any_moment { IsTrue (D.is_honest disk.old) → (frames : List (List ℕ))
-        → HasFrames frames (D.history disk.old (D.attached disk.old)).reads
-        → Stays (D.history disk.old (D.attached disk.old)) (D.history disk.new (D.attached disk.new)) (HasFrames frames) }
+        → HasFrames NEWEST_VERSION frames (D.history disk.old (D.attached disk.old)).reads
+        → Stays (D.history disk.old (D.attached disk.old)) (D.history disk.new (D.attached disk.new)) (HasFrames NEWEST_VERSION frames) }
     ensures cause { HasDiskCause result (D.faults disk.old) (D.faults disk.new) }
     ensures attached { D.attached disk.new ≡ D.attached disk.old }
     ensures honest { D.is_honest disk.new ≡ D.is_honest disk.old }
@@ -87,16 +86,16 @@ fn recover<D: Disk>(alloc: Global, disk: &mut D) -> Result<Log, LogFault>
     match choice {
         RootChoice::Fresh => form_log(disk),
         RootChoice::Damaged { at } => Err(LogFault::Damaged { extent: 0, at }),
-        RootChoice::Counts {
-            version,
-            area,
-            generation,
-        } => {
-            if version > NEWEST_VERSION {
-                return Err(LogFault::Newer { version });
-            }
-            find_log(alloc, disk, area, generation)
-        }
+        RootChoice::Counts(slot) => match judge(NEWEST_VERSION, slot) {
+            Judgement::Newer => Err(LogFault::Newer {
+                version: slot.version,
+            }),
+            Judgement::Worn => Err(LogFault::Damaged {
+                extent: 0,
+                at: offset_of(slot.which),
+            }),
+            Judgement::Known => find_log(alloc, disk, slot),
+        },
     }
 }
 
@@ -109,7 +108,7 @@ fn form_log<D: Disk>(disk: &mut D) -> Result<Log, LogFault>
         → Tells result (D.history disk.old (D.attached disk.old)).reads (D.history disk.new (D.attached disk.new)) }
     ensures never_refused { FailsOtherwise result → ⊥ }
     ensures any_moment { IsTrue (D.is_honest disk.old)
-        → Stays (D.history disk.old (D.attached disk.old)) (D.history disk.new (D.attached disk.new)) (HasFrames []) }
+        → Stays (D.history disk.old (D.attached disk.old)) (D.history disk.new (D.attached disk.new)) (HasFrames NEWEST_VERSION []) }
     ensures cause { HasDiskCause result (D.faults disk.old) (D.faults disk.new) }
     ensures attached { D.attached disk.new ≡ D.attached disk.old }
     ensures honest { D.is_honest disk.new ≡ D.is_honest disk.old }
@@ -120,17 +119,23 @@ fn form_log<D: Disk>(disk: &mut D) -> Result<Log, LogFault>
     Ok(log)
 }
 
-/// Finds the log of a live store all of which is synced: this area counts, with this generation.
-fn find_log<D: Disk>(
-    alloc: Global,
-    disk: &mut D,
-    area: Extent,
-    generation: u64,
-) -> Result<Log, LogFault>
+/// Where a slot stands in the root.
+fn offset_of(which: Which) -> u64
+    ensures { result ≡ slot_offset which }
+{
+    match which {
+        Which::First => 0,
+        Which::Second => 16,
+    }
+}
+
+/// Finds the log of a live store all of which is synced: this slot counts, and its version is known.
+fn find_log<D: Disk>(alloc: Global, disk: &mut D, slot: Counting) -> Result<Log, LogFault>
     requires settled { IsTrue (D.is_honest disk.old)
         → (D.history disk.old (D.attached disk.old)).unsynced ≡ all_settled (D.history disk.old (D.attached disk.old)).reads }
     requires counts { IsTrue (D.is_honest disk.old)
-        → IsRoot (D.history disk.old (D.attached disk.old)).reads.root (Counts 1 area generation) }
+        → IsRoot (D.history disk.old (D.attached disk.old)).reads.root (Counts slot) }
+    requires known { IsKnown NEWEST_VERSION slot }
     ensures tells { IsTrue (D.is_honest disk.old)
         → Tells result (D.history disk.old (D.attached disk.old)).reads (D.history disk.new (D.attached disk.new)) }
     ensures lists { IsTrue (D.is_honest disk.old)
@@ -139,12 +144,8 @@ fn find_log<D: Disk>(
     ensures attached { D.attached disk.new ≡ D.attached disk.old }
     ensures honest { D.is_honest disk.new ≡ D.is_honest disk.old }
 {
-    match frames_end(alloc, disk, area) {
-        Ok(end) => Ok(Log {
-            area,
-            generation,
-            end,
-        }),
+    match frames_end(alloc, disk, slot.area) {
+        Ok(end) => Ok(Log { slot, end }),
         Err(fault) => Err(fault),
     }
 }

@@ -27,6 +27,6 @@ impl Log {
         ensures attached { D.attached disk.new ≡ D.attached disk.old }
         ensures honest { D.is_honest disk.new ≡ D.is_honest disk.old }
     {
-        disk.read(self.area, at, buf)
+        disk.read(self.slot.area, at, buf)
     }
 }

@@ -4,11 +4,11 @@ ghost use Rattle.std.specs.Prelude.{◌≡◌, ◌+◌, ◌≤◌, ℕ, List, le
 ghost use Rattle.ax_faults.specs.Faults.{HasCause};
 ghost use Rattle.ax_disk.specs.model.Calls.{Idles};
 ghost use Rattle.ax_frame.specs.RootSlot.{IsSlot};
-ghost use Rattle.ax_pages.specs.Root.{IsRoot};
+ghost use Rattle.ax_area.specs.Root.{IsRoot};
 
+use ax_area::{RootChoice, choose};
 use ax_disk::{Disk, DiskFailed, Extent};
 use ax_frame::{RootSlot, read_slot};
-use ax_pages::{RootChoice, choose};
 
 /// A root of fewer bytes is not whole.
 const WHOLE_ROOT: u64 = 33;
