@@ -33,7 +33,7 @@ use Rattle.ax_area_laws.proofs.Rising.{is_risen}
 use Rattle.ax_log.specs.Log.{log_area, log_generation}
 use Rattle.ax_mean.specs.declared.query.Query.{Query}
 use Rattle.ax_pages.specs.Contents as log
-use Rattle.ax_pages.specs.Image.{extent_number}
+use Rattle.ax_pages.specs.Area.{extent_number}
 use Rattle.ax_store.proofs.LoadLemmas.{lead_on_of}
 use Rattle.ax_store.specs.Kept.{Kept}
 use Rattle.ax_store.specs.Loading.{nothing_kept}

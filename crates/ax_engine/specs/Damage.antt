@@ -16,7 +16,7 @@ use Rattle.ax_image_grammar.specs.Payloads.{IsDocumentText}
 use Rattle.ax_lines.specs.declared.line.Line.{Line}
 use Rattle.ax_lines.specs.declared.line.Line.TheVariants as line
 use Rattle.ax_mean.specs.declared.query.Query.{Query}
-use Rattle.ax_pages.specs.Image.{extent_number}
+use Rattle.ax_pages.specs.Area.{extent_number}
 use Rattle.ax_engine.specs.Printing.{IsPrinted}
 use Rattle.ax_engine.specs.Replies.{OnRows}
 use Rattle.ax_engine.specs.declared.engine.Fault.{Fault}

@@ -7,7 +7,7 @@ use Rattle.ax_cache.specs.declared.lru_pages.LruPages.{LruPages}
 use Rattle.ax_area.specs.Contents.{Stored}
 use Rattle.ax_image.specs.Readable.{newest}
 use Rattle.ax_image_grammar.specs.Payloads.{IsDocumentText}
-use Rattle.ax_pages.specs.Image.{extent_number}
+use Rattle.ax_pages.specs.Area.{extent_number}
 use Rattle.ax_store.specs.Kept.{Kept}
 use Rattle.ax_store.specs.Store.{store_area, store_offsets}
 use Rattle.ax_store.specs.declared.fault.StoreFault.{StoreFault}

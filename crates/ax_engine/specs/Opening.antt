@@ -12,7 +12,7 @@ use Rattle.ax_ids.specs.Ids.{number_under}
 use Rattle.ax_image.specs.Documents.{ContentsHold}
 use Rattle.ax_image.specs.Readable.{newest}
 use Rattle.ax_log.specs.Opening.{Keeps}
-use Rattle.ax_pages.specs.Image.{extent_number}
+use Rattle.ax_pages.specs.Area.{extent_number}
 use Rattle.ax_store.specs.Store.{SameButReads}
 use Rattle.ax_store.specs.declared.fault.StoreFault.{StoreFault}
 use Rattle.ax_store.specs.declared.fault.StoreFault.TheVariants as fault

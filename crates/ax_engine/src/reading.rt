@@ -2,7 +2,7 @@
 
 ghost use Rattle.std.specs.Prelude.{◌≡◌, ◌⊎◌, ◌+◌, ◌<◌, ℕ, IsTrue, IfOk, IfErr, IfSome, IfNone, Some, None};
 ghost use Rattle.std.specs.FinMap as map;
-ghost use Rattle.ax_pages.specs.Image.{extent_number};
+ghost use Rattle.ax_pages.specs.Area.{extent_number};
 ghost use Rattle.ax_store.specs.ReadAhead.{ahead_text};
 ghost use Rattle.ax_store.specs.Store.{store_area, store_offsets};
 ghost use Rattle.ax_engine.specs.InPages.{IsPlaced};

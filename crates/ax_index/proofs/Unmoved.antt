@@ -6,7 +6,7 @@ use Rattle.ax_delta.specs.Changes.{TermChange}
 use Rattle.ax_delta.specs.Payload.{IsDelta}
 use Rattle.ax_pairs.specs.PagePairs.{IsBase}
 use Rattle.ax_pages.specs.Contents.{Contents, parts_of, term_page}
-use Rattle.ax_pages.specs.Image.{extent_number}
+use Rattle.ax_pages.specs.Area.{extent_number}
 use Rattle.ax_pages.specs.declared.page.Page.TheVariants.{Term}
 use Rattle.ax_pool.specs.Frames.{Frames}
 use Rattle.ax_pool.specs.declared.slot.Slot.{Slot}

@@ -7,7 +7,7 @@ use Rattle.ax_delta.specs.Changes.{TermChange}
 use Rattle.ax_delta.specs.Payload.{IsDelta}
 use Rattle.ax_pages.specs.declared.page.Page.TheVariants.{Term}
 use Rattle.ax_pages.specs.Contents.{TermPage, term_page, parts_of}
-use Rattle.ax_pages.specs.Image.{extent_number}
+use Rattle.ax_pages.specs.Area.{extent_number}
 use Rattle.ax_pairs.specs.PagePairs.{IsBase}
 use Rattle.ax_store.specs.declared.store.Store.{Store}
 use Rattle.ax_store.specs.declared.fault.StoreFault.{StoreFault}

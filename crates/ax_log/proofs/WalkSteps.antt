@@ -11,7 +11,7 @@ use Rattle.ax_frame.specs.LogFrame.{open_head, open_frame}
 use Rattle.ax_frame.proofs.Frames.{body_found}
 use Rattle.ax_pages.specs.Area.{frames_bytes, IsClosed, IsNoLogFrame, IsBroken}
 use Rattle.ax_pages.specs.laws.AreaLaws.{frames_push, spans_push}
-use Rattle.ax_pages.specs.Image.{extent_number}
+use Rattle.ax_pages.specs.Area.{extent_number}
 use Rattle.ax_log.specs.declared.fault.LogFault.{LogFault}
 use Rattle.ax_log.specs.declared.fault.LogFault.TheVariants.{Damaged}
 use Rattle.ax_log.specs.declared.walk.Next.{Next}

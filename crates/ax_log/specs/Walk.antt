@@ -5,7 +5,7 @@ use Rattle.ax_disk.specs.declared.extent.Extent.{Extent}
 use Rattle.ax_disk.specs.model.Calls.{bytes_from}
 use Rattle.ax_frame.specs.LogFrame.{open_frame}
 use Rattle.ax_pages.specs.Area.{IsSpan, AreSpans, frames_bytes, IsClosed, IsNoLogFrame, IsArea, IsBroken}
-use Rattle.ax_pages.specs.Image.{extent_number}
+use Rattle.ax_pages.specs.Area.{extent_number}
 use Rattle.ax_log.specs.declared.fault.LogFault.{LogFault}
 use Rattle.ax_log.specs.declared.fault.LogFault.TheVariants.{Disk, Damaged, Newer, Memory}
 use Rattle.ax_log.specs.declared.walk.Next.{Next}

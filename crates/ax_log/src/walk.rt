@@ -4,7 +4,7 @@ ghost use Rattle.std.specs.Prelude.{◌≡◌, ◌+◌, ◌-◌, ◌^◌, ◌<�
 ghost use Rattle.ax_faults.specs.Faults.{HasCause};
 ghost use Rattle.ax_disk.specs.model.Image.{list_of};
 ghost use Rattle.ax_disk.specs.model.Calls.{Idles, bytes_from};
-ghost use Rattle.ax_pages.specs.Image.{extent_number};
+ghost use Rattle.ax_pages.specs.Area.{extent_number};
 ghost use Rattle.ax_log.specs.Faults.{HasDiskCause};
 ghost use Rattle.ax_log.specs.Walk.{Shows, ReachesTo, window_start, IsNext, Advances, IsEndOf};
 

@@ -1,11 +1,13 @@
--- Parts of term pages: what they make of the pages, whatever else a store has.
+-- Parts of term pages: what their changes make of the pages, whatever else a store has.
 -- From the store's own file format (docs/FORMAT.md, "Parts"); no other document has it.
 use Rattle.std.specs.Prelude.{◌≡◌, ℕ, ◌+◌, nat_lt, if◌then◌else◌, List, [], ◌∷◌, Some, Option}
 use Rattle.ax_frame.specs.Part.{PartValue}
 use Rattle.ax_pages.specs.declared.page.Kind.{Kind}
 use Rattle.ax_pages.specs.declared.page.Kind.TheVariants as kind
-use Rattle.ax_pages.specs.Contents.{Contents, TermPage}
-use Rattle.ax_pages.specs.AfterPart.{kind_of, after_parts}
+use Rattle.ax_pages.specs.Contents.{TermPage}
+use Rattle.ax_pages.specs.AfterPart.{kind_of}
+use Rattle.ax_area.specs.Contents.{Contents}
+use Rattle.ax_area.specs.Parts.{after_parts}
 
 -- The parts change these term pages to those and nothing else, in each store that has these.
 pub record LeadTo (parts : List PartValue) (before after : List TermPage) : Type 0 where

@@ -5,7 +5,7 @@ use Rattle.std.proofs.Math.Seq.{take-append-add}
 use Rattle.ax_disk.specs.declared.extent.Extent.{Extent}
 use Rattle.ax_frame.specs.Part.{PartValue, part_bytes, head_bytes, BeginsWithPart}
 use Rattle.ax_pages.specs.Leads.{IsRefused}
-use Rattle.ax_pages.specs.Image.{extent_number}
+use Rattle.ax_pages.specs.Area.{extent_number}
 use Rattle.ax_store.specs.declared.fault.StoreFault.{StoreFault}
 use Rattle.ax_store.specs.declared.fault.StoreFault.TheVariants.{Disk, Damaged, Newer, Memory}
 use Rattle.ax_store.specs.Kept.{Kept, Takes}

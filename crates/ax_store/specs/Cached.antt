@@ -4,7 +4,7 @@
 use Rattle.std.specs.Prelude.{◌≡◌, ℕ, ◌+◌, ◌≤◌, List, length, take, drop, Some}
 use Rattle.std.specs.FinMap as map
 use Rattle.ax_disk.specs.declared.extent.Extent.{Extent}
-use Rattle.ax_pages.specs.Image.{extent_number}
+use Rattle.ax_pages.specs.Area.{extent_number}
 use Rattle.ax_cache.specs.declared.part_key.PartKey.{PartKey}
 use Rattle.ax_cache.specs.Pages.{CachedPages}
 

@@ -4,6 +4,7 @@
 use Rattle.std.specs.Prelude.{◌≡◌, ℕ, ◌<◌, None, refl, IsTrue}
 use Rattle.std.specs.Coded.{Coded, code_by, coded×, coded_ℕ}
 use Rattle.std.specs.FinMap as map
+use Rattle.std.specs.Ordering.{nat_cmp}
 use Rattle.ax_pages.specs.Contents.{Numbered}
 use Rattle.ax_pages.specs.ContentsCode.{numbered_code}
 use Rattle.ax_store.specs.Rows.{Offsets}
@@ -19,7 +20,7 @@ listed_code = code_by (Numbered × (Offsets × ℕ)) (coded× numbered_code (cod
     (λ fields. record { payloads = fields.0; offsets = fields.1.0; spare = fields.1.1 }) (λ _. refl)
 
 -- the least number above another that is held
-pub record IsNextAfter (payloads : Numbered) (after number : ℕ) : Type 0 where
+pub record IsNextAfter {A : Type 0} (held_by : map.FinMap nat_cmp A) (after number : ℕ) : Type 0 where
   pub above : after < number
-  pub held : IsTrue (map.contains_key payloads number)
-  pub least : (between : ℕ) → after < between → between < number → map.get payloads between ≡ None
+  pub held : IsTrue (map.contains_key held_by number)
+  pub least : (between : ℕ) → after < between → between < number → map.get held_by between ≡ None

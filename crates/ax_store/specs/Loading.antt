@@ -3,7 +3,7 @@
 use Rattle.std.specs.Prelude.{◌≡◌, ℕ, ◌+◌, List, [], ◌∷◌, ◌++◌, length, Result, Ok, Err}
 use Rattle.ax_disk.specs.declared.extent.Extent.{Extent}
 use Rattle.ax_pages.specs.Area.{frames_bytes}
-use Rattle.ax_pages.specs.Image.{extent_number}
+use Rattle.ax_pages.specs.Area.{extent_number}
 use Rattle.ax_pages.specs.Contents.{no_contents}
 use Rattle.ax_pages.specs.Leads.{IsSpoiled, IsRefused, AreSpoiled}
 use Rattle.ax_store.specs.Taking.{IsFrontTaken}

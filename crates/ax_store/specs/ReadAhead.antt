@@ -3,6 +3,7 @@
 -- It is this project's own; it comes from no public document.
 use Rattle.std.specs.Prelude.{◌≡◌, ℕ, ◌+◌, ◌≤◌, Bool, true, false, List, [], take, drop, Option, Some, None, IsTrue}
 use Rattle.ax_disk.specs.model.Moments.{History}
+use Rattle.ax_area.specs.Contents.{Stored}
 use Rattle.ax_pages.specs.Area.{frames_bytes}
 use Rattle.ax_cache.specs.Pages.{CachedPages}
 use Rattle.ax_store.specs.declared.read_ahead.ReadAhead.{ReadAhead}
@@ -44,7 +45,7 @@ abbrev pub AgreesAheadUnlessFailed : {C : Type 0} → (C → CachedPages) → Bo
 AgreesAheadUnlessFailed pages honest store ahead history =
     IsTrue honest → store_failed store ≡ false → AgreesAhead pages store ahead history
 
--- what is shown is the text of the document, behind the policy's number in its payload; or there is no such document
-abbrev pub IsAhead : Option (List ℕ) → Bool → List ℕ → Type 0
-IsAhead (Some payload) found text = (found ≡ true) × (text ≡ drop 1 payload)
+-- what is shown is the text of the document, or there is no such document
+abbrev pub IsAhead : Option Stored → Bool → List ℕ → Type 0
+IsAhead (Some document) found text = (found ≡ true) × (text ≡ document.text)
 IsAhead None found text = found ≡ false

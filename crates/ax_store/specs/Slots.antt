@@ -3,7 +3,9 @@
 use Rattle.std.specs.Prelude.{◌≡◌, ◌≢◌, ℕ, false, List, [], length, take, drop, replicate, slice_index_or, Option, Some, None}
 use Rattle.ax_pages.specs.declared.page.Page.{Page}
 use Rattle.ax_pages.specs.declared.page.Page.TheVariants.{Meta, Policy, Document, Term}
-use Rattle.ax_pages.specs.Contents.{Contents, parts_of}
+use Rattle.ax_pages.specs.Contents as parts
+use Rattle.ax_pages.specs.Contents.{TermPage, term_page, term_parts}
+use Rattle.ax_area.specs.Contents.{Stored}
 use Rattle.ax_pool.specs.Frames.{Frames, IsTaken, bytes_at}
 use Rattle.ax_pool.specs.declared.slot.Slot.{Slot}
 use Rattle.ax_store.specs.declared.store.Store.{Store}
@@ -33,18 +35,22 @@ pub record AreOthersSame (number : ℕ) (old new : Frames) : Type 0 where
   pub bytes : (other : ℕ) → other ≢ number → bytes_at new other ≡ bytes_at old other
 
 -- the part of this position among those of a page
-abbrev pub part_at : Page → ℕ → Contents → List ℕ
-part_at page i contents = slice_index_or (parts_of page contents) i []
+abbrev pub part_at : Page → ℕ → parts.Contents → List ℕ
+part_at page i held = slice_index_or (parts.parts_of page held) i []
+
+-- the same of a term page
+abbrev pub term_part : ℕ → ℕ → List TermPage → List ℕ
+term_part page i pages = slice_index_or (term_parts (term_page page pages)) i []
 
 -- the frame begins with the bytes, which are so many
 pub record IsRead (bytes : List ℕ) (frames : Frames) (number len : ℕ) : Type 0 where
   pub len_is : len ≡ length bytes
   pub begins : Begins frames number bytes
 
--- The text behind the policy's number in a document's payload is in the frame; or there is no such document.
-abbrev pub IsFetched : Option (List ℕ) → Frames → ℕ → Option ℕ → Type 0
-IsFetched (Some payload) frames number (Some len) = IsRead (drop 1 payload) frames number len
-IsFetched (Some payload) frames number None = ⊥
+-- The text of the document is in the frame; or there is no such document.
+abbrev pub IsFetched : Option Stored → Frames → ℕ → Option ℕ → Type 0
+IsFetched (Some document) frames number (Some len) = IsRead document.text frames number len
+IsFetched (Some document) frames number None = ⊥
 IsFetched None frames number (Some len) = ⊥
 IsFetched None frames number None = Unit {0}
 

@@ -1,17 +1,22 @@
 -- A store as contracts see it, when it agrees with a disk, and what opening it answers.
 -- It is this project's own; it comes from no public document.
-use Rattle.std.specs.Prelude.{◌≡◌, ◌⊎◌, ℕ, Bool, false, List, Result, Ok, Err, IsTrue}
+use Rattle.std.specs.Prelude.{◌≡◌, ℕ, Bool, false, List, ◌++◌, Result, Ok, Err, IsTrue}
 use Rattle.ax_disk.specs.declared.extent.Extent.{Extent}
 use Rattle.ax_disk.specs.model.Image.{Image}
 use Rattle.ax_disk.specs.model.Moments.{History}
-use Rattle.ax_pages.specs.Image.{IsNewer, extent_number}
-use Rattle.ax_pages.specs.Contents.{Contents}
-use Rattle.ax_pages.specs.HasContents.{HasContents, IsSpoiledImage}
+use Rattle.ax_disk.specs.model.Stays.{Rests}
+use Rattle.ax_area.specs.Changes.{Change}
+use Rattle.ax_area.specs.Contents.{Contents}
+use Rattle.ax_area.specs.Image.{Says, IsNewer, IsDamaged}
+use Rattle.ax_area.specs.Told.{Told, changes_of}
+use Rattle.ax_area_laws.specs.Risen.{risen}
+use Rattle.ax_pages.specs.Area.{extent_number}
+use Rattle.ax_pages.specs.Contents as parts
+use Rattle.ax_pages.specs.declared.numbers.TheConstants.{NEWEST_VERSION}
 use Rattle.ax_cache.specs.Pages.{CachedPages}
 use Rattle.ax_pages.specs.Area.{frames_bytes}
 use Rattle.ax_log.specs.Log.{log_area, log_generation}
 use Rattle.ax_log.specs.Agreement as log
-use Rattle.ax_log.specs.Opening.{IsDamagedAt}
 use Rattle.ax_log.specs.declared.fault.LogFault.{LogFault}
 use Rattle.ax_log.specs.declared.fault.LogFault.TheVariants as by_log
 use Rattle.ax_pool.specs.Frames.{Frames}
@@ -22,9 +27,13 @@ use Rattle.ax_store.specs.Cached.{HoldsParts}
 use Rattle.ax_store.specs.Kept.{PageOffsets, room_of}
 use Rattle.ax_store.specs.Loading.{nothing_kept, TakesOn}
 
--- what the pages have
+-- the payloads of the parts that count, of each page
+abbrev pub store_parts : {C : Type 0} → Store C → parts.Contents
+store_parts store = store.pages.contents
+
+-- what they say
 abbrev pub store_contents : {C : Type 0} → Store C → Contents
-store_contents store = store.pages.contents
+store_contents store = risen (store_parts store)
 
 -- where the parts of each page stand in the area
 abbrev pub store_offsets : {C : Type 0} → Store C → PageOffsets
@@ -67,7 +76,7 @@ AgreesUnlessFailed pages honest store history =
 pub record SameButRoom {C : Type 0} (old new : Store C) : Type 0 where
   pub cache : new.cache ≡ old.cache
   pub logged : new.log ≡ old.log
-  pub contents : store_contents new ≡ store_contents old
+  pub contents : store_parts new ≡ store_parts old
   pub offsets : store_offsets new ≡ store_offsets old
   pub failed : store_failed new ≡ store_failed old
   pub slots : store_slots new ≡ store_slots old
@@ -84,22 +93,39 @@ pub record SameButReads {C : Type 0} (old new : Store C) : Type 0 where
   pub logged : new.log ≡ old.log
   pub pages : new.pages ≡ old.pages
 
--- The store agrees with the disk by the contents that the image before has.
+-- The image says these contents, whatever it tells.
+abbrev pub Has : Contents → Image → Type 0
+Has contents image =
+    (version : ℕ) × (told : List Told) × Says NEWEST_VERSION version told contents image
+
+-- It tells behind this what says these changes, and that leads to the contents.
+abbrev pub SaysMore : ℕ → List Told → List Change → Contents → Image → Type 0
+SaysMore version told changes contents image =
+    (more : List Told) × (changes_of more ≡ changes)
+    × Says NEWEST_VERSION version (told ++ more) contents image
+
+-- each image that a crash now may leave says the store's contents, and all tell the same
+pub record SaysOf {C : Type 0} (store : Store C) (history : History) : Type 0 where
+  pub version : ℕ
+  pub told : List Told
+  pub says : Rests history (Says NEWEST_VERSION version told (store_contents store))
+
+-- The store agrees with the disk by the contents that the image before says.
 pub record IsOpened {C : Type 0} (pages : C → CachedPages) (store : Store C) (before : Image) (history : History) : Type 0 where
   pub agrees : Agrees pages store history
-  pub has : HasContents (store_contents store) before
+  pub has : Has (store_contents store) before
   pub works : store_failed store ≡ false
 
--- the image is damaged at this place of this list: in its root, in a frame, or in a part
+-- the image is damaged at this place of this list: in its root, in a frame, or in an item
 abbrev pub IsDamagedStore : Image → ℕ → ℕ → Type 0
 IsDamagedStore before extent at =
-    IsDamagedAt before extent at ⊎ ((area : Extent) × (extent ≡ extent_number area) × IsSpoiledImage before area at)
+    (list : Extent) × (extent ≡ extent_number list) × IsDamaged NEWEST_VERSION before list at
 
 -- what each answer says
 abbrev pub TellsFault : StoreFault → Image → Type 0
 TellsFault Disk before = Unit {0}
 TellsFault (Damaged extent at) before = IsDamagedStore before extent at
-TellsFault (Newer version) before = IsNewer before version
+TellsFault (Newer version) before = IsNewer NEWEST_VERSION version before
 TellsFault Memory before = Unit {0}
 
 abbrev pub TellsStore : {C : Type 0} → (C → CachedPages) → Result (Store C) StoreFault → Image → History → Type 0

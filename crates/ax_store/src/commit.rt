@@ -3,16 +3,16 @@
 ghost use Rattle.std.specs.Prelude.{◌≡◌, ◌≢◌, ◌≤◌, ◌<◌, [], ◌∷◌, ◌++◌, ℕ, List, Some, Err, true, false, length, IsTrue, IfErr, OnOk, OnErr};
 ghost use Rattle.ax_disk.specs.model.Calls.{Idles};
 ghost use Rattle.ax_disk.specs.model.Stays.{Turns};
-ghost use Rattle.ax_frame.specs.Part.{AllFit, parts_bytes};
-ghost use Rattle.ax_pages.specs.Image.{HasFrames};
-ghost use Rattle.ax_pages.specs.Contents.{Contents};
-ghost use Rattle.ax_pages.specs.HasContents.{HasContents};
-ghost use Rattle.ax_pages.specs.AfterPart.{after_parts};
-ghost use Rattle.ax_store.specs.Batch.{batch_parts, is_sealed};
+ghost use Rattle.ax_area.specs.Changes.{Change};
+ghost use Rattle.ax_area.specs.Contents.{Contents, after_changes};
+ghost use Rattle.ax_area.specs.Image.{Says};
+ghost use Rattle.ax_area.specs.Parts.{after_parts, changes_said};
+ghost use Rattle.ax_area.specs.Told.{Told};
+ghost use Rattle.ax_pages.specs.declared.numbers.TheConstants.{NEWEST_VERSION};
+ghost use Rattle.ax_store.specs.Batch.{AreAllowed, batch_parts, is_sealed};
 ghost use Rattle.ax_store.specs.Faults.{HasDiskCause};
-ghost use Rattle.ax_store.specs.Putting.{AreWithin};
 ghost use Rattle.ax_store.specs.Kept.{deltas_of};
-ghost use Rattle.ax_store.specs.Store.{Agrees, SameButRoom, store_contents, store_area, store_slots, store_spare, store_room, store_failed};
+ghost use Rattle.ax_store.specs.Store.{Agrees, SameButRoom, SaysMore, store_contents, store_area, store_slots, store_spare, store_room, store_failed};
 
 use crate::batch::Batch;
 use crate::fault::StoreFault;
@@ -54,32 +54,29 @@ impl<C: PageCache> Store<C> {
     /// Makes the parts of a sealed batch durable together, and changes the pages by them. It takes no
     /// memory, and its only error is `Disk`: the pages are then as before, in memory, and the store
     /// has failed. Room for the parts was made by `reserve`, and for deltas of term pages by
-    /// `reserve_deltas` besides; and the parts are within the format after the store's contents.
+    /// `reserve_deltas` besides; and the changes that the parts say may follow the store's contents.
     pub fn commit<D: Disk>(&mut self, disk: &mut D, batch: Batch) -> Result<(), StoreFault>
         requires agrees { IsTrue (D.is_honest disk.old) → store_failed self.old ≡ false
             → Agrees C.pages self.old (D.history disk.old (D.attached disk.old)) }
         requires sealed { is_sealed batch ≡ true }
         requires room { length (batch_parts batch) ≤ store_spare self.old }
         requires deltas { (number : ℕ) → deltas_of number (batch_parts batch) ≤ store_room number self.old }
-        requires within { AreWithin (batch_parts batch) (store_contents self.old) }
+        requires within { AreAllowed (batch_parts batch) (store_contents self.old) }
 
         ensures ok { OnOk result (after_parts (batch_parts batch) (store_contents self.old) ≡ Some (store_contents self.new)) }
         ensures err { OnErr result (store_contents self.new ≡ store_contents self.old) }
         ensures agrees { IsTrue (D.is_honest disk.old)
             → OnOk result (Agrees C.pages self.new (D.history disk.new (D.attached disk.new))) }
 
-        // A crash at any moment of the call, and after it, leaves the contents before it or the new ones.
-        ensures any_moment { IsTrue (D.is_honest disk.old) → store_failed self.old ≡ false → (new : Contents)
-            → after_parts (batch_parts batch) (store_contents self.old) ≡ Some new
+        // A crash at any moment of the call, and after it, leaves what was told before it and those contents; or behind
+        // it what says the changes of the batch, and the new contents.
+        ensures any_moment { IsTrue (D.is_honest disk.old) → store_failed self.old ≡ false
+            → (version : ℕ) → (told : List Told) → (changes : List Change) → (new : Contents)
+            → Says NEWEST_VERSION version told (store_contents self.old) (D.history disk.old (D.attached disk.old)).reads
+            → changes_said (batch_parts batch) ≡ Some changes
+            → after_changes changes (store_contents self.old) ≡ Some new
             → Turns (D.history disk.old (D.attached disk.old)) (D.history disk.new (D.attached disk.new))
-            (HasContents (store_contents self.old)) (HasContents new) }
-
-        // Its log frames are those that were there, or these and one of the batch's parts behind them.
-        ensures frames { IsTrue (D.is_honest disk.old) → store_failed self.old ≡ false → (frames : List (List ℕ))
-            → HasFrames frames (D.history disk.old (D.attached disk.old)).reads
-            → Turns (D.history disk.old (D.attached disk.old)) (D.history disk.new (D.attached disk.new))
-            (HasFrames frames) (HasFrames (frames ++ parts_bytes (batch_parts batch) ∷ [])) }
-        ensures fit { AllFit (batch_parts batch) }
+            (Says NEWEST_VERSION version told (store_contents self.old)) (SaysMore version told changes new) }
 
         ensures works { OnOk result (store_failed self.new ≡ false) }
         ensures fails { OnErr result (store_failed self.new ≡ true) }

@@ -1,7 +1,7 @@
 //! Why a call of the store fails.
 
 ghost use Rattle.std.specs.Prelude.{◌≡◌};
-ghost use Rattle.ax_pages.specs.Image.{extent_number};
+ghost use Rattle.ax_pages.specs.Area.{extent_number};
 ghost use Rattle.ax_store.specs.Store.{of_log};
 
 use ax_disk::Extent;

@@ -2,9 +2,10 @@
 
 ghost use Rattle.std.specs.Prelude.{◌≡◌, ℕ, List, IsTrue, IfOk, OnOk, false};
 ghost use Rattle.ax_disk.specs.model.Stays.{Rests, SinceBarrier};
-ghost use Rattle.ax_pages.specs.Image.{HasFrames};
-ghost use Rattle.ax_pages.specs.Contents.{Contents};
-ghost use Rattle.ax_pages.specs.HasContents.{HasContents};
+ghost use Rattle.ax_area.specs.Contents.{Contents};
+ghost use Rattle.ax_area.specs.Image.{Says};
+ghost use Rattle.ax_area.specs.Told.{Told};
+ghost use Rattle.ax_pages.specs.declared.numbers.TheConstants.{NEWEST_VERSION};
 ghost use Rattle.ax_log.specs.Opening.{Keeps};
 ghost use Rattle.ax_store.specs.Faults.{IsRefused, HasDiskCause};
 ghost use Rattle.std.specs.FinMap as map;
@@ -44,18 +45,14 @@ impl<C: PageCache + Drop> Store<C> {
         ensures refused { IsTrue (D.is_honest disk.old) → IsRefused result
             → Keeps (D.history disk.old (D.attached disk.old)) (D.history disk.new (D.attached disk.new)) }
 
-        // A crash at any moment since the barrier, and after the call, leaves the contents that were there.
-        ensures any_moment { IsTrue (D.is_honest disk.old) → (contents : Contents)
-            → HasContents contents (D.history disk.old (D.attached disk.old)).reads
-            → SinceBarrier (D.history disk.old (D.attached disk.old)) (D.history disk.new (D.attached disk.new)) (HasContents contents) }
-
-        // It leaves the log frames that were there, all of them and no other.
-        ensures frames { IsTrue (D.is_honest disk.old) → (frames : List (List ℕ))
-            → HasFrames frames (D.history disk.old (D.attached disk.old)).reads
-            → SinceBarrier (D.history disk.old (D.attached disk.old)) (D.history disk.new (D.attached disk.new)) (HasFrames frames) }
-        ensures kept { IsTrue (D.is_honest disk.old) → (frames : List (List ℕ))
-            → HasFrames frames (D.history disk.old (D.attached disk.old)).reads
-            → OnOk result (Rests (D.history disk.new (D.attached disk.new)) (HasFrames frames)) }
+        // A crash at any moment since the barrier, and after the call, leaves what was told there and its contents.
+        ensures any_moment { IsTrue (D.is_honest disk.old) → (version : ℕ) → (told : List Told) → (contents : Contents)
+            → Says NEWEST_VERSION version told contents (D.history disk.old (D.attached disk.old)).reads
+            → SinceBarrier (D.history disk.old (D.attached disk.old)) (D.history disk.new (D.attached disk.new))
+            (Says NEWEST_VERSION version told contents) }
+        ensures kept { IsTrue (D.is_honest disk.old) → (version : ℕ) → (told : List Told) → (contents : Contents)
+            → Says NEWEST_VERSION version told contents (D.history disk.old (D.attached disk.old)).reads
+            → OnOk result (Rests (D.history disk.new (D.attached disk.new)) (Says NEWEST_VERSION version told contents)) }
 
         ensures cause { HasDiskCause result (D.faults disk.old) (D.faults disk.new) }
         ensures attached { D.attached disk.new ≡ D.attached disk.old }

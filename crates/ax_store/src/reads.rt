@@ -3,13 +3,13 @@
 ghost use Rattle.std.specs.Prelude.{◌≡◌, ◌+◌, ◌<◌, ℕ, true, false, Err, IsTrue, Some, None, IfErr, IfOk, IfSome, IfNone, option_map, length, drop, slice_index, slice_get};
 ghost use Rattle.std.specs.FinMap as map;
 ghost use Rattle.ax_disk.specs.model.Calls.{Idles};
-ghost use Rattle.ax_pages.specs.Contents.{next_number, policy_now, parts_of};
+ghost use Rattle.ax_pages.specs.Contents.{parts_of};
 ghost use Rattle.ax_store.specs.Faults.{HasDiskCause};
 ghost use Rattle.ax_store.specs.Listed.{IsNextAfter};
-ghost use Rattle.ax_pages.specs.Image.{extent_number};
+ghost use Rattle.ax_pages.specs.Area.{extent_number};
 ghost use Rattle.ax_store.specs.Rows.{offset_kept};
 ghost use Rattle.ax_store.specs.Kept.{offsets_of};
-ghost use Rattle.ax_store.specs.Store.{store_contents, store_offsets, store_area, store_failed};
+ghost use Rattle.ax_store.specs.Store.{store_contents, store_parts, store_offsets, store_area, store_failed};
 
 use crate::fault::{StoreFault, number_of};
 use crate::kept_part::KeptPart;
@@ -33,8 +33,8 @@ pub struct Head {
 impl<C> Store<C> {
     /// The next number, and the number of the policy now.
     pub fn meta(&self) -> Meta
-        ensures next { result.next ≡ next_number (store_contents self.now) }
-        ensures now { result.now ≡ policy_now (store_contents self.now) }
+        ensures next { result.next ≡ (store_contents self.now).next_number }
+        ensures now { result.now ≡ (store_contents self.now).policy_now }
     {
         self.pages.numbers()
     }
@@ -42,14 +42,14 @@ impl<C> Store<C> {
     /// How many parts a page has: of the meta, of a policy and of a document one, where it has
     /// something; of a term page its base and the deltas behind that.
     pub fn parts(&self, page: Page) -> usize
-        ensures { result ≡ length (parts_of page (store_contents self.now)) }
+        ensures { result ≡ length (parts_of page (store_parts self.now)) }
     {
         self.pages.parts(page)
     }
 
     /// Where a part of a page stands: the extent as a number, and the offset of its head in it.
     pub fn place(&self, page: Page, i: usize) -> (u8, u64)
-        requires { i < length (parts_of page (store_contents self.now)) }
+        requires { i < length (parts_of page (store_parts self.now)) }
         ensures extent { result.0 ≡ extent_number (store_area self.now) }
         ensures offset { slice_get (offsets_of page (store_offsets self.now)) i ≡ Some result.1 }
     {
@@ -61,7 +61,7 @@ impl<C> Store<C> {
     /// held.
     pub fn head_of(&self, number: u32) -> Option<Head>
         ensures policy { option_map (λ head. head.policy) result
-            ≡ option_map (λ payload. slice_index payload 0) (map.get (store_contents self.now).documents number) }
+            ≡ option_map (λ document. document.policy) (map.get (store_contents self.now).documents number) }
         ensures text_at { IfSome result (λ head. head.text_at ≡ 1) }
     {
         let part = self.pages.document(number)?;
@@ -69,6 +69,13 @@ impl<C> Store<C> {
             policy: part.first,
             text_at: 1,
         })
+    }
+
+    /// Whether a policy was given this number.
+    pub fn has_policy(&self, number: u8) -> bool
+        ensures { result ≡ map.contains_key (store_contents self.now).policies number }
+    {
+        self.pages.parts(Page::Policy(number)) == 1
     }
 
     /// The least number above another that is held. `None` exactly where there is none.

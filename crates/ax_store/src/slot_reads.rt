@@ -5,15 +5,15 @@ ghost use Rattle.std.specs.FinMap as map;
 ghost use Rattle.ax_faults.specs.Faults.{HasCause};
 ghost use Rattle.ax_disk.specs.model.Calls.{Idles};
 ghost use Rattle.ax_pages.specs.Area.{frames_bytes};
-ghost use Rattle.ax_pages.specs.Contents.{parts_of};
+ghost use Rattle.ax_pages.specs.Contents.{parts_of, term_page, term_parts};
 ghost use Rattle.ax_log.specs.Log.{log_area, log_end, log_generation};
 ghost use Rattle.ax_log.specs.Agreement as logged;
 ghost use Rattle.ax_pool.specs.Frames.{IsTaken, bytes_at};
 ghost use Rattle.ax_store.specs.Cached.{HoldsParts};
 ghost use Rattle.ax_store.specs.Rows.{payload_kept, offset_kept};
 ghost use Rattle.ax_store.specs.Faults.{HasDiskCause};
-ghost use Rattle.ax_store.specs.Slots.{IsSlotOf, AreOthersSame, IsRead, IsFetched, part_at, ticks_of};
-ghost use Rattle.ax_store.specs.Store.{AgreesUnlessFailed, SameButReads, store_contents, store_slots, store_failed};
+ghost use Rattle.ax_store.specs.Slots.{IsSlotOf, AreOthersSame, IsRead, IsFetched, part_at, term_part, ticks_of};
+ghost use Rattle.ax_store.specs.Store.{AgreesUnlessFailed, SameButReads, store_contents, store_parts, store_slots, store_failed};
 
 use crate::cached::read_bytes;
 use crate::fault::StoreFault;
@@ -43,13 +43,13 @@ impl<C: PageCache> Store<C> {
         slot: &mut StoreSlot,
         steps: &mut Steps<L>,
     ) -> Result<usize, StoreFault>
-        requires part { i < length (parts_of page (store_contents self.old)) }
+        requires part { i < length (parts_of page (store_parts self.old)) }
         requires slot { IsSlotOf self.old slot.old }
         requires agrees { AgreesUnlessFailed C.pages (D.is_honest disk.old) self.old
             (D.history disk.old (D.attached disk.old)) }
         ensures read { IsTrue (D.is_honest disk.old)
-            → IfOk result (IsRead (part_at page i (store_contents self.old)) (store_slots self.new) slot.old.number) }
-        ensures len { IfOk result (λ len. len ≡ length (part_at page i (store_contents self.old))) }
+            → IfOk result (IsRead (part_at page i (store_parts self.old)) (store_slots self.new) slot.old.number) }
+        ensures len { IfOk result (λ len. len ≡ length (part_at page i (store_parts self.old))) }
         ensures most { IfOk result (λ len. len ≤ 65536) }
         ensures agrees { AgreesUnlessFailed C.pages (D.is_honest disk.old) self.new
             (D.history disk.new (D.attached disk.new)) }
@@ -80,13 +80,13 @@ impl<C: PageCache> Store<C> {
         i: usize,
         slot: &mut StoreSlot,
     ) -> Result<usize, StoreFault>
-        requires part { i < length (parts_of (Page.Term page) (store_contents self.old)) }
+        requires part { i < length (term_parts (term_page page (store_contents self.old).terms)) }
         requires slot { IsSlotOf self.old slot.old }
         requires agrees { AgreesUnlessFailed C.pages (D.is_honest disk.old) self.old
             (D.history disk.old (D.attached disk.old)) }
         ensures read { IsTrue (D.is_honest disk.old)
-            → IfOk result (IsRead (part_at (Page.Term page) i (store_contents self.old)) (store_slots self.new) slot.old.number) }
-        ensures len { IfOk result (λ len. len ≡ length (part_at (Page.Term page) i (store_contents self.old))) }
+            → IfOk result (IsRead (term_part page i (store_contents self.old).terms) (store_slots self.new) slot.old.number) }
+        ensures len { IfOk result (λ len. len ≡ length (term_part page i (store_contents self.old).terms)) }
         ensures most { IfOk result (λ len. len ≤ 65536) }
         ensures agrees { AgreesUnlessFailed C.pages (D.is_honest disk.old) self.new
             (D.history disk.new (D.attached disk.new)) }
@@ -115,13 +115,13 @@ impl<C: PageCache> Store<C> {
         i: usize,
         slot: &mut StoreSlot,
     ) -> Result<usize, StoreFault>
-        requires part { i < length (parts_of page (store_contents self.old)) }
+        requires part { i < length (parts_of page (store_parts self.old)) }
         requires slot { IsSlotOf self.old slot.old }
         requires agrees { AgreesUnlessFailed C.pages (D.is_honest disk.old) self.old
             (D.history disk.old (D.attached disk.old)) }
         ensures read { IsTrue (D.is_honest disk.old)
-            → IfOk result (IsRead (part_at page i (store_contents self.old)) (store_slots self.new) slot.old.number) }
-        ensures len { IfOk result (λ len. len ≡ length (part_at page i (store_contents self.old))) }
+            → IfOk result (IsRead (part_at page i (store_parts self.old)) (store_slots self.new) slot.old.number) }
+        ensures len { IfOk result (λ len. len ≡ length (part_at page i (store_parts self.old))) }
         ensures most { IfOk result (λ len. len ≤ 65536) }
         ensures agrees { AgreesUnlessFailed C.pages (D.is_honest disk.old) self.new
             (D.history disk.new (D.attached disk.new)) }
@@ -176,7 +176,7 @@ impl<C: PageCache> Store<C> {
             (D.history disk.old (D.attached disk.old)) }
         ensures text { IsTrue (D.is_honest disk.old)
             → IfOk result (IsFetched (map.get (store_contents self.old).documents number) (store_slots self.new) slot.old.number) }
-        ensures len { IfOk result (λ found. found ≡ option_map (λ payload. length (drop 1 payload)) (map.get (store_contents self.old).documents number)) }
+        ensures len { IfOk result (λ found. found ≡ option_map (λ document. length document.text) (map.get (store_contents self.old).documents number)) }
         ensures most { IfOk result (λ found. IfSome found (λ len. len ≤ 65536)) }
         ensures agrees { AgreesUnlessFailed C.pages (D.is_honest disk.old) self.new
             (D.history disk.new (D.attached disk.new)) }
@@ -211,7 +211,7 @@ impl<C: PageCache> Store<C> {
             (D.history disk.old (D.attached disk.old)) }
         ensures text { IsTrue (D.is_honest disk.old)
             → IfOk result (IsFetched (map.get (store_contents self.old).documents number) (store_slots self.new) slot.old.number) }
-        ensures len { IfOk result (λ found. found ≡ option_map (λ payload. length (drop 1 payload)) (map.get (store_contents self.old).documents number)) }
+        ensures len { IfOk result (λ found. found ≡ option_map (λ document. length document.text) (map.get (store_contents self.old).documents number)) }
         ensures most { IfOk result (λ found. IfSome found (λ len. len ≤ 65536)) }
         ensures agrees { AgreesUnlessFailed C.pages (D.is_honest disk.old) self.new
             (D.history disk.new (D.attached disk.new)) }
@@ -263,9 +263,9 @@ impl<C: PageCache> Store<C> {
         requires agrees { AgreesUnlessFailed C.pages (D.is_honest disk.old) self.old
             (D.history disk.old (D.attached disk.old)) }
         ensures text { IsTrue (D.is_honest disk.old) → IfOk result (λ found. option_map (λ text. text.items) found
-            ≡ option_map (λ payload. drop 1 payload) (map.get (store_contents self.old).documents number)) }
+            ≡ option_map (λ document. document.text) (map.get (store_contents self.old).documents number)) }
         ensures len { IfOk result (λ found. option_map (λ text. length text.items) found
-            ≡ option_map (λ payload. length (drop 1 payload)) (map.get (store_contents self.old).documents number)) }
+            ≡ option_map (λ document. length document.text) (map.get (store_contents self.old).documents number)) }
         ensures agrees { AgreesUnlessFailed C.pages (D.is_honest disk.old) self.new
             (D.history disk.new (D.attached disk.new)) }
         ensures same { SameButReads self.old self.new }

@@ -1,6 +1,6 @@
 use Rattle.std.proofs.Common.{◌∙◌, ap, sym, subst, ◌-◌, ◌≤◌, take, drop, Err}
 use Rattle.ax_pages.specs.Area.{frames_bytes}
-use Rattle.ax_pages.specs.Image.{extent_number}
+use Rattle.ax_pages.specs.Area.{extent_number}
 use Rattle.ax_log.specs.Log.{log_area}
 use Rattle.ax_store.specs.Loading.{TellsNext}
 use Rattle.ax_store.specs.declared.fault.StoreFault.TheVariants.{Damaged}
