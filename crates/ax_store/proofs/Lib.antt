@@ -1,3 +1,4 @@
+pub mod Saying
 pub mod Searching
 pub mod RowsNear
 pub mod RowMaps
