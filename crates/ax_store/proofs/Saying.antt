@@ -1,8 +1,8 @@
 -- What the parts of a store say: what it answers of its parts, in the words of all versions.
-use Rattle.std.proofs.Common.{◌≡◌, ℕ, ◌<◌, suc, Bool, true, false, List, length, drop, Option, Some, None, refl, sym, ap, subst, ◌∙◌}
-use Rattle.std.specs.Prelude.{is_some, slice_index, IfSome, IfNone, IsTrue, ◌==◌}
+use Rattle.std.proofs.Common.{◌≡◌, ℕ, ◌<◌, true, false, List, length, drop, Option, Some, None, refl, sym, ap, subst, ◌∙◌}
+use Rattle.std.specs.Prelude.{is_some, slice_index, IfSome, IfNone}
 use Rattle.std.specs.FinMap as finite
-use Rattle.std.specs.Option.{option_map, option_to_list}
+use Rattle.std.specs.Option.{option_map}
 use Rattle.ax_area.specs.Contents.{Stored}
 use Rattle.ax_area_laws.proofs.Documents.{risen_shown, as_many}
 use Rattle.ax_area_laws.specs.Agree.{shown_by}
@@ -58,10 +58,16 @@ pub text_says : (old : parts.Contents) (number : ℕ)
     ≡ option_map (λ (document : Stored). document.text) (finite.get (risen old).documents number)
 text_says old number = made_there old number (λ document. document.text)
 
-pub len_says : (old : parts.Contents) (number : ℕ)
+len_says : (old : parts.Contents) (number : ℕ)
     → option_map (λ payload. length (drop 1 payload)) (finite.get old.documents number)
     ≡ option_map (λ (document : Stored). length document.text) (finite.get (risen old).documents number)
 len_says old number = made_there old number (λ document. length document.text)
+
+-- so many bytes as a payload has behind its first
+pub len_by : (old : parts.Contents) (number : ℕ) (len : Option ℕ)
+    → len ≡ option_map (λ payload. length (drop 1 payload)) (finite.get old.documents number)
+    → len ≡ option_map (λ (document : Stored). length document.text) (finite.get (risen old).documents number)
+len_by old number len is = is ∙ len_says old number
 
 -- ---- the next number
 
@@ -80,17 +86,6 @@ pub none_says : (old : parts.Contents) (result : Option ℕ) (after : ℕ)
 none_says old None after none = λ number above.
     risen_shown old.documents number ∙ ap (option_map (shown_by number)) (none number above)
 none_says old (Some found) after none = tt
-
--- ---- policies
-
-one_where_some : (found : Option (List ℕ)) → (length (option_to_list found) == 1) ≡ is_some found
-one_where_some None = refl
-one_where_some (Some text) = refl
-
--- a policy was given a number where its page has a part
-pub given_says : (old : parts.Contents) (number : ℕ)
-    → (length (option_to_list (finite.get old.policies number)) == 1) ≡ finite.contains_key (risen old).policies number
-given_says old number = one_where_some (finite.get old.policies number)
 
 -- ---- texts that were read
 
@@ -114,11 +109,3 @@ module _ (old : parts.Contents) (number : ℕ) where
       → IsAhead (finite.get (risen old).documents number) false text
   none_ahead text none =
       subst (λ document. IsAhead document false text) (shown_there old number None none) refl
-
-  pub found_says : {A : Type 0} (part : Option A) (of : A → List ℕ) → option_map of part ≡ finite.get old.documents number
-      → is_some part ≡ finite.contains_key (risen old).documents number
-  found_says part of held = some_made part of ∙ ap is_some held ∙ sym (held_alike old number)
-    where
-      some_made : {A : Type 0} (part : Option A) (of : A → List ℕ) → is_some part ≡ is_some (option_map of part)
-      some_made None of = refl
-      some_made (Some x) of = refl
