@@ -152,6 +152,7 @@ can_name = record {
   generation_fits = omega arith;
 }
 
+-- by computing with the number of the newest version, whatever it is
 formed_whole : IsWholeRoot formed_image.root (Counts formed_slot)
 formed_whole = record {
   first = Live NEWEST_VERSION 1 1;
