@@ -9,6 +9,7 @@ use Rattle.ax_area_laws.specs.Risen.{risen}
 use Rattle.ax_pages.specs.Area.{frames_bytes}
 use Rattle.ax_pages.specs.Contents.{Contents}
 use Rattle.ax_log.specs.Agreement as log
+use Rattle.ax_log.specs.AgreementLaws.{agrees_idles}
 use Rattle.ax_cache.specs.Pages.{CachedPages}
 use Rattle.ax_store.specs.declared.read_ahead.ReadAhead.{ReadAhead}
 use Rattle.ax_store.specs.declared.store.Store.{Store}
@@ -18,7 +19,7 @@ use Rattle.ax_store.specs.ReadAhead.{AgreesAhead, AgreesAheadUnlessFailed, IsNot
 use Rattle.ax_store.specs.Loading.{nothing_kept, TakesOn}
 use Rattle.ax_store.proofs.PartPlaces.{IsReadable}
 use Rattle.ax_store.proofs.Saying.{ahead_says}
-use Rattle.ax_store.proofs.StoreLemmas.{agrees_idle, caches_same}
+use Rattle.ax_store.proofs.StoreLemmas.{caches_same}
 
 -- the store agrees after a read beside its cache, and what was read stands in its frames
 pub ahead_read : {C : Type 0} (pages : C → CachedPages) (old new : Store C) (ahead : ReadAhead) (before after : History) (agrees : Agrees pages old before)
@@ -27,7 +28,7 @@ pub ahead_read : {C : Type 0} (pages : C → CachedPages) (old new : Store C) (a
 ahead_read pages old new ahead before after agrees logged same cache idles stands = record {
   agrees = record {
     frames = agrees.frames;
-    logged = agrees_idle new.log agrees.frames before after (subst (λ l. log.Agrees l agrees.frames before) (sym logged) agrees.logged) idles;
+    logged = agrees_idles new.log agrees.frames before after (subst (λ l. log.Agrees l agrees.frames before) (sym logged) agrees.logged) idles;
     takes = subst (TakesOn agrees.frames 0 nothing_kept) (sym same) agrees.takes;
     caches = caches_same pages old new agrees.frames logged cache agrees.caches;
   };

@@ -11,7 +11,10 @@ pub mod WindowLemmas
 pub mod SpanLemmas
 pub mod LoadLemmas
 pub mod CacheLemmas
+pub mod FramesSay
 pub mod StoreLemmas
+pub mod OpenLemmas
+pub mod CommitLemmas
 pub mod AheadLemmas
 pub mod NextHeld
 pub mod PartPlaces

@@ -52,9 +52,9 @@ test_held : (test : Bool) (x y : Contents) → (if test then Some x else None) �
 test_held true x y e = refl
 test_held false x y e = absurd (no_some y e)
 
-first_of : (a b c d f : Bool) → (a && b && c && d && f) ≡ true → a ≡ true
-first_of true b c d f e = refl
-first_of false b c d f e = e
+first_of : (a b c d : Bool) → (a && b && c && d) ≡ true → a ≡ true
+first_of true b c d e = refl
+first_of false b c d e = e
 
 not_first : (i : ℕ) → (suc i == 0) ≡ false
 not_first i = either (suc i == 0) refl
@@ -299,8 +299,8 @@ module _ (bytes : List ℕ) where
       key_is : key ≡ 0
       key_is =
           eqb-true key 0
-          (first_of (key == 0) (length payload == 8) (nat_lt 0 (next_in payload)) (nat_le (now_in payload) last_policy)
-          (is_given (now_in payload) old) (test_held (is_meta key payload old) (record old { meta = Some payload }) new lead))
+          (first_of (key == 0) (length payload == 8) (nat_lt 0 (next_in payload)) (is_given (now_in payload) old)
+           (test_held (is_meta key payload old) (record old { meta = Some payload }) new lead))
 
       meta_placed : (other : List ℕ) (at : ℕ) → Some payload ≡ Some other → Some here ≡ Some at → Stands 1 0 other at
       meta_placed other at e f =

@@ -1,74 +1,37 @@
--- The store and its log: agreement, opening, a commit.
-use Rattle.std.proofs.Common.{◌≡◌, ℕ, zero, suc, ⊎_elim, ◌+◌, ◌≤◌, false, List, [], ◌∷◌, ◌++◌, length, Err, Some, refl, sym, ap, subst, ◌∙◌, inl, inr}
-use Rattle.std.proofs.Common.{length-append, arith}
+-- The store and its log: agreement, and what it says of images.
+use Rattle.std.proofs.Common.{◌≡◌, ℕ, zero, suc, ⊎_elim, ◌≤◌, List, sym, subst, inl, inr}
 use Rattle.ax_disk.specs.model.Image.{Image}
 use Rattle.ax_disk.specs.model.Pending.{MayLeave}
 use Rattle.ax_disk.specs.model.Moments.{History}
 use Rattle.ax_disk.specs.model.Calls.{Idles}
-use Rattle.ax_disk.specs.model.Stays.{Rests, Turns, SinceBarrier, BarrierStage}
-use Rattle.ax_disk.specs.laws.StaysLaws.{idles_rest, idles_stay, rests_weaken, stays_join, turns_weaken}
-use Rattle.ax_disk.specs.laws.StageLaws.{progress_weaken, barrier_goes_on}
-use Rattle.ax_frame.specs.Part.{PartValue, parts_bytes}
-use Rattle.ax_frame.specs.LogFrame.{frame_bytes, CanFrame}
-use Rattle.ax_frame.proofs.Frames.{parts_take_bytes}
-use Rattle.ax_pages.specs.declared.root.RootChoice.TheVariants.{Counts}
-use Rattle.ax_pages.specs.Root.{IsRoot}
-use Rattle.ax_pages.specs.Image.{IsFresh, IsLive, HasFrames}
-use Rattle.ax_pages.specs.laws.ImageLaws.{one_frames, fresh_not_live}
-use Rattle.ax_pages.specs.Contents.{Contents, no_contents}
-use Rattle.ax_pages.specs.AfterPart.{after_parts}
-use Rattle.ax_pages.specs.Leads.{AreSpoiled}
-use Rattle.ax_pages.specs.HasContents.{HasContents}
-use Rattle.std.specs.FinMap as map
+use Rattle.ax_disk.specs.model.Stays.{Rests, SinceBarrier, BarrierStage}
+use Rattle.ax_disk.specs.laws.StaysLaws.{rests_weaken}
+use Rattle.ax_disk.specs.laws.StageLaws.{progress_weaken}
+use Rattle.ax_area.specs.Image.{HasFrames, Says}
 use Rattle.ax_cache.specs.Pages.{CachedPages}
-use Rattle.ax_pages.specs.Area.{IsSpan, frames_bytes}
-use Rattle.ax_store.specs.Cached.{HoldsParts}
-use Rattle.ax_store.proofs.CacheLemmas.{none_held, held_on}
-use Rattle.ax_log.specs.declared.log.Log.{Log}
-use Rattle.ax_log.specs.Log.{log_area, log_generation, log_end}
+use Rattle.ax_pages.specs.Area.{frames_bytes}
+use Rattle.ax_pages.specs.declared.numbers.TheConstants.{NEWEST_VERSION}
+use Rattle.ax_log.specs.Log.{log_area, log_generation}
 use Rattle.ax_log.specs.Agreement as log
-use Rattle.ax_log.specs.Commit.{IsCommitSpelling}
-use Rattle.ax_log.specs.Faults as log_faults
-use Rattle.ax_log.specs.Opening as opening
-use Rattle.ax_log.specs.Opening.{Keeps}
-use Rattle.ax_log.specs.declared.fault.LogFault.{LogFault}
-use Rattle.ax_log.specs.declared.fault.LogFault.TheVariants as by_log
-use Rattle.ax_store.specs.declared.fault.StoreFault.{StoreFault}
-use Rattle.ax_store.specs.declared.fault.StoreFault.TheVariants.{Disk, Damaged, Newer, Memory}
+use Rattle.ax_log.specs.AgreementLaws.{agrees_idles, agrees_rests}
+use Rattle.ax_store.specs.Cached.{HoldsParts}
 use Rattle.ax_store.specs.declared.store.Store.{Store}
-use Rattle.ax_store.specs.Kept.{Kept, Takes, offsets_after_parts}
-use Rattle.ax_store.specs.Change.{IsFrameOf}
-use Rattle.ax_store.specs.Faults.{IsRefusal, HasDiskCause}
-use Rattle.ax_store.specs.Loading.{nothing_kept, TakesOn, TellsLoad}
-use Rattle.ax_store.specs.Putting.{Puts}
-use Rattle.ax_store.specs.Store.{Agrees, SameButRoom, SameButSlots, IsOpened, TellsFault, of_log, store_contents}
-use Rattle.ax_store.proofs.LoadLemmas.{one_frame_more, lead_on_of, last_same}
+use Rattle.ax_store.specs.Loading.{nothing_kept, TakesOn}
+use Rattle.ax_store.specs.Store.{Agrees, SameButRoom, SameButSlots, SaysOf, store_contents}
+use Rattle.ax_store.proofs.FramesSay.{says_by, taken_tell}
+use Rattle.ax_store.proofs.LoadLemmas.{last_same}
 
--- ---- the log agrees
-
-has_frames : (l : Log) (frames : List (List ℕ)) (history : History) → log.Agrees l frames history → (image : Image)
-    → log.HasLog history.reads.root (log_area l) frames image → HasFrames frames image
-has_frames l frames history agrees image has =
-    inr (
-      log_area l,
-      log_generation l,
-      record { counts = subst (λ root. IsRoot root (Counts 1 (log_area l) (log_generation l))) (sym has.root_is) agrees.counts; has = has.has },
-    )
-
-pub rests_of : (l : Log) (frames : List (List ℕ)) (history : History) → log.Agrees l frames history → Rests history (HasFrames frames)
-rests_of l frames history agrees =
-    rests_weaken history (log.HasLog history.reads.root (log_area l) frames) (HasFrames frames) (has_frames l frames history agrees)
-    agrees.rests
-
-pub agrees_idle : (l : Log) (frames : List (List ℕ)) (old new : History) → log.Agrees l frames old → Idles old new → log.Agrees l frames new
-agrees_idle l frames old new agrees idles =
-    let root : new.reads.root ≡ old.reads.root = ap (λ (image : Image). image.root) idles.reads in
+-- ---- a law for clients: where the store agrees, each image that a crash now may leave says its contents
+pub agrees_says : {C : Type 0} (pages : C → CachedPages) (store : Store C) (history : History) → Agrees pages store history
+    → SaysOf store history
+agrees_says pages store history agrees =
+    let (told, tells) = taken_tell agrees.frames store.pages agrees.takes in
     record {
-      counts = subst (λ bytes. IsRoot bytes (Counts 1 (log_area l) (log_generation l))) (sym root) agrees.counts;
-      end_is = agrees.end_is;
-      rests = rests_weaken new (log.HasLog old.reads.root (log_area l) frames) (log.HasLog new.reads.root (log_area l) frames)
-          (λ image has. record { root_is = has.root_is ∙ sym root; has = has.has })
-          (idles_rest old new (log.HasLog old.reads.root (log_area l) frames) agrees.rests idles);
+      version = NEWEST_VERSION;
+      told = told;
+      says = rests_weaken history (HasFrames NEWEST_VERSION agrees.frames) (Says NEWEST_VERSION NEWEST_VERSION told (store_contents store))
+          (says_by agrees.frames NEWEST_VERSION told (store_contents store) tells)
+          (agrees_rests store.log agrees.frames history agrees.logged);
     }
 
 -- it agrees still where no list changed
@@ -76,7 +39,7 @@ pub agrees_still : {C : Type 0} (pages : C → CachedPages) (store : Store C) (o
     → Agrees pages store new
 agrees_still pages store old new agrees idles = record {
   frames = agrees.frames;
-  logged = agrees_idle store.log agrees.frames old new agrees.logged idles;
+  logged = agrees_idles store.log agrees.frames old new agrees.logged idles;
   takes = agrees.takes;
   caches = agrees.caches;
 }
@@ -97,7 +60,7 @@ pub agrees_read : {C : Type 0} (pages : C → CachedPages) (old new : Store C) (
     → CachesOf pages new agrees.frames → Idles before after → Agrees pages new after
 agrees_read pages old new before after agrees logged same caches idles = record {
   frames = agrees.frames;
-  logged = agrees_idle new.log agrees.frames before after (subst (λ l. log.Agrees l agrees.frames before) (sym logged) agrees.logged) idles;
+  logged = agrees_idles new.log agrees.frames before after (subst (λ l. log.Agrees l agrees.frames before) (sym logged) agrees.logged) idles;
   takes = subst (TakesOn agrees.frames 0 nothing_kept) (sym same) agrees.takes;
   caches = caches;
 }

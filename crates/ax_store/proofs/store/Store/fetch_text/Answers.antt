@@ -1,5 +1,5 @@
-use Rattle.std.proofs.Common.{rules, ◌≡◌, ℕ, List, refl, ap, ◌∙◌, length, drop, Some, option_map, arith}
-use Rattle.std.proofs.lemmas.List.{take_at}
+use Rattle.std.proofs.Common.{◌≡◌, ℕ, List, refl, ap, ◌∙◌, length, drop, Some, option_map, arith}
+use Rattle.std.proofs.lemmas.List.{take_at, length-drop}
 use Rattle.ax_store.specs.Rows.{payload_kept, offset_kept}
 use Rattle.ax_store.proofs.PartPlaces.{whole_frame, text_readable}
 use Rattle.ax_store.specs.Store.{store_parts}
@@ -46,4 +46,22 @@ returns-in_default-clause-len g c =
     (ap (option_map (λ (payload : List ℕ). length (drop 1 payload))) c.in_default.ensures.payload)
 
 pub returns-clause-len : goal.returns-clause-len
-returns-clause-len g c = len_by (store_parts c.args.self.now) c.args.number _ (search rules)
+returns-clause-len g c =
+    let payload = payload_kept c.in-Some.part.now in
+    let frame = c.read_bytes.new.frame in
+    let long : length frame ≡ c.in-Ok.text.len =
+    omega (arith, c.read_bytes.auto.frame, ap length c.deref_mut.ensures.value, c.in-Ok.text.ok.0, c.in-Ok.ensures) in
+    let many : length frame ≡ length (drop 1 payload) =
+    omega (
+      arith,
+      c.read_bytes.auto.frame,
+      ap length c.deref_mut.ensures.value,
+      c.in-Ok.text.ok.0,
+      c.in-Ok.ensures,
+      c.text_place-from.ensures.len,
+      length-drop 1 payload,
+    ) in
+    len_by (store_parts c.args.self.now) c.args.number _
+    (ap (λ (bytes : List ℕ). Some (length bytes)) (take_at frame (drop (length frame) c.in-Ok.text.items) c.in-Ok.text.len long)
+    ∙ ap (λ (n : ℕ). Some n) many
+    ∙ ap (option_map (λ (payload : List ℕ). length (drop 1 payload))) c.in-Some.ensures.payload)
