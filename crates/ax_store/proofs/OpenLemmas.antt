@@ -124,7 +124,7 @@ module _ (l : Log) (before : Image) (mid : History) (opened : opening.IsOpened l
   -- a spoiled area is one that counts
   spoiled_live : (at : ℕ) → parts_lead.AreSpoiled opened.frames parts.no_contents at → IsLive NEWEST_VERSION (log_slot l) opened.frames before
   spoiled_live at spoiled =
-      ⊎_elim (λ (fresh : IsFresh before × (opened.frames ≡ []) × (log_slot l ≡ formed_slot)). absurd (no_spoiled opened.frames at spoiled fresh.1.0))
+      ⊎_elim (λ (fresh : IsFresh before × (opened.frames ≡ []) × (log_slot l ≡ formed_slot)). absurd (no_spoiled opened.frames at spoiled fresh.1))
       (λ (live : IsLive NEWEST_VERSION (log_slot l) opened.frames before). live) opened.from
 
   spoiled_area : (at : ℕ) → parts_lead.AreSpoiled opened.frames parts.no_contents at → IsDamaged NEWEST_VERSION before (log_area l) at
