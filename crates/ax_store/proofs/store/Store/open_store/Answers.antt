@@ -3,50 +3,50 @@ use Rattle.std.specs.Prelude.{IsTrue}
 use Rattle.ax_store.proofs.OpenLemmas.{says_since, says_since_on, says_rest, load_opened, load_refused, load_keeps}
 use Rattle.ax_store.proofs.store.Store.open_store.Goals as goal
 
-pub returns-in_Err-clause-any_moment : goal.returns-in_Err-clause-any_moment
-returns-in_Err-clause-any_moment g c = λ honest version told contents says.
+pub returns-in-Err-clause-any_moment : goal.returns-in-Err-clause-any_moment
+returns-in-Err-clause-any_moment g c = λ honest version told contents says.
     says_since version told contents _ says _ _ (c.open_log.ensures.any_moment honest)
 
-pub returns-in_Ok-make-clause-tells : goal.returns-in_Ok-make-clause-tells
-returns-in_Ok-make-clause-tells g c = λ honest.
+pub returns-in-Ok-make-clause-tells : goal.returns-in-Ok-make-clause-tells
+returns-in-Ok-make-clause-tells g c = λ honest.
     let opened = c.in-Ok.ensures.tells honest in
     let still = subst IsTrue (sym c.open_log.ensures.honest) honest in
     load_opened g.C.PageCache.pages _ _ _ _ opened (c.in-Ok-load.ensures.tells still opened.frames opened.agrees)
     (c.load.ensures.lists still) c.requires.empty refl
 
-pub returns-in_Ok-make-clause-any_moment : goal.returns-in_Ok-make-clause-any_moment
-returns-in_Ok-make-clause-any_moment g c = λ honest version told contents says.
+pub returns-in-Ok-make-clause-any_moment : goal.returns-in-Ok-make-clause-any_moment
+returns-in-Ok-make-clause-any_moment g c = λ honest version told contents says.
     let opened = c.in-Ok.ensures.tells honest in
     let still = subst IsTrue (sym c.open_log.ensures.honest) honest in
     says_since_on version told contents _ says c.in-Ok.log _ _ opened (c.load.ensures.lists still) _ (c.open_log.ensures.any_moment honest)
 
-pub returns-in_Ok-make-clause-kept : goal.returns-in_Ok-make-clause-kept
-returns-in_Ok-make-clause-kept g c = λ honest version told contents says.
+pub returns-in-Ok-make-clause-kept : goal.returns-in-Ok-make-clause-kept
+returns-in-Ok-make-clause-kept g c = λ honest version told contents says.
     let opened = c.in-Ok.ensures.tells honest in
     let still = subst IsTrue (sym c.open_log.ensures.honest) honest in
     says_rest version told contents _ says c.in-Ok.log _ _ opened (c.load.ensures.lists still)
 
-pub returns-in_Err-load-clause-tells : goal.returns-in_Err-load-clause-tells
-returns-in_Err-load-clause-tells g c = λ honest.
+pub returns-in-Err-load-clause-tells : goal.returns-in-Err-load-clause-tells
+returns-in-Err-load-clause-tells g c = λ honest.
     let opened = c.in-Ok.ensures.tells honest in
     let still = subst IsTrue (sym c.open_log.ensures.honest) honest in
     load_refused c.in-Ok.log _ _ opened c.in-Err-load.fault (c.in-Err-load.ensures.tells still opened.frames opened.agrees)
 
-pub returns-in_Err-load-clause-refused : goal.returns-in_Err-load-clause-refused
-returns-in_Err-load-clause-refused g c = λ honest refused.
+pub returns-in-Err-load-clause-refused : goal.returns-in-Err-load-clause-refused
+returns-in-Err-load-clause-refused g c = λ honest refused.
     let opened = c.in-Ok.ensures.tells honest in
     let still = subst IsTrue (sym c.open_log.ensures.honest) honest in
     load_keeps c.in-Err-load.fault c.in-Ok.log _ _ _ opened (c.in-Err-load.ensures.tells still opened.frames opened.agrees)
     (c.open_log.ensures.unchanged honest) (c.load.ensures.lists still) refused
 
-pub returns-in_Err-load-clause-any_moment : goal.returns-in_Err-load-clause-any_moment
-returns-in_Err-load-clause-any_moment g c = λ honest version told contents says.
+pub returns-in-Err-load-clause-any_moment : goal.returns-in-Err-load-clause-any_moment
+returns-in-Err-load-clause-any_moment g c = λ honest version told contents says.
     let opened = c.in-Ok.ensures.tells honest in
     let still = subst IsTrue (sym c.open_log.ensures.honest) honest in
     says_since_on version told contents _ says c.in-Ok.log _ _ opened (c.load.ensures.lists still) _ (c.open_log.ensures.any_moment honest)
 
-pub returns-in_Err-make-clause-any_moment : goal.returns-in_Err-make-clause-any_moment
-returns-in_Err-make-clause-any_moment g c = λ honest version told contents says.
+pub returns-in-Err-make-clause-any_moment : goal.returns-in-Err-make-clause-any_moment
+returns-in-Err-make-clause-any_moment g c = λ honest version told contents says.
     let opened = c.in-Ok.ensures.tells honest in
     let still = subst IsTrue (sym c.open_log.ensures.honest) honest in
     says_since_on version told contents _ says c.in-Ok.log _ _ opened (c.load.ensures.lists still) _ (c.open_log.ensures.any_moment honest)
