@@ -300,7 +300,7 @@ module _ (bytes : List ℕ) where
       key_is =
           eqb-true key 0
           (first_of (key == 0) (length payload == 8) (nat_lt 0 (next_in payload)) (is_given (now_in payload) old)
-           (test_held (is_meta key payload old) (record old { meta = Some payload }) new lead))
+          (test_held (is_meta key payload old) (record old { meta = Some payload }) new lead))
 
       meta_placed : (other : List ℕ) (at : ℕ) → Some payload ≡ Some other → Some here ≡ Some at → Stands 1 0 other at
       meta_placed other at e f =

@@ -5,15 +5,19 @@
 //! texts that lie together come from one read.
 //!
 //! It stands on `ax_log` for the frames, on `ax_frame` for parts, on `ax_cache` for what was read
-//! before, on `ax_shown` for payloads that contracts see and no code holds, and on `ax_pages` for what
-//! an image of the disk has. Its one contract: until a call answers that the disk failed, each image that a
-//! crash may leave has the store's contents; a commit changes them whole or not at all, at each
-//! moment; and a store that is damaged is refused at exactly the offset where it is.
+//! before, on `ax_shown` for payloads that contracts see and no code holds, on `ax_area` for what an
+//! image of the disk says, and on `ax_area_laws` for what the store's parts say. Its one contract:
+//! until a call answers that the disk failed, each image that a crash may leave says the store's
+//! contents; a commit changes them whole or not at all, at each moment; and a store that is damaged is
+//! refused at exactly the offset where it is.
 //!
-//! Upper layers speak of `HasContents` before a call and after it. That a store which agrees with a
-//! disk has its contents there, and that it agrees still where nothing changed, are the lemmas
-//! `agrees_rests`, `agrees_still` and `agrees_same` of `proofs/StoreLemmas.antt`; of what was read
-//! ahead `ahead_of_nothing`, `ahead_still` and `without_ahead` of `proofs/AheadLemmas.antt`.
+//! The contracts are in the words of all versions of the format: `store_contents` is what the store's
+//! parts say, and `Says` what an image says. The payloads of the parts, `store_parts`, are spoken of
+//! only where a part is counted, placed or read. That each image says the contents of a store which
+//! agrees with its disk, and that it agrees still where nothing changed, are the lemmas `agrees_says`,
+//! `agrees_still` and `agrees_same` of `proofs/StoreLemmas.antt`; what parts that are to be committed
+//! say, `allowed_within`, `within_allowed` and `parts_say` of `proofs/CommitLemmas.antt`; of what was
+//! read ahead `ahead_of_nothing`, `ahead_still` and `without_ahead` of `proofs/AheadLemmas.antt`.
 #![tactic(auto)]
 
 mod ahead_reads;

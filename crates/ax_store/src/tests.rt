@@ -143,6 +143,7 @@ fn keeps_document(store: &Store<NoPages>) -> bool {
     store.meta().next == 2
         && store.next_document(0) == Some(1)
         && store.head_of(1) == Some(head)
+        && !store.has_policy(1)
         && place == Some((1, 26))
 }
 

@@ -22,11 +22,7 @@ both = record { kind = 1; key = 0; payload = 2 ∷ 0 ∷ 0 ∷ 0 ∷ 0 ∷ 0 ∷
 
 both_fit : AllFit both
 both_fit =
-    (
-      record { kind_fits = omega arith; key_fits = omega arith; payload_fits = omega arith },
-      record { kind_fits = omega arith; key_fits = omega arith; payload_fits = omega arith },
-      tt,
-    )
+    (record { key_fits = omega arith; payload_fits = omega arith }, (record { key_fits = omega arith; payload_fits = omega arith }, tt))
 
 -- both parts are within the format where few documents are held
 within : (contents : Contents) → map.len contents.documents ≤ 9

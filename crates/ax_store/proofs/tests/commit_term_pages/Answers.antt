@@ -27,14 +27,13 @@ abbrev four : List PartValue
 four = record { kind = 5; key = 0; payload = first_base } ∷ three
 
 four_fit : AllFit four
-four_fit =
-    (
-      record { kind_fits = omega arith; key_fits = omega arith; payload_fits = omega arith },
-      record { kind_fits = omega arith; key_fits = omega arith; payload_fits = omega arith },
-      record { kind_fits = omega arith; key_fits = omega arith; payload_fits = omega arith },
-      record { kind_fits = omega arith; key_fits = omega arith; payload_fits = omega arith },
-      tt,
-    )
+four_fit = (
+  record { key_fits = omega arith; payload_fits = omega arith },
+  (
+    record { key_fits = omega arith; payload_fits = omega arith },
+    (record { key_fits = omega arith; payload_fits = omega arith }, (record { key_fits = omega arith; payload_fits = omega arith }, tt)),
+  ),
+)
 
 -- a page without a base may have each pair
 base_fits : (base : Option (List ℕ)) (deltas : List (List ℕ)) → is_some base ≡ false
