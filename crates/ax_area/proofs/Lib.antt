@@ -1,7 +1,9 @@
 pub mod OneItem
 pub mod OneTelling
 pub mod OneRoot
+pub mod RootPrefix
 pub mod OneOutcome
+pub mod OneImage
 pub mod KeptSo
 pub mod Writing
 pub mod MadeWell
@@ -17,4 +19,3 @@ pub mod EveryItem
 pub mod EveryFrame
 pub mod EveryImage
 pub mod SampleSays
-pub mod LogWords

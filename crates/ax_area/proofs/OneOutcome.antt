@@ -38,7 +38,7 @@ module _ (newest : ℕ) (image : Image) where
       (slot_same a.slot b.slot a.live.counts b.live.counts) ∙ b.version_is
 
   -- the frames of an area are those of the same slot
-  same_frames : (s t : Counting) (xs ys : List (List ℕ)) → IsLive newest s xs image
+  pub same_frames : (s t : Counting) (xs ys : List (List ℕ)) → IsLive newest s xs image
       → IsLive newest t ys image → xs ≡ ys
   same_frames s t xs ys a b =
       one_area (list_of s.area image) xs ys a.has
@@ -85,7 +85,7 @@ module _ (newest : ℕ) (image : Image) where
       let below : s.generation < last_generation = known.rises (omega (arith, version, older)) in
       omega (arith, below, generation, last)
 
-  root_and_area : (i : ℕ) (s : Counting) → (IsRoot image.root (Damaged i)) ⊎ IsWorn newest i image
+  pub root_and_area : (i : ℕ) (s : Counting) → (IsRoot image.root (Damaged i)) ⊎ IsWorn newest i image
       → IsRoot image.root (Counts s) → IsKnown newest s → ⊥
   root_and_area i s (inl damaged) counts known = counts_damaged image.root s i counts damaged
   root_and_area i s (inr worn) counts known =
@@ -126,7 +126,7 @@ module _ (newest : ℕ) (image : Image) where
       sym x.area_is ∙ ap (λ (slot : Counting). slot.area)
       (slot_same x.slot y.slot x.counts y.counts) ∙ y.area_is
 
-  live_not_broken : (s : Counting) (frames : List (List ℕ)) (area : Extent) (i : ℕ)
+  pub live_not_broken : (s : Counting) (frames : List (List ℕ)) (area : Extent) (i : ℕ)
       → IsLive newest s frames image → IsBrokenArea newest area i image → ⊥
   live_not_broken s frames area i live broken =
       let area_is : s.area ≡ area = ap (λ (slot : Counting). slot.area)
@@ -208,7 +208,7 @@ module _ (newest : ℕ) (image : Image) where
 
   -- ---- a later version
 
-  newer_not_known : (w : ℕ) (s : Counting) → IsNewer newest w image → IsRoot image.root (Counts s)
+  pub newer_not_known : (w : ℕ) (s : Counting) → IsNewer newest w image → IsRoot image.root (Counts s)
       → s.version ≤ newest → ⊥
   newer_not_known w s newer counts known =
       omega (

@@ -14,7 +14,7 @@ use Rattle.ax_area.specs.declared.root.RootChoice.{RootChoice}
 use Rattle.ax_area.specs.declared.root.Which.TheVariants.{First, Second}
 use Rattle.ax_area.specs.declared.root.RootChoice.TheVariants.{Fresh, Counts, Damaged}
 use Rattle.ax_area.specs.Root.{area_numbered, named, slot_in, chosen, IsRoot}
-use Rattle.ax_area.specs.Root.{IsClosedBeside, IsLesserBeside}
+use Rattle.ax_area.specs.Root.{IsClosedBeside, IsLesserBeside, IsKnown}
 
 pub one_root : (root : List ℕ) (one other : RootChoice) → IsRoot root one → IsRoot root other → one
     ≡ other
@@ -139,6 +139,19 @@ counts_from root s (inl short) = absurd (cc short.1)
 counts_from root s (inr whole) =
     by_slots s whole.first whole.second (slot_in First root) (slot_in Second root) whole.first_slot
     whole.second_slot whole.choice_is
+
+-- a slot of the newest version is known
+pub newest_known : (newest : ℕ) (s : Counting) → s.version ≡ newest → IsKnown newest s
+newest_known newest s is = record {
+  known = omega (arith, is);
+  rises = λ older. omega (arith, older, is);
+}
+
+-- where the newest version is the first, each slot that is known is of it
+pub first_version : (root : List ℕ) (s : Counting) → IsRoot root (Counts s) → IsKnown 1 s
+    → s.version ≡ 1
+first_version root s counts known =
+    omega (arith, counts_from root s counts, known.known)
 
 -- ---- the slot beside the one that counts
 

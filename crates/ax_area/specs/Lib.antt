@@ -15,4 +15,3 @@ pub mod Placed
 pub mod ItemTexts
 pub mod Sample
 pub mod ChangeTexts
-pub mod FirstVersion

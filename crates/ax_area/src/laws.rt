@@ -25,10 +25,7 @@ ghost use Rattle.ax_area.specs.Sample.{second_sample, twin_sample, worn_sample, 
 ghost use Rattle.ax_area.specs.Sample.{later_sample, later_told};
 ghost use Rattle.ax_area.specs.Kept.{HoldsOfAll};
 ghost use Rattle.ax_area.specs.Told.{Told, changes_of, Begins, TellOn, Lead, IsSpoiled, AreSpoiled};
-ghost use Rattle.ax_area.specs.FirstVersion.{seen_by_log, IsLiveFirst};
-ghost use Rattle.ax_area.specs.Image.{IsFresh, IsLive, Says, IsNewer, IsDamaged};
-ghost use Rattle.ax_pages.specs.Image as log_image;
-ghost use Rattle.ax_pages.specs.Root as log_root;
+ghost use Rattle.ax_area.specs.Image.{IsLive, HasFrames, Says, IsNewer, IsBrokenImage, IsDamaged};
 
 /// A root says one thing alone.
 pub fn one_root()
@@ -41,19 +38,23 @@ pub fn the_other_slot()
         → IsClosedBeside root slot ⊎ IsLesserBeside root slot }
 {}
 
-/// What the log says of roots and images, in words of one version, is so in the words of all: a store that has gone
-/// over to these can stand on a log that has not.
-pub fn what_the_log_says()
-    ensures root { (root : List ℕ) (choice : RootChoice) → IsRoot root choice
-        → log_root.IsRoot root (seen_by_log choice) }
-    ensures fresh { (image : Image) → log_image.IsFresh image → IsFresh image }
-    ensures live { (area : Extent) (generation : ℕ) (frames : List (List ℕ)) (image : Image)
-        → log_image.IsLive area generation frames image → IsLiveFirst area generation frames image }
-    ensures back { (slot : Counting) (frames : List (List ℕ)) (image : Image)
-        → IsLive 1 slot frames image → log_image.IsLive slot.area slot.generation frames image }
-    ensures newer { (version : ℕ) (image : Image) → log_image.IsNewer image version → IsNewer 1 version image }
-    ensures damaged { (extent : Extent) (at : ℕ) (image : Image)
-        → log_image.IsDamaged image extent at → IsDamaged 1 image extent at }
+/// An image has one list of log frames, is broken at one place or is of a later version, and no two of these. Where it
+/// is broken, opening finds it damaged.
+pub fn one_list_of_frames()
+    ensures frames { (newest : ℕ) (xs ys : List (List ℕ)) (image : Image)
+        → HasFrames newest xs image → HasFrames newest ys image → xs ≡ ys }
+    ensures extent { (newest : ℕ) (a b : Extent) (i j : ℕ) (image : Image)
+        → IsBrokenImage newest image a i → IsBrokenImage newest image b j → a ≡ b }
+    ensures place { (newest : ℕ) (a b : Extent) (i j : ℕ) (image : Image)
+        → IsBrokenImage newest image a i → IsBrokenImage newest image b j → i ≡ j }
+    ensures frames_not_broken { (newest : ℕ) (xs : List (List ℕ)) (a : Extent) (i : ℕ) (image : Image)
+        → HasFrames newest xs image → IsBrokenImage newest image a i → ⊥ }
+    ensures frames_not_newer { (newest w : ℕ) (xs : List (List ℕ)) (image : Image)
+        → HasFrames newest xs image → IsNewer newest w image → ⊥ }
+    ensures broken_not_newer { (newest w : ℕ) (a : Extent) (i : ℕ) (image : Image)
+        → IsBrokenImage newest image a i → IsNewer newest w image → ⊥ }
+    ensures damaged { (newest : ℕ) (a : Extent) (i : ℕ) (image : Image)
+        → IsBrokenImage newest image a i → IsDamaged newest image a i }
 {}
 
 /// Opening finds one thing alone of an image: what it tells and the contents of that, a later version, or

@@ -4,8 +4,8 @@
 //! An item is one part, or the first part of a long document with its pieces. It is read once, by the table of
 //! kinds, to a change in which no version stands; all definitions behind that are the same for each version. It
 //! stands on `ax_pages` for areas and term pages, on `ax_frame` for slots, frames and parts, and on `ax_disk` for
-//! images. What images stand for, the engine's public calls and the top call have these words; the log and the
-//! store have those of `ax_pages`, and laws above tie the two.
+//! images. The log, the store, what images stand for, the engine's public calls and the top call all have these
+//! words.
 //!
 //! Its one contract: opening finds exactly one thing of each image: a version with what the area tells and the
 //! contents to which that leads, a version above the newest, or damage at one place. What payloads hold is for the

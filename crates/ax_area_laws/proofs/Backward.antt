@@ -1,30 +1,20 @@
 -- What is told in the words of all versions, by a program that knows the first alone, is parts that lead
--- on in the words of the store; and so are frames and an image.
+-- on in the words of the store; and so it is with frames.
 use Rattle.std.proofs.Common.{◌≡◌, ℕ, ◌+◌, List, [], ◌∷◌, ◌++◌, length, inl, inr, refl, sym, ap, subst}
 use Rattle.std.proofs.Common.{◌∙◌, arith}
 use Rattle.std.specs.Prelude.{Some, option_and_then}
 use Rattle.std.proofs.lemmas.List.{append-nil}
-use Rattle.ax_disk.specs.model.Image.{Image}
 use Rattle.ax_frame.specs.Part.{PartValue, AllFit, part_bytes, parts_bytes}
 use Rattle.ax_pages.specs.Contents as log
 use Rattle.ax_pages.specs.AfterPart.{after_parts}
-use Rattle.ax_pages.specs.HasContents.{HasContents}
 use Rattle.ax_pages.specs.Leads.{LeadOn}
 use Rattle.ax_pages.specs.declared.numbers.TheConstants.{NEWEST_VERSION}
 use Rattle.ax_area.specs.Items.{item_bytes}
 use Rattle.ax_area.specs.Contents.{Contents, no_contents, after_changes}
 use Rattle.ax_area.specs.Told.{Told, changes_of, told_bytes, AreTold, TellOn, Lead}
-use Rattle.ax_area.specs.Image.{Says}
-use Rattle.ax_area.specs.declared.root.Counting.{Counting}
-use Rattle.ax_area.specs.declared.root.RootChoice.TheVariants.{Fresh, Counts}
-use Rattle.ax_area.specs.Root.{IsRoot, IsKnown}
-use Rattle.ax_area.proofs.LogWords.{to_log, live_back}
-use Rattle.ax_area.proofs.OneRoot.{counts_from}
 use Rattle.ax_area.proofs.OneTelling.{same_some, first_step}
 use Rattle.ax_area_laws.specs.Agree.{Agree}
-use Rattle.ax_area_laws.proofs.Telling.{none_agree}
 use Rattle.ax_area_laws.proofs.Refusing.{leads_too}
-use Rattle.ax_area_laws.proofs.SmallPolicies.{PoliciesAreSmall, nothing_small, small_by_part}
 
 -- ---- parts one behind another
 
@@ -35,25 +25,22 @@ pub record IsParts (told : List Told) (old : log.Contents) (reached : Contents) 
   pub after : log.Contents
   pub lead : after_parts parts old ≡ Some after
   pub agree : Agree after reached
-  pub small : PoliciesAreSmall after
 
 pub is_parts : (told : List Told) (at : ℕ) (old : log.Contents) (new reached : Contents)
-    → AreTold NEWEST_VERSION at told → Lead told new reached → Agree old new → PoliciesAreSmall old
-    → IsParts told old reached
-is_parts [] at old new reached are lead agree small = record {
+    → AreTold NEWEST_VERSION at told → Lead told new reached → Agree old new → IsParts told old reached
+is_parts [] at old new reached are lead agree = record {
   parts = [];
   fit = tt;
   spelled = refl;
   after = old;
   lead = refl;
   agree = subst (Agree old) (same_some new reached lead) agree;
-  small = small;
 }
-is_parts (t ∷ told) at old new reached are lead agree small =
+is_parts (t ∷ told) at old new reached are lead agree =
     let by = first_step t.change (changes_of told) new reached lead in
-    let one = leads_too t.item t.change old new by.between are.0.item agree small are.0.says by.first in
+    let one = leads_too t.item t.change old new by.between are.0.item agree are.0.says by.first in
     let others = is_parts told (at + length (item_bytes t.item)) one.after by.between reached are.1
-    by.others one.agree (small_by_part t.item.first old one.after one.leads small) in
+    by.others one.agree in
     record {
       parts = t.item.first ∷ others.parts;
       fit = (are.0.item.fit.0, others.fit);
@@ -62,7 +49,6 @@ is_parts (t ∷ told) at old new reached are lead agree small =
       after = others.after;
       lead = ap (option_and_then (after_parts others.parts)) one.leads ∙ others.lead;
       agree = others.agree;
-      small = others.small;
     }
 
 -- ---- frames one behind another
@@ -89,22 +75,20 @@ pub record LeadsOn (frames : List (List ℕ)) (old : log.Contents) (reached : Co
   pub after : log.Contents
   pub lead : LeadOn frames old after
   pub agree : Agree after reached
-  pub small : PoliciesAreSmall after
 
 pub leads_on : (frames : List (List ℕ)) (at : ℕ) (told : List Told) (old : log.Contents)
     (new reached : Contents) → TellOn NEWEST_VERSION frames at told → Lead told new reached → Agree old new
-    → PoliciesAreSmall old → LeadsOn frames old reached
-leads_on [] at told old new reached tell lead agree small = record {
+    → LeadsOn frames old reached
+leads_on [] at told old new reached tell lead agree = record {
   after = old;
   lead = refl;
   agree = subst (Agree old) (same_some new reached (subst (λ t. Lead t new reached) tell lead)) agree;
-  small = small;
 }
-leads_on (frame ∷ frames) at told old new reached (first, others, is, begins, more) lead agree small =
+leads_on (frame ∷ frames) at told old new reached (first, others, is, begins, more) lead agree =
     let split = split_lead first others new reached (subst (λ t. Lead t new reached) is lead) in
-    let one = is_parts first (at + 9) old new split.between begins.are split.front agree small in
+    let one = is_parts first (at + 9) old new split.between begins.are split.front agree in
     let on = leads_on frames (at + 9 + length frame) others one.after split.between reached more
-    split.back one.agree one.small in
+    split.back one.agree in
     record {
       after = on.after;
       lead = (
@@ -117,44 +101,5 @@ leads_on (frame ∷ frames) at told old new reached (first, others, is, begins, 
         },
         on.lead,
       );
-      agree = on.agree;
-      small = on.small;
-    }
-
--- ---- images
-
--- a slot that counts has a version from 1 on, and no later one is known
-pub first_version : (root : List ℕ) (slot : Counting) → IsRoot root (Counts slot) → IsKnown NEWEST_VERSION slot
-    → slot.version ≡ 1
-first_version root slot counts known = omega (arith, counts_from root slot counts, known.known)
-
-pub record Has (new : Contents) (image : Image) : Type 0 where
-  pub old : log.Contents
-  pub has : HasContents old image
-  pub agree : Agree old new
-
-pub contents_back : (image : Image) (version : ℕ) (told : List Told) (new : Contents)
-    → Says NEWEST_VERSION version told new image → Has new image
-contents_back image version told new (inl fresh) = record {
-  old = log.no_contents;
-  has = record {
-    frames = [];
-    has = inl (to_log image.root Fresh fresh.fresh, refl);
-    lead = refl;
-  };
-  agree = subst (Agree log.no_contents) (sym fresh.contents_is) none_agree;
-}
-contents_back image version told new (inr live) =
-    let first = first_version image.root live.slot live.live.counts live.live.known in
-    let on = leads_on live.frames 0 told log.no_contents no_contents new
-    (subst (λ v. TellOn v live.frames 0 told) (sym live.version_is ∙ first) live.tell)
-    live.lead none_agree nothing_small in
-    record {
-      old = on.after;
-      has = record {
-        frames = live.frames;
-        has = inr (live.slot.area, live.slot.generation, live_back live.slot live.frames image live.live);
-        lead = on.lead;
-      };
       agree = on.agree;
     }

@@ -1,10 +1,8 @@
 pub mod Documents
 pub mod Stepping
 pub mod Telling
-pub mod SmallPolicies
 pub mod Refusing
 pub mod Parts
 pub mod Backward
 pub mod Spoiled
-pub mod Finding
 pub mod Rising

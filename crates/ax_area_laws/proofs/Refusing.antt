@@ -4,7 +4,7 @@ use Rattle.std.proofs.Common.{◌≡◌, ℕ, ◌==◌, Bool, true, false, List,
 use Rattle.std.proofs.Common.{refl, sym, ap, subst, ◌∙◌, arith}
 use Rattle.std.specs.Prelude.{Some, None, ◌&&◌, ◌-◌, nat_lt, nat_le, if◌then◌else◌, length, drop}
 use Rattle.std.specs.Prelude.{option_and_then, slice_index}
-use Rattle.std.proofs.lemmas.Bool.{and_from, eqb-true, le-leb}
+use Rattle.std.proofs.lemmas.Bool.{and_from, eqb-true}
 use Rattle.ax_frame.specs.Part.{PartValue, Fits}
 use Rattle.ax_pages.specs.declared.page.Kind.{Kind}
 use Rattle.ax_pages.specs.declared.page.Kind.TheVariants as log_kind
@@ -24,7 +24,6 @@ use Rattle.ax_area.proofs.OneTelling.{same_some, some_or_none}
 use Rattle.ax_area_laws.specs.Agree.{Agree}
 use Rattle.ax_area_laws.proofs.Stepping.{step, kind_number, said_as}
 use Rattle.ax_area_laws.proofs.Stepping.{given_same, room_same}
-use Rattle.ax_area_laws.proofs.SmallPolicies.{PoliciesAreSmall, small_when_given}
 
 -- ---- kinds that the first version has not
 
@@ -125,7 +124,7 @@ never test is not = true_or_false (sym is ∙ not)
     true_or_false e = cc
 
 module _ (part : PartValue) (old : log.Contents) (new : Contents) (fits : Fits part)
-    (agree : Agree old new) (small : PoliciesAreSmall old) where
+    (agree : Agree old new) where
   abbrev Refused : Type 0
   Refused = said_next new (single part) ≡ None
 
@@ -141,10 +140,6 @@ module _ (part : PartValue) (old : log.Contents) (new : Contents) (fits : Fits p
   not_next true change refuses =
       ap (λ b. if b then Some (with_change change new) else None) (refuses refl)
   not_next false change refuses = refl
-
-  is_small : (policy : ℕ) → log.is_given policy old ≡ true → nat_le policy last_policy ≡ true
-  is_small policy given =
-      le-leb policy last_policy (small_when_given policy old small given)
 
   -- what a meta says
   abbrev numbers : Numbers
@@ -164,7 +159,7 @@ module _ (part : PartValue) (old : log.Contents) (new : Contents) (fits : Fits p
           → (b : Bool) → log.is_given (number_at 4 part.payload) old ≡ b
           → is_allowed (change.Meta numbers) new ≡ false
       by_given says true given =
-          absurd (never _ (and_from _ _ (and_from _ _ says (is_small (number_at 4 part.payload) given)) given) refused)
+          absurd (never _ (and_from _ _ says given) refused)
       by_given says false not_given =
           ap (λ b. b && may_follow None new) (given_same part old new fits agree (number_at 4 part.payload) ∙ not_given)
 
@@ -242,8 +237,8 @@ module _ (part : PartValue) (old : log.Contents) (new : Contents) (fits : Fits p
 
 -- an item whose first part is refused is refused
 pub refused_item : (item : Item) (old : log.Contents) (new : Contents) → IsItem item → Agree old new
-    → PoliciesAreSmall old → after_part item.first old ≡ None → said_next new item ≡ None
-refused_item item old new is agree small none = by_test (item.first.kind == 9) refl
+    → after_part item.first old ≡ None → said_next new item ≡ None
+refused_item item old new is agree none = by_test (item.first.kind == 9) refl
   where
     by_test : (b : Bool) → (item.first.kind == 9) ≡ b → said_next new item ≡ None
     by_test true nine =
@@ -251,7 +246,7 @@ refused_item item old new is agree small none = by_test (item.first.kind == 9) r
         (ap (kind_in NEWEST_VERSION) (eqb-true item.first.kind 9 nine))
     by_test false other =
         ap (said_next new) (by_itself item is other)
-        ∙ refused item.first old new is.fit.0 agree small none
+        ∙ refused item.first old new is.fit.0 agree none
 
 -- an item that says what leads on is one part, which leads on to contents that agree
 pub record LeadsToo (item : Item) (change : Change) (old : log.Contents) (reached : Contents) : Type 0 where
@@ -261,9 +256,9 @@ pub record LeadsToo (item : Item) (change : Change) (old : log.Contents) (reache
   pub agree : Agree after reached
 
 pub leads_too : (item : Item) (change : Change) (old : log.Contents) (new reached : Contents) → IsItem item
-    → Agree old new → PoliciesAreSmall old → change_of NEWEST_VERSION item ≡ Some change
+    → Agree old new → change_of NEWEST_VERSION item ≡ Some change
     → after_change change new ≡ Some reached → LeadsToo item change old reached
-leads_too item change old new reached is agree small says leads = by_part (after_part item.first old) refl
+leads_too item change old new reached is agree says leads = by_part (after_part item.first old) refl
   where
     next_is : said_next new item ≡ Some reached
     next_is = ap (option_and_then (λ change. after_change change new)) says ∙ leads
@@ -288,5 +283,5 @@ leads_too item change old new reached is agree small says leads = by_part (after
     by_part : (found : Option log.Contents) → after_part item.first old ≡ found
         → LeadsToo item change old reached
     by_part None none =
-        absurd (some_or_none reached (sym (refused_item item old new is agree small none) ∙ next_is))
+        absurd (some_or_none reached (sym (refused_item item old new is agree none) ∙ next_is))
     by_part (Some after) e = by_kind after e (kind_of item.first.kind) refl

@@ -134,7 +134,6 @@ module _ (part : PartValue) (old : log.Contents) (new : Contents) (fits : Fits p
       → Steps part (record old { meta = Some part.payload }) new
   meta is_kind is =
       let front = both_of _ _ is in
-      let small = both_of _ _ front.0 in
       let numbers : Numbers = record {
         next = number_at 0 part.payload;
         policy = number_at 4 part.payload;
@@ -143,7 +142,7 @@ module _ (part : PartValue) (old : log.Contents) (new : Contents) (fits : Fits p
       record {
         change = change.Meta numbers;
         item = alone 1 is_kind refl;
-        says = said_as 1 is_kind ∙ said _ (change.Meta numbers) small.0;
+        says = said_as 1 is_kind ∙ said _ (change.Meta numbers) front.0;
         reached = with_change (change.Meta numbers) new;
         leads = leads_to (change.Meta numbers)
             (and_from _ _ (given_too (number_at 4 part.payload) front.1) plain);

@@ -34,10 +34,6 @@ use Rattle.ax_engine.specs.Damage.{Meets, MeetsTrees, PassesOverNone}
 use Rattle.ax_engine.specs.Documents.{DocumentsHold, DocumentsWork, TellsUpsert, WorksAfterUpsert}
 use Rattle.ax_engine.specs.Engine.{Applies, HoldsOver, Tells, Works, made_by}
 use Rattle.ax_image.specs.Readable.{SaysReadable, newest}
-use Rattle.ax_area_laws.proofs.Rising.{says_risen}
-use Rattle.ax_area_laws.specs.Risen.{risen}
-use Rattle.ax_pages.specs.Contents as log
-use Rattle.ax_pages.specs.HasContents.{HasContents}
 use Rattle.ax_engine.specs.Replies.{FitsRefusal, IsOfReading, IsReply, MayReply, OnRows, own_refusal, read_answer, upsert_answer}
 use Rattle.ax_engine.specs.Scans.{Scanned, Scans}
 use Rattle.ax_engine.specs.Stores.{IsImageOf, Shows}
@@ -216,21 +212,21 @@ module _ (honest : Bool) (documents : Documents) (store : Store LruPages)
     tells_read (Err store_fault.Memory) scans may readable is h = (OutOfMemory, refl, stands_scanned scans, turns_scanned scans)
 
 -- rows over documents among which the query meets none are so over the image that has them
-pub passes_read : (contents : log.Contents) (body : Body) (image : Image) → HasContents contents image
+pub passes_read : (version : ℕ) (told : List Told) (contents : Contents) (body : Body) (image : Image)
+    → Says newest version told contents image
     → (read : Result Reply StoreFault)
     → ((query : Query) → query_in body.params body.text ≡ Some query
-    → IfOk read (λ reply. OnRows reply (MeetsTrees query (risen contents))))
+    → IfOk read (λ reply. OnRows reply (MeetsTrees query contents)))
     → IfOk (read_answer read) (λ reply. PassesOverNone (line.Query body) reply image)
-passes_read contents body image has (Ok reply) met = λ query is.
-    let said = says_risen image contents has in
-    on_rows reply (MeetsTrees query (risen contents))
+passes_read version told contents body image says (Ok reply) met = λ query is.
+    on_rows reply (MeetsTrees query contents)
     ((version : ℕ) × (told : List Told) × (there : Contents) × Says newest version told there image
     × MeetsTrees query there)
-    (λ none. (newest, said.0, risen contents, said.1, none)) (met query is)
-passes_read contents body image has (Err store_fault.Disk) met = tt
-passes_read contents body image has (Err (store_fault.Damaged extent at)) met = tt
-passes_read contents body image has (Err (store_fault.Newer version)) met = λ query is. tt
-passes_read contents body image has (Err store_fault.Memory) met = λ query is. tt
+    (λ none. (version, told, contents, says, none)) (met query is)
+passes_read version told contents body image says (Err store_fault.Disk) met = tt
+passes_read version told contents body image says (Err (store_fault.Damaged extent at)) met = tt
+passes_read version told contents body image says (Err (store_fault.Newer version)) met = λ query is. tt
+passes_read version told contents body image says (Err store_fault.Memory) met = λ query is. tt
 
 -- what fits the own refusal of the query may be its reply, and so may want of memory
 pub may_read : (body : Body) (read : Result Reply StoreFault)

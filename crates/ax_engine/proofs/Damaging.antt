@@ -12,8 +12,7 @@ use Rattle.ax_answer_text.specs.declared.text_answer.TextAnswer.{TextAnswer}
 use Rattle.ax_answer_text.specs.declared.text_fault.TextFault.{TextFault}
 use Rattle.ax_answer_text.specs.declared.text_fault.TextFault.TheVariants as text_fault
 use Rattle.ax_area.proofs.KeptSo.{told_so}
-use Rattle.ax_area.proofs.LogWords.{live_image}
-use Rattle.ax_area.specs.Contents as area
+use Rattle.ax_area.proofs.OneRoot.{counts_from}
 use Rattle.ax_area.specs.Contents.{Contents, Stored}
 use Rattle.ax_area.specs.Places.{no_places, places_after}
 use Rattle.ax_area.specs.Told.{changes_of}
@@ -28,16 +27,13 @@ use Rattle.ax_excerpt_text.specs.Left.{IsReadable}
 use Rattle.ax_excerpt_text.specs.Wholes.{tree_read}
 use Rattle.ax_image.specs.Readable.{SaysReadable, newest}
 use Rattle.ax_image_grammar.specs.Payloads.{IsDocumentText, IsReadable as IsReadableChange}
-use Rattle.ax_area_laws.proofs.Telling.{none_agree, tells_on}
-use Rattle.ax_area_laws.proofs.Rising.{is_risen}
-use Rattle.ax_log.specs.Log.{log_area, log_generation}
+use Rattle.ax_area_laws.proofs.Rising.{told_risen}
+use Rattle.ax_log.specs.Log.{log_slot}
 use Rattle.ax_mean.specs.declared.query.Query.{Query}
-use Rattle.ax_pages.specs.Contents as log
-use Rattle.ax_pages.specs.Area.{extent_number}
 use Rattle.ax_store.proofs.LoadLemmas.{lead_on_of}
 use Rattle.ax_store.specs.Kept.{Kept}
 use Rattle.ax_store.specs.Loading.{nothing_kept}
-use Rattle.ax_store.specs.ReadAhead.{AgreesAhead}
+use Rattle.ax_store.specs.ReadAhead.{AgreesAhead, IsAhead}
 use Rattle.ax_store.specs.declared.fault.StoreFault.{StoreFault}
 use Rattle.ax_store.specs.declared.fault.StoreFault.TheVariants as store_fault
 use Rattle.ax_store.specs.declared.read_ahead.ReadAhead.{ReadAhead}
@@ -45,9 +41,11 @@ use Rattle.ax_store.specs.declared.store.Store.{Store}
 use Rattle.ax_tree.specs.CanonicalText.{canonical_text}
 use Rattle.ax_tree.specs.Nesting.{nesting}
 use Rattle.ax_tree.specs.declared.tree.Tree.{Tree}
+use Rattle.ax_store.specs.Listed.{IsNextAfter}
+use Rattle.ax_store.specs.Store.{store_contents}
 use Rattle.ax_engine.specs.Damage.{IsMetOutside, LooksAtEach, MeetsTrees, StandForTrees}
 use Rattle.ax_engine.specs.InPages.{HasOutside, IsOutsideAt, IsPlaced}
-use Rattle.ax_engine.specs.StoreSays.{IsFound, IsNext, kept_says, store_says, text_of}
+use Rattle.ax_engine.specs.StoreSays.{kept_says, text_of}
 use Rattle.ax_engine.proofs.Placing.{alike_on, begins_at, nothing_alike}
 use Rattle.ax_engine.specs.Printing.{IsPrinted}
 use Rattle.ax_engine.specs.Replies.{OnRows}
@@ -86,12 +84,12 @@ none_outside image extent at readable met =
 
 pub outside_here : (pages : Kept) (number at : ℕ) (text : List ℕ) (found : Bool)
     → IsTrue (finite.contains_key (kept_says pages).documents number)
-    → IsFound (finite.get (kept_says pages).documents number) found text
+    → IsAhead (finite.get (kept_says pages).documents number) found text
     → ((tree : Tree) → text ≡ canonical_text tree → IsReadable tree → ⊥)
     → finite.get pages.offsets.documents number ≡ Some at → HasOutside pages at
 outside_here pages number at text found is ahead none placed =
     let some = document_of (finite.get (kept_says pages).documents number) is in
-    let shown : IsFound (Some some.0) found text = subst (λ document. IsFound document found text) some.1 ahead in
+    let shown : IsAhead (Some some.0) found text = subst (λ document. IsAhead document found text) some.1 ahead in
     record {
       number = number;
       document = some.0;
@@ -105,8 +103,8 @@ outside_here pages number at text found is ahead none placed =
 -- what the fault of a text leaves
 pub text_fails : (honest : Bool) (why : TextFault) (given : StoreFault) (old store : Store LruPages) (ahead : ReadAhead)
     (before after : History) (l m number : ℕ) (text : List ℕ) (found : Bool)
-    → Scanned honest old store ahead before after l m → IsTrue (finite.contains_key (store_says store).documents number)
-    → (IsTrue honest → IsFound (finite.get (store_says store).documents number) found text)
+    → Scanned honest old store ahead before after l m → IsTrue (finite.contains_key (store_contents store).documents number)
+    → (IsTrue honest → IsAhead (finite.get (store_contents store).documents number) found text)
     → ((tree : Tree) → text ≡ canonical_text tree → IsReadable tree → why ≢ text_fault.Outside)
     → (why ≡ text_fault.Memory → given ≡ store_fault.Memory) → (why ≡ text_fault.Outside → IsPlaced store number given)
     → ScanFails honest given old store ahead before after l m
@@ -138,29 +136,27 @@ met_outside store ahead history extent at agrees may outside =
     let frames = agrees.agrees.frames in
     let takes = agrees.agrees.takes in
     let there = logged.rests.each history.reads may in
-    let first = live_image (log_area store.log) (log_generation store.log) frames history.reads
-    (record { counts = logged.counts; has = there.has }) in
-    let on = tells_on frames 0 log.no_contents store.pages.contents area.no_contents
-    (lead_on_of frames 0 nothing_kept store.pages takes) none_agree in
-    let begins = begins_at store.pages.offsets (places_after on.told no_places) outside.1.number at
-    (alike_on frames 0 on.told nothing_kept store.pages no_places on.tell takes nothing_alike) outside.1.placed in
+    let slot = log_slot store.log in
+    let first : slot.version ≡ newest = omega (arith, counts_from history.reads.root slot logged.counts, logged.known.known) in
+    let (told, tell, lead) = told_risen frames store.pages.contents (lead_on_of frames 0 nothing_kept store.pages takes) in
+    let begins = begins_at store.pages.offsets (places_after told no_places) outside.1.number at
+    (alike_on frames 0 told nothing_kept store.pages no_places tell takes nothing_alike) outside.1.placed in
     record {
       version = newest;
-      told = on.told;
-      contents = on.reached;
+      told = told;
+      contents = store_contents store;
       live = record {
-        slot = first.slot;
-        version_is = first.version_is;
+        slot = slot;
+        version_is = first;
         frames = frames;
-        live = first.live;
-        tell = on.tell;
-        lead = on.lead;
+        live = record { counts = logged.counts; known = logged.known; has = there.has };
+        tell = tell;
+        lead = lead;
       };
-      list = outside.0 ∙ ap extent_number (sym first.area_is);
+      list = outside.0;
       number = outside.1.number;
       document = outside.1.document;
-      held = ap (λ (contents : Contents). finite.get contents.documents outside.1.number)
-          (is_risen store.pages.contents on.reached on.agree) ∙ outside.1.held;
+      held = outside.1.held;
       front = begins.front;
       pieces = begins.pieces;
       placed = begins.placed;
@@ -169,7 +165,7 @@ met_outside store ahead history extent at agrees may outside =
     }
 
 -- what was read ahead of a document that has this text is this text
-pub text_ahead : (document : Option Stored) (found : Bool) (text meant : List ℕ) → IsFound document found text
+pub text_ahead : (document : Option Stored) (found : Bool) (text meant : List ℕ) → IsAhead document found text
     → text_of document ≡ Some meant → text ≡ meant
 text_ahead (Some document) found text meant ahead is = ahead.1 ∙ some_is document.text meant is
 text_ahead None found text meant ahead is = absurd cc
@@ -197,7 +193,7 @@ AreTreesTo last IsRead contents =
 
 module _ (contents : Contents) (IsRead : List ℕ → Type 0) (n : ℕ) (before : AreTreesTo n IsRead contents) where
   -- the next one too
-  pub one_tree_more : (k : ℕ) → IsNext contents n k
+  pub one_tree_more : (k : ℕ) → IsNextAfter contents.documents n k
       → ((text : List ℕ) → text_of (finite.get contents.documents k) ≡ Some text
       → IsRead text → tree_read text ≢ None)
       → AreTreesTo k IsRead contents

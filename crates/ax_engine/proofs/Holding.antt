@@ -1,44 +1,46 @@
 -- What holds of open documents: what a crash leaves of them, and what changes them.
-use Rattle.std.proofs.Common.{◌≡◌, ◌⊎◌, inl, inr, ℕ, List, Option, Some, None, refl, sym, ap, subst, ◌∙◌}
-use Rattle.std.specs.Prelude.{IsSome}
+use Rattle.std.proofs.Common.{◌≡◌, ◌⊎◌, inl, inr, ℕ, List, ◌++◌, Option, Some, None, refl, sym, ap, subst, ◌∙◌}
+use Rattle.std.specs.Prelude.{IsSome, option_and_then}
+use Rattle.std.specs.List.{AllByRecursion}
 use Rattle.std.proofs.lemmas.Bool.{false≢true}
 use Rattle.ax_ids.specs.Ids.{number_under}
 use Rattle.ax_disk.specs.model.Calls.{Idles}
 use Rattle.ax_disk.specs.model.Image.{Image}
 use Rattle.ax_disk.specs.model.Moments.{History}
+use Rattle.ax_disk.specs.model.Pending.{MayLeave}
 use Rattle.ax_disk.specs.model.Stays.{Rests, Stays, Turns}
 use Rattle.ax_disk.specs.laws.StaysLaws.{idles_stay, rests_weaken, stays_start, stays_turn, turns_weaken}
 use Rattle.ax_container.specs.Container.{Container}
 use Rattle.ax_area.specs.Changes.{Change}
 use Rattle.ax_area.specs.Contents.{after_changes, Contents}
-use Rattle.ax_area_laws.proofs.Rising.{says_risen}
-use Rattle.ax_area_laws.specs.Risen.{risen, changes_said}
-use Rattle.ax_frame.specs.Part.{PartValue, AllFit}
+use Rattle.ax_area.specs.Image.{Says}
+use Rattle.ax_area.specs.Parts.{after_parts, changes_said}
+use Rattle.ax_area.specs.Told.{Told}
+use Rattle.ax_area_laws.proofs.Rising.{by_changes}
+use Rattle.ax_area_laws.specs.Risen.{risen}
+use Rattle.ax_frame.specs.Part.{PartValue}
 use Rattle.ax_image.specs.Readable.{newest, SaysReadable}
 use Rattle.ax_image.specs.Documents.{ContentsHold}
 use Rattle.ax_image.proofs.InGrammar.{stands}
-use Rattle.ax_pages.specs.Contents as log
-use Rattle.ax_pages.specs.AfterPart.{after_parts}
-use Rattle.ax_pages.specs.HasContents.{HasContents}
+use Rattle.ax_image_grammar.specs.Payloads.{IsReadable}
 use Rattle.ax_cache.specs.Held.{held}
 use Rattle.ax_cache.specs.declared.lru_pages.LruPages.{LruPages}
 use Rattle.ax_store.specs.declared.store.Store.{Store}
 use Rattle.ax_store.specs.Kept.{Kept}
-use Rattle.ax_store.specs.Putting.{AreWithin}
-use Rattle.ax_store.specs.Store.{SameButReads, SameButRoom, store_contents}
-use Rattle.ax_store.proofs.StoreLemmas.{agrees_rests, agrees_same}
+use Rattle.ax_store.specs.Store.{SameButReads, SameButRoom, SaysMore, SaysOf, store_contents}
+use Rattle.ax_store.proofs.StoreLemmas.{agrees_says, agrees_same}
 use Rattle.ax_engine.specs.declared.documents.Documents.{Documents}
-use Rattle.ax_engine.proofs.Saying.{commit_says}
 use Rattle.ax_engine.specs.Documents.{DocumentsHold, DocumentsWork}
+use Rattle.ax_engine.proofs.StayReadable.{readable_by}
 use Rattle.ax_engine.specs.StoreSays.{kept_says}
 use Rattle.ax_engine.specs.Stores.{IsImageOf, Shows}
 
--- what a store's contents stand for is what the image says
-shows_by : (old : log.Contents) (container : Container) → ContentsHold (risen old) container
-    → (image : Image) → HasContents old image → Shows container image
-shows_by old container hold image has =
-    let said = says_risen image old has in
-    record { version = newest; told = said.0; contents = risen old; says = said.1; hold = hold }
+-- an image that says contents which hold the container shows it
+shows_by : (version : ℕ) (told : List Told) (contents : Contents) (container : Container)
+    → ContentsHold contents container
+    → (image : Image) → Says newest version told contents image → Shows container image
+shows_by version told contents container hold image says =
+    record { version = version; told = told; contents = contents; says = says; hold = hold }
 
 module _ (honest : Type 0) where
   -- what a crash now leaves stands for the container
@@ -46,9 +48,9 @@ module _ (honest : Type 0) where
       → DocumentsWork honest documents history → DocumentsHold documents before
       → honest → Rests history (Shows before)
   rests_of documents history before works holds h =
-      rests_weaken history (HasContents (store_contents documents.store)) (Shows before)
-      (shows_by (store_contents documents.store) before holds.hold)
-      (agrees_rests held documents.store history (works.agrees h))
+      let of = agrees_says held documents.store history (works.agrees h) in
+      rests_weaken history (Says newest of.version of.told (store_contents documents.store)) (Shows before)
+      (shows_by of.version of.told (store_contents documents.store) before holds.hold) of.says
 
   -- nothing has happened
   pub still : (documents : Documents) (history : History) (before other : Container)
@@ -88,7 +90,7 @@ pub holds_room : (documents : Documents) (store : Store LruPages) (before : Cont
     → SameButRoom documents.store store
     → DocumentsHold documents before → DocumentsHold (record documents { store = store }) before
 holds_room documents store before same holds = record {
-  hold = subst (λ contents. ContentsHold (risen contents) before) (sym same.contents) holds.hold;
+  hold = subst (λ parts. ContentsHold (risen parts) before) (sym same.contents) holds.hold;
   numbers = holds.numbers;
 }
 
@@ -97,7 +99,7 @@ pub holds_same : (old new : Documents) (before : Container) → store_contents n
     → ((id : List ℕ) → number_under new.numbers id ≡ number_under old.numbers id)
     → DocumentsHold old before → DocumentsHold new before
 holds_same old new before contents numbers holds = record {
-  hold = subst (λ c. ContentsHold (risen c) before) (sym contents) holds.hold;
+  hold = subst (λ c. ContentsHold c before) (sym contents) holds.hold;
   numbers = λ id. numbers id ∙ holds.numbers id;
 }
 
@@ -108,27 +110,71 @@ pub record LeadsTo (contents : Contents) (changes : List Change) (after : Contai
   pub lead : after_changes changes contents ≡ Some new
   pub hold : ContentsHold new after
 
--- a commit of parts that say these changes
-module _ (old roomy : log.Contents) (parts : List PartValue) (changes : List Change) (after : Container)
-    (leads : LeadsTo (risen old) changes after) (fit : AllFit parts)
-    (said : changes_said parts ≡ Some changes) (same : roomy ≡ old) where
-  -- leads to contents that hold the container
-  pub made_by : (now : log.Contents) → after_parts parts roomy ≡ Some now → ContentsHold (risen now) after
-  made_by now done =
-      subst (λ c. ContentsHold c after)
-      (sym (commit_says roomy now parts changes leads.new fit said done
-      (ap (λ c. after_changes changes (risen c)) same ∙ leads.lead))) leads.hold
+same_contents : (x y : Contents) → Some x ≡ Some y → x ≡ y
+same_contents x y is = cc
 
-  pub turned_by : (before : Container) (old_moment new_moment : History) → ContentsHold (risen old) before
-      → AreWithin parts roomy
-      → ((now : log.Contents) → after_parts parts roomy ≡ Some now
-      → Turns old_moment new_moment (HasContents roomy) (HasContents now))
-      → Turns old_moment new_moment (Shows before) (Shows after)
-  turned_by before old_moment new_moment hold within turns =
-      turns_weaken old_moment new_moment (HasContents roomy) (Shows before) (HasContents within.0) (Shows after)
-      (shows_by roomy before (subst (λ c. ContentsHold (risen c) before) (sym same) hold))
-      (shows_by within.0 after (made_by within.0 within.1))
-      (turns within.0 within.1)
+-- parts that say these changes are allowed where the changes lead on
+pub allowed_by : (contents new : Contents) (parts : List PartValue) (changes : List Change)
+    → changes_said parts ≡ Some changes → after_changes changes contents ≡ Some new
+    → after_parts parts contents ≡ Some new
+allowed_by contents new parts changes said leads =
+    by_changes parts contents ∙ ap (option_and_then (λ these. after_changes these contents)) said ∙ leads
+
+-- what a store answers of a commit of parts: what images say before it, and how it turns them
+pub record Commits (store : Store LruPages) (parts : List PartValue) (old new : History) : Type 0 where
+  pub says : SaysOf store old
+  pub may : MayLeave old.unsynced old.reads
+  pub turns : (version : ℕ) (told : List Told) (changes : List Change) (reached : Contents)
+      → Says newest version told (store_contents store) old.reads → changes_said parts ≡ Some changes
+      → after_changes changes (store_contents store) ≡ Some reached
+      → Turns old new (Says newest version told (store_contents store)) (SaysMore version told changes reached)
+
+-- parts that say these changes
+module _ (store : Store LruPages) (parts : List PartValue) (changes : List Change)
+    (said : changes_said parts ≡ Some changes) where
+  -- lead to contents that hold the container
+  pub made_by : (after : Container) (leads : LeadsTo (store_contents store) changes after) (now : Contents)
+      → after_parts parts (store_contents store) ≡ Some now → ContentsHold now after
+  made_by after leads now done =
+      subst (λ c. ContentsHold c after)
+      (same_contents leads.new now
+      (sym (allowed_by (store_contents store) leads.new parts changes said leads.lead) ∙ done)) leads.hold
+
+  module _ (old new : History) (commits : Commits store parts old new) where
+    -- what is told, and then the changes behind it
+    turned_to : (reached : Contents) → after_changes changes (store_contents store) ≡ Some reached
+        → Turns old new (Says newest commits.says.version commits.says.told (store_contents store))
+        (SaysMore commits.says.version commits.says.told changes reached)
+    turned_to reached lead =
+        commits.turns commits.says.version commits.says.told changes reached (commits.says.says.each old.reads commits.may) said lead
+
+    pub turned_by : (before after : Container) → LeadsTo (store_contents store) changes after
+        → ContentsHold (store_contents store) before → Turns old new (Shows before) (Shows after)
+    turned_by before after leads hold =
+        let version = commits.says.version in
+        let told = commits.says.told in
+        turns_weaken old new (Says newest version told (store_contents store)) (Shows before)
+        (SaysMore version told changes leads.new) (Shows after)
+        (shows_by version told (store_contents store) before hold)
+        (λ image more. shows_by version (told ++ more.0) leads.new after leads.hold image more.2)
+        (turned_to leads.new leads.lead)
+
+    -- all that images tell can be read, where the changes can
+    pub readable_on : (reached : Contents) → after_changes changes (store_contents store) ≡ Some reached
+        → AllByRecursion (IsReadable newest) changes → Rests old SaysReadable → Stays old new SaysReadable
+    readable_on reached lead readable reads =
+        readable_by old new commits.says.version commits.says.told (store_contents store) reached changes readable reads
+        commits.may (commits.says.says.each old.reads commits.may) (turned_to reached lead)
+
+-- when room was made the contents are the same
+pub room_leads : {changes : List Change} {after : Container} → (old new : Store LruPages) → SameButRoom old new
+    → LeadsTo (store_contents old) changes after → LeadsTo (store_contents new) changes after
+room_leads {changes} {after} old new same leads =
+    subst (λ parts. LeadsTo (risen parts) changes after) (sym same.contents) leads
+
+pub room_holds : {before : Container} → (old new : Store LruPages) → SameButRoom old new
+    → ContentsHold (store_contents old) before → ContentsHold (store_contents new) before
+room_holds {before} old new same hold = subst (λ parts. ContentsHold (risen parts) before) (sym same.contents) hold
 
 pub some_id : (o : Option (List ℕ)) → IsSome o → (id : List ℕ) × (o ≡ Some id)
 some_id (Some id) is = (id, refl)

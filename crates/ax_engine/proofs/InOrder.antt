@@ -21,11 +21,12 @@ use Rattle.ax_image.specs.StandsFor.{ShowEntries}
 use Rattle.ax_tree.specs.declared.tree.Tree.{Tree}
 use Rattle.ax_cache.specs.declared.lru_pages.LruPages.{LruPages}
 use Rattle.ax_store.specs.Kept.{Kept}
-use Rattle.ax_store.specs.Store.{SameButReads}
+use Rattle.ax_store.specs.Store.{SameButReads, store_contents}
 use Rattle.ax_store.specs.declared.store.Store.{Store}
 use Rattle.ax_text.proofs.RoundTrip.{text-stands}
 use Rattle.ax_text.specs.Reading.{reading, Stands}
-use Rattle.ax_engine.specs.StoreSays.{IsNext, kept_says, store_says, text_of}
+use Rattle.ax_store.specs.Listed.{IsNextAfter}
+use Rattle.ax_engine.specs.StoreSays.{kept_says, text_of}
 
 -- the entries from the first on whose number is above
 abbrev pub above : ℕ → List Entry → List Entry
@@ -227,7 +228,7 @@ module _ (contents : Contents) (container : Container)
   abbrev pages : List (ℕ × Stored)
   pages = finite.entries contents.documents
 
-  pub next_entry : (n k : ℕ) → IsNext contents n k → Next n k pages container.entries
+  pub next_entry : (n k : ℕ) → IsNextAfter contents.documents n k → Next n k pages container.entries
   next_entry n k next = next_of n k 0 container.next_number pages container.entries
       hold.show.sound.numbers hold.show.shown next.above
       (ap is_some (sym (finite.get-entries contents.documents k)) ∙ next.held)
@@ -297,18 +298,18 @@ module _ (contents : Contents) (container : Container)
 -- ---- over calls that read
 
 pub next_same : (old new : Store LruPages) (n k : ℕ) → SameButReads old new
-    → IsNext (store_says new) n k → IsNext (store_says old) n k
-next_same old new n k same next = subst (λ (kept : Kept). IsNext (kept_says kept) n k) same.pages next
+    → IsNextAfter (store_contents new).documents n k → IsNextAfter (store_contents old).documents n k
+next_same old new n k same next = subst (λ (kept : Kept). IsNextAfter (kept_says kept).documents n k) same.pages next
 
 pub none_same : (old new : Store LruPages) (n : ℕ) → SameButReads old new
-    → ((b : ℕ) → n < b → finite.get (store_says new).documents b ≡ None)
-    → (b : ℕ) → n < b → finite.get (store_says old).documents b ≡ None
+    → ((b : ℕ) → n < b → finite.get (store_contents new).documents b ≡ None)
+    → (b : ℕ) → n < b → finite.get (store_contents old).documents b ≡ None
 none_same old new n same none =
     subst (λ (kept : Kept). (b : ℕ) → n < b → finite.get (kept_says kept).documents b ≡ None) same.pages none
 
 pub text_same : (old new : Store LruPages) (k : ℕ) (text : List ℕ) → SameButReads old new
-    → text_of (finite.get (store_says old).documents k) ≡ Some text
-    → text_of (finite.get (store_says new).documents k) ≡ Some text
+    → text_of (finite.get (store_contents old).documents k) ≡ Some text
+    → text_of (finite.get (store_contents new).documents k) ≡ Some text
 text_same old new k text same is =
     subst (λ (kept : Kept). text_of (finite.get (kept_says kept).documents k) ≡ Some text)
     (sym same.pages) is

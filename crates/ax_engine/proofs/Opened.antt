@@ -13,15 +13,11 @@ use Rattle.ax_disk.specs.model.Moments.{History}
 use Rattle.ax_disk.specs.model.Stays.{BarrierStage, Rests, SinceBarrier}
 use Rattle.ax_faults.specs.Faults.{Rose}
 use Rattle.ax_faults.specs.FaultLaws.{rose_since}
-use Rattle.ax_pages.specs.Contents as log
-use Rattle.ax_pages.specs.Image.{HasFrames}
-use Rattle.ax_pages.specs.HasContents.{HasContents}
 use Rattle.ax_area.specs.Contents.{Contents}
 use Rattle.ax_area.specs.Image.{IsNewer, Says}
 use Rattle.ax_area.specs.Told.{Told}
 use Rattle.ax_area.specs.declared.root.Counting.{Counting}
-use Rattle.ax_area.proofs.LogWords.{newer_image}
-use Rattle.ax_area.proofs.OneOutcome.{says_not_damaged}
+use Rattle.ax_area.proofs.OneOutcome.{one_contents, says_not_damaged}
 use Rattle.ax_area.proofs.OneRoot.{fresh_counts, one_slot_counts}
 use Rattle.ax_ids.specs.Ids.{number_under}
 use Rattle.ax_log.specs.Opening.{Keeps}
@@ -31,59 +27,35 @@ use Rattle.ax_store.specs.declared.fault.StoreFault.{StoreFault}
 use Rattle.ax_store.specs.declared.fault.StoreFault.TheVariants as fault
 use Rattle.ax_store.specs.Faults.{IsRefused}
 use Rattle.ax_store.specs.Kept.{Kept}
-use Rattle.ax_store.specs.Store.{IsDamagedStore, IsOpened, TellsFault, store_contents}
+use Rattle.ax_store.specs.Store.{Has, IsOpened, TellsFault, store_contents}
 use Rattle.ax_store.proofs.StoreLemmas.{barrier_weaken}
 use Rattle.ax_container.specs.Container.{Container}
 use Rattle.ax_image.specs.Readable.{SaysReadable, newest}
 use Rattle.ax_image.specs.Documents.{ContentsHold}
-use Rattle.ax_image.specs.StandsFor.{ContentsShow, StandsFor}
-use Rattle.ax_image_grammar.specs.Grammar.{AreReadable}
-use Rattle.ax_image_grammar.specs.Table.{AreApart}
-use Rattle.ax_area_laws.proofs.Rising.{risen_back, said_is_risen, says_risen}
-use Rattle.ax_area_laws.specs.Risen.{risen}
-use Rattle.ax_area_laws.proofs.Spoiled.{damaged_too}
+use Rattle.ax_image.specs.StandsFor.{StandsFor}
 use Rattle.ax_image.proofs.InGrammar.{documents_back, readable_back}
 use Rattle.ax_engine.specs.declared.documents.Documents.{Documents}
 use Rattle.ax_engine.specs.Documents.{DocumentsHold, DocumentsWork, number_in}
 use Rattle.ax_engine.specs.Opening.{IsDamagedIn, Numbers, RefusesBy, TellsNumbers}
 use Rattle.ax_engine.specs.Scans.{ScanFails, Scanned}
-use Rattle.ax_engine.specs.StoreSays.{kept_says, store_says}
-use Rattle.ax_engine.proofs.StayReadable.{told_alike}
+use Rattle.ax_engine.specs.StoreSays.{kept_says}
 use Rattle.ax_engine.specs.Stores.{IsImageOf, IsStore, IsWithin}
 
--- an image that stands for a container has contents in the words of the store
-abbrev contents_of : (image : Image) (container : Container) (stand : StandsFor image container)
-    → (old : log.Contents) × HasContents old image × (stand.contents ≡ risen old)
-contents_of image container stand =
-    risen_back image stand.version stand.told stand.contents stand.grammatical.says
-
-abbrev frames_of : (image : Image) (container : Container) → StandsFor image container → List (List ℕ)
-frames_of image container stand = (contents_of image container stand).1.frames
-
-has_frames : (image : Image) (container : Container) (stand : StandsFor image container)
-    → HasFrames (frames_of image container stand) image
-has_frames image container stand = (contents_of image container stand).1.has
-
--- an image with the log frames of one that stands for a container stands for it too
+-- an image that says what one says that stands for a container stands for it too
 image_by : (image : Image) (container : Container) (stand : StandsFor image container)
-    → (other : Image) → HasFrames (frames_of image container stand) other
+    → (other : Image) → Says newest stand.version stand.told stand.contents other
     → IsImageOf container other
-image_by image container stand other has =
-    let (old, is, same) = contents_of image container stand in
-    let said = says_risen other old (record { frames = is.frames; has = has; lead = is.lead }) in
-    let told = told_alike is.frames image other is.has has stand.version newest stand.told said.0
-    stand.contents (risen old) stand.grammatical.says said.1 in
-    record {
-      version = newest;
-      told = said.0;
-      contents = risen old;
-      grammatical = record {
-        says = said.1;
-        readable = subst (AreReadable newest) told stand.grammatical.readable;
-        apart = subst AreApart same stand.grammatical.apart;
-      };
-      show = subst (λ contents. ContentsShow contents container) same stand.show;
-    }
+image_by image container stand other says = record {
+  version = stand.version;
+  told = stand.told;
+  contents = stand.contents;
+  grammatical = record {
+    says = says;
+    readable = stand.grammatical.readable;
+    apart = stand.grammatical.apart;
+  };
+  show = stand.show;
+}
 
 -- the barrier is still to come
 pub idle_since : (old new : History) (P : Image → Type 0) → Idles old new → SinceBarrier old new P
@@ -94,29 +66,29 @@ idle_since old new P idle = record {
   rests = inl (record { each = λ image may. idles_leave old new idle image may });
 }
 
--- an image with contents in the words of the store is within the format
-pub is_within : (image : Image) (contents : log.Contents) → HasContents contents image → IsWithin image
-is_within image contents has =
-    let said = says_risen image contents has in
-    (newest, said.0, risen contents, said.1)
+-- an image that says contents is within the format
+pub within_by : {contents : Contents} {image : Image} → Has contents image → IsWithin image
+within_by {contents} (version, told, says) = (version, told, contents, says)
 
 module _ (old mid : History) where
   pub since_opening : (before : Container) → IsStore before old
-      → ((frames : List (List ℕ)) → HasFrames frames old.reads → SinceBarrier old mid (HasFrames frames))
+      → ((version : ℕ) (told : List Told) (contents : Contents) → Says newest version told contents old.reads
+      → SinceBarrier old mid (Says newest version told contents))
       → SinceBarrier old mid (IsImageOf before)
   since_opening before store since =
-      let frames = frames_of old.reads before store.reads in
-      barrier_weaken old mid (HasFrames frames) (IsImageOf before)
-      (image_by old.reads before store.reads) (since frames (has_frames old.reads before store.reads))
+      let stand = store.reads in
+      barrier_weaken old mid (Says newest stand.version stand.told stand.contents) (IsImageOf before)
+      (image_by old.reads before stand) (since stand.version stand.told stand.contents stand.grammatical.says)
 
-  -- after the opening a crash leaves the log frames that were there
+  -- after the opening a crash leaves what was told there
   pub opened_rests : (before : Container) → IsStore before old
-      → ((frames : List (List ℕ)) → HasFrames frames old.reads → Rests mid (HasFrames frames))
+      → ((version : ℕ) (told : List Told) (contents : Contents) → Says newest version told contents old.reads
+      → Rests mid (Says newest version told contents))
       → Rests mid (IsImageOf before)
   opened_rests before store kept =
-      let frames = frames_of old.reads before store.reads in
-      rests_weaken mid (HasFrames frames) (IsImageOf before)
-      (image_by old.reads before store.reads) (kept frames (has_frames old.reads before store.reads))
+      let stand = store.reads in
+      rests_weaken mid (Says newest stand.version stand.told stand.contents) (IsImageOf before)
+      (image_by old.reads before stand) (kept stand.version stand.told stand.contents stand.grammatical.says)
 
   -- calls that read came behind it
   pub since_reading : (before : Container) (new : History) → Rests mid (IsImageOf before)
@@ -130,31 +102,22 @@ module _ (old mid : History) where
       rests_weaken new (IsImageOf before) SaysReadable (λ image stand. readable_back image before stand)
       (idles_rest mid new (IsImageOf before) rests idles)
 
-  damaged_in : (extent at : ℕ) → IsDamagedStore old.reads extent at → IsDamagedIn old.reads extent at
-  damaged_in extent at (inl damaged) = (
-    damaged.list,
-    damaged.number,
-    damaged_too old.reads damaged.list at (inl damaged.damaged),
-  )
-  damaged_in extent at (inr (area, is, spoiled)) =
-      (area, is, damaged_too old.reads area at (inr spoiled))
-
   pub refuses_by : (why : StoreFault) → TellsFault why old.reads
       → (IsRefused {T = Unit {0}} (Err why) → Keeps old mid) → RefusesBy why old mid
-  refuses_by (fault.Damaged extent at) tells keeps = (damaged_in extent at tells, keeps tt)
-  refuses_by (fault.Newer version) tells keeps = (newer_image version old.reads tells, keeps tt)
+  refuses_by (fault.Damaged extent at) tells keeps = (tells, keeps tt)
+  refuses_by (fault.Newer version) tells keeps = (tells, keeps tt)
   refuses_by fault.Disk tells keeps = tt
   refuses_by fault.Memory tells keeps = tt
 
   module _ (store : Store LruPages) (before : Container) (was : IsStore before old)
       (opened : IsOpened held store old.reads mid) where
     -- the contents that the store was opened by are those of the container
-    opened_hold : ContentsHold (store_says store) before
+    opened_hold : ContentsHold (store_contents store) before
     opened_hold =
         let documents = documents_back old.reads before was.reads in
         subst (λ (contents : Contents). ContentsHold contents before)
-        (said_is_risen old.reads (store_contents store) documents.version documents.told documents.contents
-        opened.has documents.says)
+        (one_contents newest old.reads documents.version opened.has.0 documents.told opened.has.1 documents.contents
+        (store_contents store) documents.says opened.has.2)
         documents.hold
 
     pub holds_opened : (honest : Bool) (result : Result Documents StoreFault) (new : History) (l m : ℕ)
@@ -170,7 +133,7 @@ module _ (old mid : History) where
 
 pub numbers_made : (honest : Bool) (store : Store LruPages) (documents : Documents) (ahead : ReadAhead)
     (before after : History) (l m : ℕ) → Scanned honest store documents.store ahead before after l m
-    → (IsTrue honest → (container : Container) → ContentsHold (store_says store) container
+    → (IsTrue honest → (container : Container) → ContentsHold (store_contents store) container
     → (id : List ℕ) → number_under documents.numbers id ≡ number_in id container)
     → Numbers honest (Ok documents) store before after l m
 numbers_made honest store documents ahead before after l m scanned numbers = record {

@@ -6,13 +6,13 @@ use Rattle.std.specs.Ordering.{nat_cmp}
 use Rattle.std.proofs.lemmas.Bool.{cases_eq, eq-eqb, ne_eqb}
 use Rattle.ax_tree.specs.declared.tree.Tree as trees
 use Rattle.ax_tree.specs.declared.tree.Tree.{Tree}
-use Rattle.ax_engine.specs.StoreSays.{IsFound}
 use Rattle.ax_tree.specs.CanonicalText.{canonical_text}
 use Rattle.ax_container.specs.Container.{Entry, Container}
 use Rattle.ax_excerpt.specs.ShownDocuments.{tree_at, tree_numbered}
 use Rattle.ax_area.specs.Contents.{Contents, Stored}
 use Rattle.ax_image.specs.Documents.{ContentsHold}
 use Rattle.ax_image.specs.StandsFor.{ShowEntries}
+use Rattle.ax_store.specs.ReadAhead.{IsAhead}
 use Rattle.ax_engine.proofs.InOrder.{found_here, found_later, pairs}
 
 numbered_here : (number : ℕ) (e : ℕ × Tree) (es : List (ℕ × Tree)) → e.0 ≡ number
@@ -73,14 +73,14 @@ none_in_pages number (p ∷ ps) (e ∷ es) shown none =
 -- the text that was read of a number, or null where none is held, is what a row of the number shows
 pub row_text_is : (contents : Contents) (container : Container)
     → ContentsHold contents container → (number : ℕ) (is_held : Bool) (text row : List ℕ)
-    → IsFound (finite.get contents.documents number) is_held text
+    → IsAhead (finite.get contents.documents number) is_held text
     → (is_held ≡ true → row ≡ text) → (is_held ≡ false → row ≡ canonical_text trees.Null)
     → row ≡ canonical_text (tree_numbered number (pairs container.entries))
 row_text_is contents container hold number is_held text row ahead held none =
     by_page (finite.get contents.documents number) refl ahead
   where
     by_page : (found : Option Stored) → finite.get contents.documents number ≡ found
-        → IsFound found is_held text
+        → IsAhead found is_held text
         → row ≡ canonical_text (tree_numbered number (pairs container.entries))
     by_page None at ahead =
         none ahead

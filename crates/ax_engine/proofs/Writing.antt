@@ -1,39 +1,37 @@
--- The batches of an upsert: they are within the format, and they lead to the upserted container.
+-- The changes of an upsert: they may follow what the store has, and they lead to the upserted container.
 use Rattle.std.proofs.Common.{◌≡◌, ℕ, ◌+◌, ◌^◌, ◌<◌, ◌≤◌, Bool, true, false, cond, List, [], ◌∷◌, ◌++◌, map, length}
 use Rattle.std.proofs.Common.{find, Option, Some, None, is_some, Ok, Err, refl, sym, ap, subst, ◌∙◌, arith}
-use Rattle.std.specs.Prelude.{option_map, option_and_then, if◌then◌else◌, ◌&&◌, ◌||◌, nat_le, nat_lt}
+use Rattle.std.specs.Prelude.{option_map, option_and_then, if◌then◌else◌, ◌&&◌, ◌||◌, nat_le, nat_lt, not}
 use Rattle.std.specs.List.{list_any}
 use Rattle.std.specs.Option.{option_map_or}
 use Rattle.std.specs.Str.{bytes_eq}
 use Rattle.std.specs.FinMap as finite
-use Rattle.std.proofs.lemmas.Bool.{lt-ltb, lt-leb, le-leb, leb-false}
-use Rattle.std.proofs.lemmas.Nat.{from_le_bytes-to_le_bytes_4}
+use Rattle.std.proofs.lemmas.Bool.{lt-ltb, leb-false}
 use Rattle.ax_tree.specs.declared.tree.Tree.{Tree}
-use Rattle.ax_tree.specs.CanonicalText.{canonical_text}
 use Rattle.ax_tree.specs.Document.{document_id}
 use Rattle.ax_tree.specs.Nesting.{nesting}
 use Rattle.ax_tree.specs.WellFormed.{IsWellFormed}
 use Rattle.ax_area.specs.Changes.{Change}
-use Rattle.ax_area.specs.Contents.{after_changes, Contents, is_given}
-use Rattle.ax_area_laws.specs.Risen.{risen}
+use Rattle.ax_area.specs.Contents.{after_changes, Contents, has_room, is_given, may_follow, with_change}
+use Rattle.ax_area.specs.Parts.{changes_said}
 use Rattle.ax_container.specs.Container.{Entry, Container, has_id, entry_of, most_documents, last_number}
 use Rattle.ax_container.specs.Upsert.{Full, with_tree, replaced, created, creation, is_full, upserted}
 use Rattle.ax_container.proofs.Ids.{same_from_eq, bytes_eq-false_sym}
 use Rattle.ax_container.proofs.Upserts.{or_none, upsert_keeps_soundness}
 use Rattle.ax_frame.specs.Part.{PartValue}
 use Rattle.ax_image.specs.Documents.{ContentsHold}
-use Rattle.ax_image.specs.UpsertChanges.{replacing_changes, creating_changes, upsert_changes}
+use Rattle.ax_image.specs.UpsertChanges.{document_change, meta_change, replacing_changes, creating_changes, upsert_changes}
 use Rattle.ax_image.proofs.Shown.{as_many}
 use Rattle.ax_image.proofs.Upserting.{Written, written, any_found}
-use Rattle.ax_pages.specs.AfterPart.{after_part, after_parts, has_room, is_meta, last_policy}
-use Rattle.ax_pages.specs.Contents as log
-use Rattle.ax_store.specs.Putting.{AreWithin}
-use Rattle.ax_engine.specs.Batches.{document_part, replacing_parts, creating_parts}
+use Rattle.ax_area_laws.specs.Risen.{risen}
+use Rattle.ax_cache.specs.declared.lru_pages.LruPages.{LruPages}
+use Rattle.ax_store.specs.Batch.{AreAllowed}
+use Rattle.ax_store.specs.Store.{SameButRoom, store_contents}
+use Rattle.ax_store.specs.declared.store.Store.{Store}
 use Rattle.ax_engine.specs.Documents.{number_in, is_full_of}
-use Rattle.ax_engine.proofs.Holding.{LeadsTo}
-use Rattle.ax_engine.proofs.Saying.{held_alike, many_alike}
+use Rattle.ax_engine.proofs.Holding.{LeadsTo, allowed_by}
 
--- ---- within the format
+-- ---- what may follow
 
 first_or : (a b : Bool) → a ≡ true → (a || b) ≡ true
 first_or a b x = ap (λ c. c || b) x
@@ -45,89 +43,65 @@ second_or false b x = x
 both : (a b : Bool) → a ≡ true → b ≡ true → (a && b) ≡ true
 both a b x y = λ i. x i && y i
 
-meta_fits : (next policy : ℕ) (old : log.Contents) → 0 < next → next < 2 ^ 32 → policy ≤ last_policy
-    → log.is_given policy old ≡ true → is_meta 0 (log.meta_bytes next policy) old ≡ true
-meta_fits next policy old some fits small given =
-    let bytes = log.meta_bytes next policy in
-    let next_is : log.next_in bytes ≡ next = from_le_bytes-to_le_bytes_4 next fits in
-    let now_is : log.now_in bytes ≡ policy = from_le_bytes-to_le_bytes_4 policy (omega (arith, small)) in
-    both _ _ (both _ _ (both _ _ refl (lt-ltb 0 (log.next_in bytes) (omega (arith, some, next_is))))
-    (le-leb (log.now_in bytes) last_policy (omega (arith, small, now_is))))
-    (ap (λ n. log.is_given n old) now_is ∙ given)
+-- the changes may follow the contents
+abbrev pub MayFollow : List Change → Contents → Type 0
+MayFollow changes contents = (new : Contents) × (after_changes changes contents ≡ Some new)
 
-abbrev with_payload : log.Contents → ℕ → ℕ → Tree → log.Contents
-with_payload old number policy tree =
-    record old { documents = finite.insert old.documents number (policy ∷ canonical_text tree) }
+plain_follows : (contents : Contents) → contents.versioned ≡ false → may_follow None contents ≡ true
+plain_follows contents plain = ap not plain
 
-after_document : (number policy : ℕ) (tree : Tree) (old : log.Contents) → 0 < number
-    → log.is_given policy old ≡ true → has_room number old ≡ true
-    → after_part (document_part number policy tree) old ≡ Some (with_payload old number policy tree)
-after_document number policy tree old some given room =
-    let payload = policy ∷ canonical_text tree in
-    ap (λ b. if b then Some (with_payload old number policy tree) else None)
-    (both _ _ (both _ _ (both _ _ (lt-ltb 0 number some) (lt-ltb 0 (length payload) (omega arith))) given) room)
-
-pub within_replacing : (number policy : ℕ) (tree : Tree) (old : log.Contents) → 0 < number
-    → is_given policy (risen old) ≡ true → finite.contains_key (risen old).documents number ≡ true
-    → AreWithin (replacing_parts number policy tree) old
-within_replacing number policy tree old some given held = (
-  with_payload old number policy tree,
-  ap (option_and_then (after_parts []))
-      (after_document number policy tree old some given (first_or _ _ (sym (held_alike old number) ∙ held))),
-)
-
-not_full : (old : log.Contents) → is_full_of (risen old) ≡ false
-    → (finite.len (risen old).documents < most_documents) × ((risen old).next_number < last_number)
-not_full old full =
-    let parts = or_none (nat_le most_documents (finite.len (risen old).documents))
-    (nat_le last_number (risen old).next_number) full in (
-      leb-false most_documents (finite.len (risen old).documents) parts.0,
-      leb-false last_number (risen old).next_number parts.1,
+by_document : (number policy : ℕ) (tree : Tree) (contents : Contents) → contents.versioned ≡ false
+    → is_given policy contents ≡ true → has_room number contents ≡ true
+    → MayFollow (replacing_changes number policy tree) contents
+by_document number policy tree contents plain given room =
+    let change = document_change number policy tree in (
+      with_change change contents,
+      ap (λ b. option_and_then (after_changes []) (if b then Some (with_change change contents) else None))
+          (both _ _ given (both _ _ room (plain_follows contents plain))),
     )
 
-pub not_last : (old : log.Contents) → is_full_of (risen old) ≡ false → (risen old).next_number < last_number
-not_last old full = (not_full old full).1
+pub within_replacing : (number policy : ℕ) (tree : Tree) (contents : Contents) → contents.versioned ≡ false
+    → is_given policy contents ≡ true → finite.contains_key contents.documents number ≡ true
+    → MayFollow (replacing_changes number policy tree) contents
+within_replacing number policy tree contents plain given held =
+    by_document number policy tree contents plain given (first_or _ _ held)
 
-pub within_creating : (next policy : ℕ) (tree : Tree) (old : log.Contents) → 0 < next
-    → is_full_of (risen old) ≡ false → next ≡ (risen old).next_number → policy ≤ 8
-    → is_given policy (risen old) ≡ true → AreWithin (creating_parts next policy tree) old
-within_creating next policy tree old some full is small given =
-    let below = not_full old full in
-    let left : next < last_number = omega (arith, below.1, is) in
-    let few : finite.len old.documents < most_documents = omega (arith, below.0, many_alike old) in
-    let with_meta : log.Contents = record old { meta = Some (log.meta_bytes (next + 1) policy) } in
-    let fits = meta_fits (next + 1) policy old (omega arith) (omega (arith, left)) small given in
-    let room = second_or (finite.contains_key old.documents next) (nat_lt (finite.len old.documents) most_documents)
-    (lt-ltb (finite.len old.documents) most_documents few) in (
-      with_payload with_meta next policy tree,
-      ap (λ b. option_and_then (after_parts (document_part next policy tree ∷ []))
-          (if b then Some with_meta else None)) fits
-          ∙ ap (option_and_then (after_parts []))
-          (after_document next policy tree with_meta some given room),
+not_full : (contents : Contents) → is_full_of contents ≡ false
+    → (finite.len contents.documents < most_documents) × (contents.next_number < last_number)
+not_full contents full =
+    let parts = or_none (nat_le most_documents (finite.len contents.documents))
+    (nat_le last_number contents.next_number) full in (
+      leb-false most_documents (finite.len contents.documents) parts.0,
+      leb-false last_number contents.next_number parts.1,
     )
 
--- the count and the next number that the store answers tell whether it is full
-pub full_by_count : (old : log.Contents) (count : ℕ) → count ≡ finite.len old.documents → most_documents ≤ count
-    → nat_le most_documents count ≡ is_full_of (risen old)
-full_by_count old count is most =
-    let long : most_documents ≤ finite.len (risen old).documents = omega (arith, is, most, many_alike old) in
-    le-leb most_documents count most
-    ∙ sym (first_or (nat_le most_documents (finite.len (risen old).documents)) (nat_le last_number (risen old).next_number)
-    (le-leb most_documents (finite.len (risen old).documents) long))
+pub not_last : (contents : Contents) → is_full_of contents ≡ false → contents.next_number < last_number
+not_last contents full = (not_full contents full).1
 
-pub full_by_next : (old : log.Contents) (count next : ℕ) → count ≡ finite.len old.documents → count < most_documents
-    → next ≡ log.next_number old → nat_le last_number next ≡ is_full_of (risen old)
-full_by_next old count next is few same =
-    let short : finite.len (risen old).documents < most_documents = omega (arith, is, few, many_alike old) in
-    ap (nat_le last_number) same
-    ∙ sym (ap (λ b. b || nat_le last_number (risen old).next_number)
-    (lt-leb most_documents (finite.len (risen old).documents) short))
+pub within_creating : (next policy : ℕ) (tree : Tree) (contents : Contents) → contents.versioned ≡ false
+    → is_full_of contents ≡ false → is_given policy contents ≡ true
+    → MayFollow (creating_changes next policy tree) contents
+within_creating next policy tree contents plain full given =
+    let few : finite.len contents.documents < most_documents = (not_full contents full).0 in
+    let meta = meta_change (next + 1) policy in
+    let later = by_document next policy tree (with_change meta contents) plain given
+    (second_or (finite.contains_key contents.documents next) (nat_lt (finite.len contents.documents) most_documents)
+    (lt-ltb (finite.len contents.documents) most_documents few)) in (
+      later.0,
+      ap (λ b. option_and_then (after_changes (replacing_changes next policy tree))
+          (if b then Some (with_change meta contents) else None))
+          (both _ _ given (plain_follows contents plain))
+          ∙ later.1,
+    )
 
--- the parts are those, and room was made
-pub within_same : (parts meant : List PartValue) (roomy old : log.Contents) → parts ≡ meant → roomy ≡ old
-    → AreWithin meant old → AreWithin parts roomy
-within_same parts meant roomy old are same within =
-    subst (λ list. AreWithin list roomy) (sym are) (subst (λ contents. AreWithin meant contents) (sym same) within)
+-- when room was made they may still, and so may the parts that say them
+pub room_follows : {changes : List Change} → (old new : Store LruPages) → SameButRoom old new
+    → MayFollow changes (store_contents old) → MayFollow changes (store_contents new)
+room_follows {changes} old new same may = subst (λ parts. MayFollow changes (risen parts)) (sym same.contents) may
+
+pub may_commit : (parts : List PartValue) (changes : List Change) (contents : Contents) → changes_said parts ≡ Some changes
+    → MayFollow changes contents → AreAllowed parts contents
+may_commit parts changes contents said may = (may.0, allowed_by contents may.0 parts changes said may.1)
 
 -- ---- what leads to the upserted container
 

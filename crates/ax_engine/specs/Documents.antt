@@ -6,19 +6,18 @@ use Rattle.ax_cache.specs.Held.{held}
 use Rattle.ax_disk.specs.model.Moments.{History}
 use Rattle.ax_disk.specs.model.Stays.{Turns}
 use Rattle.ax_area.specs.Contents.{Contents}
-use Rattle.ax_store.specs.Store.{Agrees, store_failed}
+use Rattle.ax_store.specs.Store.{Agrees, store_failed, store_contents}
 use Rattle.ax_tree.specs.declared.tree.Tree.{Tree}
 use Rattle.ax_container.specs.Container.{Container, entry_of, most_documents, last_number}
 use Rattle.ax_container.specs.Upsert.{Full, upserted}
 use Rattle.ax_image.specs.Documents.{ContentsHold}
-use Rattle.ax_engine.specs.StoreSays.{store_says}
 use Rattle.ax_engine.specs.Stores.{Shows}
 use Rattle.ax_engine.specs.declared.documents.Documents.{Documents}
 use Rattle.ax_engine.specs.declared.documents.UpsertFault.{UpsertFault}
 use Rattle.ax_engine.specs.declared.documents.UpsertFault.TheVariants as upsert
 
 abbrev pub contents_in : Documents → Contents
-contents_in documents = store_says documents.store
+contents_in documents = store_contents documents.store
 
 -- the number that the container has under an id
 abbrev pub number_in : List ℕ → Container → Option ℕ

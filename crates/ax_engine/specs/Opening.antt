@@ -13,12 +13,11 @@ use Rattle.ax_image.specs.Documents.{ContentsHold}
 use Rattle.ax_image.specs.Readable.{newest}
 use Rattle.ax_log.specs.Opening.{Keeps}
 use Rattle.ax_pages.specs.Area.{extent_number}
-use Rattle.ax_store.specs.Store.{SameButReads}
+use Rattle.ax_store.specs.Store.{SameButReads, store_contents}
 use Rattle.ax_store.specs.declared.fault.StoreFault.{StoreFault}
 use Rattle.ax_store.specs.declared.fault.StoreFault.TheVariants as fault
 use Rattle.ax_store.specs.declared.store.Store.{Store}
 use Rattle.ax_engine.specs.Documents.{DocumentsWork, number_in}
-use Rattle.ax_engine.specs.StoreSays.{store_says}
 use Rattle.ax_engine.specs.declared.documents.Documents.{Documents}
 
 -- opening finds the image damaged at this place of the list of this number
@@ -39,7 +38,7 @@ RefusesBy fault.Memory old new = Unit {0}
 pub record Numbered (honest : Bool) (store : Store LruPages) (documents : Documents) (after : History) : Type 0 where
   pub same : SameButReads store documents.store
   pub works : DocumentsWork (IsTrue honest) documents after
-  pub numbers : IsTrue honest → (container : Container) → ContentsHold (store_says store) container
+  pub numbers : IsTrue honest → (container : Container) → ContentsHold (store_contents store) container
       → (id : List ℕ) → number_under documents.numbers id ≡ number_in id container
 
 abbrev pub TellsNumbers : Bool → Result Documents StoreFault → Store LruPages → History → ℕ → ℕ → Type 0

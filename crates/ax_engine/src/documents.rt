@@ -17,7 +17,6 @@ use crate::batches::{creating, replacing};
 use ax_cache::LruPages;
 use ax_disk::Disk;
 use ax_ids::Ids;
-use ax_pages::Page;
 use ax_store::Store;
 use ax_tree::{Tree, id_of};
 use std::alloc::Global;
@@ -29,7 +28,7 @@ const MOST_DOCUMENTS: usize = 1_048_576;
 const LAST_NUMBER: u32 = 4_294_967_295;
 
 /// The greatest number of a policy.
-const LAST_POLICY: u8 = 8;
+const LAST_POLICY: u32 = 8;
 
 /// Why an upsert was not made.
 #[derive(Clone, Copy, Debug, PartialEq, Eq)]
@@ -117,9 +116,9 @@ impl Documents {
         ensures given { IfSome result (λ policy. is_given policy (contents_in self.now) ≡ true) }
     {
         let now = self.store.meta().now;
-        let is_given = now == 0 || self.store.parts(Page::Policy(now)) == 1;
+        let is_given = now == 0 || self.store.has_policy(now);
         if now <= LAST_POLICY && is_given {
-            Some(now)
+            Some(now as u8)
         } else {
             None
         }

@@ -9,7 +9,7 @@ ghost use Rattle.ax_disk.specs.model.Stays.{Rests, SinceBarrier};
 ghost use Rattle.ax_container.specs.Container.{Container};
 ghost use Rattle.ax_image.specs.Readable.{SaysReadable};
 ghost use Rattle.ax_image.specs.Documents.{ContentsHold};
-ghost use Rattle.ax_store.specs.Store.{Agrees, store_failed};
+ghost use Rattle.ax_store.specs.Store.{Agrees, store_failed, store_contents};
 ghost use Rattle.ax_tree.specs.declared.tree.Tree.{Tree as TreeOf};
 ghost use Rattle.ax_tree.specs.CanonicalText.{canonical_text};
 ghost use Rattle.ax_tree.specs.Document.{document_id};
@@ -18,7 +18,7 @@ ghost use Rattle.ax_text.specs.Reading.{reading, Stands};
 ghost use Rattle.ax_engine.specs.Documents.{DocumentsHold, DocumentsWork, number_in};
 ghost use Rattle.ax_engine.specs.Opening.{Numbers, RefusesBy};
 ghost use Rattle.ax_engine.specs.Scans.{IsReady, Scans};
-ghost use Rattle.ax_engine.specs.StoreSays.{store_says, text_of};
+ghost use Rattle.ax_engine.specs.StoreSays.{text_of};
 ghost use Rattle.ax_engine.specs.Stores.{IsImageOf, IsStore, IsWithin};
 
 use crate::documents::Documents;
@@ -105,7 +105,7 @@ fn number_documents<D: Disk>(
     requires none { (id : List ℕ) → number_under numbers.old id ≡ None }
     requires ready { IsReady (D.is_honest disk.old) store.old ahead.old (D.history disk.old (D.attached disk.old)) }
     ensures numbers { IsTrue (D.is_honest disk.old) → (container : Container)
-        → ContentsHold (store_says store.old) container
+        → ContentsHold (store_contents store.old) container
         → OnOk result ((id : List ℕ) → number_under numbers.new id ≡ number_in id container) }
     ensures scans { Scans (D.is_honest disk.old) result store.old store.new ahead.new
         (D.history disk.old (D.attached disk.old)) (D.history disk.new (D.attached disk.new))
@@ -138,7 +138,7 @@ fn number_document<D: Disk>(
 ) -> Result<(), StoreFault>
     requires ready { IsReady (D.is_honest disk.old) store.old ahead.old (D.history disk.old (D.attached disk.old)) }
     ensures put { IsTrue (D.is_honest disk.old) → (tree : TreeOf) → (id : List ℕ)
-        → text_of (map.get (store_says store.old).documents number) ≡ Some (canonical_text tree)
+        → text_of (map.get (store_contents store.old).documents number) ≡ Some (canonical_text tree)
         → reading (canonical_text tree) ≡ Stands tree → document_id tree ≡ Some id
         → OnOk result ((other : List ℕ) → number_under numbers.new other
         ≡ cond (bytes_eq id other) (Some number) (number_under numbers.old other)) }

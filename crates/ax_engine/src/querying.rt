@@ -15,11 +15,12 @@ ghost use Rattle.ax_mean.specs.declared.query.Query as queries;
 ghost use Rattle.ax_result.specs.Answers.{answer_of};
 ghost use Rattle.ax_tree.specs.CanonicalText.{canonical_text};
 ghost use Rattle.ax_tree.specs.declared.tree.Tree.{Tree as TreeOf};
+ghost use Rattle.ax_store.specs.Store.{store_contents};
 ghost use Rattle.ax_engine.specs.Damage.{LooksAtEach, MeetsTrees, StandForTrees};
 ghost use Rattle.ax_engine.specs.Printing.{IsPrinted};
 ghost use Rattle.ax_engine.specs.Replies.{AreRows, FitsRefusal, IsReply, OnRows, own_refusal};
 ghost use Rattle.ax_engine.specs.Scans.{IsReady, Scans};
-ghost use Rattle.ax_engine.specs.StoreSays.{store_says, text_of};
+ghost use Rattle.ax_engine.specs.StoreSays.{text_of};
 
 use crate::reading::{fetch_document, next_held, text_fault};
 use crate::reply::Reply;
@@ -55,12 +56,12 @@ pub(crate) fn reply_to_query<D: Disk, L: Ledger>(
     steps: &mut Steps<L>,
 ) -> Result<Reply, StoreFault>
     requires ready { IsReady (D.is_honest disk.old) store.old ahead.old (D.history disk.old (D.attached disk.old)) }
-    ensures reply { IsTrue (D.is_honest disk.old) → (container : Container) → ContentsHold (store_says store.old) container
+    ensures reply { IsTrue (D.is_honest disk.old) → (container : Container) → ContentsHold (store_contents store.old) container
         → IfOk result (λ reply. IsReply reply (query_reply body.now container)) }
     ensures fits { IfOk result (λ reply. FitsRefusal (own_refusal (query_in body.now.params body.now.text)) reply) }
     ensures met { IsTrue (D.is_honest disk.old) → (query : queries.Query) → query_in body.now.params body.now.text ≡ Some query
-        → IfOk result (λ reply. OnRows reply (MeetsTrees query (store_says store.old))) }
-    ensures bound { (container : Container) → ContentsHold (store_says store.old) container
+        → IfOk result (λ reply. OnRows reply (MeetsTrees query (store_contents store.old))) }
+    ensures bound { (container : Container) → ContentsHold (store_contents store.old) container
         → steps.new ≤ steps.old + 2 * query_need (rows_or_refusal (query_in body.now.params body.now.text) container) container }
     ensures never_falls { steps.old ≤ steps.new }
     ensures scans { Scans (D.is_honest disk.old) result store.old store.new ahead.new
@@ -99,12 +100,12 @@ fn reply_to_read<D: Disk, L: Ledger>(
     steps: &mut Steps<L>,
 ) -> Result<Reply, StoreFault>
     requires ready { IsReady (D.is_honest disk.old) store.old ahead.old (D.history disk.old (D.attached disk.old)) }
-    ensures reply { IsTrue (D.is_honest disk.old) → (container : Container) → ContentsHold (store_says store.old) container
+    ensures reply { IsTrue (D.is_honest disk.old) → (container : Container) → ContentsHold (store_contents store.old) container
         → IfOk result (λ reply. IsReply reply (rows_reply (rows_or_refusal (Some query) container))) }
     ensures fits { IfOk result (λ reply. FitsRefusal (own_refusal (Some query)) reply) }
     ensures met { IsTrue (D.is_honest disk.old)
-        → IfOk result (λ reply. OnRows reply (MeetsTrees query (store_says store.old))) }
-    ensures bound { (container : Container) → ContentsHold (store_says store.old) container
+        → IfOk result (λ reply. OnRows reply (MeetsTrees query (store_contents store.old))) }
+    ensures bound { (container : Container) → ContentsHold (store_contents store.old) container
         → steps.new ≤ steps.old + 2 * query_need (rows_or_refusal (Some query) container) container }
     ensures never_falls { steps.old ≤ steps.new }
     ensures scans { Scans (D.is_honest disk.old) result store.old store.new ahead.new
@@ -133,10 +134,10 @@ fn rows_of_query<D: Disk, L: Ledger>(
     steps: &mut Steps<L>,
 ) -> Result<Rows, StoreFault>
     requires ready { IsReady (D.is_honest disk.old) store.old ahead.old (D.history disk.old (D.attached disk.old)) }
-    ensures rows { IsTrue (D.is_honest disk.old) → (container : Container) → ContentsHold (store_says store.old) container
+    ensures rows { IsTrue (D.is_honest disk.old) → (container : Container) → ContentsHold (store_contents store.old) container
         → IfOk result (λ rows. AreRows rows (rows_of query container)) }
-    ensures met { IsTrue (D.is_honest disk.old) → OnOk result (MeetsTrees query (store_says store.old)) }
-    ensures bound { (container : Container) → ContentsHold (store_says store.old) container → steps.new ≤ steps.old + 2 * length container.entries }
+    ensures met { IsTrue (D.is_honest disk.old) → OnOk result (MeetsTrees query (store_contents store.old)) }
+    ensures bound { (container : Container) → ContentsHold (store_contents store.old) container → steps.new ≤ steps.old + 2 * length container.entries }
     ensures never_falls { steps.old ≤ steps.new }
     ensures scans { Scans (D.is_honest disk.old) result store.old store.new ahead.new
         (D.history disk.old (D.attached disk.old)) (D.history disk.new (D.attached disk.new))
@@ -194,10 +195,10 @@ fn rows_of_documents<D: Disk, L: Ledger>(
 ) -> Result<Rows, StoreFault>
     requires printed { IsPrinted query }
     requires ready { IsReady (D.is_honest disk.old) store.old ahead.old (D.history disk.old (D.attached disk.old)) }
-    ensures rows { IsTrue (D.is_honest disk.old) → (container : Container) → ContentsHold (store_says store.old) container
+    ensures rows { IsTrue (D.is_honest disk.old) → (container : Container) → ContentsHold (store_contents store.old) container
         → IfOk result (λ rows. AreRows rows (rows_of query container)) }
-    ensures met { IsTrue (D.is_honest disk.old) → OnOk result (MeetsTrees query (store_says store.old)) }
-    ensures bound { (container : Container) → ContentsHold (store_says store.old) container → steps.new ≤ steps.old + 2 * length container.entries }
+    ensures met { IsTrue (D.is_honest disk.old) → OnOk result (MeetsTrees query (store_contents store.old)) }
+    ensures bound { (container : Container) → ContentsHold (store_contents store.old) container → steps.new ≤ steps.old + 2 * length container.entries }
     ensures never_falls { steps.old ≤ steps.new }
     ensures scans { Scans (D.is_honest disk.old) result store.old store.new ahead.new
         (D.history disk.old (D.attached disk.old)) (D.history disk.new (D.attached disk.new))
@@ -226,13 +227,13 @@ fn answer_rows<D: Disk, L: Ledger>(
     steps: &mut Steps<L>,
 ) -> Result<Vec<KeyedRow>, StoreFault>
     requires ready { IsReady (D.is_honest disk.old) store.old ahead.old (D.history disk.old (D.attached disk.old)) }
-    ensures rows { IsTrue (D.is_honest disk.old) → (container : Container) → ContentsHold (store_says store.old) container
+    ensures rows { IsTrue (D.is_honest disk.old) → (container : Container) → ContentsHold (store_contents store.old) container
         → IfOk result (λ rows. rows.items ≡ answer_of query.now (numbered container)) }
     ensures met { IsTrue (D.is_honest disk.old) → LooksAtEach query.now
-        → OnOk result (StandForTrees (AreReadWholeFor query.now) (store_says store.old)) }
-    ensures fetched { (container : Container) → ContentsHold (store_says store.old) container
+        → OnOk result (StandForTrees (AreReadWholeFor query.now) (store_contents store.old)) }
+    ensures fetched { (container : Container) → ContentsHold (store_contents store.old) container
         → query.now.limit ≡ None → OnOk result (steps.old + length container.entries ≤ steps.new) }
-    ensures bound { (container : Container) → ContentsHold (store_says store.old) container → steps.new ≤ steps.old + 2 * length container.entries }
+    ensures bound { (container : Container) → ContentsHold (store_contents store.old) container → steps.new ≤ steps.old + 2 * length container.entries }
     ensures never_falls { steps.old ≤ steps.new }
     ensures scans { Scans (D.is_honest disk.old) result store.old store.new ahead.new
         (D.history disk.old (D.attached disk.old)) (D.history disk.new (D.attached disk.new))
@@ -265,17 +266,17 @@ fn add_documents<D: Disk, L: Ledger>(
     steps: &mut Steps<L>,
 ) -> Result<(), StoreFault>
     requires ready { IsReady (D.is_honest disk.old) store.old ahead.old (D.history disk.old (D.attached disk.old)) }
-    ensures added { IsTrue (D.is_honest disk.old) → (container : Container) → ContentsHold (store_says store.old) container
+    ensures added { IsTrue (D.is_honest disk.old) → (container : Container) → ContentsHold (store_contents store.old) container
         → (query : queries.Query) → Answers answer.old query []
         → OnOk result (Answers answer.new query (numbered container)) }
     ensures met { IsTrue (D.is_honest disk.old) → (query : queries.Query) → IsTo answer.old query → LooksAtEach query
-        → OnOk result (StandForTrees (AreReadWholeFor query) (store_says store.old)) }
+        → OnOk result (StandForTrees (AreReadWholeFor query) (store_contents store.old)) }
 
     // Without a limit each document is fetched, for one step of work.
-    ensures fetched { (container : Container) → ContentsHold (store_says store.old) container
+    ensures fetched { (container : Container) → ContentsHold (store_contents store.old) container
         → (query : queries.Query) → IsTo answer.old query → query.limit ≡ None
         → OnOk result (steps.old + length container.entries ≤ steps.new) }
-    ensures bound { (container : Container) → ContentsHold (store_says store.old) container → steps.new ≤ steps.old + 2 * length container.entries }
+    ensures bound { (container : Container) → ContentsHold (store_contents store.old) container → steps.new ≤ steps.old + 2 * length container.entries }
     ensures never_falls { steps.old ≤ steps.new }
     ensures scans { Scans (D.is_honest disk.old) result store.old store.new ahead.new
         (D.history disk.old (D.attached disk.old)) (D.history disk.new (D.attached disk.new))
@@ -308,16 +309,16 @@ fn add_document<D: Disk, L: Ledger>(
     answer: &mut TextAnswer<'_>,
     steps: &mut Steps<L>,
 ) -> Result<(), StoreFault>
-    requires held { IsTrue (map.contains_key (store_says store.old).documents number) }
+    requires held { IsTrue (map.contains_key (store_contents store.old).documents number) }
     requires ready { IsReady (D.is_honest disk.old) store.old ahead.old (D.history disk.old (D.attached disk.old)) }
     ensures added { IsTrue (D.is_honest disk.old) → (tree : TreeOf)
-        → text_of (map.get (store_says store.old).documents number) ≡ Some (canonical_text tree)
+        → text_of (map.get (store_contents store.old).documents number) ≡ Some (canonical_text tree)
         → IsReadable tree → OnOk result ((query : queries.Query) → (entries : List (ℕ × TreeOf))
         → Answers answer.old query entries → Answers answer.new query (entries ++ (number, tree) ∷ [])) }
 
     // Bytes that are read whole and stand for no tree are never passed over, where the query has no condition.
     ensures outside { IsTrue (D.is_honest disk.old) → (text : List ℕ)
-        → text_of (map.get (store_says store.old).documents number) ≡ Some text
+        → text_of (map.get (store_contents store.old).documents number) ≡ Some text
         → (query : queries.Query) → IsTo answer.old query → query.condition ≡ None
         → AreReadWholeFor query text → OnOk result (tree_read text ≢ None) }
     ensures asked { (query : queries.Query) → IsTo answer.old query → IsTo answer.new query }

@@ -3,11 +3,11 @@
 ghost use Rattle.std.specs.Prelude.{◌≡◌, ◌⊎◌, ◌+◌, ◌<◌, ℕ, IsTrue, IfOk, IfErr, IfSome, IfNone, Some, None};
 ghost use Rattle.std.specs.FinMap as map;
 ghost use Rattle.ax_pages.specs.Area.{extent_number};
-ghost use Rattle.ax_store.specs.ReadAhead.{ahead_text};
-ghost use Rattle.ax_store.specs.Store.{store_area, store_offsets};
+ghost use Rattle.ax_store.specs.ReadAhead.{ahead_text, IsAhead};
+ghost use Rattle.ax_store.specs.Store.{store_area, store_offsets, store_contents};
+ghost use Rattle.ax_store.specs.Listed.{IsNextAfter};
 ghost use Rattle.ax_engine.specs.InPages.{IsPlaced};
 ghost use Rattle.ax_engine.specs.Scans.{IsReady, Scans};
-ghost use Rattle.ax_engine.specs.StoreSays.{IsFound, IsNext, store_says};
 
 use ax_answer_text::TextFault;
 use ax_base::Steps;
@@ -18,10 +18,9 @@ use ax_store::{ReadAhead, Store, StoreFault};
 use std::sync::ledger::Ledger;
 
 /// The least number above another that is held. `None` exactly where there is none.
-#[tactic(auto, using(crate::proofs::Saying::next_says, crate::proofs::Saying::none_says))]
 pub(crate) fn next_held(store: &Store<LruPages>, after: u32) -> Option<u32>
-    ensures found { IfSome result (IsNext (store_says store.now) after) }
-    ensures none { IfNone result ((number : ℕ) → after < number → map.get (store_says store.now).documents number ≡ None) }
+    ensures found { IfSome result (IsNextAfter (store_contents store.now).documents after) }
+    ensures none { IfNone result ((number : ℕ) → after < number → map.get (store_contents store.now).documents number ≡ None) }
 {
     store.next_document(after)
 }
@@ -36,7 +35,7 @@ pub(crate) fn read_document<D: Disk>(
 ) -> Result<bool, StoreFault>
     requires ready { IsReady (D.is_honest disk.old) store.old ahead.old (D.history disk.old (D.attached disk.old)) }
     ensures text { IsTrue (D.is_honest disk.old)
-        → IfOk result (λ found. IsFound (map.get (store_says store.old).documents number) found (ahead_text ahead.new)) }
+        → IfOk result (λ found. IsAhead (map.get (store_contents store.old).documents number) found (ahead_text ahead.new)) }
     ensures scans { Scans (D.is_honest disk.old) result store.old store.new ahead.new
         (D.history disk.old (D.attached disk.old)) (D.history disk.new (D.attached disk.new))
         (D.faults disk.old) (D.faults disk.new) }
@@ -57,7 +56,7 @@ pub(crate) fn fetch_document<D: Disk, L: Ledger>(
 ) -> Result<bool, StoreFault>
     requires ready { IsReady (D.is_honest disk.old) store.old ahead.old (D.history disk.old (D.attached disk.old)) }
     ensures text { IsTrue (D.is_honest disk.old)
-        → IfOk result (λ found. IsFound (map.get (store_says store.old).documents number) found (ahead_text ahead.new)) }
+        → IfOk result (λ found. IsAhead (map.get (store_contents store.old).documents number) found (ahead_text ahead.new)) }
     ensures scans { Scans (D.is_honest disk.old) result store.old store.new ahead.new
         (D.history disk.old (D.attached disk.old)) (D.history disk.new (D.attached disk.new))
         (D.faults disk.old) (D.faults disk.new) }
@@ -72,7 +71,7 @@ pub(crate) fn fetch_document<D: Disk, L: Ledger>(
 /// The fault of a text of a document that is held: where it is outside the format, the place of its
 /// part.
 pub(crate) fn text_fault(store: &Store<LruPages>, number: u32, fault: TextFault) -> StoreFault
-    requires { IsTrue (map.contains_key (store_says store.now).documents number) }
+    requires { IsTrue (map.contains_key (store_contents store.now).documents number) }
     ensures memory { fault ≡ TextFault.Memory → result ≡ StoreFault.Memory }
     ensures outside { fault ≡ TextFault.Outside → IsPlaced store.now number result }
 {
@@ -87,7 +86,7 @@ pub(crate) fn text_fault(store: &Store<LruPages>, number: u32, fault: TextFault)
 
 /// Where the part of a document that is held stands: the list as a number, and the offset in it.
 fn place_of(store: &Store<LruPages>, number: u32) -> (u8, u64)
-    requires { IsTrue (map.contains_key (store_says store.now).documents number) }
+    requires { IsTrue (map.contains_key (store_contents store.now).documents number) }
     ensures list { result.0 ≡ extent_number (store_area store.now) }
     ensures offset { map.get (store_offsets store.now).documents number ≡ Some result.1 }
 {

@@ -7,9 +7,9 @@ ghost use Rattle.ax_image.specs.Documents.{ContentsHold};
 ghost use Rattle.ax_machine.specs.Querying.{numbered};
 ghost use Rattle.ax_machine.specs.ReplyTexts.{row_text};
 ghost use Rattle.ax_store.specs.ReadAhead.{ahead_text};
+ghost use Rattle.ax_store.specs.Store.{store_contents};
 ghost use Rattle.ax_engine.specs.Replies.{AreRows, lines_of};
 ghost use Rattle.ax_engine.specs.Scans.{IsReady, Scans};
-ghost use Rattle.ax_engine.specs.StoreSays.{store_says};
 ghost use Rattle.ax_tree.specs.CanonicalText.{canonical_text};
 ghost use Rattle.ax_tree.specs.declared.tree.Tree as trees;
 
@@ -63,7 +63,7 @@ pub(crate) fn document_rows<D: Disk>(
     rows: &[KeyedRow],
 ) -> Result<Rows, StoreFault>
     requires ready { IsReady (D.is_honest disk.old) store.old ahead.old (D.history disk.old (D.attached disk.old)) }
-    ensures rows { IsTrue (D.is_honest disk.old) → (container : Container) → ContentsHold (store_says store.old) container
+    ensures rows { IsTrue (D.is_honest disk.old) → (container : Container) → ContentsHold (store_contents store.old) container
         → IfOk result (λ made. AreRows made (map (λ row. canonical_text (tree_numbered row.number (numbered container))) rows.now)) }
     ensures scans { Scans (D.is_honest disk.old) result store.old store.new ahead.new
         (D.history disk.old (D.attached disk.old)) (D.history disk.new (D.attached disk.new))
@@ -89,7 +89,7 @@ fn document_lines<D: Disk>(
     rows: &[KeyedRow],
 ) -> Result<Vec<u8>, StoreFault>
     requires ready { IsReady (D.is_honest disk.old) store.old ahead.old (D.history disk.old (D.attached disk.old)) }
-    ensures lines { IsTrue (D.is_honest disk.old) → (container : Container) → ContentsHold (store_says store.old) container
+    ensures lines { IsTrue (D.is_honest disk.old) → (container : Container) → ContentsHold (store_contents store.old) container
         → IfOk result (λ lines. lines.items ≡ lines_of (map (λ row. canonical_text (tree_numbered row.number (numbered container))) rows.now)) }
     ensures scans { Scans (D.is_honest disk.old) result store.old store.new ahead.new
         (D.history disk.old (D.attached disk.old)) (D.history disk.new (D.attached disk.new))
@@ -116,7 +116,7 @@ fn push_document<D: Disk>(
     number: u32,
 ) -> Result<(), StoreFault>
     requires ready { IsReady (D.is_honest disk.old) store.old ahead.old (D.history disk.old (D.attached disk.old)) }
-    ensures line { IsTrue (D.is_honest disk.old) → (container : Container) → ContentsHold (store_says store.old) container
+    ensures line { IsTrue (D.is_honest disk.old) → (container : Container) → ContentsHold (store_contents store.old) container
         → OnOk result (lines.new.items
         ≡ lines.old.items ++ row_text (canonical_text (tree_numbered number (numbered container)))) }
     ensures scans { Scans (D.is_honest disk.old) result store.old store.new ahead.new

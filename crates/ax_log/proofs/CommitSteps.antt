@@ -15,14 +15,16 @@ use Rattle.ax_disk.specs.laws.TornLaws.{one_byte_written}
 use Rattle.ax_disk.specs.laws.WriteLaws.{WriteFrom, written_list, common_list_stays}
 use Rattle.ax_disk.specs.laws.StaysLaws.{stays_join, stays_turn, stays_weaken, turns_weaken, writes_stay, writes_keep, syncs_stay, synced_rests}
 use Rattle.ax_frame.specs.LogFrame.{open_frame}
-use Rattle.ax_pages.specs.declared.root.RootChoice.TheVariants.{Counts}
-use Rattle.ax_pages.specs.Root.{IsRoot}
 use Rattle.ax_pages.specs.Area.{frames_bytes, IsArea}
-use Rattle.ax_pages.specs.Image.{HasFrames}
-use Rattle.ax_pages.specs.laws.RootLaws.{counts_named}
+use Rattle.ax_pages.specs.declared.numbers.TheConstants.{NEWEST_VERSION}
 use Rattle.ax_pages.specs.laws.AreaLaws.{area_by_prefix, gate_within, frames_push, spans_push}
+use Rattle.ax_area.specs.declared.root.Counting.{Counting}
+use Rattle.ax_area.specs.declared.root.RootChoice.TheVariants.{Counts}
+use Rattle.ax_area.specs.Root.{IsRoot, IsKnown}
+use Rattle.ax_area.specs.Image.{HasFrames}
+use Rattle.ax_area.proofs.OneRoot.{counts_named}
 use Rattle.ax_log.specs.declared.log.Log.{Log}
-use Rattle.ax_log.specs.Log.{log_area, log_generation, log_end}
+use Rattle.ax_log.specs.Log.{log_slot, log_area, log_end}
 use Rattle.ax_log.specs.Agreement.{HasLog, Agrees}
 use Rattle.ax_log.specs.Commit.{IsCommitSpelling, IsStaged, IsReady}
 
@@ -243,31 +245,33 @@ module _ (area : Extent) (frames : List (List ℕ)) (end : ℕ) (span : List ℕ
 
 -- ---- the whole commit
 
-module _ (area : Extent) (generation end : ℕ) (frames : List (List ℕ)) (text span : List ℕ)
-    (old : History) (counts : IsRoot old.reads.root (Counts 1 area generation))
+module _ (slot : Counting) (end : ℕ) (frames : List (List ℕ)) (text span : List ℕ)
+    (old : History) (counts : IsRoot old.reads.root (Counts slot)) (known : IsKnown NEWEST_VERSION slot)
     (end-is : end ≡ length (frames_bytes frames))
-    (rests : Rests old (HasLog old.reads.root area frames))
+    (rests : Rests old (HasLog old.reads.root slot.area frames))
     (frame : IsCommitSpelling text span) where
+  abbrev area : Extent
+  area = slot.area
+
   pub apart_root : area ≢ Root
-  apart_root = (counts_named old.reads.root 1 area generation counts).1
+  apart_root = (counts_named old.reads.root slot counts).1
 
   pub has_frames : (fs : List (List ℕ)) (image : Image) → HasLog old.reads.root area fs image
-      → HasFrames fs image
+      → HasFrames NEWEST_VERSION fs image
   has_frames fs image has = inr (
-    area,
-    generation,
+    slot,
     record {
-      counts = subst (λ (r : List ℕ). IsRoot r (Counts 1 area generation))
-          (sym has.root_is) counts;
+      counts = subst (λ (r : List ℕ). IsRoot r (Counts slot)) (sym has.root_is) counts;
+      known = known;
       has = has.has;
     },
   )
 
   -- the first half failed, or only it was done
   pub half_turns : (new : History) → Stays old new (HasLog old.reads.root area frames)
-      → Turns old new (HasFrames frames) (HasFrames (frames ++ span ∷ []))
-  half_turns new stays = stays_turn old new (HasFrames frames) (HasFrames (frames ++ span ∷ []))
-      (stays_weaken old new (HasLog old.reads.root area frames) (HasFrames frames)
+      → Turns old new (HasFrames NEWEST_VERSION frames) (HasFrames NEWEST_VERSION (frames ++ span ∷ []))
+  half_turns new stays = stays_turn old new (HasFrames NEWEST_VERSION frames) (HasFrames NEWEST_VERSION (frames ++ span ∷ []))
+      (stays_weaken old new (HasLog old.reads.root area frames) (HasFrames NEWEST_VERSION frames)
       (has_frames frames) stays)
 
   module _ (mid : History) (staged : IsStaged area end text old mid)
@@ -290,18 +294,18 @@ module _ (area : Extent) (generation end : ℕ) (frames : List (List ℕ)) (text
     pub both_turn : (new : History) → Stays old mid (HasLog old.reads.root area frames)
         → Turns mid new (HasLog mid.reads.root area frames)
         (HasLog mid.reads.root area (frames ++ span ∷ []))
-        → Turns old new (HasFrames frames) (HasFrames (frames ++ span ∷ []))
+        → Turns old new (HasFrames NEWEST_VERSION frames) (HasFrames NEWEST_VERSION (frames ++ span ∷ []))
     both_turn new first second =
         let one = half_turns mid first in
-        let other = turns_weaken mid new (HasLog mid.reads.root area frames) (HasFrames frames)
-        (HasLog mid.reads.root area (frames ++ span ∷ [])) (HasFrames (frames ++ span ∷ []))
+        let other = turns_weaken mid new (HasLog mid.reads.root area frames) (HasFrames NEWEST_VERSION frames)
+        (HasLog mid.reads.root area (frames ++ span ∷ [])) (HasFrames NEWEST_VERSION (frames ++ span ∷ []))
         (λ image has. has_frames frames image
         (subst (λ (r : List ℕ). HasLog r area frames image) staged_root has))
         (λ image has. has_frames (frames ++ span ∷ []) image
         (subst (λ (r : List ℕ). HasLog r area (frames ++ span ∷ []) image) staged_root has))
         second in
-        stays_join old mid new (λ image. HasFrames frames image ⊎ HasFrames
-        (frames ++ span ∷ []) image) one other
+        stays_join old mid new (λ image. HasFrames NEWEST_VERSION frames image ⊎ HasFrames
+        NEWEST_VERSION (frames ++ span ∷ []) image) one other
 
   end_after : end + length text ≡ length (frames_bytes (frames ++ span ∷ []))
   end_after =
@@ -315,19 +319,17 @@ module _ (area : Extent) (generation end : ℕ) (frames : List (List ℕ)) (text
             (open_frame span),
       )
 
-  pub agrees_after : (log : Log) (mid new : History) → log_area log ≡ area
-      → log_generation log ≡ generation → log_end log ≡ end + length text
+  pub agrees_after : (log : Log) (mid new : History) → log_slot log ≡ slot
+      → log_end log ≡ end + length text
       → mid.reads.root ≡ old.reads.root → new.reads.root ≡ mid.reads.root
       → Rests new (HasLog mid.reads.root area (frames ++ span ∷ []))
       → Agrees log (frames ++ span ∷ []) new
-  agrees_after log mid new area-is generation-is log_end-is mid-is new-is now = record {
-    counts = subst (λ (a : Extent). IsRoot new.reads.root (Counts 1 a (log_generation log)))
-        (sym area-is)
-        (subst (λ (g : ℕ). IsRoot new.reads.root (Counts 1 area g)) (sym generation-is)
-        (subst (λ (r : List ℕ). IsRoot r (Counts 1 area generation))
-        (sym (new-is ∙ mid-is)) counts));
+  agrees_after log mid new slot-is log_end-is mid-is new-is now = record {
+    counts = subst (λ (s : Counting). IsRoot new.reads.root (Counts s)) (sym slot-is)
+        (subst (λ (r : List ℕ). IsRoot r (Counts slot)) (sym (new-is ∙ mid-is)) counts);
+    known = subst (λ (s : Counting). IsKnown NEWEST_VERSION s) (sym slot-is) known;
     end_is = log_end-is ∙ end_after;
-    rests = subst (λ (a : Extent). Rests new (HasLog new.reads.root a (frames ++ span ∷ [])))
-        (sym area-is)
+    rests = subst (λ (s : Counting). Rests new (HasLog new.reads.root s.area (frames ++ span ∷ [])))
+        (sym slot-is)
         (subst (λ (r : List ℕ). Rests new (HasLog r area (frames ++ span ∷ []))) (sym new-is) now);
   }

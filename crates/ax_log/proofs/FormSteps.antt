@@ -13,15 +13,18 @@ use Rattle.ax_disk.specs.laws.WriteLaws.{CutImageFrom}
 use Rattle.ax_disk.specs.laws.StaysLaws.{stays_join, stays_weaken, writes_stay, cuts_keep, syncs_stay, synced_settled, settled_rests}
 use Rattle.ax_frame.specs.RootSlot.{CanName}
 use Rattle.ax_frame.specs.declared.root_slot.RootSlot.TheVariants.{Closed, Live}
-use Rattle.ax_pages.specs.declared.root.RootChoice.TheVariants.{Fresh, Counts}
-use Rattle.ax_pages.specs.Root.{IsRoot, IsWholeRoot}
 use Rattle.ax_pages.specs.Area.{IsArea}
-use Rattle.ax_pages.specs.Image.{IsFresh, HasFrames}
-use Rattle.ax_pages.specs.laws.RootLaws.{fresh_prefix, whole_by_prefix}
+use Rattle.ax_pages.specs.declared.numbers.TheConstants.{NEWEST_VERSION}
+use Rattle.ax_area.specs.declared.root.Counting.{Counting}
+use Rattle.ax_area.specs.declared.root.RootChoice.TheVariants.{Fresh, Counts}
+use Rattle.ax_area.specs.Root.{IsRoot, IsWholeRoot}
+use Rattle.ax_area.specs.Image.{IsFresh, HasFrames}
+use Rattle.ax_area.proofs.OneRoot.{newest_known}
+use Rattle.ax_area.proofs.RootPrefix.{fresh_prefix, whole_by_prefix}
 use Rattle.ax_log.specs.declared.log.Log.{Log}
-use Rattle.ax_log.specs.Log.{log_area, log_generation, log_end}
+use Rattle.ax_log.specs.Log.{log_slot, log_area, log_end}
 use Rattle.ax_log.specs.Agreement.{HasLog, Agrees}
-use Rattle.ax_log.specs.Forming.{empty_image, fresh_slots, laid_image, formed_image, IsSettledAt}
+use Rattle.ax_log.specs.Forming.{empty_image, formed_slot, fresh_slots, laid_image, formed_image, IsSettledAt}
 
 -- ---- the lists are emptied
 
@@ -140,7 +143,8 @@ module _ (slots : List ℕ) (short : length slots ≡ 32) (h0 : History)
 
 -- ---- the last byte of the root
 
-can_name : CanName 1 1 1
+-- the newest version is one of those that a slot can name, from 1 on
+can_name : CanName NEWEST_VERSION 1 1
 can_name = record {
   version_from = omega arith;
   version_fits = omega arith;
@@ -148,9 +152,10 @@ can_name = record {
   generation_fits = omega arith;
 }
 
-formed_whole : IsWholeRoot formed_image.root (Counts 1 A 1)
+-- by computing with the number of the newest version, whatever it is
+formed_whole : IsWholeRoot formed_image.root (Counts formed_slot)
 formed_whole = record {
-  first = Live 1 1 1;
+  first = Live NEWEST_VERSION 1 1;
   second = Closed;
   whole = omega arith;
   first_slot = (can_name, refl);
@@ -166,13 +171,13 @@ no_frames = record {
   closed = (omega arith, λ e. omega (arith, e));
 }
 
-whole_has_none : (image : Image) → IsRoot image.root (Counts 1 A 1) → image.a ≡ 0 ∷ []
-    → HasFrames [] image
+whole_has_none : (image : Image) → IsRoot image.root (Counts formed_slot) → image.a ≡ 0 ∷ []
+    → HasFrames NEWEST_VERSION [] image
 whole_has_none image counts is = inr (
-  A,
-  1,
+  formed_slot,
   record {
     counts = counts;
+    known = newest_known NEWEST_VERSION formed_slot refl;
     has = subst (λ (l : List ℕ). IsArea l []) (sym is) no_frames;
   },
 )
@@ -185,7 +190,7 @@ module _ (h0 : History) (laid_out : IsSettledAt laid_image h0) where
   unsynced_laid = laid_out.settled ∙ ap all_settled laid_out.reads
 
   last_byte : (image : Image) → MayLeave (after_write Root 32 1 h0.unsynced) image
-      → HasFrames [] image
+      → HasFrames NEWEST_VERSION [] image
   last_byte image may =
       let left = subst (λ (u : Unsynced). MayLeave (after_write Root 32 1 u) image) unsynced_laid
       may in
@@ -196,19 +201,19 @@ module _ (h0 : History) (laid_out : IsSettledAt laid_image h0) where
       (written 32 1 (settled fresh_slots)) image.root 32 left.root (omega (arith, long))
       (omega arith) (λ i below. (inl below, tt)) in
       whole_has_none image (inr (whole_by_prefix image.root formed_image.root
-      (Counts 1 A 1) long same formed_whole)) (settled_only (0 ∷ []) image.a left.a))
+      (Counts formed_slot) long same formed_whole)) (settled_only (0 ∷ []) image.a left.a))
       (short_or_whole (length image.root))
 
   module _ {T E : Type 0} (h1 : History) where
     pub formed_1 : (r1 : Result T E) → Writes Root 32 (69 ∷ []) r1 h0 h1
-        → Stays h0 h1 (HasFrames [])
-    formed_1 r1 write = writes_stay Root 32 (69 ∷ []) r1 h0 h1 (HasFrames []) last_byte write
+        → Stays h0 h1 (HasFrames NEWEST_VERSION [])
+    formed_1 r1 write = writes_stay Root 32 (69 ∷ []) r1 h0 h1 (HasFrames NEWEST_VERSION []) last_byte write
 
     module _ (v1 : T) (write1 : Writes {E = E} Root 32 (69 ∷ []) (Ok v1) h0 h1)
         (may1 : MayLeave h1.unsynced h1.reads) (h2 : History) where
-      pub formed_2 : (r2 : Result T E) → Syncs r2 h1 h2 → Stays h0 h2 (HasFrames [])
+      pub formed_2 : (r2 : Result T E) → Syncs r2 h1 h2 → Stays h0 h2 (HasFrames NEWEST_VERSION [])
       formed_2 r2 sync = let first = formed_1 (Ok v1) write1 in stays_join h0 h1 h2
-          (HasFrames []) first (syncs_stay r2 h1 h2 (HasFrames []) first.rests may1 sync)
+          (HasFrames NEWEST_VERSION []) first (syncs_stay r2 h1 h2 (HasFrames NEWEST_VERSION []) first.rests may1 sync)
 
       formed_reads : h1.reads ≡ formed_image
       formed_reads = write1.done ∙ ap (λ (i : Image). with_list Root
@@ -223,33 +228,32 @@ module _ (h0 : History) (laid_out : IsSettledAt laid_image h0) where
 
 -- ---- all three steps
 
-pub fresh_has_none : (image : Image) → IsFresh image → HasFrames [] image
+pub fresh_has_none : (image : Image) → IsFresh image → HasFrames NEWEST_VERSION [] image
 fresh_has_none image fresh = inl (fresh, refl)
 
-pub fresh_stays : (old new : History) → Stays old new IsFresh → Stays old new (HasFrames [])
-fresh_stays old new stays = stays_weaken old new IsFresh (HasFrames []) fresh_has_none stays
+pub fresh_stays : (old new : History) → Stays old new IsFresh → Stays old new (HasFrames NEWEST_VERSION [])
+fresh_stays old new stays = stays_weaken old new IsFresh (HasFrames NEWEST_VERSION []) fresh_has_none stays
 
 pub formed_agrees : (log : Log) (history : History) → IsSettledAt formed_image history
-    → log_area log ≡ A → log_generation log ≡ 1 → log_end log ≡ 0 → Agrees log [] history
-formed_agrees log history done area-is generation-is end-is =
-    let counts : IsRoot history.reads.root (Counts 1 A 1) = subst
-    (λ (i : Image). IsRoot i.root (Counts 1 A 1)) (sym done.reads) (inr formed_whole) in
+    → log_slot log ≡ formed_slot → log_end log ≡ 0 → Agrees log [] history
+formed_agrees log history done slot_is end-is =
+    let counts : IsRoot history.reads.root (Counts formed_slot) = subst
+    (λ (i : Image). IsRoot i.root (Counts formed_slot)) (sym done.reads) (inr formed_whole) in
     let has : HasLog history.reads.root A [] history.reads =
     record { root_is = refl; has = subst (λ (i : Image). IsArea i.a []) (sym done.reads) no_frames }
     in
     record {
-      counts = subst (λ (a : Extent). IsRoot history.reads.root (Counts 1 a (log_generation log)))
-          (sym area-is)
-          (subst (λ (g : ℕ). IsRoot history.reads.root (Counts 1 A g)) (sym generation-is) counts);
+      counts = subst (λ (s : Counting). IsRoot history.reads.root (Counts s)) (sym slot_is) counts;
+      known = newest_known NEWEST_VERSION (log_slot log) (ap (λ (s : Counting). s.version) slot_is);
       end_is = end-is;
-      rests = subst (λ (a : Extent). Rests history (HasLog history.reads.root a [])) (sym area-is)
+      rests = subst (λ (s : Counting). Rests history (HasLog history.reads.root s.area [])) (sym slot_is)
           (settled_rests history (HasLog history.reads.root A []) done.settled has);
     }
 
 module _ (h0 h1 : History) (first : Stays h0 h1 IsFresh) where
-  pub form_2 : (h2 : History) → Stays h1 h2 IsFresh → Stays h0 h2 (HasFrames [])
+  pub form_2 : (h2 : History) → Stays h1 h2 IsFresh → Stays h0 h2 (HasFrames NEWEST_VERSION [])
   form_2 h2 second = fresh_stays h0 h2 (stays_join h0 h1 h2 IsFresh first second)
 
-  pub form_3 : (h2 h3 : History) → Stays h1 h2 IsFresh → Stays h2 h3 (HasFrames [])
-      → Stays h0 h3 (HasFrames [])
-  form_3 h2 h3 second third = stays_join h0 h2 h3 (HasFrames []) (form_2 h2 second) third
+  pub form_3 : (h2 h3 : History) → Stays h1 h2 IsFresh → Stays h2 h3 (HasFrames NEWEST_VERSION [])
+      → Stays h0 h3 (HasFrames NEWEST_VERSION [])
+  form_3 h2 h3 second third = stays_join h0 h2 h3 (HasFrames NEWEST_VERSION []) (form_2 h2 second) third

@@ -8,70 +8,73 @@ use Rattle.ax_disk.specs.model.Moments.{History}
 use Rattle.ax_disk.specs.model.Calls.{Idles, Syncs}
 use Rattle.ax_disk.specs.model.Stays.{Rests, Stays}
 use Rattle.ax_disk.specs.laws.StaysLaws.{idles_rest, idles_stay, stays_join, syncs_stay, settled_rests}
-use Rattle.ax_pages.specs.declared.root.RootChoice.{RootChoice}
-use Rattle.ax_pages.specs.declared.root.RootChoice.TheVariants.{Counts}
-use Rattle.ax_pages.specs.Root.{IsRoot}
-use Rattle.ax_pages.specs.Image.{IsFresh, IsBrokenArea, IsDamaged, IsNewer, HasFrames}
-use Rattle.ax_pages.specs.laws.RootLaws.{counts_named}
-use Rattle.ax_pages.specs.laws.ImageLaws.{one_frames}
+use Rattle.ax_pages.specs.declared.numbers.TheConstants.{NEWEST_VERSION}
+use Rattle.ax_area.specs.declared.root.Counting.{Counting}
+use Rattle.ax_area.specs.declared.root.RootChoice.{RootChoice}
+use Rattle.ax_area.specs.declared.root.RootChoice.TheVariants.{Counts, Damaged as DamagedRoot}
+use Rattle.ax_area.specs.Root.{IsRoot, IsKnown, slot_offset, last_generation}
+use Rattle.ax_area.specs.Image.{IsFresh, IsBrokenArea, IsBrokenImage, IsNewer, HasFrames}
+use Rattle.ax_area.proofs.OneRoot.{counts_named}
+use Rattle.ax_area.proofs.OneImage.{one_frames}
 use Rattle.ax_log.specs.declared.log.Log.{Log}
 use Rattle.ax_log.specs.declared.fault.LogFault.{LogFault}
 use Rattle.ax_log.specs.declared.fault.LogFault.TheVariants.{Disk, Damaged, Newer, Memory}
-use Rattle.ax_log.specs.Log.{log_area, log_generation, log_end}
+use Rattle.ax_log.specs.Log.{log_slot, log_area, log_end}
 use Rattle.ax_log.specs.Agreement.{HasLog, Agrees}
 use Rattle.ax_log.specs.Walk.{EndsAt, IsEndOf}
+use Rattle.ax_log.specs.Forming.{formed_slot}
 use Rattle.ax_log.specs.Opening.{IsOpened, IsDamagedAt, Tells, Keeps}
 
 -- ---- a live store
 
 pub found_log : (log : Log) (old new : History)
-    → IsRoot old.reads.root (Counts 1 (log_area log) (log_generation log))
+    → IsRoot old.reads.root (Counts (log_slot log)) → IsKnown NEWEST_VERSION (log_slot log)
     → EndsAt (list_of (log_area log) old.reads) (log_end log)
     → old.unsynced ≡ all_settled old.reads → Idles old new → IsOpened log old.reads new
-found_log log old new counts ends settled idle =
+found_log log old new counts known ends settled idle =
     let rests = settled_rests old (HasLog old.reads.root (log_area log) ends.frames) settled
     (record { root_is = refl; has = ends.area }) in
     record {
       frames = ends.frames;
       agrees = record {
-        counts = subst (λ (i : Image). IsRoot i.root (Counts 1 (log_area log) (log_generation log)))
-            (sym idle.reads) counts;
+        counts = subst (λ (i : Image). IsRoot i.root (Counts (log_slot log))) (sym idle.reads) counts;
+        known = known;
         end_is = ends.place;
         rests = subst (λ (i : Image). Rests new (HasLog i.root (log_area log) ends.frames))
             (sym idle.reads) (idles_rest old new
             (HasLog old.reads.root (log_area log) ends.frames) rests idle);
       };
-      from = inr (record { counts = counts; has = ends.area });
+      from = inr (record { counts = counts; known = known; has = ends.area });
     }
 
-damaged_area : (image : Image) (area : Extent) (at : ℕ) → area ≢ Root → IsBrokenArea image area at
-    → IsDamaged image area at
+damaged_area : (image : Image) (area : Extent) (at : ℕ) → area ≢ Root
+    → IsBrokenArea NEWEST_VERSION area at image → IsBrokenImage NEWEST_VERSION image area at
 damaged_area image Root at apart broken = absurd (apart refl)
 damaged_area image A at apart broken = broken
 damaged_area image B at apart broken = broken
 
-pub broken_told : (area : Extent) (generation : ℕ) (image : Image) (history : History)
-    (fault : LogFault) → IsRoot image.root (Counts 1 area generation)
-    → IsEndOf area (list_of area image) (Err fault)
+pub broken_told : (slot : Counting) (image : Image) (history : History)
+    (fault : LogFault) → IsRoot image.root (Counts slot) → IsKnown NEWEST_VERSION slot
+    → IsEndOf slot.area (list_of slot.area image) (Err fault)
     → Tells (Err fault) image history
-broken_told area generation image history Disk counts is = tt
-broken_told area generation image history (Damaged extent at) counts is = record {
-  list = area;
+broken_told slot image history Disk counts known is = tt
+broken_told slot image history (Damaged extent at) counts known is = record {
+  list = slot.area;
   number = is.0;
-  damaged = damaged_area image area at (counts_named image.root 1 area generation counts).1
-      (record { generation = generation; counts = counts; broken = is.1 });
+  damaged = damaged_area image slot.area at (counts_named image.root slot counts).1
+      (record { slot = slot; area_is = refl; counts = counts; known = known; broken = is.1 });
 }
-broken_told area generation image history (Newer version) counts is = absurd is
-broken_told area generation image history Memory counts is = tt
+broken_told slot image history (Newer version) counts known is = absurd is
+broken_told slot image history Memory counts known is = tt
 
 -- ---- a fresh store
 
 pub formed_log : (log : Log) (before : Image) (new : History) → IsFresh before → Agrees log [] new
-    → IsOpened log before new
-formed_log log before new fresh agrees = record {
+    → log_slot log ≡ formed_slot → IsOpened log before new
+formed_log log before new fresh agrees slot_is = record {
   frames = [];
   agrees = agrees;
-  from = inl (fresh, refl);
+  from = inl (fresh, refl, slot_is);
 }
 
 -- ---- recovery, once the root was read
@@ -85,45 +88,44 @@ module _ (old mid : History) (settled : old.unsynced ≡ all_settled old.reads)
       → IsRoot mid.reads.root choice
   root_then choice is = subst (λ (i : Image). IsRoot i.root choice) (sym idle.reads) is
 
-  pub first_version : (version : ℕ) (area : Extent) (generation : ℕ) → version ≤ 1
-      → IsRoot old.reads.root (Counts version area generation)
-      → IsRoot mid.reads.root (Counts 1 area generation)
-  first_version version area generation low is =
-      let from = (counts_named old.reads.root version area generation is).0 in
-      let one : version ≡ 1 = omega (arith, low, from) in
-      root_then (Counts 1 area generation) (subst
-      (λ (v : ℕ). IsRoot old.reads.root (Counts v area generation)) one is)
-
   pub told_then : (result : Result Log LogFault) (new : History) → Tells result mid.reads new
       → Tells result old.reads new
   told_then result new tells = subst (λ (i : Image). Tells result i new) idle.reads tells
 
-  pub frames_stay : (frames : List (List ℕ)) → HasFrames frames old.reads
-      → Stays old mid (HasFrames frames)
-  frames_stay frames has = idles_stay old mid (HasFrames frames)
-      (settled_rests old (HasFrames frames) settled has) idle
+  pub frames_stay : (frames : List (List ℕ)) → HasFrames NEWEST_VERSION frames old.reads
+      → Stays old mid (HasFrames NEWEST_VERSION frames)
+  frames_stay frames has = idles_stay old mid (HasFrames NEWEST_VERSION frames)
+      (settled_rests old (HasFrames NEWEST_VERSION frames) settled has) idle
 
-  pub frames_stay_on : (new : History) (frames : List (List ℕ)) → HasFrames frames old.reads
-      → Idles mid new → Stays old new (HasFrames frames)
+  pub frames_stay_on : (new : History) (frames : List (List ℕ)) → HasFrames NEWEST_VERSION frames old.reads
+      → Idles mid new → Stays old new (HasFrames NEWEST_VERSION frames)
   frames_stay_on new frames has on =
       let first = frames_stay frames has in
-      stays_join old mid new (HasFrames frames) first
-      (idles_stay mid new (HasFrames frames) first.rests on)
+      stays_join old mid new (HasFrames NEWEST_VERSION frames) first
+      (idles_stay mid new (HasFrames NEWEST_VERSION frames) first.rests on)
 
-  pub fresh_frames_stay : (new : History) (frames : List (List ℕ)) → HasFrames frames old.reads
-      → IsFresh old.reads → Stays mid new (HasFrames []) → Stays old new (HasFrames frames)
+  pub fresh_frames_stay : (new : History) (frames : List (List ℕ)) → HasFrames NEWEST_VERSION frames old.reads
+      → IsFresh old.reads → Stays mid new (HasFrames NEWEST_VERSION []) → Stays old new (HasFrames NEWEST_VERSION frames)
   fresh_frames_stay new frames has fresh formed =
-      let none : frames ≡ [] = one_frames old.reads frames [] has (inl (fresh, refl)) in
-      stays_join old mid new (HasFrames frames) (frames_stay frames has)
-      (subst (λ (fs : List (List ℕ)). Stays mid new (HasFrames fs)) (sym none) formed)
+      let none : frames ≡ [] = one_frames NEWEST_VERSION old.reads frames [] has (inl (fresh, refl)) in
+      stays_join old mid new (HasFrames NEWEST_VERSION frames) (frames_stay frames has)
+      (subst (λ (fs : List (List ℕ)). Stays mid new (HasFrames NEWEST_VERSION fs)) (sym none) formed)
 
-pub root_damaged : (image : Image) (at : ℕ) → IsDamaged image Root at → IsDamagedAt image 0 at
-root_damaged image at damaged = record { list = Root; number = refl; damaged = damaged }
+pub root_damaged : (image : Image) (at : ℕ) → IsRoot image.root (DamagedRoot at) → IsDamagedAt image 0 at
+root_damaged image at damaged = record { list = Root; number = refl; damaged = inl damaged }
 
-pub newer_told : (image : Image) (version : ℕ) (area : Extent) (generation : ℕ) → 1 < version
-    → IsRoot image.root (Counts version area generation) → IsNewer image version
-newer_told image version area generation later counts =
-    record { area = area; generation = generation; counts = counts; later = later }
+pub worn_told : (image : Image) (at : ℕ) (slot : Counting) → at ≡ slot_offset slot.which
+    → (slot.version < NEWEST_VERSION) × (last_generation ≤ slot.generation) → IsRoot image.root (Counts slot)
+    → IsDamagedAt image 0 at
+worn_told image at slot is worn counts = record {
+  list = Root;
+  number = refl;
+  damaged = inr (record { slot = slot; at_is = sym is; counts = counts; older = worn.0; last = worn.1 });
+}
+
+pub newer_told : (image : Image) (slot : Counting) → NEWEST_VERSION < slot.version → IsRoot image.root (Counts slot)
+    → IsNewer NEWEST_VERSION slot.version image
+newer_told image slot later counts = record { slot = slot; version_is = refl; counts = counts; later = later }
 
 -- ---- the barrier
 

@@ -4,8 +4,8 @@ use Rattle.ax_disk.specs.model.Calls.{bytes_from}
 use Rattle.ax_disk.specs.laws.ReadLaws.{bytes_from-within}
 use Rattle.ax_frame.specs.declared.root_slot.RootSlot.{RootSlot}
 use Rattle.ax_frame.specs.RootSlot.{IsSlot}
-use Rattle.ax_pages.specs.declared.root.RootChoice.{RootChoice}
-use Rattle.ax_pages.specs.Root.{chosen, IsRoot}
+use Rattle.ax_area.specs.declared.root.RootChoice.{RootChoice}
+use Rattle.ax_area.specs.Root.{chosen, IsRoot}
 
 pub slot_read : (root bytes : List ℕ) (at n : ℕ) (slot : RootSlot) → at + 16 ≤ length root → n ≡ 16
     → bytes ≡ bytes_from root at n → IsSlot bytes slot

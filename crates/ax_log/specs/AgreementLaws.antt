@@ -10,13 +10,14 @@ use Rattle.ax_disk.specs.model.Calls.{Idles, bytes_from}
 use Rattle.ax_disk.specs.model.Stays.{Rests}
 use Rattle.ax_disk.specs.laws.ReadLaws.{bytes_from-within}
 use Rattle.ax_disk.specs.laws.StaysLaws.{idles_rest}
-use Rattle.ax_pages.specs.declared.root.RootChoice.TheVariants.{Counts}
-use Rattle.ax_pages.specs.Root.{IsRoot}
 use Rattle.ax_pages.specs.Area.{frames_bytes}
-use Rattle.ax_pages.specs.Image.{IsLive, HasFrames}
+use Rattle.ax_pages.specs.declared.numbers.TheConstants.{NEWEST_VERSION}
 use Rattle.ax_pages.specs.laws.AreaLaws.{one_area}
+use Rattle.ax_area.specs.declared.root.RootChoice.TheVariants.{Counts}
+use Rattle.ax_area.specs.Root.{IsRoot}
+use Rattle.ax_area.specs.Image.{IsLive, HasFrames}
 use Rattle.ax_log.specs.declared.log.Log.{Log}
-use Rattle.ax_log.specs.Log.{log_area, log_generation, log_end}
+use Rattle.ax_log.specs.Log.{log_slot, log_area, log_end}
 use Rattle.ax_log.specs.Agreement.{HasLog, Agrees}
 
 -- a call that changes no list keeps agreement
@@ -24,23 +25,23 @@ pub agrees_idles : (log : Log) (frames : List (List ℕ)) (old new : History) �
     → Idles old new
     → Agrees log frames new
 agrees_idles log frames old new agrees idle = record {
-  counts = subst (λ (i : Image). IsRoot i.root (Counts 1 (log_area log) (log_generation log)))
-      (sym idle.reads) agrees.counts;
+  counts = subst (λ (i : Image). IsRoot i.root (Counts (log_slot log))) (sym idle.reads) agrees.counts;
+  known = agrees.known;
   end_is = agrees.end_is;
   rests = subst (λ (i : Image). Rests new (HasLog i.root (log_area log) frames)) (sym idle.reads)
       (idles_rest old new (HasLog old.reads.root (log_area log) frames) agrees.rests idle);
 }
 
--- each image that a crash now may leave is live with the log's area, generation and frames
+-- each image that a crash now may leave is live with the log's slot and frames
 pub agrees_live : (log : Log) (frames : List (List ℕ)) (history : History)
     → Agrees log frames history
-    → Rests history (IsLive (log_area log) (log_generation log) frames)
+    → Rests history (IsLive NEWEST_VERSION (log_slot log) frames)
 agrees_live log frames history agrees = record {
   each = λ image may.
       let has = agrees.rests.each image may in
       record {
-        counts = subst (λ (r : List ℕ). IsRoot r (Counts 1 (log_area log) (log_generation log)))
-            (sym has.root_is) agrees.counts;
+        counts = subst (λ (r : List ℕ). IsRoot r (Counts (log_slot log))) (sym has.root_is) agrees.counts;
+        known = agrees.known;
         has = has.has;
       };
 }
@@ -48,11 +49,10 @@ agrees_live log frames history agrees = record {
 -- so it has these frames
 pub agrees_rests : (log : Log) (frames : List (List ℕ)) (history : History)
     → Agrees log frames history
-    → Rests history (HasFrames frames)
+    → Rests history (HasFrames NEWEST_VERSION frames)
 agrees_rests log frames history agrees = record {
   each = λ image may. inr (
-    log_area log,
-    log_generation log,
+    log_slot log,
     (agrees_live log frames history agrees).each image may,
   );
 }

@@ -4,6 +4,7 @@ ghost use Rattle.std.specs.Prelude.{ℕ, List, IfOk};
 ghost use Rattle.ax_log.specs.Commit.{IsCommitSpelling};
 
 use crate::{Log, LogFault};
+use ax_area::{Counting, Which};
 use ax_disk::{Extent, FuseDisk, MemDisk};
 use ax_frame::{Part, PartsText, write_frame};
 use std::alloc::Global;
@@ -130,5 +131,37 @@ fn a_frame_past_the_end_is_damaged(rt: HostRuntime) -> Result<(), Fail> {
     let mut disk = disk_with(alloc, &ROOT, &[1, 5, 0, 0, 0, 0, 0, 0, 0, 0])?;
     let opened = Log::open_log(alloc, &mut disk);
     assert_eq!(rt; opened.err(), Some(LogFault::Damaged { extent: 1, at: 0 }));
+    Ok(())
+}
+
+/// The root in which the second slot is open, of this version, for area A with generation 7.
+fn second_root(version: u8) -> [u8; 33] {
+    [
+        0, 0, 0, 0, 0, 0, 0, 0, 0, 0, 0, 0, 0, 0, 0, 0, 1, version, 0, 1, 7, 0, 0, 0, 0, 0, 0, 0,
+        65, 88, 68, 66, 69,
+    ]
+}
+
+#[test]
+fn the_slot_that_counts_is_kept(rt: HostRuntime) -> Result<(), Fail> {
+    let alloc = rt.alloc();
+    let mut disk = disk_with(alloc, &second_root(1), &[0])?;
+    let log = Log::open_log(alloc, &mut disk)?;
+    let slot = Counting {
+        which: Which::Second,
+        version: 1,
+        area: Extent::A,
+        generation: 7,
+    };
+    assert_eq!(rt; log.slot(), slot);
+    Ok(())
+}
+
+#[test]
+fn a_later_version_is_newer(rt: HostRuntime) -> Result<(), Fail> {
+    let alloc = rt.alloc();
+    let mut disk = disk_with(alloc, &second_root(2), &[0])?;
+    let opened = Log::open_log(alloc, &mut disk);
+    assert_eq!(rt; opened.err(), Some(LogFault::Newer { version: 2 }));
     Ok(())
 }

@@ -1,5 +1,4 @@
 pub mod OneContents
 pub mod TermLists
 pub mod LastPart
-pub mod ImageContents
 pub mod ToldApart

@@ -34,8 +34,7 @@ most_documents = 1048576
 -- a payload of the meta: the next number, at least 1, and the number of the policy now, which was given
 abbrev pub is_meta : ℕ → List ℕ → Contents → Bool
 is_meta key payload contents =
-    key == 0 && length payload == 8 && nat_lt 0 (next_in payload) && nat_le (now_in payload) last_policy
-    && is_given (now_in payload) contents
+    key == 0 && length payload == 8 && nat_lt 0 (next_in payload) && is_given (now_in payload) contents
 
 -- the document is held, or one more may be
 abbrev pub has_room : ℕ → Contents → Bool

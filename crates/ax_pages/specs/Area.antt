@@ -1,9 +1,11 @@
 -- What the bytes of an area are: log frames one after another, up to a closed gate; or frames up to
 -- a place where neither a frame nor a closed gate stands. A log frame is here the bytes that it
--- spans, whatever they mean.
+-- spans, whatever they mean. And how a list is named by a number, as damage names it.
 -- From the store's own file format (docs/FORMAT.md, "Frames"); no other document has it.
 use Rattle.std.specs.Prelude.{◌≡◌, ◌≢◌, ℕ, ◌<◌, ◌^◌, List, ◌++◌, length, slice_index}
 use Rattle.std.specs.List.{flat_map, AllByRecursion}
+use Rattle.ax_disk.specs.declared.extent.Extent.{Extent}
+use Rattle.ax_disk.specs.declared.extent.Extent.TheVariants.{Root, A, B}
 use Rattle.ax_frame.specs.LogFrame.{open_frame}
 
 -- what a log frame can span: at least one byte, and no more than its length can say
@@ -44,3 +46,9 @@ pub record IsBroken (bytes : List ℕ) (at : ℕ) : Type 0 where
   pub place : at ≡ length (frames_bytes frames)
   pub not_closed : IsClosed rest → ⊥
   pub no_frame : IsNoLogFrame rest
+
+-- a list of the disk as a number
+abbrev pub extent_number : Extent → ℕ
+extent_number Root = 0
+extent_number A = 1
+extent_number B = 2

@@ -1,10 +1,7 @@
-pub mod Root
 pub mod Area
-pub mod Image
 pub mod Contents
 pub mod AfterPart
 pub mod TermPages
 pub mod Leads
 pub mod ContentsCode
-pub mod HasContents
 pub mod laws

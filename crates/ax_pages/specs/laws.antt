@@ -1,3 +1,1 @@
-pub mod RootLaws
 pub mod AreaLaws
-pub mod ImageLaws

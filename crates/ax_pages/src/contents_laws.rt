@@ -8,10 +8,7 @@ ghost use Rattle.ax_pages.specs.Contents.{Contents, no_contents, parts_of};
 ghost use Rattle.ax_pages.specs.AfterPart.{after_parts, page_of, after_in_page};
 ghost use Rattle.ax_pages.specs.TermPages.{AreApart, KeepsLow};
 ghost use Rattle.ax_pages.specs.Leads.{Leads, IsSpoiled, LeadOn, AreSpoiled};
-ghost use Rattle.ax_pages.specs.HasContents.{HasContents, IsSpoiledImage};
 ghost use Rattle.ax_pages.specs.declared.page.Page.{Page};
-ghost use Rattle.ax_disk.specs.declared.extent.Extent.{Extent};
-ghost use Rattle.ax_disk.specs.model.Image.{Image};
 
 /// The bytes of a frame lead to one contents, or are spoiled at one offset, and not both.
 pub fn one_outcome_of_a_frame()
@@ -29,17 +26,6 @@ pub fn one_outcome_of_frames()
         → AreSpoiled frames before i → AreSpoiled frames before j → i ≡ j }
     ensures either { (frames : List (List ℕ)) (before after : Contents) (i : ℕ)
         → LeadOn frames before after → AreSpoiled frames before i → ⊥ }
-{}
-
-/// So it is with an image.
-pub fn one_outcome_of_an_image()
-    ensures one { (image : Image) (x y : Contents) → HasContents x image → HasContents y image → x ≡ y }
-    ensures extent { (image : Image) (a b : Extent) (i j : ℕ)
-        → IsSpoiledImage image a i → IsSpoiledImage image b j → a ≡ b }
-    ensures offset { (image : Image) (a b : Extent) (i j : ℕ)
-        → IsSpoiledImage image a i → IsSpoiledImage image b j → i ≡ j }
-    ensures either { (image : Image) (contents : Contents) (area : Extent) (i : ℕ)
-        → HasContents contents image → IsSpoiledImage image area i → ⊥ }
 {}
 
 /// A page has what its last part makes of what it had, whatever parts of other pages follow: of the meta, a policy and a

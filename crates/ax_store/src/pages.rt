@@ -35,7 +35,7 @@ pub struct Meta {
     /// The number that the next creation takes.
     pub next: u32,
     /// The number of the policy now.
-    pub now: u8,
+    pub now: u32,
 }
 
 /// The pages of a store: of each part its place, its length, and what the store needs of its payload.
@@ -112,7 +112,7 @@ impl Pages {
     }
 
     /// The part of a policy that counts.
-    fn policy(&self, number: u32) -> Option<&KeptPart>
+    pub(crate) fn policy(&self, number: u32) -> Option<&KeptPart>
         ensures payload { option_map (λ part. payload_kept part.now) result ≡ map.get self.now.contents.policies number }
         ensures offset { option_map (λ part. offset_kept part.now) result ≡ map.get self.now.offsets.policies number }
     {
@@ -235,7 +235,7 @@ impl Pages {
         ensures { result ≡ is_meta key payload.now self.now.contents }
     {
         match numbers_in(payload) {
-            Some((next, now)) => key == 0 && next > 0 && now <= LAST_POLICY && self.is_given(now),
+            Some((next, now)) => key == 0 && next > 0 && self.is_given(now),
             None => false,
         }
     }
@@ -285,8 +285,7 @@ impl Pages {
     }
 
     fn put_meta(&mut self, at: u64, new: NewPart)
-        requires len { length (new_payload new) ≡ 8 }
-        requires now { now_in (new_payload new) ≤ 8 }
+        requires { length (new_payload new) ≡ 8 }
         ensures contents { self.new.contents ≡ record self.old.contents { meta = Some (new_payload new) } }
         ensures offsets { self.new.offsets ≡ record self.old.offsets { meta = Some at } }
         ensures room { self.old.spare ≡ self.new.spare }
@@ -299,15 +298,13 @@ impl Pages {
 
 /// The numbers of a part of the meta.
 fn meta_of(new: &NewPart) -> Meta
-    requires len { length (new_payload new.now) ≡ 8 }
-    requires now { now_in (new_payload new.now) ≤ 8 }
+    requires { length (new_payload new.now) ≡ 8 }
     ensures next { result.next ≡ next_in (new_payload new.now) }
     ensures now { result.now ≡ now_in (new_payload new.now) }
 {
-    let now = new.policy_now as u8;
     Meta {
         next: new.next,
-        now,
+        now: new.policy_now,
     }
 }
 

@@ -72,10 +72,10 @@ impl<C> Store<C> {
     }
 
     /// Whether a policy was given this number.
-    pub fn has_policy(&self, number: u8) -> bool
+    pub fn has_policy(&self, number: u32) -> bool
         ensures { result ≡ map.contains_key (store_contents self.now).policies number }
     {
-        self.pages.parts(Page::Policy(number)) == 1
+        self.pages.policy(number).is_some()
     }
 
     /// The least number above another that is held. `None` exactly where there is none.

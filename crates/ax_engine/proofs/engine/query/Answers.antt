@@ -3,11 +3,11 @@ use Rattle.std.proofs.Common.{subst, sym, ◌∙◌}
 use Rattle.std.specs.Prelude.{IfErr, IfOk, IsTrue, OnOk, Result}
 use Rattle.ax_cache.specs.Held.{held}
 use Rattle.ax_lines.specs.declared.line.Line.TheVariants as line
-use Rattle.ax_pages.specs.HasContents.{HasContents}
 use Rattle.ax_store.proofs.AheadLemmas.{ahead_of_nothing}
-use Rattle.ax_store.proofs.StoreLemmas.{agrees_rests}
+use Rattle.ax_store.proofs.StoreLemmas.{agrees_says}
 use Rattle.ax_disk.specs.laws.StaysLaws.{idles_rest, idles_stay}
-use Rattle.ax_image.specs.Readable.{SaysReadable}
+use Rattle.ax_area.specs.Image.{Says}
+use Rattle.ax_image.specs.Readable.{SaysReadable, newest}
 use Rattle.ax_engine.specs.Damage.{Meets, PassesOverNone}
 use Rattle.ax_store.specs.Store.{store_contents}
 use Rattle.ax_engine.specs.Documents.{DocumentsWork}
@@ -65,12 +65,12 @@ returns-clause-met g c = λ honest.
 pub returns-clause-passes_over_none : goal.returns-clause-passes_over_none
 returns-clause-passes_over_none g c = λ honest.
     let contents = store_contents c.args.documents.now.store in
+    let of = agrees_says held c.args.documents.now.store _ (c.requires.works.agrees honest) in
     let P : Result Reply Fault → Type 0 = λ answer. IfOk answer (λ reply. PassesOverNone (line.Query c.args.body.now) reply
     (g.D.Disk.history c.reply_to_query-read.new.disk (g.D.Disk.attached c.reply_to_query-read.new.disk)).reads) in
     subst P (sym c.answer_of_read.ensures)
-    (passes_read contents c.args.body.now _
-    ((idles_rest _ _ (HasContents contents)
-    (agrees_rests held c.args.documents.now.store _ (c.requires.works.agrees honest))
+    (passes_read of.version of.told contents c.args.body.now _
+    ((idles_rest _ _ (Says newest of.version of.told contents) of.says
     (lists_read _ c.args.documents.now _ _ _ _ _ _ c.reply_to_query-read.result c.reply_to_query-read.ensures.scans honest)).each _
     (g.met.D.Disk.reads_may_stay c.reply_to_query-read.new.disk (g.D.Disk.attached c.reply_to_query-read.new.disk)
     (subst IsTrue (sym c.reply_to_query-read.ensures.honest) honest)))

@@ -3,7 +3,7 @@ use Rattle.std.proofs.Common.{None, find, refl, sym, ap, subst, ◌∙◌}
 use Rattle.std.specs.Prelude.{IsTrue}
 use Rattle.ax_ids.specs.Ids.{number_under}
 use Rattle.ax_container.specs.Container.{has_id, entry_of}
-use Rattle.ax_engine.specs.StoreSays.{store_says}
+use Rattle.ax_store.specs.Store.{store_contents}
 use Rattle.ax_engine.proofs.InOrder.{above, number_or, number_or-none, next_entry, next_same, none_same, text_same}
 use Rattle.ax_engine.proofs.InOrder.{stored_here, reads_here, text_here, numbers_on, at_the_end, at_the_start}
 use Rattle.ax_engine.proofs.Scanning.{fails_on, nothing_scanned, ready_now, scanned_on}
@@ -15,7 +15,7 @@ texts-init g c = record {
   numbers = λ honest container hold id.
       ap (λ known. number_or (find (has_id id) (above 0 container.entries)) known) (c.requires.none id)
       ∙ ap (λ es. number_or (find (has_id id) es) None)
-      (at_the_start (store_says c.args.store.now) container hold)
+      (at_the_start (store_contents c.args.store.now) container hold)
       ∙ number_or-none (entry_of id container);
   scans = nothing_scanned _ c.args.store.now _ _ _ c.requires.ready;
   attached = refl;
@@ -30,7 +30,7 @@ number_document-requires g c = record {
 pub texts-preserved : goal.texts-preserved
 texts-preserved g c =
     let inv = c.texts.invariant in
-    let contents = store_says c.args.store.now in
+    let contents = store_contents c.args.store.now in
     let found = next_same c.args.store.now c.texts.store c.texts.number c.in-Some.next inv.scans.same c.in-Some.ensures.found in
     record {
       numbers = λ honest container hold id.
@@ -55,7 +55,7 @@ returns-in-Err-clause-scans g c =
 pub returns-clause-numbers : goal.returns-clause-numbers
 returns-clause-numbers g c = λ honest container hold id.
     let inv = c.texts.invariant in
-    let end = at_the_end (store_says c.args.store.now) container hold c.texts.number
+    let end = at_the_end (store_contents c.args.store.now) container hold c.texts.number
     (none_same c.args.store.now c.texts.store c.texts.number inv.scans.same c.in_default.ensures.none) in
     ap (λ es. number_or (find (has_id id) es) (number_under c.texts.numbers id)) (sym end)
     ∙ inv.numbers honest container hold id

@@ -3,9 +3,8 @@ use Rattle.std.proofs.Common.{IsTrue, sym, subst}
 use Rattle.std.specs.Prelude.{IfOk}
 use Rattle.ax_disk.specs.laws.StaysLaws.{idles_start}
 use Rattle.ax_engine.specs.Documents.{DocumentsWork}
-use Rattle.ax_store.specs.Store.{store_contents}
 use Rattle.ax_engine.specs.Stores.{IsImageOf}
-use Rattle.ax_engine.proofs.Opened.{holds_opened, idle_since, in_any, is_within, opened_rests, readable_still, refuses_by, refuses_none, rose_numbered, since_opening, since_reading, when_opened, works_numbered}
+use Rattle.ax_engine.proofs.Opened.{holds_opened, idle_since, in_any, opened_rests, readable_still, refuses_by, refuses_none, rose_numbered, since_opening, since_reading, when_opened, within_by, works_numbered}
 use Rattle.ax_engine.proofs.opening.open_documents.Goals as goal
 
 pub returns-in_default-clause-any_moment : goal.returns-in_default-clause-any_moment
@@ -25,7 +24,7 @@ returns-in-Ok-open_store-clause-holds g c = λ honest before store.
 pub returns-in-Ok-open_store-clause-any_moment : goal.returns-in-Ok-open_store-clause-any_moment
 returns-in-Ok-open_store-clause-any_moment g c = λ honest before store.
     since_reading _ _ before _ (opened_rests _ _ before store (c.in-Ok-open_store.ensures.kept honest))
-    (since_opening _ _ before store (c.open_store.ensures.frames honest))
+    (since_opening _ _ before store (c.open_store.ensures.any_moment honest))
     (c.number_all.ensures.numbers.lists (subst IsTrue (sym c.open_store.ensures.honest) honest))
 
 pub returns-in-Ok-open_store-clause-readable : goal.returns-in-Ok-open_store-clause-readable
@@ -45,7 +44,7 @@ returns-in-Ok-open_store-clause-cause g c =
 
 pub returns-in-Err-clause-any_moment : goal.returns-in-Err-clause-any_moment
 returns-in-Err-clause-any_moment g c = λ honest before store.
-    since_opening _ _ before store (c.open_store.ensures.frames honest)
+    since_opening _ _ before store (c.open_store.ensures.any_moment honest)
 
 pub returns-in-Err-clause-refused : goal.returns-in-Err-clause-refused
 returns-in-Err-clause-refused g c = λ honest.
@@ -54,4 +53,4 @@ returns-in-Err-clause-refused g c = λ honest.
 pub returns-in-Ok-open_store-clause-opened : goal.returns-in-Ok-open_store-clause-opened
 returns-in-Ok-open_store-clause-opened g c = λ honest.
     in_any c.number_all.result
-    (is_within _ (store_contents c.in-Ok-open_store.store) (c.in-Ok-open_store.ensures.tells honest).has)
+    (within_by (c.in-Ok-open_store.ensures.tells honest).has)

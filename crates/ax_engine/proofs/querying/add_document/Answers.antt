@@ -5,8 +5,8 @@ use Rattle.std.specs.FinMap as map
 use Rattle.ax_answer_text.specs.Parts.{AreReadWholeFor}
 use Rattle.ax_excerpt_text.specs.Wholes.{tree_read}
 use Rattle.ax_store.specs.Kept.{Kept}
-use Rattle.ax_store.specs.ReadAhead.{ahead_text}
-use Rattle.ax_engine.specs.StoreSays.{IsFound, kept_says}
+use Rattle.ax_store.specs.ReadAhead.{ahead_text, IsAhead}
+use Rattle.ax_engine.specs.StoreSays.{kept_says}
 use Rattle.ax_engine.proofs.Damaging.{read_whole, text_ahead, text_fails}
 use Rattle.ax_engine.proofs.querying.add_document.Goals as goal
 
@@ -16,7 +16,7 @@ returns-in-Err-add-clause-scans g c =
     text_fails _ c.in-Err-add.fault c.text_fault.result _ c.fetch_document.new.store c.fetch_document.new.ahead _ _ _ _
     c.args.number (ahead_text c.fetch_document.new.ahead) c.in-Ok.field-0 c.in-Ok.ensures.scans
     (subst (λ (kept : Kept). IsTrue (map.contains_key (kept_says kept).documents c.args.number)) (sym same) c.requires.held)
-    (λ honest. subst (λ (kept : Kept). IsFound (map.get (kept_says kept).documents c.args.number) c.in-Ok.field-0
+    (λ honest. subst (λ (kept : Kept). IsAhead (map.get (kept_says kept).documents c.args.number) c.in-Ok.field-0
     (ahead_text c.fetch_document.new.ahead)) (sym same) (c.in-Ok.ensures.text honest))
     (λ tree is readable outside. c.add.ensures.inside tree (c.text.ensures ∙ is) readable
     (c.in-Err-add.is ∙ ap (λ why. Err why) outside))

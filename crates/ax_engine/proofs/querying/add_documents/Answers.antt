@@ -5,7 +5,7 @@ use Rattle.std.proofs.lemmas.List.{append-nil}
 use Rattle.std.specs.Prelude.{IsTrue}
 use Rattle.ax_answer_text.specs.Parts.{AreReadWholeFor}
 use Rattle.ax_answer_text.specs.TextAnswers.{Answers}
-use Rattle.ax_engine.specs.StoreSays.{store_says}
+use Rattle.ax_store.specs.Store.{store_contents}
 use Rattle.ax_engine.proofs.Damaging.{all_trees, no_trees, one_tree_more}
 use Rattle.ax_engine.proofs.InOrder.{above, pairs, next_entry, next_same, stored_here, text_here, taken_on}
 use Rattle.ax_engine.proofs.InOrder.{one_less, at_the_end, at_the_start, none_same, text_same}
@@ -15,13 +15,13 @@ use Rattle.ax_engine.proofs.querying.add_documents.Goals as goal
 pub texts-init : goal.texts-init
 texts-init g c = record {
   added = λ honest container hold query answers.
-      ([], ap pairs (at_the_start (store_says c.args.store.now) container hold), answers);
+      ([], ap pairs (at_the_start (store_contents c.args.store.now) container hold), answers);
   asked = λ query asked. asked;
-  met = λ honest query asked each. no_trees (store_says c.args.store.now) (AreReadWholeFor query);
+  met = λ honest query asked each. no_trees (store_contents c.args.store.now) (AreReadWholeFor query);
   fetched = λ container hold.
-      omega (arith, ap length (at_the_start (store_says c.args.store.now) container hold));
+      omega (arith, ap length (at_the_start (store_contents c.args.store.now) container hold));
   bound = λ container hold.
-      omega (arith, ap length (at_the_start (store_says c.args.store.now) container hold));
+      omega (arith, ap length (at_the_start (store_contents c.args.store.now) container hold));
   never_falls = omega arith;
   scans = nothing_scanned _ c.args.store.now _ _ _ c.requires.ready;
   attached = refl;
@@ -31,7 +31,7 @@ texts-init g c = record {
 pub texts-preserved : goal.texts-preserved
 texts-preserved g c =
     let inv = c.texts.invariant in
-    let contents = store_says c.args.store.now in
+    let contents = store_contents c.args.store.now in
     let found = next_same c.args.store.now c.texts.store c.texts.number c.in-Some.next inv.scans.same c.in-Some.ensures.found in
     record {
       added = λ honest container hold query answers.
@@ -98,7 +98,7 @@ pub returns-in-Err-clause-bound : goal.returns-in-Err-clause-bound
 returns-in-Err-clause-bound g c = λ container hold.
     let inv = c.texts.invariant in
     let found = next_same c.args.store.now c.texts.store c.texts.number c.in-Some.next inv.scans.same c.in-Some.ensures.found in
-    let contents = store_says c.args.store.now in
+    let contents = store_contents c.args.store.now in
     let next = next_entry contents container hold c.texts.number c.in-Some.next found in
     omega (
       arith,
@@ -114,14 +114,14 @@ returns-in-Err-clause-scans g c =
 pub returns-clause-fetched : goal.returns-clause-fetched
 returns-clause-fetched g c = λ container hold query asked unlimited.
     let inv = c.texts.invariant in
-    let end = at_the_end (store_says c.args.store.now) container hold c.texts.number
+    let end = at_the_end (store_contents c.args.store.now) container hold c.texts.number
     (none_same c.args.store.now c.texts.store c.texts.number inv.scans.same c.in_default.ensures.none) in
     omega (arith, inv.fetched container hold, ap length end)
 
 pub returns-clause-added : goal.returns-clause-added
 returns-clause-added g c = λ honest container hold query answers.
     let inv = c.texts.invariant in
-    let end = at_the_end (store_says c.args.store.now) container hold c.texts.number
+    let end = at_the_end (store_contents c.args.store.now) container hold c.texts.number
     (none_same c.args.store.now c.texts.store c.texts.number inv.scans.same c.in_default.ensures.none) in
     let all = inv.added honest container hold query answers in
     subst (λ entries. Answers c.texts.answer query entries)
@@ -130,5 +130,5 @@ returns-clause-added g c = λ honest container hold query answers.
 pub returns-clause-met : goal.returns-clause-met
 returns-clause-met g c = λ honest query asked each.
     let inv = c.texts.invariant in
-    all_trees (store_says c.args.store.now) (AreReadWholeFor query) c.texts.number (inv.met honest query asked each)
+    all_trees (store_contents c.args.store.now) (AreReadWholeFor query) c.texts.number (inv.met honest query asked each)
     (none_same c.args.store.now c.texts.store c.texts.number inv.scans.same c.in_default.ensures.none)

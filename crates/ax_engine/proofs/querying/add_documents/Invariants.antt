@@ -7,7 +7,7 @@ use Rattle.ax_container.specs.Container.{Container}
 use Rattle.ax_image.specs.Documents.{ContentsHold}
 use Rattle.ax_answer_text.specs.Parts.{AreReadWholeFor}
 use Rattle.ax_answer_text.specs.TextAnswers.{Answers, IsTo}
-use Rattle.ax_engine.specs.StoreSays.{store_says}
+use Rattle.ax_store.specs.Store.{store_contents}
 use Rattle.ax_engine.specs.Damage.{LooksAtEach}
 use Rattle.ax_engine.specs.Scans.{Scanned}
 use Rattle.ax_engine.proofs.Damaging.{AreTreesTo}
@@ -20,16 +20,16 @@ decreases-texts g l = 2 ^ 32 - l.number
 abbrev pub invariant-texts : goal.invariant-texts
 invariant-texts g l = record {
   added : IsTrue (g.D.Disk.is_honest l.fn.disk) → (container : Container)
-      → ContentsHold (store_says l.fn.store) container → (query : Query)
+      → ContentsHold (store_contents l.fn.store) container → (query : Query)
       → Answers l.fn.answer query [] → (done : List (ℕ × Tree))
       × (done ++ pairs (above l.number container.entries) ≡ pairs container.entries)
       × Answers l.answer query done;
   asked : (query : Query) → IsTo l.fn.answer query → IsTo l.answer query;
   met : IsTrue (g.D.Disk.is_honest l.fn.disk) → (query : Query) → IsTo l.fn.answer query → LooksAtEach query
-      → AreTreesTo l.number (AreReadWholeFor query) (store_says l.fn.store);
-  fetched : (container : Container) → ContentsHold (store_says l.fn.store) container
+      → AreTreesTo l.number (AreReadWholeFor query) (store_contents l.fn.store);
+  fetched : (container : Container) → ContentsHold (store_contents l.fn.store) container
       → l.fn.steps + length container.entries ≤ l.steps + length (above l.number container.entries);
-  bound : (container : Container) → ContentsHold (store_says l.fn.store) container
+  bound : (container : Container) → ContentsHold (store_contents l.fn.store) container
       → l.steps + 2 * length (above l.number container.entries)
       ≤ l.fn.steps + 2 * length container.entries;
   never_falls : l.fn.steps ≤ l.steps;

@@ -1,17 +1,9 @@
 -- What the store's call leaves.
-use Rattle.ax_store.specs.ReadAhead.{ahead_text}
-use Rattle.ax_store.specs.Store.{store_contents}
-use Rattle.ax_engine.proofs.Saying.{text_says}
 use Rattle.ax_engine.proofs.Scanning.{scans_of}
 use Rattle.ax_engine.proofs.reading.read_document.Goals as goal
 
 pub read_ahead-requires : goal.read_ahead-requires
 read_ahead-requires g c = record { agrees = λ honest works. c.requires.ready.agrees honest }
-
-pub returns-clause-text : goal.returns-clause-text
-returns-clause-text g c = λ honest.
-    text_says (store_contents c.args.store.now) c.args.number c.read_ahead.result (ahead_text c.read_ahead.new.ahead)
-    (c.read_ahead.ensures.text honest)
 
 pub returns-clause-scans : goal.returns-clause-scans
 returns-clause-scans g c =

@@ -29,4 +29,4 @@ pub returns-clause-agrees : goal.returns-clause-agrees
 returns-clause-agrees g c = λ honest.
     let honest1 = c.clear.ensures.honest ∙ honest in
     let honest2 = c.lay_out.ensures.honest ∙ honest1 in
-    formed_agrees _ _ (c.in_ok-complete_root.ensures.formed honest2) refl refl refl
+    formed_agrees _ _ (c.in_ok-complete_root.ensures.formed honest2) refl refl

@@ -1,7 +1,7 @@
 use Rattle.std.proofs.Common.{◌∙◌, subst}
 use Rattle.ax_disk.specs.laws.StaysLaws.{idles_join}
-use Rattle.ax_pages.specs.declared.root.RootChoice.{RootChoice}
-use Rattle.ax_pages.specs.Root.{IsRoot}
+use Rattle.ax_area.specs.declared.root.RootChoice.{RootChoice}
+use Rattle.ax_area.specs.Root.{IsRoot}
 use Rattle.ax_log.proofs.OpenSteps.{frames_stay, frames_stay_on, fresh_frames_stay}
 use Rattle.ax_log.proofs.open.recover.Goals as goal
 
@@ -9,9 +9,9 @@ pub returns-in_default-clause-any_moment : goal.returns-in_default-clause-any_mo
 returns-in_default-clause-any_moment g c = λ honest frames has.
     frames_stay _ _ (c.requires.settled honest) (c.read_root.ensures.lists honest) frames has
 
-pub returns-then-version-gt-NEWEST_VERSION-clause-any_moment :
-    goal.returns-then-version-gt-NEWEST_VERSION-clause-any_moment
-returns-then-version-gt-NEWEST_VERSION-clause-any_moment g c = λ honest frames has.
+pub returns-in-Newer-clause-any_moment :
+    goal.returns-in-Newer-clause-any_moment
+returns-in-Newer-clause-any_moment g c = λ honest frames has.
     frames_stay _ _ (c.requires.settled honest) (c.read_root.ensures.lists honest) frames has
 
 pub returns-in-Damaged-clause-any_moment : goal.returns-in-Damaged-clause-any_moment
@@ -33,20 +33,20 @@ returns-in-Fresh-clause-any_moment g c = λ honest frames has.
     (c.read_root.ensures.lists honest) _ frames has fresh
     (c.form_log.ensures.any_moment (c.read_root.ensures.honest ∙ honest))
 
-pub returns-else-version-gt-NEWEST_VERSION-clause-unchanged :
-    goal.returns-else-version-gt-NEWEST_VERSION-clause-unchanged
-returns-else-version-gt-NEWEST_VERSION-clause-unchanged g c = λ honest not_fresh.
+pub returns-in-Known-clause-unchanged :
+    goal.returns-in-Known-clause-unchanged
+returns-in-Known-clause-unchanged g c = λ honest not_fresh.
     idles_join _ _ _ (c.read_root.ensures.lists honest)
     (c.find_log.ensures.lists (c.read_root.ensures.honest ∙ honest))
 
-pub returns-else-version-gt-NEWEST_VERSION-clause-refused :
-    goal.returns-else-version-gt-NEWEST_VERSION-clause-refused
-returns-else-version-gt-NEWEST_VERSION-clause-refused g c = λ honest refused.
+pub returns-in-Known-clause-refused :
+    goal.returns-in-Known-clause-refused
+returns-in-Known-clause-refused g c = λ honest refused.
     idles_join _ _ _ (c.read_root.ensures.lists honest)
     (c.find_log.ensures.lists (c.read_root.ensures.honest ∙ honest))
 
-pub returns-else-version-gt-NEWEST_VERSION-clause-any_moment :
-    goal.returns-else-version-gt-NEWEST_VERSION-clause-any_moment
-returns-else-version-gt-NEWEST_VERSION-clause-any_moment g c = λ honest frames has.
+pub returns-in-Known-clause-any_moment :
+    goal.returns-in-Known-clause-any_moment
+returns-in-Known-clause-any_moment g c = λ honest frames has.
     frames_stay_on _ _ (c.requires.settled honest) (c.read_root.ensures.lists honest) _ frames has
     (c.find_log.ensures.lists (c.read_root.ensures.honest ∙ honest))

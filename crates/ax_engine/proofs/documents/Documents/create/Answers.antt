@@ -7,16 +7,15 @@ use Rattle.ax_disk.specs.laws.StaysLaws.{stays_start}
 use Rattle.ax_image.specs.Readable.{SaysReadable}
 use Rattle.ax_image.proofs.ReadableUpserts.{creating_readable}
 use Rattle.ax_image.specs.UpsertChanges.{creating_changes}
-use Rattle.ax_area_laws.specs.Risen.{changes_said}
-use Rattle.ax_engine.specs.Batches.{creating_parts}
+use Rattle.ax_area.specs.Parts.{changes_said}
+use Rattle.ax_area_laws.specs.Risen.{risen}
 use Rattle.ax_store.specs.Store.{store_contents}
 use Rattle.ax_store.specs.Batch.{batch_parts}
-use Rattle.ax_store.proofs.StoreLemmas.{agrees_rests, agrees_same}
+use Rattle.ax_store.proofs.StoreLemmas.{agrees_says, agrees_same}
 use Rattle.ax_engine.specs.Documents.{contents_in}
-use Rattle.ax_engine.proofs.Holding.{still, holds_room, holds_same, works_room, made_by, turned_by}
+use Rattle.ax_engine.proofs.Holding.{still, holds_room, holds_same, works_room, room_leads, room_holds, made_by, turned_by, readable_on}
 use Rattle.ax_engine.proofs.Saying.{creating_said}
-use Rattle.ax_engine.proofs.StayReadable.{readable_by}
-use Rattle.ax_engine.proofs.Writing.{not_last, within_same, within_text, within_creating, is_refused, creates, created_leads, numbers_created}
+use Rattle.ax_engine.proofs.Writing.{not_last, within_text, within_creating, room_follows, may_commit, is_refused, creates, created_leads, numbers_created}
 use Rattle.ax_engine.proofs.documents.Documents.create.Goals as goal
 
 pub returns-then-is_full-clause-tells : goal.returns-then-is_full-clause-tells
@@ -52,7 +51,7 @@ returns-in_default-reserve-clause-works g c =
 
 pub returns-in_default-insert-clause-tells : goal.returns-in_default-insert-clause-tells
 returns-in_default-insert-clause-tells g c = λ before holds doc at. (
-  holds_same c.args.self.now _ before c.reserve.ensures.same.contents
+  holds_same c.args.self.now _ before (ap risen c.reserve.ensures.same.contents)
       c.in_default-insert.ensures.err holds,
   still _ c.args.self.now _ before before c.requires.works holds,
 )
@@ -69,89 +68,87 @@ commit-requires-clause-agrees g c = λ honest _.
 
 pub commit-requires-clause-within : goal.commit-requires-clause-within
 commit-requires-clause-within g c =
-    let next : ℕ = c.next_number-number.result in
-    let some : 0 < next = omega (arith, c.if-number-eq0.false) in
-    within_same (batch_parts c.in-Ok.batch) (creating_parts next c.in-Some.policy c.args.tree.now)
-    (store_contents c.reserve.new.self) (store_contents c.args.self.now.store) c.in-Ok.ensures.parts c.reserve.ensures.same.contents
-    (within_creating next c.in-Some.policy c.args.tree.now (store_contents c.args.self.now.store) some
-    (sym c.is_full.ensures ∙ c.if-is_full.false) c.next_number-number.ensures c.in-Some.ensures.small
-    c.in-Some.ensures.given)
-
-pub returns-in-Ok-commit-clause-tells : goal.returns-in-Ok-commit-clause-tells
-returns-in-Ok-commit-clause-tells g c = λ before holds doc at.
-    let old = store_contents c.args.self.now.store in
     let parts = batch_parts c.in-Ok.batch in
     let next : ℕ = c.next_number-number.result in
-    let some : 0 < next = omega (arith, c.if-number-eq0.false) in
-    let left = not_last old (sym c.is_full.ensures ∙ c.if-is_full.false) in
-    let below : next < 2 ^ 32 - 1 = omega (arith, left, c.next_number-number.ensures) in
+    let full = sym c.is_full.ensures ∙ c.if-is_full.false in
+    let left = not_last (contents_in c.args.self.now) full in
     let changes = creating_changes next c.in-Some.policy c.args.tree.now in
     let said : changes_said parts ≡ Some changes =
     ap changes_said c.in-Ok.ensures.parts
-    ∙ creating_said next c.in-Some.policy c.args.tree.now some below c.in-Some.ensures.small in
+    ∙ creating_said next c.in-Some.policy c.args.tree.now (omega (arith, c.if-number-eq0.false))
+    (omega (arith, left, c.next_number-number.ensures)) c.in-Some.ensures.small in
+    let may = room_follows c.args.self.now.store c.reserve.new.self c.reserve.ensures.same
+    (within_creating next c.in-Some.policy c.args.tree.now (contents_in c.args.self.now) refl full c.in-Some.ensures.given) in
+    may_commit parts changes (store_contents c.reserve.new.self) said may
+
+pub returns-in-Ok-commit-clause-tells : goal.returns-in-Ok-commit-clause-tells
+returns-in-Ok-commit-clause-tells g c = λ before holds doc at.
+    let parts = batch_parts c.in-Ok.batch in
+    let next : ℕ = c.next_number-number.result in
+    let full = sym c.is_full.ensures ∙ c.if-is_full.false in
+    let left = not_last (contents_in c.args.self.now) full in
+    let changes = creating_changes next c.in-Some.policy c.args.tree.now in
+    let said : changes_said parts ≡ Some changes =
+    ap changes_said c.in-Ok.ensures.parts
+    ∙ creating_said next c.in-Some.policy c.args.tree.now (omega (arith, c.if-number-eq0.false))
+    (omega (arith, left, c.next_number-number.ensures)) c.in-Some.ensures.small in
     let id : List ℕ = c.args.id.now in
     let placed = sym (holds.numbers id) ∙ at in
-    let full = sym c.is_full.ensures ∙ c.if-is_full.false in
-    let first : c.next_number-number.result ≡ before.next_number =
-    c.next_number-number.ensures ∙ holds.hold.show.next in
-    let leads = created_leads (contents_in c.args.self.now) before c.args.tree.now id refl holds.hold doc
-    c.requires.storable.well_formed (within_text c.requires.storable.shallow)
-    c.next_number-number.result c.in-Some.policy
-    placed full first c.in-Some.ensures.now in
-    let within = within_same (batch_parts c.in-Ok.batch) (creating_parts next c.in-Some.policy c.args.tree.now)
-    (store_contents c.reserve.new.self) (store_contents c.args.self.now.store) c.in-Ok.ensures.parts c.reserve.ensures.same.contents
-    (within_creating next c.in-Some.policy c.args.tree.now (store_contents c.args.self.now.store) some
-    (sym c.is_full.ensures ∙ c.if-is_full.false) c.next_number-number.ensures c.in-Some.ensures.small
-    c.in-Some.ensures.given) in (
-      created id c.args.tree.now before,
+    let after = created id c.args.tree.now before in
+    let first : next ≡ before.next_number = c.next_number-number.ensures ∙ holds.hold.show.next in
+    let leads = room_leads c.args.self.now.store c.reserve.new.self c.reserve.ensures.same
+    (created_leads (contents_in c.args.self.now) before c.args.tree.now id refl holds.hold doc
+    c.requires.storable.well_formed (within_text c.requires.storable.shallow) next c.in-Some.policy
+    placed full first c.in-Some.ensures.now) in (
+      after,
       creates (contents_in c.args.self.now) before c.args.tree.now id refl holds.hold doc
           c.requires.storable.well_formed (within_text c.requires.storable.shallow) placed full,
       record {
-        hold = made_by old (store_contents c.reserve.new.self) parts changes (created id c.args.tree.now before) leads
-            c.commit.ensures.fit said c.reserve.ensures.same.contents (store_contents c.commit.new.self)
+        hold = made_by c.reserve.new.self parts changes said after leads (store_contents c.commit.new.self)
             c.in-Ok-commit.ensures.ok;
         numbers = λ other.
             c.in-Ok-insert.ensures.ok other
             ∙ (λ i. cond (bytes_eq id other) (Some (first i)) (holds.numbers other i))
             ∙ sym (numbers_created other id c.args.tree.now before placed);
       },
-      λ honest. turned_by old (store_contents c.reserve.new.self) parts changes (created id c.args.tree.now before) leads
-          c.commit.ensures.fit said c.reserve.ensures.same.contents before _ _ holds.hold within
-          (c.commit.ensures.any_moment honest (c.reserve.ensures.same.failed ∙ c.requires.works.unfailed)),
+      λ honest. turned_by c.reserve.new.self parts changes said _ _ (record {
+        says = agrees_says held c.reserve.new.self _
+            (agrees_same held c.args.self.now.store c.reserve.new.self _ c.reserve.ensures.same (c.requires.works.agrees honest));
+        may = g.met.D.Disk.reads_may_stay c.args.disk.now (g.D.Disk.attached c.args.disk.now) honest;
+        turns = c.commit.ensures.any_moment honest (c.reserve.ensures.same.failed ∙ c.requires.works.unfailed);
+      }) before after leads
+          (room_holds c.args.self.now.store c.reserve.new.self c.reserve.ensures.same holds.hold),
     )
 
 pub returns-in-Err-clause-tells : goal.returns-in-Err-clause-tells
 returns-in-Err-clause-tells g c = λ before holds doc at.
-    let old = store_contents c.args.self.now.store in
     let parts = batch_parts c.in-Ok.batch in
     let next : ℕ = c.next_number-number.result in
-    let some : 0 < next = omega (arith, c.if-number-eq0.false) in
-    let left = not_last old (sym c.is_full.ensures ∙ c.if-is_full.false) in
-    let below : next < 2 ^ 32 - 1 = omega (arith, left, c.next_number-number.ensures) in
+    let full = sym c.is_full.ensures ∙ c.if-is_full.false in
+    let left = not_last (contents_in c.args.self.now) full in
     let changes = creating_changes next c.in-Some.policy c.args.tree.now in
     let said : changes_said parts ≡ Some changes =
     ap changes_said c.in-Ok.ensures.parts
-    ∙ creating_said next c.in-Some.policy c.args.tree.now some below c.in-Some.ensures.small in
+    ∙ creating_said next c.in-Some.policy c.args.tree.now (omega (arith, c.if-number-eq0.false))
+    (omega (arith, left, c.next_number-number.ensures)) c.in-Some.ensures.small in
     let id : List ℕ = c.args.id.now in
     let placed = sym (holds.numbers id) ∙ at in
-    let full = sym c.is_full.ensures ∙ c.if-is_full.false in
-    let first : c.next_number-number.result ≡ before.next_number =
-    c.next_number-number.ensures ∙ holds.hold.show.next in
-    let leads = created_leads (contents_in c.args.self.now) before c.args.tree.now id refl holds.hold doc
-    c.requires.storable.well_formed (within_text c.requires.storable.shallow)
-    c.next_number-number.result c.in-Some.policy
-    placed full first c.in-Some.ensures.now in
-    let within = within_same (batch_parts c.in-Ok.batch) (creating_parts next c.in-Some.policy c.args.tree.now)
-    (store_contents c.reserve.new.self) (store_contents c.args.self.now.store) c.in-Ok.ensures.parts c.reserve.ensures.same.contents
-    (within_creating next c.in-Some.policy c.args.tree.now (store_contents c.args.self.now.store) some
-    (sym c.is_full.ensures ∙ c.if-is_full.false) c.next_number-number.ensures c.in-Some.ensures.small
-    c.in-Some.ensures.given) in (
-      created id c.args.tree.now before,
+    let after = created id c.args.tree.now before in
+    let first : next ≡ before.next_number = c.next_number-number.ensures ∙ holds.hold.show.next in
+    let leads = room_leads c.args.self.now.store c.reserve.new.self c.reserve.ensures.same
+    (created_leads (contents_in c.args.self.now) before c.args.tree.now id refl holds.hold doc
+    c.requires.storable.well_formed (within_text c.requires.storable.shallow) next c.in-Some.policy
+    placed full first c.in-Some.ensures.now) in (
+      after,
       creates (contents_in c.args.self.now) before c.args.tree.now id refl holds.hold doc
           c.requires.storable.well_formed (within_text c.requires.storable.shallow) placed full,
-      λ honest. turned_by old (store_contents c.reserve.new.self) parts changes (created id c.args.tree.now before) leads
-          c.commit.ensures.fit said c.reserve.ensures.same.contents before _ _ holds.hold within
-          (c.commit.ensures.any_moment honest (c.reserve.ensures.same.failed ∙ c.requires.works.unfailed)),
+      λ honest. turned_by c.reserve.new.self parts changes said _ _ (record {
+        says = agrees_says held c.reserve.new.self _
+            (agrees_same held c.args.self.now.store c.reserve.new.self _ c.reserve.ensures.same (c.requires.works.agrees honest));
+        may = g.met.D.Disk.reads_may_stay c.args.disk.now (g.D.Disk.attached c.args.disk.now) honest;
+        turns = c.commit.ensures.any_moment honest (c.reserve.ensures.same.failed ∙ c.requires.works.unfailed);
+      }) before after leads
+          (room_holds c.args.self.now.store c.reserve.new.self c.reserve.ensures.same holds.hold),
     )
 
 pub returns-then-is_full-clause-readable : goal.returns-then-is_full-clause-readable
@@ -174,36 +171,42 @@ returns-in_default-insert-clause-readable g c = λ honest rests. stays_start _ S
 
 pub returns-in-Ok-commit-clause-readable : goal.returns-in-Ok-commit-clause-readable
 returns-in-Ok-commit-clause-readable g c = λ honest rests.
-    let old = store_contents c.args.self.now.store in
     let parts = batch_parts c.in-Ok.batch in
     let next : ℕ = c.next_number-number.result in
-    let some : 0 < next = omega (arith, c.if-number-eq0.false) in
-    let left = not_last old (sym c.is_full.ensures ∙ c.if-is_full.false) in
-    let below : next < 2 ^ 32 - 1 = omega (arith, left, c.next_number-number.ensures) in
+    let full = sym c.is_full.ensures ∙ c.if-is_full.false in
+    let left = not_last (contents_in c.args.self.now) full in
     let changes = creating_changes next c.in-Some.policy c.args.tree.now in
     let said : changes_said parts ≡ Some changes =
     ap changes_said c.in-Ok.ensures.parts
-    ∙ creating_said next c.in-Some.policy c.args.tree.now some below c.in-Some.ensures.small in
-    readable_by parts changes c.commit.ensures.fit said
-    (creating_readable next c.in-Some.policy c.args.tree.now c.requires.storable)
-    _ _ old (agrees_rests held c.args.self.now.store _ (c.requires.works.agrees honest)) rests
-    (g.met.D.Disk.reads_may_stay c.args.disk.now (g.D.Disk.attached c.args.disk.now) honest)
-    (c.commit.ensures.frames honest (c.reserve.ensures.same.failed ∙ c.requires.works.unfailed))
+    ∙ creating_said next c.in-Some.policy c.args.tree.now (omega (arith, c.if-number-eq0.false))
+    (omega (arith, left, c.next_number-number.ensures)) c.in-Some.ensures.small in
+    let may = room_follows c.args.self.now.store c.reserve.new.self c.reserve.ensures.same
+    (within_creating next c.in-Some.policy c.args.tree.now (contents_in c.args.self.now) refl full c.in-Some.ensures.given) in
+    readable_on c.reserve.new.self parts changes said _ _ (record {
+      says = agrees_says held c.reserve.new.self _
+          (agrees_same held c.args.self.now.store c.reserve.new.self _ c.reserve.ensures.same (c.requires.works.agrees honest));
+      may = g.met.D.Disk.reads_may_stay c.args.disk.now (g.D.Disk.attached c.args.disk.now) honest;
+      turns = c.commit.ensures.any_moment honest (c.reserve.ensures.same.failed ∙ c.requires.works.unfailed);
+    }) may.0 may.1 
+    (creating_readable next c.in-Some.policy c.args.tree.now c.requires.storable) rests
 
 pub returns-in-Err-clause-readable : goal.returns-in-Err-clause-readable
 returns-in-Err-clause-readable g c = λ honest rests.
-    let old = store_contents c.args.self.now.store in
     let parts = batch_parts c.in-Ok.batch in
     let next : ℕ = c.next_number-number.result in
-    let some : 0 < next = omega (arith, c.if-number-eq0.false) in
-    let left = not_last old (sym c.is_full.ensures ∙ c.if-is_full.false) in
-    let below : next < 2 ^ 32 - 1 = omega (arith, left, c.next_number-number.ensures) in
+    let full = sym c.is_full.ensures ∙ c.if-is_full.false in
+    let left = not_last (contents_in c.args.self.now) full in
     let changes = creating_changes next c.in-Some.policy c.args.tree.now in
     let said : changes_said parts ≡ Some changes =
     ap changes_said c.in-Ok.ensures.parts
-    ∙ creating_said next c.in-Some.policy c.args.tree.now some below c.in-Some.ensures.small in
-    readable_by parts changes c.commit.ensures.fit said
-    (creating_readable next c.in-Some.policy c.args.tree.now c.requires.storable)
-    _ _ old (agrees_rests held c.args.self.now.store _ (c.requires.works.agrees honest)) rests
-    (g.met.D.Disk.reads_may_stay c.args.disk.now (g.D.Disk.attached c.args.disk.now) honest)
-    (c.commit.ensures.frames honest (c.reserve.ensures.same.failed ∙ c.requires.works.unfailed))
+    ∙ creating_said next c.in-Some.policy c.args.tree.now (omega (arith, c.if-number-eq0.false))
+    (omega (arith, left, c.next_number-number.ensures)) c.in-Some.ensures.small in
+    let may = room_follows c.args.self.now.store c.reserve.new.self c.reserve.ensures.same
+    (within_creating next c.in-Some.policy c.args.tree.now (contents_in c.args.self.now) refl full c.in-Some.ensures.given) in
+    readable_on c.reserve.new.self parts changes said _ _ (record {
+      says = agrees_says held c.reserve.new.self _
+          (agrees_same held c.args.self.now.store c.reserve.new.self _ c.reserve.ensures.same (c.requires.works.agrees honest));
+      may = g.met.D.Disk.reads_may_stay c.args.disk.now (g.D.Disk.attached c.args.disk.now) honest;
+      turns = c.commit.ensures.any_moment honest (c.reserve.ensures.same.failed ∙ c.requires.works.unfailed);
+    }) may.0 may.1 
+    (creating_readable next c.in-Some.policy c.args.tree.now c.requires.storable) rests

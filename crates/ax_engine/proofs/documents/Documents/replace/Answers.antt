@@ -6,16 +6,14 @@ use Rattle.ax_disk.specs.laws.StaysLaws.{stays_start}
 use Rattle.ax_image.specs.Readable.{SaysReadable}
 use Rattle.ax_image.proofs.ReadableUpserts.{replacing_readable}
 use Rattle.ax_image.specs.UpsertChanges.{replacing_changes}
-use Rattle.ax_area_laws.specs.Risen.{changes_said}
-use Rattle.ax_engine.specs.Batches.{replacing_parts}
+use Rattle.ax_area.specs.Parts.{changes_said}
 use Rattle.ax_store.specs.Store.{store_contents}
 use Rattle.ax_store.specs.Batch.{batch_parts}
-use Rattle.ax_store.proofs.StoreLemmas.{agrees_rests, agrees_same}
+use Rattle.ax_store.proofs.StoreLemmas.{agrees_says, agrees_same}
 use Rattle.ax_engine.specs.Documents.{contents_in}
-use Rattle.ax_engine.proofs.Holding.{still, holds_room, works_room, made_by, turned_by}
+use Rattle.ax_engine.proofs.Holding.{still, holds_room, works_room, room_leads, room_holds, made_by, turned_by, readable_on}
 use Rattle.ax_engine.proofs.Saying.{replacing_said}
-use Rattle.ax_engine.proofs.StayReadable.{readable_by}
-use Rattle.ax_engine.proofs.Writing.{within_same, within_text, within_replacing, replaces, replaced_leads, numbers_replaced}
+use Rattle.ax_engine.proofs.Writing.{within_text, within_replacing, room_follows, may_commit, replaces, replaced_leads, numbers_replaced}
 use Rattle.ax_engine.proofs.documents.Documents.replace.Goals as goal
 
 pub returns-in_default-clause-tells : goal.returns-in_default-clause-tells
@@ -47,66 +45,69 @@ commit-requires-clause-agrees g c = λ honest _.
 
 pub commit-requires-clause-within : goal.commit-requires-clause-within
 commit-requires-clause-within g c =
-    within_same (batch_parts c.in-Ok.batch) (replacing_parts c.args.number c.in-Some.policy c.args.tree.now)
-    (store_contents c.reserve.new.self) (store_contents c.args.self.now.store) c.in-Ok.ensures.parts c.reserve.ensures.same.contents
-    (within_replacing c.args.number c.in-Some.policy c.args.tree.now (store_contents c.args.self.now.store)
-    (c.is_held.ensures.some c.if-not-is_held.false) c.in-Some.ensures.given
-    (c.is_held.ensures.held c.if-not-is_held.false))
+    let parts = batch_parts c.in-Ok.batch in
+    let changes = replacing_changes c.args.number c.in-Some.policy c.args.tree.now in
+    let said : changes_said parts ≡ Some changes =
+    ap changes_said c.in-Ok.ensures.parts
+    ∙ replacing_said c.args.number c.in-Some.policy c.args.tree.now (c.is_held.ensures.some c.if-not-is_held.false) in
+    let may = room_follows c.args.self.now.store c.reserve.new.self c.reserve.ensures.same
+    (within_replacing c.args.number c.in-Some.policy c.args.tree.now (store_contents c.args.self.now.store) refl
+    c.in-Some.ensures.given (c.is_held.ensures.held c.if-not-is_held.false)) in
+    may_commit parts changes (store_contents c.reserve.new.self) said may
 
 pub returns-in-Ok-commit-clause-tells : goal.returns-in-Ok-commit-clause-tells
 returns-in-Ok-commit-clause-tells g c = λ before id holds doc at.
-    let old = store_contents c.args.self.now.store in
     let parts = batch_parts c.in-Ok.batch in
-    let some = c.is_held.ensures.some c.if-not-is_held.false in
     let changes = replacing_changes c.args.number c.in-Some.policy c.args.tree.now in
     let said : changes_said parts ≡ Some changes =
-    ap changes_said c.in-Ok.ensures.parts ∙ replacing_said c.args.number c.in-Some.policy c.args.tree.now some in
+    ap changes_said c.in-Ok.ensures.parts
+    ∙ replacing_said c.args.number c.in-Some.policy c.args.tree.now (c.is_held.ensures.some c.if-not-is_held.false) in
     let placed = sym (holds.numbers id) ∙ at in
-    let leads = replaced_leads (contents_in c.args.self.now) before c.args.tree.now id refl holds.hold doc
+    let after = replaced id c.args.tree.now before in
+    let leads = room_leads c.args.self.now.store c.reserve.new.self c.reserve.ensures.same
+    (replaced_leads (contents_in c.args.self.now) before c.args.tree.now id refl holds.hold doc
     c.requires.storable.well_formed (within_text c.requires.storable.shallow) c.args.number c.in-Some.policy placed
-    c.in-Some.ensures.now in
-    let within = within_same (batch_parts c.in-Ok.batch) (replacing_parts c.args.number c.in-Some.policy c.args.tree.now)
-    (store_contents c.reserve.new.self) (store_contents c.args.self.now.store) c.in-Ok.ensures.parts c.reserve.ensures.same.contents
-    (within_replacing c.args.number c.in-Some.policy c.args.tree.now (store_contents c.args.self.now.store)
-    (c.is_held.ensures.some c.if-not-is_held.false) c.in-Some.ensures.given
-    (c.is_held.ensures.held c.if-not-is_held.false)) in (
-      replaced id c.args.tree.now before,
+    c.in-Some.ensures.now) in (
+      after,
       replaces (contents_in c.args.self.now) before c.args.tree.now id refl holds.hold doc
           c.requires.storable.well_formed (within_text c.requires.storable.shallow) c.args.number placed,
       record {
-        hold = made_by old (store_contents c.reserve.new.self) parts changes (replaced id c.args.tree.now before) leads
-            c.commit.ensures.fit said c.reserve.ensures.same.contents (store_contents c.commit.new.self)
+        hold = made_by c.reserve.new.self parts changes said after leads (store_contents c.commit.new.self)
             c.in-Ok-commit.ensures.ok;
         numbers = λ other. holds.numbers other ∙ sym (numbers_replaced other id c.args.tree.now before);
       },
-      λ honest. turned_by old (store_contents c.reserve.new.self) parts changes (replaced id c.args.tree.now before) leads
-          c.commit.ensures.fit said c.reserve.ensures.same.contents before _ _ holds.hold within
-          (c.commit.ensures.any_moment honest (c.reserve.ensures.same.failed ∙ c.requires.works.unfailed)),
+      λ honest. turned_by c.reserve.new.self parts changes said _ _ (record {
+        says = agrees_says held c.reserve.new.self _
+            (agrees_same held c.args.self.now.store c.reserve.new.self _ c.reserve.ensures.same (c.requires.works.agrees honest));
+        may = g.met.D.Disk.reads_may_stay c.args.disk.now (g.D.Disk.attached c.args.disk.now) honest;
+        turns = c.commit.ensures.any_moment honest (c.reserve.ensures.same.failed ∙ c.requires.works.unfailed);
+      }) before after leads
+          (room_holds c.args.self.now.store c.reserve.new.self c.reserve.ensures.same holds.hold),
     )
 
 pub returns-in-Err-clause-tells : goal.returns-in-Err-clause-tells
 returns-in-Err-clause-tells g c = λ before id holds doc at.
-    let old = store_contents c.args.self.now.store in
     let parts = batch_parts c.in-Ok.batch in
-    let some = c.is_held.ensures.some c.if-not-is_held.false in
     let changes = replacing_changes c.args.number c.in-Some.policy c.args.tree.now in
     let said : changes_said parts ≡ Some changes =
-    ap changes_said c.in-Ok.ensures.parts ∙ replacing_said c.args.number c.in-Some.policy c.args.tree.now some in
+    ap changes_said c.in-Ok.ensures.parts
+    ∙ replacing_said c.args.number c.in-Some.policy c.args.tree.now (c.is_held.ensures.some c.if-not-is_held.false) in
     let placed = sym (holds.numbers id) ∙ at in
-    let leads = replaced_leads (contents_in c.args.self.now) before c.args.tree.now id refl holds.hold doc
+    let after = replaced id c.args.tree.now before in
+    let leads = room_leads c.args.self.now.store c.reserve.new.self c.reserve.ensures.same
+    (replaced_leads (contents_in c.args.self.now) before c.args.tree.now id refl holds.hold doc
     c.requires.storable.well_formed (within_text c.requires.storable.shallow) c.args.number c.in-Some.policy placed
-    c.in-Some.ensures.now in
-    let within = within_same (batch_parts c.in-Ok.batch) (replacing_parts c.args.number c.in-Some.policy c.args.tree.now)
-    (store_contents c.reserve.new.self) (store_contents c.args.self.now.store) c.in-Ok.ensures.parts c.reserve.ensures.same.contents
-    (within_replacing c.args.number c.in-Some.policy c.args.tree.now (store_contents c.args.self.now.store)
-    (c.is_held.ensures.some c.if-not-is_held.false) c.in-Some.ensures.given
-    (c.is_held.ensures.held c.if-not-is_held.false)) in (
-      replaced id c.args.tree.now before,
+    c.in-Some.ensures.now) in (
+      after,
       replaces (contents_in c.args.self.now) before c.args.tree.now id refl holds.hold doc
           c.requires.storable.well_formed (within_text c.requires.storable.shallow) c.args.number placed,
-      λ honest. turned_by old (store_contents c.reserve.new.self) parts changes (replaced id c.args.tree.now before) leads
-          c.commit.ensures.fit said c.reserve.ensures.same.contents before _ _ holds.hold within
-          (c.commit.ensures.any_moment honest (c.reserve.ensures.same.failed ∙ c.requires.works.unfailed)),
+      λ honest. turned_by c.reserve.new.self parts changes said _ _ (record {
+        says = agrees_says held c.reserve.new.self _
+            (agrees_same held c.args.self.now.store c.reserve.new.self _ c.reserve.ensures.same (c.requires.works.agrees honest));
+        may = g.met.D.Disk.reads_may_stay c.args.disk.now (g.D.Disk.attached c.args.disk.now) honest;
+        turns = c.commit.ensures.any_moment honest (c.reserve.ensures.same.failed ∙ c.requires.works.unfailed);
+      }) before after leads
+          (room_holds c.args.self.now.store c.reserve.new.self c.reserve.ensures.same holds.hold),
     )
 
 pub returns-in_default-clause-readable : goal.returns-in_default-clause-readable
@@ -123,28 +124,36 @@ returns-in_default-reserve-clause-readable g c = λ honest rests. stays_start _ 
 
 pub returns-in-Ok-commit-clause-readable : goal.returns-in-Ok-commit-clause-readable
 returns-in-Ok-commit-clause-readable g c = λ honest rests.
-    let old = store_contents c.args.self.now.store in
     let parts = batch_parts c.in-Ok.batch in
-    let some = c.is_held.ensures.some c.if-not-is_held.false in
     let changes = replacing_changes c.args.number c.in-Some.policy c.args.tree.now in
     let said : changes_said parts ≡ Some changes =
-    ap changes_said c.in-Ok.ensures.parts ∙ replacing_said c.args.number c.in-Some.policy c.args.tree.now some in
-    readable_by parts changes c.commit.ensures.fit said
-    (replacing_readable c.args.number c.in-Some.policy c.args.tree.now c.requires.storable)
-    _ _ old (agrees_rests held c.args.self.now.store _ (c.requires.works.agrees honest)) rests
-    (g.met.D.Disk.reads_may_stay c.args.disk.now (g.D.Disk.attached c.args.disk.now) honest)
-    (c.commit.ensures.frames honest (c.reserve.ensures.same.failed ∙ c.requires.works.unfailed))
+    ap changes_said c.in-Ok.ensures.parts
+    ∙ replacing_said c.args.number c.in-Some.policy c.args.tree.now (c.is_held.ensures.some c.if-not-is_held.false) in
+    let may = room_follows c.args.self.now.store c.reserve.new.self c.reserve.ensures.same
+    (within_replacing c.args.number c.in-Some.policy c.args.tree.now (store_contents c.args.self.now.store) refl
+    c.in-Some.ensures.given (c.is_held.ensures.held c.if-not-is_held.false)) in
+    readable_on c.reserve.new.self parts changes said _ _ (record {
+      says = agrees_says held c.reserve.new.self _
+          (agrees_same held c.args.self.now.store c.reserve.new.self _ c.reserve.ensures.same (c.requires.works.agrees honest));
+      may = g.met.D.Disk.reads_may_stay c.args.disk.now (g.D.Disk.attached c.args.disk.now) honest;
+      turns = c.commit.ensures.any_moment honest (c.reserve.ensures.same.failed ∙ c.requires.works.unfailed);
+    }) may.0 may.1 
+    (replacing_readable c.args.number c.in-Some.policy c.args.tree.now c.requires.storable) rests
 
 pub returns-in-Err-clause-readable : goal.returns-in-Err-clause-readable
 returns-in-Err-clause-readable g c = λ honest rests.
-    let old = store_contents c.args.self.now.store in
     let parts = batch_parts c.in-Ok.batch in
-    let some = c.is_held.ensures.some c.if-not-is_held.false in
     let changes = replacing_changes c.args.number c.in-Some.policy c.args.tree.now in
     let said : changes_said parts ≡ Some changes =
-    ap changes_said c.in-Ok.ensures.parts ∙ replacing_said c.args.number c.in-Some.policy c.args.tree.now some in
-    readable_by parts changes c.commit.ensures.fit said
-    (replacing_readable c.args.number c.in-Some.policy c.args.tree.now c.requires.storable)
-    _ _ old (agrees_rests held c.args.self.now.store _ (c.requires.works.agrees honest)) rests
-    (g.met.D.Disk.reads_may_stay c.args.disk.now (g.D.Disk.attached c.args.disk.now) honest)
-    (c.commit.ensures.frames honest (c.reserve.ensures.same.failed ∙ c.requires.works.unfailed))
+    ap changes_said c.in-Ok.ensures.parts
+    ∙ replacing_said c.args.number c.in-Some.policy c.args.tree.now (c.is_held.ensures.some c.if-not-is_held.false) in
+    let may = room_follows c.args.self.now.store c.reserve.new.self c.reserve.ensures.same
+    (within_replacing c.args.number c.in-Some.policy c.args.tree.now (store_contents c.args.self.now.store) refl
+    c.in-Some.ensures.given (c.is_held.ensures.held c.if-not-is_held.false)) in
+    readable_on c.reserve.new.self parts changes said _ _ (record {
+      says = agrees_says held c.reserve.new.self _
+          (agrees_same held c.args.self.now.store c.reserve.new.self _ c.reserve.ensures.same (c.requires.works.agrees honest));
+      may = g.met.D.Disk.reads_may_stay c.args.disk.now (g.D.Disk.attached c.args.disk.now) honest;
+      turns = c.commit.ensures.any_moment honest (c.reserve.ensures.same.failed ∙ c.requires.works.unfailed);
+    }) may.0 may.1 
+    (replacing_readable c.args.number c.in-Some.policy c.args.tree.now c.requires.storable) rests

@@ -1,7 +1,8 @@
 use Rattle.std.proofs.Common.{inl, inr, refl, sym, ◌∙◌, subst}
 use Rattle.ax_disk.specs.model.Image.{Image}
 use Rattle.ax_disk.specs.laws.StageLaws.{barrier_fails, barrier_passed}
-use Rattle.ax_pages.specs.Image.{IsFresh, IsDamaged, IsNewer, HasFrames}
+use Rattle.ax_pages.specs.declared.numbers.TheConstants.{NEWEST_VERSION}
+use Rattle.ax_area.specs.Image.{IsFresh, IsBrokenImage, IsNewer, HasFrames}
 use Rattle.ax_log.specs.OpeningLaws.{damaged_exactly, newer_exactly}
 use Rattle.ax_log.proofs.OpenSteps.{sync_keeps_on}
 use Rattle.ax_log.proofs.log.Log.open_log.Goals as goal
@@ -10,7 +11,7 @@ pub returns-in_default-clause-any_moment : goal.returns-in_default-clause-any_mo
 returns-in_default-clause-any_moment g c = λ honest frames has.
     let stays = g.met.D.Disk.reads_may_stay c.args.disk.now
     (g.D.Disk.attached c.args.disk.now) honest in
-    barrier_fails c.in_default.field-0 _ _ (HasFrames frames) stays
+    barrier_fails c.in_default.field-0 _ _ (HasFrames NEWEST_VERSION frames) stays
     (c.in_default.ensures.lists honest)
 
 pub returns-clause-unchanged : goal.returns-clause-unchanged
@@ -34,22 +35,22 @@ returns-clause-refused g c = λ honest refused.
 pub returns-clause-any_moment : goal.returns-clause-any_moment
 returns-clause-any_moment g c = λ honest frames has.
     let sync = c.in-Ok.ensures.lists honest in
-    let has_now = subst (λ (i : Image). HasFrames frames i) (sym sync.reads) has in
-    barrier_passed c.in-Ok.field-0 _ _ _ (HasFrames frames) sync
+    let has_now = subst (λ (i : Image). HasFrames NEWEST_VERSION frames i) (sym sync.reads) has in
+    barrier_passed c.in-Ok.field-0 _ _ _ (HasFrames NEWEST_VERSION frames) sync
     (c.recover.ensures.any_moment (c.sync.ensures.honest ∙ honest) frames has_now)
 
 pub returns-clause-damaged : goal.returns-clause-damaged
 returns-clause-damaged g c = λ honest ext at damaged.
     let same = (c.sync.ensures.lists honest).reads in
     damaged_exactly c.recover.result _ _ ext at
-    (subst (λ (i : Image). IsDamaged i ext at) (sym same) damaged)
+    (subst (λ (i : Image). IsBrokenImage NEWEST_VERSION i ext at) (sym same) damaged)
     (c.recover.ensures.tells (c.sync.ensures.honest ∙ honest))
 
 pub returns-clause-newer : goal.returns-clause-newer
 returns-clause-newer g c = λ honest version newer.
     let same = (c.sync.ensures.lists honest).reads in
     newer_exactly c.recover.result _ _ version
-    (subst (λ (i : Image). IsNewer i version) (sym same) newer)
+    (subst (λ (i : Image). IsNewer NEWEST_VERSION version i) (sym same) newer)
     (c.recover.ensures.tells (c.sync.ensures.honest ∙ honest))
 
 pub returns-in_default-clause-damaged : goal.returns-in_default-clause-damaged
