@@ -24,7 +24,7 @@ use Rattle.ax_area.specs.Root.{IsRoot, IsKnown}
 use Rattle.ax_area.specs.Image.{HasFrames}
 use Rattle.ax_area.proofs.OneRoot.{counts_named}
 use Rattle.ax_log.specs.declared.log.Log.{Log}
-use Rattle.ax_log.specs.Log.{log_slot, log_area, log_end}
+use Rattle.ax_log.specs.Log.{log_slot, log_end}
 use Rattle.ax_log.specs.Agreement.{HasLog, Agrees}
 use Rattle.ax_log.specs.Commit.{IsCommitSpelling, IsStaged, IsReady}
 

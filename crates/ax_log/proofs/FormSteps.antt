@@ -22,7 +22,7 @@ use Rattle.ax_area.specs.Image.{IsFresh, HasFrames}
 use Rattle.ax_area.proofs.OneRoot.{newest_known}
 use Rattle.ax_area.proofs.RootPrefix.{fresh_prefix, whole_by_prefix}
 use Rattle.ax_log.specs.declared.log.Log.{Log}
-use Rattle.ax_log.specs.Log.{log_slot, log_area, log_end}
+use Rattle.ax_log.specs.Log.{log_slot, log_end}
 use Rattle.ax_log.specs.Agreement.{HasLog, Agrees}
 use Rattle.ax_log.specs.Forming.{empty_image, formed_slot, fresh_slots, laid_image, formed_image, IsSettledAt}
 

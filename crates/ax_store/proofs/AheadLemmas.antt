@@ -1,11 +1,15 @@
 -- What was read ahead stands in the log's frames: of nothing, and over calls that change no frame.
-use Rattle.std.proofs.Common.{◌≡◌, ℕ, ◌+◌, ◌-◌, ◌≤◌, Bool, true, List, [], length, take, drop, Option, Some, refl, sym, ap, subst, ◌∙◌, arith}
+use Rattle.std.proofs.Common.{◌≡◌, ℕ, ◌+◌, ◌-◌, ◌≤◌, Bool, true, List, [], length, take, drop, Some, refl, sym, ap, subst, ◌∙◌, arith}
 use Rattle.std.specs.Prelude.{IsTrue}
+use Rattle.std.specs.FinMap as map
 use Rattle.std.proofs.lemmas.List.{drop-take, take-take, drop-drop, length-take-le}
 use Rattle.ax_disk.specs.model.Moments.{History}
 use Rattle.ax_disk.specs.model.Calls.{Idles}
+use Rattle.ax_area_laws.specs.Risen.{risen}
 use Rattle.ax_pages.specs.Area.{frames_bytes}
+use Rattle.ax_pages.specs.Contents.{Contents}
 use Rattle.ax_log.specs.Agreement as log
+use Rattle.ax_log.specs.AgreementLaws.{agrees_idles}
 use Rattle.ax_cache.specs.Pages.{CachedPages}
 use Rattle.ax_store.specs.declared.read_ahead.ReadAhead.{ReadAhead}
 use Rattle.ax_store.specs.declared.store.Store.{Store}
@@ -14,7 +18,8 @@ use Rattle.ax_store.specs.Store.{Agrees}
 use Rattle.ax_store.specs.ReadAhead.{AgreesAhead, AgreesAheadUnlessFailed, IsNothingAhead, SameAhead, IsShown, IsAhead, ahead_bytes, ahead_text}
 use Rattle.ax_store.specs.Loading.{nothing_kept, TakesOn}
 use Rattle.ax_store.proofs.PartPlaces.{IsReadable}
-use Rattle.ax_store.proofs.StoreLemmas.{agrees_idle, caches_same}
+use Rattle.ax_store.proofs.Saying.{ahead_says}
+use Rattle.ax_store.proofs.StoreLemmas.{caches_same}
 
 -- the store agrees after a read beside its cache, and what was read stands in its frames
 pub ahead_read : {C : Type 0} (pages : C → CachedPages) (old new : Store C) (ahead : ReadAhead) (before after : History) (agrees : Agrees pages old before)
@@ -23,7 +28,7 @@ pub ahead_read : {C : Type 0} (pages : C → CachedPages) (old new : Store C) (a
 ahead_read pages old new ahead before after agrees logged same cache idles stands = record {
   agrees = record {
     frames = agrees.frames;
-    logged = agrees_idle new.log agrees.frames before after (subst (λ l. log.Agrees l agrees.frames before) (sym logged) agrees.logged) idles;
+    logged = agrees_idles new.log agrees.frames before after (subst (λ l. log.Agrees l agrees.frames before) (sym logged) agrees.logged) idles;
     takes = subst (TakesOn agrees.frames 0 nothing_kept) (sym same) agrees.takes;
     caches = caches_same pages old new agrees.frames logged cache agrees.caches;
   };
@@ -102,11 +107,12 @@ stands_same old new text same has =
 -- ---- of a document
 
 -- the text that is shown is that of the document
-pub is_ahead : (ahead : ReadAhead) (text : List ℕ) (end from len : ℕ) (payload : List ℕ) (held : Option (List ℕ)) → Some payload ≡ held
+pub is_ahead : (ahead : ReadAhead) (text : List ℕ) (end from len : ℕ) (payload : List ℕ) (old : Contents) (number : ℕ)
+    → Some payload ≡ map.get old.documents number
     → HasBytesAt text ahead.from (ahead_bytes ahead) → ahead.filled ≤ length ahead.bytes.items
-    → IsShown ahead from len → IsReadable text end from len (drop 1 payload) → IsAhead held true (ahead_text ahead)
-is_ahead ahead text end from len payload held there has room shown is =
-    subst (λ (h : Option (List ℕ)). IsAhead h true (ahead_text ahead)) there (refl, shown_is ahead text end from len (drop 1 payload) has room shown is)
+    → IsShown ahead from len → IsReadable text end from len (drop 1 payload) → IsAhead (map.get (risen old).documents number) true (ahead_text ahead)
+is_ahead ahead text end from len payload old number there has room shown is =
+    ahead_says old number payload (ahead_text ahead) there (shown_is ahead text end from len (drop 1 payload) has room shown is)
 
 -- the store and what was read ahead agree still where the same bytes of the same place are kept
 pub same_ahead : {C : Type 0} (pages : C → CachedPages) (store : Store C) (old new : ReadAhead) (history : History) → SameAhead old new

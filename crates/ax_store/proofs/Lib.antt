@@ -1,3 +1,4 @@
+pub mod Saying
 pub mod Searching
 pub mod RowsNear
 pub mod RowMaps
@@ -10,7 +11,10 @@ pub mod WindowLemmas
 pub mod SpanLemmas
 pub mod LoadLemmas
 pub mod CacheLemmas
+pub mod FramesSay
 pub mod StoreLemmas
+pub mod OpenLemmas
+pub mod CommitLemmas
 pub mod AheadLemmas
 pub mod NextHeld
 pub mod PartPlaces

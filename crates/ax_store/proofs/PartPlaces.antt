@@ -28,7 +28,7 @@ use Rattle.ax_store.specs.declared.store.Store.{Store}
 use Rattle.ax_store.specs.Rows.{Offsets}
 use Rattle.ax_store.specs.Kept.{Kept, PageOffsets, no_offsets, offsets_of, offsets_after, offsets_after_parts, with_base_at, with_delta_at}
 use Rattle.ax_store.specs.Loading.{nothing_kept, TakesOn}
-use Rattle.ax_store.specs.Store.{Agrees, store_contents, store_offsets, store_area}
+use Rattle.ax_store.specs.Store.{Agrees, store_parts, store_offsets, store_area}
 use Rattle.ax_cache.specs.Pages.{CachedPages}
 use Rattle.ax_store.specs.Cached.{HasBytesAt}
 use Rattle.ax_log.specs.Log.{log_end}
@@ -52,9 +52,9 @@ test_held : (test : Bool) (x y : Contents) → (if test then Some x else None) �
 test_held true x y e = refl
 test_held false x y e = absurd (no_some y e)
 
-first_of : (a b c d f : Bool) → (a && b && c && d && f) ≡ true → a ≡ true
-first_of true b c d f e = refl
-first_of false b c d f e = e
+first_of : (a b c d : Bool) → (a && b && c && d) ≡ true → a ≡ true
+first_of true b c d e = refl
+first_of false b c d e = e
 
 not_first : (i : ℕ) → (suc i == 0) ≡ false
 not_first i = either (suc i == 0) refl
@@ -299,8 +299,8 @@ module _ (bytes : List ℕ) where
       key_is : key ≡ 0
       key_is =
           eqb-true key 0
-          (first_of (key == 0) (length payload == 8) (nat_lt 0 (next_in payload)) (nat_le (now_in payload) last_policy)
-          (is_given (now_in payload) old) (test_held (is_meta key payload old) (record old { meta = Some payload }) new lead))
+          (first_of (key == 0) (length payload == 8) (nat_lt 0 (next_in payload)) (is_given (now_in payload) old)
+           (test_held (is_meta key payload old) (record old { meta = Some payload }) new lead))
 
       meta_placed : (other : List ℕ) (at : ℕ) → Some payload ≡ Some other → Some here ≡ Some at → Stands 1 0 other at
       meta_placed other at e f =
@@ -450,21 +450,21 @@ module _ (bytes : List ℕ) where
 
 pub part_stands : {C : Type 0} (pages : C → CachedPages) (store : Store C) (history : History) → Agrees pages store history
     → (image : Image) → MayLeave history.unsynced image
-    → (page : Page) (i at : ℕ) → i < length (parts_of page (store_contents store)) → slice_get (offsets_of page (store_offsets store)) i ≡ Some at
-    → StandsAt (part_of_page page i (store_contents store)) (list_of (store_area store) image) at
+    → (page : Page) (i at : ℕ) → i < length (parts_of page (store_parts store)) → slice_get (offsets_of page (store_offsets store)) i ≡ Some at
+    → StandsAt (part_of_page page i (store_parts store)) (list_of (store_area store) image) at
 part_stands pages store history agrees image may =
     let area = (agrees.logged.rests.each image may).has in
     let bytes : List ℕ = list_of (store_area store) image in
-    by_page bytes (store_contents store) (store_offsets store)
+    by_page bytes (store_parts store) (store_offsets store)
     (by_frames bytes agrees.frames 0 area.rest nothing_kept store.pages area.spelled (none_placed bytes) agrees.takes)
 
 -- in the frames of the log, too
 part_in_frames : {C : Type 0} (pages : C → CachedPages) (store : Store C) (history : History) (agrees : Agrees pages store history)
-    → (page : Page) (i at : ℕ) → i < length (parts_of page (store_contents store)) → slice_get (offsets_of page (store_offsets store)) i ≡ Some at
-    → StandsAt (part_of_page page i (store_contents store)) (frames_bytes agrees.frames) at
+    → (page : Page) (i at : ℕ) → i < length (parts_of page (store_parts store)) → slice_get (offsets_of page (store_offsets store)) i ≡ Some at
+    → StandsAt (part_of_page page i (store_parts store)) (frames_bytes agrees.frames) at
 part_in_frames pages store history agrees =
     let bytes : List ℕ = frames_bytes agrees.frames in
-    by_page bytes (store_contents store) (store_offsets store)
+    by_page bytes (store_parts store) (store_offsets store)
     (by_frames bytes agrees.frames 0 [] nothing_kept store.pages (sym (append-nil bytes)) (none_placed bytes) agrees.takes)
 
 payload_of_page : (page : Page) (i : ℕ) (contents : Contents) → (part_of_page page i contents).payload ≡ part_at page i contents
@@ -500,12 +500,12 @@ payload_behind part bytes at skip stands few = record {
 
 -- the payload of a part of the store's pages, without its first bytes, stands in the frames
 pub read_of_part : {C : Type 0} (pages : C → CachedPages) (store : Store C) (history : History) (agrees : Agrees pages store history)
-    → (page : Page) (i at skip : ℕ) → i < length (parts_of page (store_contents store)) → slice_get (offsets_of page (store_offsets store)) i ≡ Some at
-    → skip ≤ length (part_at page i (store_contents store))
-    → HasBytesAt (frames_bytes agrees.frames) (at + 9 + skip) (drop skip (part_at page i (store_contents store)))
+    → (page : Page) (i at skip : ℕ) → i < length (parts_of page (store_parts store)) → slice_get (offsets_of page (store_offsets store)) i ≡ Some at
+    → skip ≤ length (part_at page i (store_parts store))
+    → HasBytesAt (frames_bytes agrees.frames) (at + 9 + skip) (drop skip (part_at page i (store_parts store)))
 read_of_part pages store history agrees page i at skip there placed few =
-    let part : PartValue = part_of_page page i (store_contents store) in
-    let same : part.payload ≡ part_at page i (store_contents store) = payload_of_page page i (store_contents store) in
+    let part : PartValue = part_of_page page i (store_parts store) in
+    let same : part.payload ≡ part_at page i (store_parts store) = payload_of_page page i (store_parts store) in
     subst (λ payload. HasBytesAt (frames_bytes agrees.frames) (at + 9 + skip) (drop skip payload)) same
     (payload_behind part (frames_bytes agrees.frames) at skip (part_in_frames pages store history agrees page i at there placed)
     (subst (λ payload. skip ≤ length payload) (sym same) few))
@@ -539,17 +539,17 @@ got (y ∷ xs) (suc i) x e = got xs i x e
 
 module _ {C : Type 0} (pages : C → CachedPages) (store : Store C) (history : History) (agrees : Agrees pages store history)
     (small : log_end store.log ≤ 2 ^ 62) (at from len : ℕ) (payload : List ℕ) where
-  pub part_readable : (page : Page) (i : ℕ) → i < length (parts_of page (store_contents store))
-      → Some payload ≡ slice_get (parts_of page (store_contents store)) i → Some at ≡ slice_get (offsets_of page (store_offsets store)) i
+  pub part_readable : (page : Page) (i : ℕ) → i < length (parts_of page (store_parts store))
+      → Some payload ≡ slice_get (parts_of page (store_parts store)) i → Some at ≡ slice_get (offsets_of page (store_offsets store)) i
       → from ≡ min (at + 9) (2 ^ 64 - 1) → len ≡ length payload
-      → IsReadable (frames_bytes agrees.frames) (log_end store.log) from len (part_at page i (store_contents store))
+      → IsReadable (frames_bytes agrees.frames) (log_end store.log) from len (part_at page i (store_parts store))
   part_readable page i there held placed from_is len_is =
-      readable (frames_bytes agrees.frames) (log_end store.log) from len (at + 9) (part_at page i (store_contents store)) agrees.logged.end_is
-      (subst (λ n. HasBytesAt (frames_bytes agrees.frames) n (part_at page i (store_contents store))) {x = at + 9 + 0} (omega arith)
+      readable (frames_bytes agrees.frames) (log_end store.log) from len (at + 9) (part_at page i (store_parts store)) agrees.logged.end_is
+      (subst (λ n. HasBytesAt (frames_bytes agrees.frames) n (part_at page i (store_parts store))) {x = at + 9 + 0} (omega arith)
       (read_of_part pages store history agrees page i at 0 there (sym placed) (omega arith)))
-      small from_is (len_is ∙ ap length (sym (got (parts_of page (store_contents store)) i payload (sym held))))
+      small from_is (len_is ∙ ap length (sym (got (parts_of page (store_parts store)) i payload (sym held))))
 
-  pub text_readable : (number : ℕ) → Some payload ≡ map.get (store_contents store).documents number → Some at ≡ map.get (store_offsets store).documents number
+  pub text_readable : (number : ℕ) → Some payload ≡ map.get (store_parts store).documents number → Some at ≡ map.get (store_offsets store).documents number
       → from ≡ min (at + (9 + min (length payload) 1)) (2 ^ 64 - 1) → len ≡ length payload - min (length payload) 1
       → IsReadable (frames_bytes agrees.frames) (log_end store.log) from len (drop 1 payload)
   text_readable number held placed from_is len_is =
@@ -563,10 +563,10 @@ module _ {C : Type 0} (pages : C → CachedPages) (store : Store C) (history : H
       skip : ℕ
       skip = min (length payload) 1
 
-      same : part_at (Document number) 0 (store_contents store) ≡ payload
+      same : part_at (Document number) 0 (store_parts store) ≡ payload
       same = ap (λ o. slice_index_or (option_to_list o) 0 []) (sym held)
 
-      there : 0 < length (parts_of (Document number) (store_contents store))
+      there : 0 < length (parts_of (Document number) (store_parts store))
       there = subst (λ o. 0 < length (option_to_list o)) held (omega arith)
 
       first_or_none : (p : List ℕ) → drop (min (length p) 1) p ≡ drop 1 p

@@ -2,11 +2,14 @@ use Rattle.std.proofs.Common.{◌≡◌, ◌≤◌, Bool, true, false, List, [],
 use Rattle.std.specs.Prelude.{◌||◌, nat_lt, if◌then◌else◌, Some, None, option_and_then}
 use Rattle.std.proofs.lemmas.Bool.{lt-ltb}
 use Rattle.std.specs.FinMap as map
-use Rattle.ax_frame.specs.Part.{PartValue}
+use Rattle.ax_frame.specs.Part.{PartValue, AllFit}
 use Rattle.ax_pages.specs.Contents.{Contents}
 use Rattle.ax_pages.specs.AfterPart.{after_parts}
+use Rattle.ax_store.specs.Batch.{AreAllowed}
 use Rattle.ax_store.specs.Putting.{AreWithin, CanTake}
-use Rattle.ax_store.specs.Store.{store_contents}
+use Rattle.ax_store.specs.Store.{store_contents, store_parts}
+use Rattle.ax_store.proofs.CommitLemmas.{within_allowed}
+use Rattle.ax_store.proofs.Saying.{many_alike}
 use Rattle.ax_store.proofs.StoreLemmas.{agrees_same}
 use Rattle.ax_store.proofs.tests.commit_document.Goals as goal
 
@@ -16,6 +19,14 @@ or_true false b e = e
 
 abbrev both : List PartValue
 both = record { kind = 1; key = 0; payload = 2 ∷ 0 ∷ 0 ∷ 0 ∷ 0 ∷ 0 ∷ 0 ∷ 0 ∷ [] } ∷ record { kind = 3; key = 1; payload = 0 ∷ 123 ∷ 125 ∷ [] } ∷ []
+
+both_fit : AllFit both
+both_fit =
+    (
+      record { kind_fits = omega arith; key_fits = omega arith; payload_fits = omega arith },
+      record { kind_fits = omega arith; key_fits = omega arith; payload_fits = omega arith },
+      tt,
+    )
 
 -- both parts are within the format where few documents are held
 within : (contents : Contents) → map.len contents.documents ≤ 9
@@ -52,5 +63,7 @@ commit-requires-clause-within g c =
     let parts =
     c.in-Ok-seal.ensures.parts ∙ c.in-Ok-add.ensures.ok
     ∙ ap (λ parts. parts ++ record { kind = 3; key = 1; payload = 0 ∷ 123 ∷ 125 ∷ [] } ∷ []) first in
-    subst (λ parts. AreWithin parts (store_contents c.reserve.new.self)) (sym parts)
-    (within (store_contents c.reserve.new.self) (omega (arith, c.if-documents-gt9.false, c.documents.ensures)))
+    subst (λ parts. AreAllowed parts (store_contents c.reserve.new.self)) (sym parts)
+    (within_allowed both (store_parts c.reserve.new.self) both_fit
+    (within (store_parts c.reserve.new.self)
+    (omega (arith, c.if-documents-gt9.false, c.documents.ensures, many_alike (store_parts c.reserve.new.self)))))

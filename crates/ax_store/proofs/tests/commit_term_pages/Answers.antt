@@ -1,12 +1,14 @@
 use Rattle.std.proofs.Common.{◌≡◌, ℕ, zero, suc, ◌≤◌, Bool, true, false, List, [], ◌∷◌, ◌++◌, length, Option, Some, None, sym, subst, ap, refl, ◌∙◌, arith}
 use Rattle.std.specs.Prelude.{◌==◌, if◌then◌else◌, is_some, option_and_then}
 use Rattle.std.proofs.lemmas.Bool.{eqb-true}
-use Rattle.ax_frame.specs.Part.{PartValue}
+use Rattle.ax_frame.specs.Part.{PartValue, AllFit}
 use Rattle.ax_pages.specs.Contents.{Contents, TermPage, term_page}
 use Rattle.ax_pages.specs.AfterPart.{kind_of, after_parts, after_base, is_base}
 use Rattle.ax_store.specs.Kept.{Kept, deltas_by_kind, room_of}
+use Rattle.ax_store.specs.Batch.{AreAllowed}
 use Rattle.ax_store.specs.Putting.{AreWithin, CanTake}
-use Rattle.ax_store.specs.Store.{store_contents}
+use Rattle.ax_store.specs.Store.{store_contents, store_parts}
+use Rattle.ax_store.proofs.CommitLemmas.{within_allowed}
 use Rattle.ax_store.proofs.StoreLemmas.{agrees_same}
 use Rattle.ax_store.proofs.tests.commit_term_pages.Goals as goal
 
@@ -23,6 +25,16 @@ three =
 
 abbrev four : List PartValue
 four = record { kind = 5; key = 0; payload = first_base } ∷ three
+
+four_fit : AllFit four
+four_fit =
+    (
+      record { kind_fits = omega arith; key_fits = omega arith; payload_fits = omega arith },
+      record { kind_fits = omega arith; key_fits = omega arith; payload_fits = omega arith },
+      record { kind_fits = omega arith; key_fits = omega arith; payload_fits = omega arith },
+      record { kind_fits = omega arith; key_fits = omega arith; payload_fits = omega arith },
+      tt,
+    )
 
 -- a page without a base may have each pair
 base_fits : (base : Option (List ℕ)) (deltas : List (List ℕ)) → is_some base ≡ false
@@ -75,11 +87,12 @@ commit-requires-clause-within g c =
     let second = c.in-Ok-add.ensures.ok ∙ (λ i. first i ++ c.term_part-second_base.ensures i ∷ []) in
     let third = c.in-Ok-add-2.ensures.ok ∙ (λ i. second i ++ c.term_part-first_delta.ensures i ∷ []) in
     let fourth = c.in-Ok-add-3.ensures.ok ∙ (λ i. third i ++ c.term_part-second_delta.ensures i ∷ []) in
-    subst (λ parts. AreWithin parts (store_contents c.reserve_deltas.new.self)) (sym (c.in-Ok-seal.ensures.parts ∙ fourth))
-    (within (store_contents c.reserve_deltas.new.self) c.args.store.now.pages.contents.terms
+    subst (λ parts. AreAllowed parts (store_contents c.reserve_deltas.new.self)) (sym (c.in-Ok-seal.ensures.parts ∙ fourth))
+    (within_allowed four (store_parts c.reserve_deltas.new.self) four_fit
+    (within (store_parts c.reserve_deltas.new.self) c.args.store.now.pages.contents.terms
     (ap (λ (contents : Contents). contents.terms) (c.reserve_deltas.ensures.same.contents ∙ c.reserve.ensures.same.contents))
     (omega (arith, c.if-pages-ne1.false, c.pages.ensures))
-    (sym c.has_base.ensures ∙ c.if-has_base.false))
+    (sym c.has_base.ensures ∙ c.if-has_base.false)))
 
 pub commit-requires-clause-deltas : goal.commit-requires-clause-deltas
 commit-requires-clause-deltas g c =

@@ -1,11 +1,11 @@
 use Rattle.std.proofs.Common.{sym, subst, refl}
 use Rattle.std.specs.Prelude.{IsTrue}
-use Rattle.ax_store.proofs.StoreLemmas.{contents_since, contents_since_on, frames_rest, frames_since_on, load_opened, load_refused, load_keeps}
+use Rattle.ax_store.proofs.OpenLemmas.{says_since, says_since_on, says_rest, load_opened, load_refused, load_keeps}
 use Rattle.ax_store.proofs.store.Store.open_store.Goals as goal
 
 pub returns-in-Err-clause-any_moment : goal.returns-in-Err-clause-any_moment
-returns-in-Err-clause-any_moment g c = λ honest contents has.
-    contents_since _ _ contents _ has (c.open_log.ensures.any_moment honest)
+returns-in-Err-clause-any_moment g c = λ honest version told contents says.
+    says_since version told contents _ says _ _ (c.open_log.ensures.any_moment honest)
 
 pub returns-in-Ok-make-clause-tells : goal.returns-in-Ok-make-clause-tells
 returns-in-Ok-make-clause-tells g c = λ honest.
@@ -15,16 +15,22 @@ returns-in-Ok-make-clause-tells g c = λ honest.
     (c.load.ensures.lists still) c.requires.empty refl
 
 pub returns-in-Ok-make-clause-any_moment : goal.returns-in-Ok-make-clause-any_moment
-returns-in-Ok-make-clause-any_moment g c = λ honest contents has.
+returns-in-Ok-make-clause-any_moment g c = λ honest version told contents says.
     let opened = c.in-Ok.ensures.tells honest in
     let still = subst IsTrue (sym c.open_log.ensures.honest) honest in
-    contents_since_on c.in-Ok.log _ _ _ contents opened has (c.open_log.ensures.any_moment honest) (c.load.ensures.lists still)
+    says_since_on version told contents _ says c.in-Ok.log _ _ opened (c.load.ensures.lists still) _ (c.open_log.ensures.any_moment honest)
+
+pub returns-in-Ok-make-clause-kept : goal.returns-in-Ok-make-clause-kept
+returns-in-Ok-make-clause-kept g c = λ honest version told contents says.
+    let opened = c.in-Ok.ensures.tells honest in
+    let still = subst IsTrue (sym c.open_log.ensures.honest) honest in
+    says_rest version told contents _ says c.in-Ok.log _ _ opened (c.load.ensures.lists still)
 
 pub returns-in-Err-load-clause-tells : goal.returns-in-Err-load-clause-tells
 returns-in-Err-load-clause-tells g c = λ honest.
     let opened = c.in-Ok.ensures.tells honest in
     let still = subst IsTrue (sym c.open_log.ensures.honest) honest in
-    load_refused c.in-Err-load.fault c.in-Ok.log _ _ opened (c.in-Err-load.ensures.tells still opened.frames opened.agrees)
+    load_refused c.in-Ok.log _ _ opened c.in-Err-load.fault (c.in-Err-load.ensures.tells still opened.frames opened.agrees)
 
 pub returns-in-Err-load-clause-refused : goal.returns-in-Err-load-clause-refused
 returns-in-Err-load-clause-refused g c = λ honest refused.
@@ -34,33 +40,13 @@ returns-in-Err-load-clause-refused g c = λ honest refused.
     (c.open_log.ensures.unchanged honest) (c.load.ensures.lists still) refused
 
 pub returns-in-Err-load-clause-any_moment : goal.returns-in-Err-load-clause-any_moment
-returns-in-Err-load-clause-any_moment g c = λ honest contents has.
+returns-in-Err-load-clause-any_moment g c = λ honest version told contents says.
     let opened = c.in-Ok.ensures.tells honest in
     let still = subst IsTrue (sym c.open_log.ensures.honest) honest in
-    contents_since_on c.in-Ok.log _ _ _ contents opened has (c.open_log.ensures.any_moment honest) (c.load.ensures.lists still)
+    says_since_on version told contents _ says c.in-Ok.log _ _ opened (c.load.ensures.lists still) _ (c.open_log.ensures.any_moment honest)
 
 pub returns-in-Err-make-clause-any_moment : goal.returns-in-Err-make-clause-any_moment
-returns-in-Err-make-clause-any_moment g c = λ honest contents has.
+returns-in-Err-make-clause-any_moment g c = λ honest version told contents says.
     let opened = c.in-Ok.ensures.tells honest in
     let still = subst IsTrue (sym c.open_log.ensures.honest) honest in
-    contents_since_on c.in-Ok.log _ _ _ contents opened has (c.open_log.ensures.any_moment honest) (c.load.ensures.lists still)
-
-pub returns-in-Ok-make-clause-frames : goal.returns-in-Ok-make-clause-frames
-returns-in-Ok-make-clause-frames g c = λ honest frames has.
-    frames_since_on c.in-Ok.log _ _ _ frames (c.in-Ok.ensures.tells honest) has
-    (c.open_log.ensures.any_moment honest frames has) (c.load.ensures.lists (subst IsTrue (sym c.open_log.ensures.honest) honest))
-
-pub returns-in-Err-load-clause-frames : goal.returns-in-Err-load-clause-frames
-returns-in-Err-load-clause-frames g c = λ honest frames has.
-    frames_since_on c.in-Ok.log _ _ _ frames (c.in-Ok.ensures.tells honest) has
-    (c.open_log.ensures.any_moment honest frames has) (c.load.ensures.lists (subst IsTrue (sym c.open_log.ensures.honest) honest))
-
-pub returns-in-Err-make-clause-frames : goal.returns-in-Err-make-clause-frames
-returns-in-Err-make-clause-frames g c = λ honest frames has.
-    frames_since_on c.in-Ok.log _ _ _ frames (c.in-Ok.ensures.tells honest) has
-    (c.open_log.ensures.any_moment honest frames has) (c.load.ensures.lists (subst IsTrue (sym c.open_log.ensures.honest) honest))
-
-pub returns-in-Ok-make-clause-kept : goal.returns-in-Ok-make-clause-kept
-returns-in-Ok-make-clause-kept g c = λ honest frames has.
-    frames_rest c.in-Ok.log _ _ _ frames (c.in-Ok.ensures.tells honest) has
-    (c.load.ensures.lists (subst IsTrue (sym c.open_log.ensures.honest) honest))
+    says_since_on version told contents _ says c.in-Ok.log _ _ opened (c.load.ensures.lists still) _ (c.open_log.ensures.any_moment honest)

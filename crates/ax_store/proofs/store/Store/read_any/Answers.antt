@@ -1,7 +1,7 @@
 use Rattle.std.proofs.Common.{refl, sym, ap, ◌∙◌, length}
 use Rattle.ax_pool.specs.Frames.{bytes_at}
 use Rattle.ax_store.specs.Rows.{payload_kept, offset_kept}
-use Rattle.ax_store.specs.Store.{store_contents}
+use Rattle.ax_store.specs.Store.{store_parts}
 use Rattle.ax_pages.specs.Contents.{parts_of}
 use Rattle.ax_store.proofs.PartPlaces.{got, part_readable}
 use Rattle.ax_store.proofs.StoreLemmas.{agrees_read}
@@ -23,7 +23,7 @@ pub returns-clause-len : goal.returns-clause-len
 returns-clause-len g c =
     c.in-Some.part.now.whole
     ∙ ap length
-    (sym (got (parts_of c.args.page (store_contents c.args.self.now)) c.args.i (payload_kept c.in-Some.part.now) (sym c.in-Some.ensures.payload)))
+    (sym (got (parts_of c.args.page (store_parts c.args.self.now)) c.args.i (payload_kept c.in-Some.part.now) (sym c.in-Some.ensures.payload)))
 
 pub returns-clause-agrees : goal.returns-clause-agrees
 returns-clause-agrees g c = λ honest works.
