@@ -11,7 +11,7 @@ use Rattle.ax_area.specs.declared.root.RootChoice.TheVariants.{Fresh, Counts, Da
 use Rattle.ax_area.specs.Root.{IsRoot, slot_offset}
 use Rattle.ax_area.specs.Contents.{Contents, no_contents}
 use Rattle.ax_area.specs.Told.{Told, AreSpoiled}
-use Rattle.ax_area.specs.Image.{IsLive, Says, IsNewer, IsBrokenArea, IsSpoiledArea}
+use Rattle.ax_area.specs.Image.{IsLive, Says, IsNewer, IsBrokenArea, IsBrokenImage, IsSpoiledArea, HasFrames}
 use Rattle.ax_area.specs.Image.{IsDamaged}
 use Rattle.ax_area.specs.Root.{last_generation, IsKnown}
 use Rattle.ax_area.proofs.OneRoot.{counts_named}
@@ -139,3 +139,30 @@ module _ (newest : ℕ) (image : Image) where
 
   pub every_image : Outcome
   every_image = by_root (every_root image.root).0 (every_root image.root).1
+
+  -- ---- of its frames
+
+  -- it has frames, is broken, or is of a later version
+  abbrev OfFrames : Type 0
+  OfFrames = ((frames : List (List ℕ)) × HasFrames newest frames image)
+      ⊎ (((extent : Extent) × (at : ℕ) × IsBrokenImage newest image extent at)
+      ⊎ ((version : ℕ) × IsNewer newest version image))
+
+  of_spoiled : (area : Extent) (at : ℕ) → IsSpoiledArea newest area at image → OfFrames
+  of_spoiled area at spoiled = inl (spoiled.frames, inr (spoiled.slot, spoiled.live))
+
+  of_damaged : (extent : Extent) (at : ℕ) → IsDamaged newest image extent at → OfFrames
+  of_damaged Root at damaged = inr (inl (Root, at, damaged))
+  of_damaged A at (inl broken) = inr (inl (A, at, broken))
+  of_damaged A at (inr spoiled) = of_spoiled A at spoiled
+  of_damaged B at (inl broken) = inr (inl (B, at, broken))
+  of_damaged B at (inr spoiled) = of_spoiled B at spoiled
+
+  of_outcome : Outcome → OfFrames
+  of_outcome (inl (version, told, contents, inl fresh)) = inl ([], inl (fresh.fresh, refl))
+  of_outcome (inl (version, told, contents, inr live)) = inl (live.frames, inr (live.slot, live.live))
+  of_outcome (inr (inl newer)) = inr (inr newer)
+  of_outcome (inr (inr (extent, at, damaged))) = of_damaged extent at damaged
+
+  pub every_image_of_frames : OfFrames
+  every_image_of_frames = of_outcome every_image

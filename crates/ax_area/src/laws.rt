@@ -38,9 +38,12 @@ pub fn the_other_slot()
         → IsClosedBeside root slot ⊎ IsLesserBeside root slot }
 {}
 
-/// An image has one list of log frames, is broken at one place or is of a later version, and no two of these. Where it
-/// is broken, opening finds it damaged.
+/// An image has one list of log frames, is broken at one place, or is of a later version: one of these, and no two. Where
+/// it is broken, opening finds it damaged.
 pub fn one_list_of_frames()
+    ensures some { (newest : ℕ) (image : Image) → ((frames : List (List ℕ)) × HasFrames newest frames image)
+        ⊎ (((extent : Extent) × (at : ℕ) × IsBrokenImage newest image extent at)
+        ⊎ ((version : ℕ) × IsNewer newest version image)) }
     ensures frames { (newest : ℕ) (xs ys : List (List ℕ)) (image : Image)
         → HasFrames newest xs image → HasFrames newest ys image → xs ≡ ys }
     ensures extent { (newest : ℕ) (a b : Extent) (i j : ℕ) (image : Image)

@@ -1,15 +1,16 @@
 -- What a store that was opened stands for; and what is opened is neither damaged nor of a later version.
-use Rattle.std.proofs.Common.{◌≡◌, ◌⊎◌, inl, inr, ℕ, ◌≤◌, Bool, List, Result, Ok, Err, sym, ap, subst, arith}
+use Rattle.std.proofs.Common.{◌≡◌, ◌⊎◌, inl, inr, ℕ, ◌≤◌, Bool, List, Result, Ok, Err, refl, sym, ap, subst, arith}
 use Rattle.std.specs.Prelude.{IfOk, IfErr, IsTrue, OnOk}
 use Rattle.ax_cache.specs.Held.{held}
 use Rattle.ax_cache.specs.declared.lru_pages.LruPages.{LruPages}
 use Rattle.ax_disk.specs.laws.MomentLaws.{progress_stays, progress_within}
 use Rattle.ax_disk.specs.laws.CallLaws.{idles_leave}
 use Rattle.ax_disk.specs.laws.StageLaws.{barrier_goes_on}
-use Rattle.ax_disk.specs.laws.StaysLaws.{idles_rest, idles_stay, rests_weaken}
+use Rattle.ax_disk.specs.laws.StaysLaws.{idles_rest, idles_stay, rests_weaken, stays_start}
 use Rattle.ax_disk.specs.model.Calls.{Idles}
 use Rattle.ax_disk.specs.model.Image.{Image}
 use Rattle.ax_disk.specs.model.Moments.{History}
+use Rattle.ax_disk.specs.model.Pending.{MayLeave}
 use Rattle.ax_disk.specs.model.Stays.{BarrierStage, Rests, SinceBarrier}
 use Rattle.ax_faults.specs.Faults.{Rose}
 use Rattle.ax_faults.specs.FaultLaws.{rose_since}
@@ -55,6 +56,13 @@ image_by image container stand other says = record {
     apart = stand.grammatical.apart;
   };
   show = stand.show;
+}
+
+-- nothing has happened
+pub keeps_start : (history : History) → Keeps history history
+keeps_start history = record {
+  reads = refl;
+  stays = stays_start history (MayLeave history.unsynced) (record { each = λ image may. may });
 }
 
 -- the barrier is still to come

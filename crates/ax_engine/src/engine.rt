@@ -4,7 +4,9 @@ ghost use Rattle.std.specs.Prelude.{◌≡◌, ◌≤◌, ◌+◌, Ok, Err, Some
 ghost use Rattle.ax_faults.specs.Faults.{Rose};
 ghost use Rattle.ax_disk.specs.model.Calls.{Idles};
 ghost use Rattle.ax_disk.specs.model.Stays.{Rests, SinceBarrier, Stays};
+ghost use Rattle.ax_area.specs.Image.{IsFresh};
 ghost use Rattle.ax_container.specs.Container.{Container};
+ghost use Rattle.ax_log.specs.Opening.{Keeps};
 ghost use Rattle.ax_lines.specs.Asked.{IsAsked, IsStorable};
 ghost use Rattle.ax_lines.specs.declared.line.Line.TheVariants as line;
 ghost use Rattle.ax_image.specs.Readable.{SaysReadable};
@@ -70,6 +72,9 @@ impl Engine {
         ensures any_moment { IsTrue (D.is_honest disk.old) → (before : Container)
             → IsStore before (D.history disk.old (D.attached disk.old))
             → SinceBarrier (D.history disk.old (D.attached disk.old)) (D.history disk.new (D.attached disk.new)) (IsImageOf before) }
+        ensures unchanged { IsTrue (D.is_honest disk.old)
+            → (IsFresh (D.history disk.old (D.attached disk.old)).reads → ⊥)
+            → Keeps (D.history disk.old (D.attached disk.old)) (D.history disk.new (D.attached disk.new)) }
         ensures refused { IsTrue (D.is_honest disk.old) → IfErr result (λ fault. RefusesBy fault
             (D.history disk.old (D.attached disk.old)) (D.history disk.new (D.attached disk.new))) }
         ensures cause { result ≡ Err StoreFault.Disk → Rose (D.faults disk.old) (D.faults disk.new) }

@@ -6,7 +6,9 @@ ghost use Rattle.std.specs.Str.{bytes_eq};
 ghost use Rattle.ax_faults.specs.Faults.{Rose};
 ghost use Rattle.ax_cache.specs.Held.{held};
 ghost use Rattle.ax_disk.specs.model.Stays.{Rests, SinceBarrier};
+ghost use Rattle.ax_area.specs.Image.{IsFresh};
 ghost use Rattle.ax_container.specs.Container.{Container};
+ghost use Rattle.ax_log.specs.Opening.{Keeps};
 ghost use Rattle.ax_image.specs.Readable.{SaysReadable};
 ghost use Rattle.ax_image.specs.Documents.{ContentsHold};
 ghost use Rattle.ax_store.specs.Store.{Agrees, store_failed, store_contents};
@@ -51,6 +53,9 @@ pub(crate) fn open_documents<D: Disk>(alloc: Global, disk: &mut D) -> Result<Doc
     ensures any_moment { IsTrue (D.is_honest disk.old) → (before : Container)
         → IsStore before (D.history disk.old (D.attached disk.old))
         → SinceBarrier (D.history disk.old (D.attached disk.old)) (D.history disk.new (D.attached disk.new)) (IsImageOf before) }
+    ensures unchanged { IsTrue (D.is_honest disk.old)
+        → (IsFresh (D.history disk.old (D.attached disk.old)).reads → ⊥)
+        → Keeps (D.history disk.old (D.attached disk.old)) (D.history disk.new (D.attached disk.new)) }
     ensures refused { IsTrue (D.is_honest disk.old) → IfErr result (λ fault. RefusesBy fault
         (D.history disk.old (D.attached disk.old)) (D.history disk.new (D.attached disk.new))) }
     ensures cause { result ≡ Err StoreFault.Disk → Rose (D.faults disk.old) (D.faults disk.new) }

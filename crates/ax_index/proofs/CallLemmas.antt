@@ -13,6 +13,7 @@ use Rattle.ax_delta.specs.Payload.{IsDelta}
 use Rattle.ax_delta.specs.Said.{has, said_by, said_of}
 use Rattle.ax_delta.proofs.OneList.{one_delta}
 use Rattle.ax_delta.proofs.SameChanges.{said_alike}
+use Rattle.ax_area.specs.Contents.{Contents}
 use Rattle.ax_pages.specs.Contents.{TermPage, term_page}
 use Rattle.ax_pages.specs.TermPages.{low_pair}
 use Rattle.ax_pairs.specs.Index.{AllBelong}
@@ -218,7 +219,7 @@ pub same_itself : {C : Type 0} (store : Store C) → SameButRoomAndBytes store s
 same_itself store = record { logged = refl; contents = refl; offsets = refl; taken = refl }
 
 pub told_planned : {C : Type 0} (old new : Store C) (fault : StoreFault) → SameButRoomAndBytes old new → TellsPart new fault → TellsPart old fault
-told_planned old new fault same = told_from old new fault same.contents same.offsets (ap log_area same.logged)
+told_planned old new fault same = told_from old new fault (ap (λ (contents : Contents). contents.terms) same.contents) same.offsets (ap log_area same.logged)
 
 -- ---- the loop over pages
 

@@ -9,9 +9,8 @@ use Rattle.ax_pair.specs.declared.pair.Pair.{Pair}
 use Rattle.ax_delta.specs.Changes.{TermChange}
 use Rattle.ax_delta.specs.Payload.{IsDelta}
 use Rattle.ax_delta.specs.Said.{last_said, said_of}
-use Rattle.ax_pages.specs.Contents.{Contents, TermPage, term_parts, term_page, parts_of}
-use Rattle.ax_pages.specs.declared.page.Page.TheVariants.{Term}
-use Rattle.ax_store.specs.Slots.{part_at}
+use Rattle.ax_pages.specs.Contents.{TermPage, term_parts, term_page}
+use Rattle.ax_store.specs.Slots.{term_part}
 use Rattle.ax_pairs.specs.PagePairs.{AreDeltas, AreOfBase, IsBase}
 use Rattle.ax_index.specs.Damage.{is_base_at}
 use Rattle.ax_index.specs.Reading.{first_delta}
@@ -148,10 +147,10 @@ module _ (page : TermPage) (deltas : List (List TermChange)) (are : AreDeltas pa
       sym (ap (λ (k : ℕ). last_said p (drop k deltas)) zero_left ∙ quiet)
 
 -- the same of a page of a store that was read since
-pub delta_there : (contents now : Contents) (number : ℕ) (deltas : List (List TermChange)) → now ≡ contents
-    → AreDeltas (term_page number contents.terms).deltas deltas → (i : ℕ) → first_delta (term_page number contents.terms) ≤ i
-    → i < length (parts_of (Term number) contents)
-    → IsDelta (part_at (Term number) i now) (get_or deltas (i - first_delta (term_page number contents.terms)) [])
-delta_there contents now number deltas same are i h l =
-    subst (λ (k : Contents). IsDelta (part_at (Term number) i k) (get_or deltas (i - first_delta (term_page number contents.terms)) [])) (sym same)
-    (part_is (term_page number contents.terms) deltas are i h l)
+pub delta_there : (pages now : List TermPage) (number : ℕ) (deltas : List (List TermChange)) → now ≡ pages
+    → AreDeltas (term_page number pages).deltas deltas → (i : ℕ) → first_delta (term_page number pages) ≤ i
+    → i < length (term_parts (term_page number pages))
+    → IsDelta (term_part number i now) (get_or deltas (i - first_delta (term_page number pages)) [])
+delta_there pages now number deltas same are i h l =
+    subst (λ (k : List TermPage). IsDelta (term_part number i k) (get_or deltas (i - first_delta (term_page number pages)) [])) (sym same)
+    (part_is (term_page number pages) deltas are i h l)

@@ -18,10 +18,9 @@ use Rattle.ax_delta.specs.Payload.{IsDelta}
 use Rattle.ax_delta.specs.Said.{has, last_said, said_of}
 use Rattle.ax_delta.proofs.Ascending.{merged_is}
 use Rattle.ax_delta.proofs.OneList.{newest_counts}
-use Rattle.ax_pages.specs.Contents.{Contents, TermPage, term_parts, term_page}
+use Rattle.ax_pages.specs.Contents.{TermPage, term_parts, term_page}
 use Rattle.ax_pages.specs.TermPages.{AreApart, IsPageOf, low_pair}
-use Rattle.ax_pages.specs.declared.page.Page.TheVariants.{Term}
-use Rattle.ax_store.specs.Slots.{part_at}
+use Rattle.ax_store.specs.Slots.{term_part}
 use Rattle.ax_store.specs.declared.fault.StoreFault.{StoreFault}
 use Rattle.ax_term.specs.declared.range.TermRange.{TermRange}
 use Rattle.ax_pairs.specs.PagePairs.{AreDeltas, AreOfBase, HasPairs, IsBase}
@@ -48,12 +47,12 @@ no_base None none = ([], refl)
 no_base (Some b) none = absurd (cc)
 
 -- of a page whose base was read
-pub met_base : (contents : Contents) (number : ℕ) (payload : List ℕ) → is_some (term_page number contents.terms).base ≡ true
-    → payload ≡ part_at (Term number) 0 contents → (pairs : List Pair) × IsBase payload pairs
-    → (pairs : List Pair) × AreOfBase (term_page number contents.terms).base pairs
-met_base contents number payload there same (pairs, is) = (
+pub met_base : (pages : List TermPage) (number : ℕ) (payload : List ℕ) → is_some (term_page number pages).base ≡ true
+    → payload ≡ term_part number 0 pages → (pairs : List Pair) × IsBase payload pairs
+    → (pairs : List Pair) × AreOfBase (term_page number pages).base pairs
+met_base pages number payload there same (pairs, is) = (
   pairs,
-  front_back (term_page number contents.terms).base (term_page number contents.terms).deltas pairs there
+  front_back (term_page number pages).base (term_page number pages).deltas pairs there
       (subst (λ (bytes : List ℕ). IsBase bytes pairs) same is),
 )
 
@@ -64,9 +63,9 @@ base_rise (Some payload) pairs is = subst Rise (sym is.have) (pairs_rise is.post
 -- ---- deltas
 
 -- of a page whose delta was read
-pub met_delta : (contents : Contents) (number i : ℕ) (payload : List ℕ) → payload ≡ part_at (Term number) i contents
-    → (changes : List TermChange) × IsDelta payload changes → (changes : List TermChange) × IsDelta (part_at (Term number) i contents) changes
-met_delta contents number i payload same (changes, is) = (changes, subst (λ (bytes : List ℕ). IsDelta bytes changes) same is)
+pub met_delta : (pages : List TermPage) (number i : ℕ) (payload : List ℕ) → payload ≡ term_part number i pages
+    → (changes : List TermChange) × IsDelta payload changes → (changes : List TermChange) × IsDelta (term_part number i pages) changes
+met_delta pages number i payload same (changes, is) = (changes, subst (λ (bytes : List ℕ). IsDelta bytes changes) same is)
 
 all_deltas : (payloads : List (List ℕ)) → ((k : ℕ) → k < length payloads → (changes : List TermChange) × IsDelta (get_or payloads k []) changes)
     → (deltas : List (List TermChange)) × AreDeltas payloads deltas
@@ -132,35 +131,35 @@ AreDeltasUpTo page to = (i : ℕ) → first_delta page ≤ i → i < to → (cha
 pub up_to_start : (page : TermPage) (i : ℕ) → i ≡ first_delta page → AreDeltasUpTo page i
 up_to_start page i e n from below = absurd (omega (arith, e, from, below))
 
-at_position : (contents now : Contents) (number i : ℕ) → now ≡ contents → (changes : List TermChange) × IsDelta (part_at (Term number) i now) changes
-    → (changes : List TermChange) × IsDeltaAt (term_page number contents.terms) i changes
-at_position contents now number i same (changes, is) = (changes, subst (λ (k : Contents). IsDelta (part_at (Term number) i k) changes) same is)
+at_position : (pages now : List TermPage) (number i : ℕ) → now ≡ pages → (changes : List TermChange) × IsDelta (term_part number i now) changes
+    → (changes : List TermChange) × IsDeltaAt (term_page number pages) i changes
+at_position pages now number i same (changes, is) = (changes, subst (λ (k : List TermPage). IsDelta (term_part number i k) changes) same is)
 
-pub up_to_step : (contents now : Contents) (number i j : ℕ) → now ≡ contents → j ≡ i + 1
-    → (changes : List TermChange) × IsDelta (part_at (Term number) i now) changes → AreDeltasUpTo (term_page number contents.terms) i
-    → AreDeltasUpTo (term_page number contents.terms) j
-up_to_step contents now number i j same e met was n from below =
+pub up_to_step : (pages now : List TermPage) (number i j : ℕ) → now ≡ pages → j ≡ i + 1
+    → (changes : List TermChange) × IsDelta (term_part number i now) changes → AreDeltasUpTo (term_page number pages) i
+    → AreDeltasUpTo (term_page number pages) j
+up_to_step pages now number i j same e met was n from below =
     ⊎_elim
     (λ (l : n < i). was n from l)
     (λ (l : i ≤ n).
     let one : i ≡ n = omega (arith, l, below, e) in
-    subst (λ (k : ℕ). (changes : List TermChange) × IsDeltaAt (term_page number contents.terms) k changes) one
-    (at_position contents now number i same met))
+    subst (λ (k : ℕ). (changes : List TermChange) × IsDeltaAt (term_page number pages) k changes) one
+    (at_position pages now number i same met))
     (cases_lt n i)
 
 pub from_end : (page : TermPage) (i : ℕ) → i ≡ length (term_parts page) → AreDeltasFrom page i
 from_end page i e n from there = absurd (omega (arith, e, from, there))
 
-pub from_step : (contents now : Contents) (number i j : ℕ) → now ≡ contents → j ≡ i + 1
-    → (changes : List TermChange) × IsDelta (part_at (Term number) i now) changes → AreDeltasFrom (term_page number contents.terms) j
-    → AreDeltasFrom (term_page number contents.terms) i
-from_step contents now number i j same e met was n from there =
+pub from_step : (pages now : List TermPage) (number i j : ℕ) → now ≡ pages → j ≡ i + 1
+    → (changes : List TermChange) × IsDelta (term_part number i now) changes → AreDeltasFrom (term_page number pages) j
+    → AreDeltasFrom (term_page number pages) i
+from_step pages now number i j same e met was n from there =
     ⊎_elim
     (λ (l : i < n). was n (omega (arith, l, e)) there)
     (λ (l : n ≤ i).
     let one : i ≡ n = omega (arith, l, from) in
-    subst (λ (k : ℕ). (changes : List TermChange) × IsDeltaAt (term_page number contents.terms) k changes) one
-    (at_position contents now number i same met))
+    subst (λ (k : ℕ). (changes : List TermChange) × IsDeltaAt (term_page number pages) k changes) one
+    (at_position pages now number i same met))
     (cases_lt i n)
 
 pub from_less : (page : TermPage) (i j : ℕ) → i ≤ j → AreDeltasFrom page i → AreDeltasFrom page j
@@ -175,14 +174,14 @@ said_there p (Some added) page i changes from there is says met some =
     record { i = i; from = from; there = there; changes = changes; is = is; says = sym says; met = met }
 
 -- a delta says something
-pub looked_to : (contents now : Contents) (number i : ℕ) (p : Pair) (said : Option Bool) → now ≡ contents
-    → first_delta (term_page number contents.terms) ≤ i → i < length (term_parts (term_page number contents.terms))
-    → (changes : List TermChange) × IsDelta (part_at (Term number) i now) changes
-    → ((changes : List TermChange) → IsDelta (part_at (Term number) i now) changes → said ≡ said_of p changes)
-    → AreDeltasFrom (term_page number contents.terms) i → is_some said ≡ true → IsLookedBack p said (term_page number contents.terms)
-looked_to contents now number i p said same from there (changes, is) says met some =
-    said_there p said (term_page number contents.terms) i changes from there
-    (subst (λ (k : Contents). IsDelta (part_at (Term number) i k) changes) same is) (says changes is) met some
+pub looked_to : (pages now : List TermPage) (number i : ℕ) (p : Pair) (said : Option Bool) → now ≡ pages
+    → first_delta (term_page number pages) ≤ i → i < length (term_parts (term_page number pages))
+    → (changes : List TermChange) × IsDelta (term_part number i now) changes
+    → ((changes : List TermChange) → IsDelta (term_part number i now) changes → said ≡ said_of p changes)
+    → AreDeltasFrom (term_page number pages) i → is_some said ≡ true → IsLookedBack p said (term_page number pages)
+looked_to pages now number i p said same from there (changes, is) says met some =
+    said_there p said (term_page number pages) i changes from there
+    (subst (λ (k : List TermPage). IsDelta (term_part number i k) changes) same is) (says changes is) met some
 
 pub looked_by_delta : (pages : List TermPage) (number : ℕ) (p : Pair) (said : Option Bool) (added : Bool) → IsPageOf p number pages → said ≡ Some added
     → IsLookedBack p said (term_page number pages) → (page : ℕ) × IsPageOf p page pages × IsLookedAt p added (term_page page pages)

@@ -4,6 +4,7 @@ use Rattle.std.specs.Prelude.{IsTrue, slice_index_or}
 use Rattle.ax_disk.specs.laws.StaysLaws.{idles_start, idles_join}
 use Rattle.ax_disk.specs.model.Moments.{History}
 use Rattle.ax_cache.specs.Pages.{CachedPages}
+use Rattle.ax_area_laws.specs.Risen.{risen}
 use Rattle.ax_store.specs.Kept.{Kept}
 use Rattle.ax_store.specs.declared.store.Store.{Store}
 use Rattle.ax_store.specs.Store.{AgreesUnlessFailed, SameButRoom, SameButSlots, store_slots}
@@ -66,7 +67,7 @@ module _ {C : Type 0} (pages : C → CachedPages) (honest : Bool) where
   by_room : (old new : Store C) → SameButRoom old new → SameButRoomAndBytes old new
   by_room old new same = record {
     logged = same.logged;
-    contents = same.contents;
+    contents = ap risen same.contents;
     offsets = same.offsets;
     taken = ap (λ (frames : Frames). frames.taken) same.slots;
   }
@@ -126,7 +127,7 @@ module _ {C : Type 0} (pages : C → CachedPages) (honest : Bool) where
   reserve_around old took planned new x y l m first planned_so last taken = record {
     same = record {
       logged = last.logged ∙ planned_so.same.logged ∙ first.logged;
-      contents = ap (λ (kept : Kept). kept.contents) last.pages ∙ planned_so.same.contents ∙ ap (λ (kept : Kept). kept.contents) first.pages;
+      contents = ap (λ (kept : Kept). risen kept.contents) last.pages ∙ planned_so.same.contents ∙ ap (λ (kept : Kept). risen kept.contents) first.pages;
       offsets = ap (λ (kept : Kept). kept.offsets) last.pages ∙ planned_so.same.offsets ∙ ap (λ (kept : Kept). kept.offsets) first.pages;
       taken = taken;
     };

@@ -5,7 +5,8 @@ use Rattle.ax_pair.specs.declared.pair.Pair.{Pair}
 use Rattle.ax_delta.specs.Changes.{TermChange}
 use Rattle.ax_delta.specs.Payload.{IsDelta}
 use Rattle.ax_pairs.specs.PagePairs.{IsBase}
-use Rattle.ax_pages.specs.Contents.{Contents, parts_of, term_page}
+use Rattle.ax_area_laws.specs.Risen.{risen}
+use Rattle.ax_pages.specs.Contents.{TermPage, term_page, term_parts}
 use Rattle.ax_pages.specs.Area.{extent_number}
 use Rattle.ax_pages.specs.declared.page.Page.TheVariants.{Term}
 use Rattle.ax_pool.specs.Frames.{Frames}
@@ -13,7 +14,7 @@ use Rattle.ax_pool.specs.declared.slot.Slot.{Slot}
 use Rattle.ax_store.specs.declared.store.StoreFrames.{StoreFrames}
 use Rattle.ax_log.specs.Log.{log_area}
 use Rattle.ax_store.specs.Kept.{Kept, PageOffsets, offsets_of}
-use Rattle.ax_store.specs.Slots.{IsRead, IsSlotOf, part_at}
+use Rattle.ax_store.specs.Slots.{IsRead, IsSlotOf, term_part}
 use Rattle.ax_store.specs.Store.{SameButReads, store_contents, store_offsets, store_area}
 use Rattle.ax_store.specs.declared.fault.StoreFault.{StoreFault}
 use Rattle.ax_store.specs.declared.fault.StoreFault.TheVariants.{Disk, Damaged, Newer, Memory}
@@ -39,7 +40,10 @@ module _ {C : Type 0} where
   }
 
   pub same_contents : (old new : Store C) → SameButReads old new → store_contents new ≡ store_contents old
-  same_contents old new same = ap (λ (kept : Kept). kept.contents) same.pages
+  same_contents old new same = ap (λ (kept : Kept). risen kept.contents) same.pages
+
+  pub same_terms : (old new : Store C) → SameButReads old new → (store_contents new).terms ≡ (store_contents old).terms
+  same_terms old new same = ap (λ (kept : Kept). kept.contents.terms) same.pages
 
   pub same_offsets : (old new : Store C) → SameButReads old new → store_offsets new ≡ store_offsets old
   same_offsets old new same = ap (λ (kept : Kept). kept.offsets) same.pages
@@ -52,32 +56,32 @@ module _ {C : Type 0} where
 
   -- ---- faults
 
-  pub told_from : (old new : Store C) (fault : StoreFault) → store_contents new ≡ store_contents old → store_offsets new ≡ store_offsets old
+  pub told_from : (old new : Store C) (fault : StoreFault) → (store_contents new).terms ≡ (store_contents old).terms → store_offsets new ≡ store_offsets old
       → store_area new ≡ store_area old
       → TellsPart new fault → TellsPart old fault
-  told_from old new Disk contents offsets area h = tt
-  told_from old new (Damaged extent at) contents offsets area h = record {
+  told_from old new Disk terms offsets area h = tt
+  told_from old new (Damaged extent at) terms offsets area h = record {
     page = h.page;
     i = h.i;
-    there = subst (λ (k : Contents). h.i < length (parts_of (Term h.page) k)) contents h.there;
+    there = subst (λ (k : List TermPage). h.i < length (term_parts (term_page h.page k))) terms h.there;
     placed = (
       h.placed.0 ∙ ap extent_number area,
       ap (λ (o : PageOffsets). slice_get (offsets_of (Term h.page) o) h.i) (sym offsets) ∙ h.placed.1,
     );
-    spoiled = subst (λ (k : Contents). IsPayload (is_base_at (term_page h.page k.terms) h.i) (part_at (Term h.page) h.i k) → ⊥) contents h.spoiled;
+    spoiled = subst (λ (k : List TermPage). IsPayload (is_base_at (term_page h.page k) h.i) (term_part h.page h.i k) → ⊥) terms h.spoiled;
   }
-  told_from old new (Newer version) contents offsets area h = h
-  told_from old new Memory contents offsets area h = tt
+  told_from old new (Newer version) terms offsets area h = h
+  told_from old new Memory terms offsets area h = tt
 
   pub told_back : (old new : Store C) (fault : StoreFault) → SameButReads old new → TellsPart new fault → TellsPart old fault
   told_back old new fault same =
-      told_from old new fault (same_contents old new same) (same_offsets old new same) (same_area old new same)
+      told_from old new fault (same_terms old new same) (same_offsets old new same) (same_area old new same)
 
   pub told_disk : (store : Store C) (fault : StoreFault) → fault ≡ Disk → TellsPart store fault
   told_disk store fault e = let P : StoreFault → Type 0 = λ f. TellsPart store f in subst P (sym e) tt
 
-  told_spoiled : (store : Store C) (page i : ℕ) (fault : StoreFault) → i < length (parts_of (Term page) (store_contents store))
-      → (IsPayload (is_base_at (term_page page (store_contents store).terms) i) (part_at (Term page) i (store_contents store)) → ⊥)
+  told_spoiled : (store : Store C) (page i : ℕ) (fault : StoreFault) → i < length (term_parts (term_page page (store_contents store).terms))
+      → (IsPayload (is_base_at (term_page page (store_contents store).terms) i) (term_part page i (store_contents store).terms) → ⊥)
       → IsPlacedAt store page i fault → TellsPart store fault
   told_spoiled store page i Disk there spoiled placed = tt
   told_spoiled store page i (Damaged extent at) there spoiled placed = record { page = page; i = i; there = there; placed = placed; spoiled = spoiled }
@@ -85,15 +89,15 @@ module _ {C : Type 0} where
   told_spoiled store page i Memory there spoiled placed = tt
 
   -- the fault of a part that was read and is no payload
-  pub told_read : (old new : Store C) (page i : ℕ) (fault : StoreFault) → SameButReads old new → i < length (parts_of (Term page) (store_contents old))
-      → (IsPayload (is_base_at (term_page page (store_contents old).terms) i) (part_at (Term page) i (store_contents old)) → ⊥)
+  pub told_read : (old new : Store C) (page i : ℕ) (fault : StoreFault) → SameButReads old new → i < length (term_parts (term_page page (store_contents old).terms))
+      → (IsPayload (is_base_at (term_page page (store_contents old).terms) i) (term_part page i (store_contents old).terms) → ⊥)
       → IsPlacedAt new page i fault → TellsPart old fault
   told_read old new page i fault same there spoiled placed =
-      let contents = same_contents old new same in
+      let terms = same_terms old new same in
       told_back old new fault same
       (told_spoiled new page i fault
-      (subst (λ (k : Contents). i < length (parts_of (Term page) k)) (sym contents) there)
-      (subst (λ (k : Contents). IsPayload (is_base_at (term_page page k.terms) i) (part_at (Term page) i k) → ⊥) (sym contents) spoiled)
+      (subst (λ (k : List TermPage). i < length (term_parts (term_page page k))) (sym terms) there)
+      (subst (λ (k : List TermPage). IsPayload (is_base_at (term_page page k) i) (term_part page i k) → ⊥) (sym terms) spoiled)
       placed)
 
   pub placed_apart : (store : Store C) (page i : ℕ) (fault : StoreFault) → IsPlacedAt store page i fault → fault ≡ Memory → ⊥
@@ -112,22 +116,22 @@ given_back (x ∷ taken) (suc n) h = ap (λ (bs : List Bool). x ∷ bs) (given_b
 module _ {C : Type 0} where
   -- the fault of a base that was read and is none
   pub told_base : (old new : Store C) (page : ℕ) (fault : StoreFault) (payload : List ℕ) → SameButReads old new
-      → is_some (term_page page (store_contents old).terms).base ≡ true → payload ≡ part_at (Term page) 0 (store_contents old)
+      → is_some (term_page page (store_contents old).terms).base ≡ true → payload ≡ term_part page 0 (store_contents old).terms
       → ((pairs : List Pair) × IsBase payload pairs → ⊥) → IsPlacedAt new page 0 fault → TellsPart old fault
   told_base old new page fault payload same there is none placed =
       told_read old new page 0 fault same (base_there (term_page page (store_contents old).terms) there)
-      (subst (λ (b : Bool). IsPayload b (part_at (Term page) 0 (store_contents old)) → ⊥) (sym (base_at (term_page page (store_contents old).terms) there))
+      (subst (λ (b : Bool). IsPayload b (term_part page 0 (store_contents old).terms) → ⊥) (sym (base_at (term_page page (store_contents old).terms) there))
       (subst (λ (bytes : List ℕ). (pairs : List Pair) × IsBase bytes pairs → ⊥) is none))
       placed
 
   -- the same of a delta
   pub told_delta : (old new : Store C) (page i : ℕ) (fault : StoreFault) (payload : List ℕ) → SameButReads old new
-      → i < length (parts_of (Term page) (store_contents old))
-      → is_base_at (term_page page (store_contents old).terms) i ≡ false → payload ≡ part_at (Term page) i (store_contents old)
+      → i < length (term_parts (term_page page (store_contents old).terms))
+      → is_base_at (term_page page (store_contents old).terms) i ≡ false → payload ≡ term_part page i (store_contents old).terms
       → ((changes : List TermChange) × IsDelta payload changes → ⊥) → IsPlacedAt new page i fault → TellsPart old fault
   told_delta old new page i fault payload same there delta is none placed =
       told_read old new page i fault same there
-      (subst (λ (b : Bool). IsPayload b (part_at (Term page) i (store_contents old)) → ⊥) (sym delta)
+      (subst (λ (b : Bool). IsPayload b (term_part page i (store_contents old).terms) → ⊥) (sym delta)
       (subst (λ (bytes : List ℕ). (changes : List TermChange) × IsDelta bytes changes → ⊥) is none))
       placed
 

@@ -6,14 +6,14 @@ use Rattle.ax_pair.specs.declared.pair.Pair.{Pair}
 use Rattle.ax_delta.specs.Changes.{TermChange}
 use Rattle.ax_delta.specs.Payload.{IsDelta}
 use Rattle.ax_pages.specs.declared.page.Page.TheVariants.{Term}
-use Rattle.ax_pages.specs.Contents.{TermPage, term_page, parts_of}
+use Rattle.ax_pages.specs.Contents.{TermPage, term_page, term_parts}
 use Rattle.ax_pages.specs.Area.{extent_number}
 use Rattle.ax_pairs.specs.PagePairs.{IsBase}
 use Rattle.ax_store.specs.declared.store.Store.{Store}
 use Rattle.ax_store.specs.declared.fault.StoreFault.{StoreFault}
 use Rattle.ax_store.specs.declared.fault.StoreFault.TheVariants.{Disk, Damaged, Newer, Memory}
 use Rattle.ax_store.specs.Kept.{offsets_of}
-use Rattle.ax_store.specs.Slots.{part_at}
+use Rattle.ax_store.specs.Slots.{term_part}
 use Rattle.ax_store.specs.Store.{store_area, store_contents, store_offsets}
 
 -- the part of that position is the base of its page
@@ -37,9 +37,9 @@ IsPlacedAt store page i Memory = ⊥
 pub record IsSpoiledPart {C : Type 0} (store : Store C) (fault : StoreFault) : Type 0 where
   pub page : ℕ
   pub i : ℕ
-  pub there : i < length (parts_of (Term page) (store_contents store))
+  pub there : i < length (term_parts (term_page page (store_contents store).terms))
   pub placed : IsPlacedAt store page i fault
-  pub spoiled : IsPayload (is_base_at (term_page page (store_contents store).terms) i) (part_at (Term page) i (store_contents store)) → ⊥
+  pub spoiled : IsPayload (is_base_at (term_page page (store_contents store).terms) i) (term_part page i (store_contents store).terms) → ⊥
 
 -- the store fails by this fault: exactly where it is of the disk
 abbrev pub FailsWith : StoreFault → Bool → Bool → Type 0

@@ -6,10 +6,10 @@ ghost use Rattle.ax_pair.specs.Order.{Rise};
 ghost use Rattle.ax_delta.specs.Changes.{TermChange};
 ghost use Rattle.ax_delta.specs.Merge.{IsMerge};
 ghost use Rattle.ax_delta.specs.Payload.{IsDelta};
-ghost use Rattle.ax_pages.specs.Contents.{parts_of, term_page};
+ghost use Rattle.ax_pages.specs.Contents.{term_page, term_parts};
 ghost use Rattle.ax_pairs.specs.PagePairs.{AreOfBase, HasPairs, IsBase};
 ghost use Rattle.ax_store.specs.Faults.{HasDiskCause};
-ghost use Rattle.ax_store.specs.Slots.{AreOthersSame, IsSlotOf, part_at};
+ghost use Rattle.ax_store.specs.Slots.{AreOthersSame, IsSlotOf, term_part};
 ghost use Rattle.ax_store.specs.Store.{AgreesUnlessFailed, store_contents, store_failed, store_slots};
 ghost use Rattle.ax_index.specs.Reads.{Reads};
 ghost use Rattle.ax_index.specs.Damage.{FailsBy, TellsPart, is_base_at};
@@ -173,16 +173,16 @@ fn merge_at<D: Disk, C: PageCache>(
     i: usize,
     pairs: Vec<Pair>,
 ) -> Result<Vec<Pair>, StoreFault>
-    requires part { i < length (parts_of (Page.Term page) (store_contents store.old)) }
+    requires part { i < length (term_parts (term_page page (store_contents store.old).terms)) }
     requires delta { is_base_at (term_page page (store_contents store.old).terms) i ≡ false }
     requires slot { IsSlotOf store.old slot.old }
     requires agrees { AgreesUnlessFailed C.pages (D.is_honest disk.old) store.old
         (D.history disk.old (D.attached disk.old)) }
     requires rise { Rise pairs.items }
     ensures rise { IfOk result (λ after. Rise after.items) }
-    ensures merged { IsTrue (D.is_honest disk.old) → (changes : List TermChange) → IsDelta (part_at (Page.Term page) i (store_contents store.old)) changes
+    ensures merged { IsTrue (D.is_honest disk.old) → (changes : List TermChange) → IsDelta (term_part page i (store_contents store.old).terms) changes
         → IfOk result (λ after. IsMerge pairs.items changes after.items) }
-    ensures met { IsTrue (D.is_honest disk.old) → OnOk result ((changes : List TermChange) × IsDelta (part_at (Page.Term page) i (store_contents store.old)) changes) }
+    ensures met { IsTrue (D.is_honest disk.old) → OnOk result ((changes : List TermChange) × IsDelta (term_part page i (store_contents store.old).terms) changes) }
     ensures told { IsTrue (D.is_honest disk.old) → IfErr result (TellsPart store.old) }
     ensures reads { Reads C.pages (D.is_honest disk.old) store.old store.new
         (D.history disk.old (D.attached disk.old)) (D.history disk.new (D.attached disk.new))

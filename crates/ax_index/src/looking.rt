@@ -5,14 +5,14 @@ ghost use Rattle.ax_pair.specs.declared.pair.Pair.{Pair};
 ghost use Rattle.ax_delta.specs.Changes.{TermChange};
 ghost use Rattle.ax_delta.specs.Payload.{IsDelta};
 ghost use Rattle.ax_delta.specs.Said.{has as has_pair, last_said, said_of};
-ghost use Rattle.ax_pages.specs.Contents.{parts_of, term_page};
+ghost use Rattle.ax_pages.specs.Contents.{term_page, term_parts};
 ghost use Rattle.ax_pages.specs.TermPages.{IsPageOf};
 ghost use Rattle.ax_pairs.specs.Index.{IsIndex};
 ghost use Rattle.ax_pairs.specs.PagePairs.{AreDeltas, AreOfBase, IsBase};
 ghost use Rattle.ax_pairs.specs.PairSets.{PairSet};
 ghost use Rattle.ax_pool.specs.Frames.{free_count};
 ghost use Rattle.ax_store.specs.Faults.{HasDiskCause};
-ghost use Rattle.ax_store.specs.Slots.{AreOthersSame, IsSlotOf, part_at};
+ghost use Rattle.ax_store.specs.Slots.{AreOthersSame, IsSlotOf, term_part};
 ghost use Rattle.ax_store.specs.Store.{AgreesUnlessFailed, store_contents, store_slots, store_failed};
 ghost use Rattle.ax_index.specs.Damage.{TellsPart, FailsBy, is_base_at};
 ghost use Rattle.ax_index.specs.Grammar.{IsLookedAt, IsLookedBack};
@@ -158,14 +158,14 @@ fn look_at<D: Disk, C: PageCache>(
     i: usize,
     pair: &Pair,
 ) -> Result<Option<bool>, StoreFault>
-    requires part { i < length (parts_of (Page.Term page) (store_contents store.old)) }
+    requires part { i < length (term_parts (term_page page (store_contents store.old).terms)) }
     requires delta { is_base_at (term_page page (store_contents store.old).terms) i ≡ false }
     requires slot { IsSlotOf store.old slot.old }
     requires agrees { AgreesUnlessFailed C.pages (D.is_honest disk.old) store.old
         (D.history disk.old (D.attached disk.old)) }
-    ensures said { IsTrue (D.is_honest disk.old) → (changes : List TermChange) → IsDelta (part_at (Page.Term page) i (store_contents store.old)) changes
+    ensures said { IsTrue (D.is_honest disk.old) → (changes : List TermChange) → IsDelta (term_part page i (store_contents store.old).terms) changes
         → IfOk result (λ said. said ≡ said_of pair.now changes) }
-    ensures met { IsTrue (D.is_honest disk.old) → OnOk result ((changes : List TermChange) × IsDelta (part_at (Page.Term page) i (store_contents store.old)) changes) }
+    ensures met { IsTrue (D.is_honest disk.old) → OnOk result ((changes : List TermChange) × IsDelta (term_part page i (store_contents store.old).terms) changes) }
     ensures told { IsTrue (D.is_honest disk.old) → IfErr result (TellsPart store.old) }
     ensures no_memory { result ≡ Err StoreFault.Memory → ⊥ }
     ensures reads { Reads C.pages (D.is_honest disk.old) store.old store.new

@@ -5,14 +5,15 @@ use Rattle.ax_cache.specs.Pages.{CachedPages}
 use Rattle.ax_disk.specs.model.Moments.{History}
 use Rattle.ax_delta.specs.declared.change.Change.{Change}
 use Rattle.ax_frame.specs.Part.{PartValue}
-use Rattle.ax_pages.specs.AfterPart.{after_parts}
-use Rattle.ax_pages.specs.Contents.{Contents, TermPage}
+use Rattle.ax_area.specs.Contents.{Contents}
+use Rattle.ax_area.specs.Parts.{after_parts}
+use Rattle.ax_pages.specs.Contents.{TermPage}
 use Rattle.ax_pairs.specs.TermParts.{LeadTo}
 use Rattle.ax_index.specs.Merging.{IsMergePlan}
 use Rattle.ax_index.specs.Plans.{IsPlan}
 use Rattle.ax_index.specs.Reads.{Reads, Reserves}
 use Rattle.ax_store.specs.declared.store.Store.{Store}
-use Rattle.ax_store.specs.Putting.{AreWithin}
+use Rattle.ax_store.specs.Batch.{AreAllowed}
 use Rattle.ax_index_support.specs.Ready.{IsReady}
 
 module _ {C : Type 0} (pages : C → CachedPages) (old new : Store C) (honest after : Bool) (before history : History) (earlier later : ℕ)
@@ -29,9 +30,9 @@ module _ {C : Type 0} (pages : C → CachedPages) (old new : Store C) (honest af
     free = subst (λ (t : List Bool). 2 ≤ count_by not t) (sym planned.same.taken) ready.free;
   }
 
--- parts that lead from the term pages of the contents, behind no others, are within the format after these
+-- parts that lead from the term pages of the contents, behind no others, may follow these
 led_within : (parts old new : List PartValue) (before : Contents) (after : List TermPage) → LeadTo parts before.terms after
-    → new ≡ old ++ parts → old ≡ [] → AreWithin new before
+    → new ≡ old ++ parts → old ≡ [] → AreAllowed new before
 led_within parts old new before after leads added none = (
   record before { terms = after },
   subst (λ (all : List PartValue). after_parts all before ≡ Some (record before { terms = after }))
@@ -39,11 +40,11 @@ led_within parts old new before after leads added none = (
 )
 
 pub within_planned : {honest : Bool} (changes : List Change) (merged : ℕ) (old new : List PartValue) (before now : Contents)
-    → IsPlan honest changes merged old new before.terms → old ≡ [] → now ≡ before → AreWithin new now
+    → IsPlan honest changes merged old new before.terms → old ≡ [] → now ≡ before → AreAllowed new now
 within_planned changes merged old new before now plan none same =
-    subst (AreWithin new) (sym same) (led_within plan.parts old new before plan.after plan.lead plan.added none)
+    subst (AreAllowed new) (sym same) (led_within plan.parts old new before plan.after plan.lead plan.added none)
 
 pub within_merged : {honest : Bool} (asked merged : ℕ) (old new : List PartValue) (before now : Contents)
-    → IsMergePlan honest asked merged old new before.terms → old ≡ [] → now ≡ before → AreWithin new now
+    → IsMergePlan honest asked merged old new before.terms → old ≡ [] → now ≡ before → AreAllowed new now
 within_merged asked merged old new before now plan none same =
-    subst (AreWithin new) (sym same) (led_within plan.parts old new before plan.after plan.lead plan.added none)
+    subst (AreAllowed new) (sym same) (led_within plan.parts old new before plan.after plan.lead plan.added none)

@@ -2,15 +2,14 @@
 
 ghost use Rattle.std.specs.Prelude.{◌≡◌, ◌≤◌, ◌+◌, ℕ, length, IfOk, IsTrue, OnErr, OnOk, Some};
 ghost use Rattle.std.specs.FinMap as map;
+ghost use Rattle.ax_area.specs.Parts.{after_parts};
 ghost use Rattle.ax_index.specs.Bare.{with_deltas};
 ghost use Rattle.ax_index.specs.Wanted.{AreNumbersIn, AreNumbersInSome};
 ghost use Rattle.ax_index_support.specs.Ready.{IsReady};
-ghost use Rattle.ax_pages.specs.AfterPart.{after_parts};
 ghost use Rattle.ax_pairs.specs.Index.{IsIndex};
 ghost use Rattle.ax_pairs.specs.PairSets.{PairSet, with_changes};
-ghost use Rattle.ax_store.specs.Batch.{batch_parts};
+ghost use Rattle.ax_store.specs.Batch.{AreAllowed, batch_parts};
 ghost use Rattle.ax_store.specs.Kept.{deltas_of};
-ghost use Rattle.ax_store.specs.Putting.{AreWithin};
 ghost use Rattle.ax_store.specs.Store.{store_contents, store_room, store_spare};
 
 use ax_cache::PageCache;
@@ -88,7 +87,7 @@ fn commit_batch<D: Disk, C: PageCache>(
     requires ready { IsReady C.pages store.old (D.is_honest disk.old) (D.history disk.old (D.attached disk.old)) }
     requires room { length (batch_parts batch) ≤ store_spare store.old }
     requires deltas { (number : ℕ) → deltas_of number (batch_parts batch) ≤ store_room number store.old }
-    requires within { AreWithin (batch_parts batch) (store_contents store.old) }
+    requires within { AreAllowed (batch_parts batch) (store_contents store.old) }
     ensures committed { OnOk result (after_parts (batch_parts batch) (store_contents store.old) ≡ Some (store_contents store.new)) }
     ensures kept { OnErr result (store_contents store.new ≡ store_contents store.old) }
     ensures ready { IsReady C.pages store.new (D.is_honest disk.new) (D.history disk.new (D.attached disk.new)) }

@@ -21,10 +21,10 @@ use Rattle.ax_pages.specs.laws.AreaLaws.{area_by_prefix, gate_within, frames_pus
 use Rattle.ax_area.specs.declared.root.Counting.{Counting}
 use Rattle.ax_area.specs.declared.root.RootChoice.TheVariants.{Counts}
 use Rattle.ax_area.specs.Root.{IsRoot, IsKnown}
-use Rattle.ax_area.specs.Image.{HasFrames}
+use Rattle.ax_area.specs.Image.{IsLive}
 use Rattle.ax_area.proofs.OneRoot.{counts_named}
 use Rattle.ax_log.specs.declared.log.Log.{Log}
-use Rattle.ax_log.specs.Log.{log_slot, log_area, log_end}
+use Rattle.ax_log.specs.Log.{log_slot, log_end}
 use Rattle.ax_log.specs.Agreement.{HasLog, Agrees}
 use Rattle.ax_log.specs.Commit.{IsCommitSpelling, IsStaged, IsReady}
 
@@ -256,23 +256,22 @@ module _ (slot : Counting) (end : ℕ) (frames : List (List ℕ)) (text span : L
   pub apart_root : area ≢ Root
   apart_root = (counts_named old.reads.root slot counts).1
 
-  pub has_frames : (fs : List (List ℕ)) (image : Image) → HasLog old.reads.root area fs image
-      → HasFrames NEWEST_VERSION fs image
-  has_frames fs image has = inr (
-    slot,
-    record {
-      counts = subst (λ (r : List ℕ). IsRoot r (Counts slot)) (sym has.root_is) counts;
-      known = known;
-      has = has.has;
-    },
-  )
+  abbrev Live : List (List ℕ) → Image → Type 0
+  Live fs image = IsLive NEWEST_VERSION slot fs image
+
+  pub is_live : (fs : List (List ℕ)) (image : Image) → HasLog old.reads.root area fs image → Live fs image
+  is_live fs image has = record {
+    counts = subst (λ (r : List ℕ). IsRoot r (Counts slot)) (sym has.root_is) counts;
+    known = known;
+    has = has.has;
+  }
 
   -- the first half failed, or only it was done
   pub half_turns : (new : History) → Stays old new (HasLog old.reads.root area frames)
-      → Turns old new (HasFrames NEWEST_VERSION frames) (HasFrames NEWEST_VERSION (frames ++ span ∷ []))
-  half_turns new stays = stays_turn old new (HasFrames NEWEST_VERSION frames) (HasFrames NEWEST_VERSION (frames ++ span ∷ []))
-      (stays_weaken old new (HasLog old.reads.root area frames) (HasFrames NEWEST_VERSION frames)
-      (has_frames frames) stays)
+      → Turns old new (Live frames) (Live (frames ++ span ∷ []))
+  half_turns new stays = stays_turn old new (Live frames) (Live (frames ++ span ∷ []))
+      (stays_weaken old new (HasLog old.reads.root area frames) (Live frames)
+      (is_live frames) stays)
 
   module _ (mid : History) (staged : IsStaged area end text old mid)
       (stays : MayLeave old.unsynced old.reads) where
@@ -294,18 +293,17 @@ module _ (slot : Counting) (end : ℕ) (frames : List (List ℕ)) (text span : L
     pub both_turn : (new : History) → Stays old mid (HasLog old.reads.root area frames)
         → Turns mid new (HasLog mid.reads.root area frames)
         (HasLog mid.reads.root area (frames ++ span ∷ []))
-        → Turns old new (HasFrames NEWEST_VERSION frames) (HasFrames NEWEST_VERSION (frames ++ span ∷ []))
+        → Turns old new (Live frames) (Live (frames ++ span ∷ []))
     both_turn new first second =
         let one = half_turns mid first in
-        let other = turns_weaken mid new (HasLog mid.reads.root area frames) (HasFrames NEWEST_VERSION frames)
-        (HasLog mid.reads.root area (frames ++ span ∷ [])) (HasFrames NEWEST_VERSION (frames ++ span ∷ []))
-        (λ image has. has_frames frames image
+        let other = turns_weaken mid new (HasLog mid.reads.root area frames) (Live frames)
+        (HasLog mid.reads.root area (frames ++ span ∷ [])) (Live (frames ++ span ∷ []))
+        (λ image has. is_live frames image
         (subst (λ (r : List ℕ). HasLog r area frames image) staged_root has))
-        (λ image has. has_frames (frames ++ span ∷ []) image
+        (λ image has. is_live (frames ++ span ∷ []) image
         (subst (λ (r : List ℕ). HasLog r area (frames ++ span ∷ []) image) staged_root has))
         second in
-        stays_join old mid new (λ image. HasFrames NEWEST_VERSION frames image ⊎ HasFrames
-        NEWEST_VERSION (frames ++ span ∷ []) image) one other
+        stays_join old mid new (λ image. Live frames image ⊎ Live (frames ++ span ∷ []) image) one other
 
   end_after : end + length text ≡ length (frames_bytes (frames ++ span ∷ []))
   end_after =

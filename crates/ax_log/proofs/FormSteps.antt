@@ -18,13 +18,13 @@ use Rattle.ax_pages.specs.declared.numbers.TheConstants.{NEWEST_VERSION}
 use Rattle.ax_area.specs.declared.root.Counting.{Counting}
 use Rattle.ax_area.specs.declared.root.RootChoice.TheVariants.{Fresh, Counts}
 use Rattle.ax_area.specs.Root.{IsRoot, IsWholeRoot}
-use Rattle.ax_area.specs.Image.{IsFresh, HasFrames}
+use Rattle.ax_area.specs.Image.{IsFresh}
 use Rattle.ax_area.proofs.OneRoot.{newest_known}
 use Rattle.ax_area.proofs.RootPrefix.{fresh_prefix, whole_by_prefix}
 use Rattle.ax_log.specs.declared.log.Log.{Log}
-use Rattle.ax_log.specs.Log.{log_slot, log_area, log_end}
+use Rattle.ax_log.specs.Log.{log_slot, log_end}
 use Rattle.ax_log.specs.Agreement.{HasLog, Agrees}
-use Rattle.ax_log.specs.Forming.{empty_image, formed_slot, fresh_slots, laid_image, formed_image, IsSettledAt}
+use Rattle.ax_log.specs.Forming.{empty_image, formed_slot, fresh_slots, laid_image, formed_image, IsForming, IsSettledAt}
 
 -- ---- the lists are emptied
 
@@ -171,16 +171,12 @@ no_frames = record {
   closed = (omega arith, λ e. omega (arith, e));
 }
 
-whole_has_none : (image : Image) → IsRoot image.root (Counts formed_slot) → image.a ≡ 0 ∷ []
-    → HasFrames NEWEST_VERSION [] image
-whole_has_none image counts is = inr (
-  formed_slot,
-  record {
-    counts = counts;
-    known = newest_known NEWEST_VERSION formed_slot refl;
-    has = subst (λ (l : List ℕ). IsArea l []) (sym is) no_frames;
-  },
-)
+whole_has_none : (image : Image) → IsRoot image.root (Counts formed_slot) → image.a ≡ 0 ∷ [] → IsForming image
+whole_has_none image counts is = inr (record {
+  counts = counts;
+  known = newest_known NEWEST_VERSION formed_slot refl;
+  has = subst (λ (l : List ℕ). IsArea l []) (sym is) no_frames;
+})
 
 short_or_whole : (n : ℕ) → (n ≤ 32) ⊎ (33 ≤ n)
 short_or_whole n = grind arith
@@ -190,12 +186,12 @@ module _ (h0 : History) (laid_out : IsSettledAt laid_image h0) where
   unsynced_laid = laid_out.settled ∙ ap all_settled laid_out.reads
 
   last_byte : (image : Image) → MayLeave (after_write Root 32 1 h0.unsynced) image
-      → HasFrames NEWEST_VERSION [] image
+      → IsForming image
   last_byte image may =
       let left = subst (λ (u : Unsynced). MayLeave (after_write Root 32 1 u) image) unsynced_laid
       may in
       ⊎_elim
-      (λ short. inl (short_fresh image.root short, refl))
+      (λ short. inl (short_fresh image.root short))
       (λ long.
       let same : take 32 image.root ≡ take 32 fresh_slots = kept_up_to
       (written 32 1 (settled fresh_slots)) image.root 32 left.root (omega (arith, long))
@@ -206,14 +202,14 @@ module _ (h0 : History) (laid_out : IsSettledAt laid_image h0) where
 
   module _ {T E : Type 0} (h1 : History) where
     pub formed_1 : (r1 : Result T E) → Writes Root 32 (69 ∷ []) r1 h0 h1
-        → Stays h0 h1 (HasFrames NEWEST_VERSION [])
-    formed_1 r1 write = writes_stay Root 32 (69 ∷ []) r1 h0 h1 (HasFrames NEWEST_VERSION []) last_byte write
+        → Stays h0 h1 IsForming
+    formed_1 r1 write = writes_stay Root 32 (69 ∷ []) r1 h0 h1 IsForming last_byte write
 
     module _ (v1 : T) (write1 : Writes {E = E} Root 32 (69 ∷ []) (Ok v1) h0 h1)
         (may1 : MayLeave h1.unsynced h1.reads) (h2 : History) where
-      pub formed_2 : (r2 : Result T E) → Syncs r2 h1 h2 → Stays h0 h2 (HasFrames NEWEST_VERSION [])
+      pub formed_2 : (r2 : Result T E) → Syncs r2 h1 h2 → Stays h0 h2 IsForming
       formed_2 r2 sync = let first = formed_1 (Ok v1) write1 in stays_join h0 h1 h2
-          (HasFrames NEWEST_VERSION []) first (syncs_stay r2 h1 h2 (HasFrames NEWEST_VERSION []) first.rests may1 sync)
+          IsForming first (syncs_stay r2 h1 h2 IsForming first.rests may1 sync)
 
       formed_reads : h1.reads ≡ formed_image
       formed_reads = write1.done ∙ ap (λ (i : Image). with_list Root
@@ -228,11 +224,11 @@ module _ (h0 : History) (laid_out : IsSettledAt laid_image h0) where
 
 -- ---- all three steps
 
-pub fresh_has_none : (image : Image) → IsFresh image → HasFrames NEWEST_VERSION [] image
-fresh_has_none image fresh = inl (fresh, refl)
+pub fresh_has_none : (image : Image) → IsFresh image → IsForming image
+fresh_has_none image fresh = inl fresh
 
-pub fresh_stays : (old new : History) → Stays old new IsFresh → Stays old new (HasFrames NEWEST_VERSION [])
-fresh_stays old new stays = stays_weaken old new IsFresh (HasFrames NEWEST_VERSION []) fresh_has_none stays
+pub fresh_stays : (old new : History) → Stays old new IsFresh → Stays old new IsForming
+fresh_stays old new stays = stays_weaken old new IsFresh IsForming fresh_has_none stays
 
 pub formed_agrees : (log : Log) (history : History) → IsSettledAt formed_image history
     → log_slot log ≡ formed_slot → log_end log ≡ 0 → Agrees log [] history
@@ -251,9 +247,9 @@ formed_agrees log history done slot_is end-is =
     }
 
 module _ (h0 h1 : History) (first : Stays h0 h1 IsFresh) where
-  pub form_2 : (h2 : History) → Stays h1 h2 IsFresh → Stays h0 h2 (HasFrames NEWEST_VERSION [])
+  pub form_2 : (h2 : History) → Stays h1 h2 IsFresh → Stays h0 h2 IsForming
   form_2 h2 second = fresh_stays h0 h2 (stays_join h0 h1 h2 IsFresh first second)
 
-  pub form_3 : (h2 h3 : History) → Stays h1 h2 IsFresh → Stays h2 h3 (HasFrames NEWEST_VERSION [])
-      → Stays h0 h3 (HasFrames NEWEST_VERSION [])
-  form_3 h2 h3 second third = stays_join h0 h2 h3 (HasFrames NEWEST_VERSION []) (form_2 h2 second) third
+  pub form_3 : (h2 h3 : History) → Stays h1 h2 IsFresh → Stays h2 h3 IsForming
+      → Stays h0 h3 IsForming
+  form_3 h2 h3 second third = stays_join h0 h2 h3 IsForming (form_2 h2 second) third

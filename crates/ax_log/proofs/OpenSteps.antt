@@ -1,5 +1,5 @@
 -- What opening a log tells, at each of its answers.
-use Rattle.std.proofs.Common.{◌≡◌, ◌≢◌, inl, inr, ℕ, ◌<◌, ◌≤◌, List, [], Result, Err, refl, sym, ◌∙◌, ap, subst, arith}
+use Rattle.std.proofs.Common.{◌≡◌, ◌≢◌, inl, inr, ℕ, ◌<◌, ◌≤◌, List, [], Result, Err, refl, sym, ◌∙◌, ap, subst}
 use Rattle.ax_disk.specs.declared.extent.Extent.{Extent}
 use Rattle.ax_disk.specs.declared.extent.Extent.TheVariants.{Root, A, B}
 use Rattle.ax_disk.specs.model.Image.{Image, list_of}
@@ -7,7 +7,7 @@ use Rattle.ax_disk.specs.model.Pending.{MayLeave, all_settled}
 use Rattle.ax_disk.specs.model.Moments.{History}
 use Rattle.ax_disk.specs.model.Calls.{Idles, Syncs}
 use Rattle.ax_disk.specs.model.Stays.{Rests, Stays}
-use Rattle.ax_disk.specs.laws.StaysLaws.{idles_rest, idles_stay, stays_join, syncs_stay, settled_rests}
+use Rattle.ax_disk.specs.laws.StaysLaws.{idles_rest, idles_stay, stays_join, stays_weaken, syncs_stay, settled_rests}
 use Rattle.ax_pages.specs.declared.numbers.TheConstants.{NEWEST_VERSION}
 use Rattle.ax_area.specs.declared.root.Counting.{Counting}
 use Rattle.ax_area.specs.declared.root.RootChoice.{RootChoice}
@@ -22,7 +22,7 @@ use Rattle.ax_log.specs.declared.fault.LogFault.TheVariants.{Disk, Damaged, Newe
 use Rattle.ax_log.specs.Log.{log_slot, log_area, log_end}
 use Rattle.ax_log.specs.Agreement.{HasLog, Agrees}
 use Rattle.ax_log.specs.Walk.{EndsAt, IsEndOf}
-use Rattle.ax_log.specs.Forming.{formed_slot}
+use Rattle.ax_log.specs.Forming.{formed_image, formed_slot, IsForming}
 use Rattle.ax_log.specs.Opening.{IsOpened, IsDamagedAt, Tells, Keeps}
 
 -- ---- a live store
@@ -70,12 +70,16 @@ broken_told slot image history Memory counts known is = tt
 -- ---- a fresh store
 
 pub formed_log : (log : Log) (before : Image) (new : History) → IsFresh before → Agrees log [] new
-    → log_slot log ≡ formed_slot → IsOpened log before new
-formed_log log before new fresh agrees slot_is = record {
+    → log_slot log ≡ formed_slot → new.reads ≡ formed_image → IsOpened log before new
+formed_log log before new fresh agrees slot_is reads_are = record {
   frames = [];
   agrees = agrees;
-  from = inl (fresh, refl, slot_is);
+  from = inl (fresh, refl, slot_is, reads_are);
 }
+
+forming_has_none : (image : Image) → IsForming image → HasFrames NEWEST_VERSION [] image
+forming_has_none image (inl fresh) = inl (fresh, refl)
+forming_has_none image (inr live) = inr (formed_slot, live)
 
 -- ---- recovery, once the root was read
 
@@ -105,11 +109,19 @@ module _ (old mid : History) (settled : old.unsynced ≡ all_settled old.reads)
       (idles_stay mid new (HasFrames NEWEST_VERSION frames) first.rests on)
 
   pub fresh_frames_stay : (new : History) (frames : List (List ℕ)) → HasFrames NEWEST_VERSION frames old.reads
-      → IsFresh old.reads → Stays mid new (HasFrames NEWEST_VERSION []) → Stays old new (HasFrames NEWEST_VERSION frames)
+      → IsFresh old.reads → Stays mid new IsForming → Stays old new (HasFrames NEWEST_VERSION frames)
   fresh_frames_stay new frames has fresh formed =
       let none : frames ≡ [] = one_frames NEWEST_VERSION old.reads frames [] has (inl (fresh, refl)) in
       stays_join old mid new (HasFrames NEWEST_VERSION frames) (frames_stay frames has)
-      (subst (λ (fs : List (List ℕ)). Stays mid new (HasFrames NEWEST_VERSION fs)) (sym none) formed)
+      (subst (λ (fs : List (List ℕ)). Stays mid new (HasFrames NEWEST_VERSION fs)) (sym none)
+      (stays_weaken mid new IsForming (HasFrames NEWEST_VERSION []) forming_has_none formed))
+
+  -- nothing was done yet, or a store is formed then
+  pub forming_still : IsFresh old.reads → Stays old mid IsForming
+  forming_still fresh = idles_stay old mid IsForming (settled_rests old IsForming settled (inl fresh)) idle
+
+  pub forming_stays : (new : History) → IsFresh old.reads → Stays mid new IsForming → Stays old new IsForming
+  forming_stays new fresh formed = stays_join old mid new IsForming (forming_still fresh) formed
 
 pub root_damaged : (image : Image) (at : ℕ) → IsRoot image.root (DamagedRoot at) → IsDamagedAt image 0 at
 root_damaged image at damaged = record { list = Root; number = refl; damaged = inl damaged }

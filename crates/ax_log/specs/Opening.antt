@@ -16,14 +16,14 @@ use Rattle.ax_log.specs.declared.fault.LogFault.{LogFault}
 use Rattle.ax_log.specs.declared.fault.LogFault.TheVariants.{Disk, Damaged, Newer, Memory}
 use Rattle.ax_log.specs.Log.{log_slot}
 use Rattle.ax_log.specs.Agreement.{Agrees}
-use Rattle.ax_log.specs.Forming.{formed_slot}
+use Rattle.ax_log.specs.Forming.{formed_image, formed_slot}
 
 -- The log agrees with the disk by the frames that the image before has: its slot is the one that counts there,
--- or that image was fresh, it has none, and its slot is that of a store which was formed.
+-- or that image was fresh, it has none, and reads give that of a store which was formed, with its slot.
 pub record IsOpened (log : Log) (before : Image) (history : History) : Type 0 where
   pub frames : List (List ℕ)
   pub agrees : Agrees log frames history
-  pub from : (IsFresh before × (frames ≡ []) × (log_slot log ≡ formed_slot))
+  pub from : (IsFresh before × (frames ≡ []) × (log_slot log ≡ formed_slot) × (history.reads ≡ formed_image))
       ⊎ IsLive NEWEST_VERSION (log_slot log) frames before
 
 -- the image before is broken at this place

@@ -13,19 +13,19 @@ use Rattle.ax_log.specs.declared.log.Log.{Log}
 use Rattle.ax_log.specs.declared.fault.LogFault.{LogFault}
 use Rattle.ax_log.specs.declared.fault.LogFault.TheVariants.{Disk, Damaged, Newer, Memory}
 use Rattle.ax_log.specs.Log.{log_slot}
-use Rattle.ax_log.specs.Forming.{formed_slot}
+use Rattle.ax_log.specs.Forming.{formed_image, formed_slot}
 use Rattle.ax_log.specs.Opening.{IsOpened, Tells, IsAnswer}
 
-frames_from : (log : Log) (image : Image) (frames : List (List ℕ))
-    → (IsFresh image × (frames ≡ []) × (log_slot log ≡ formed_slot)) ⊎ IsLive NEWEST_VERSION (log_slot log) frames image
+frames_from : (log : Log) (image reads : Image) (frames : List (List ℕ))
+    → (IsFresh image × (frames ≡ []) × (log_slot log ≡ formed_slot) × (reads ≡ formed_image)) ⊎ IsLive NEWEST_VERSION (log_slot log) frames image
     → HasFrames NEWEST_VERSION frames image
-frames_from log image frames (inl fresh) = inl (fresh.0, fresh.1)
-frames_from log image frames (inr live) = inr (log_slot log, live)
+frames_from log image reads frames (inl fresh) = inl (fresh.0, fresh.1)
+frames_from log image reads frames (inr live) = inr (log_slot log, live)
 
 -- a log that was opened has frames, and the image before had them
 pub opened_frames : (log : Log) (image : Image) (history : History)
     → (opened : IsOpened log image history) → HasFrames NEWEST_VERSION opened.frames image
-opened_frames log image history opened = frames_from log image opened.frames opened.from
+opened_frames log image history opened = frames_from log image history.reads opened.frames opened.from
 
 same_damage : (image : Image) (list ext : Extent) (extent place at : ℕ)
     → extent ≡ extent_number list → IsBrokenImage NEWEST_VERSION image list place → IsBrokenImage NEWEST_VERSION image ext at

@@ -7,7 +7,7 @@ ghost use Rattle.ax_disk.specs.model.Image.{list_of};
 ghost use Rattle.ax_disk.specs.model.Pending.{all_settled};
 ghost use Rattle.ax_disk.specs.model.Stays.{Rests, Stays, Turns};
 ghost use Rattle.ax_pages.specs.Area.{frames_bytes};
-ghost use Rattle.ax_area.specs.Image.{HasFrames};
+ghost use Rattle.ax_area.specs.Image.{IsLive};
 ghost use Rattle.ax_log.specs.Log.{log_slot, log_end};
 ghost use Rattle.ax_log.specs.Agreement.{HasLog, Agrees};
 ghost use Rattle.ax_log.specs.Commit.{IsCommitSpelling, IsStaged, IsReady};
@@ -31,11 +31,11 @@ impl Log {
             → Agrees self.old frames (D.history disk.old (D.attached disk.old)) → IsCommitSpelling frame.now span
             → OnOk result (Agrees self.new (frames ++ span ∷ []) (D.history disk.new (D.attached disk.new))) }
 
-        // A crash at any moment of the call, and after it, leaves the frames before it, or with the one more.
+        // A crash at any moment of the call, and after it, leaves the slot, and the frames before it or with the one more.
         ensures any_moment { IsTrue (D.is_honest disk.old) → (frames : List (List ℕ)) → (span : List ℕ)
             → Agrees self.old frames (D.history disk.old (D.attached disk.old)) → IsCommitSpelling frame.now span
             → Turns (D.history disk.old (D.attached disk.old)) (D.history disk.new (D.attached disk.new))
-            (HasFrames NEWEST_VERSION frames) (HasFrames NEWEST_VERSION (frames ++ span ∷ [])) }
+            (IsLive NEWEST_VERSION (log_slot self.old) frames) (IsLive NEWEST_VERSION (log_slot self.old) (frames ++ span ∷ [])) }
 
         ensures slot { log_slot self.new ≡ log_slot self.old }
         ensures end { OnOk result (log_end self.new ≡ log_end self.old + length frame.now) }

@@ -5,9 +5,9 @@ ghost use Rattle.std.specs.Prelude.{◌≡◌, List, ℕ, [], ◌∷◌, length,
 ghost use Rattle.ax_faults.specs.Faults.{HasCause};
 ghost use Rattle.ax_disk.specs.model.Pending.{all_settled};
 ghost use Rattle.ax_disk.specs.model.Stays.{Stays};
-ghost use Rattle.ax_area.specs.Image.{IsFresh, HasFrames};
+ghost use Rattle.ax_area.specs.Image.{IsFresh};
 ghost use Rattle.ax_log.specs.Agreement.{Agrees};
-ghost use Rattle.ax_log.specs.Forming.{empty_image, fresh_slots, formed_slot, laid_image, formed_image, IsSettledAt};
+ghost use Rattle.ax_log.specs.Forming.{empty_image, fresh_slots, formed_slot, laid_image, formed_image, IsForming, IsSettledAt};
 ghost use Rattle.ax_log.specs.Log.{log_slot};
 
 use crate::log::Log;
@@ -27,8 +27,10 @@ pub(crate) fn form<D: Disk>(disk: &mut D) -> Result<Log, DiskFailed>
     ensures agrees { IsTrue (D.is_honest disk.old)
         → IfOk result (λ log. Agrees log [] (D.history disk.new (D.attached disk.new))) }
     ensures slot { IfOk result (λ log. log_slot log ≡ formed_slot) }
+    ensures formed { IsTrue (D.is_honest disk.old)
+        → OnOk result ((D.history disk.new (D.attached disk.new)).reads ≡ formed_image) }
     ensures any_moment { IsTrue (D.is_honest disk.old)
-        → Stays (D.history disk.old (D.attached disk.old)) (D.history disk.new (D.attached disk.new)) (HasFrames NEWEST_VERSION []) }
+        → Stays (D.history disk.old (D.attached disk.old)) (D.history disk.new (D.attached disk.new)) IsForming }
     ensures cause { HasCause result (D.faults disk.old) (D.faults disk.new) }
     ensures attached { D.attached disk.new ≡ D.attached disk.old }
     ensures honest { D.is_honest disk.new ≡ D.is_honest disk.old }
@@ -94,7 +96,7 @@ fn complete_root<D: Disk>(disk: &mut D) -> Result<(), DiskFailed>
     requires laid { IsTrue (D.is_honest disk.old) → IsSettledAt laid_image (D.history disk.old (D.attached disk.old)) }
     ensures formed { IsTrue (D.is_honest disk.old) → OnOk result (IsSettledAt formed_image (D.history disk.new (D.attached disk.new))) }
     ensures any_moment { IsTrue (D.is_honest disk.old)
-        → Stays (D.history disk.old (D.attached disk.old)) (D.history disk.new (D.attached disk.new)) (HasFrames NEWEST_VERSION []) }
+        → Stays (D.history disk.old (D.attached disk.old)) (D.history disk.new (D.attached disk.new)) IsForming }
     ensures cause { HasCause result (D.faults disk.old) (D.faults disk.new) }
     ensures attached { D.attached disk.new ≡ D.attached disk.old }
     ensures honest { D.is_honest disk.new ≡ D.is_honest disk.old }

@@ -9,6 +9,7 @@ ghost use Rattle.ax_area.specs.declared.root.RootChoice.TheVariants.{Counts};
 ghost use Rattle.ax_area.specs.Image.{IsFresh, IsBrokenImage, IsNewer, HasFrames};
 ghost use Rattle.ax_pages.specs.Area.{extent_number};
 ghost use Rattle.ax_log.specs.Faults.{FailsOtherwise, HasDiskCause};
+ghost use Rattle.ax_log.specs.Forming.{IsForming};
 ghost use Rattle.ax_log.specs.Opening.{Tells, IsAnswer, Keeps};
 
 use crate::fault::LogFault;
@@ -51,6 +52,10 @@ impl Log {
             → HasFrames NEWEST_VERSION frames (D.history disk.old (D.attached disk.old)).reads
             → SinceBarrier (D.history disk.old (D.attached disk.old)) (D.history disk.new (D.attached disk.new)) (HasFrames NEWEST_VERSION frames) }
 
+        // Where a fresh store is formed a crash leaves a fresh one, or the one that is formed.
+        ensures forming { IsTrue (D.is_honest disk.old) → IsFresh (D.history disk.old (D.attached disk.old)).reads
+            → SinceBarrier (D.history disk.old (D.attached disk.old)) (D.history disk.new (D.attached disk.new)) IsForming }
+
         ensures cause { HasDiskCause result (D.faults disk.old) (D.faults disk.new) }
         ensures attached { D.attached disk.new ≡ D.attached disk.old }
         ensures honest { D.is_honest disk.new ≡ D.is_honest disk.old }
@@ -76,6 +81,8 @@ fn recover<D: Disk>(alloc: Global, disk: &mut D) -> Result<Log, LogFault>
     ensures any_moment { IsTrue (D.is_honest disk.old) → (frames : List (List ℕ))
         → HasFrames NEWEST_VERSION frames (D.history disk.old (D.attached disk.old)).reads
         → Stays (D.history disk.old (D.attached disk.old)) (D.history disk.new (D.attached disk.new)) (HasFrames NEWEST_VERSION frames) }
+    ensures forming { IsTrue (D.is_honest disk.old) → IsFresh (D.history disk.old (D.attached disk.old)).reads
+        → Stays (D.history disk.old (D.attached disk.old)) (D.history disk.new (D.attached disk.new)) IsForming }
     ensures cause { HasDiskCause result (D.faults disk.old) (D.faults disk.new) }
     ensures attached { D.attached disk.new ≡ D.attached disk.old }
     ensures honest { D.is_honest disk.new ≡ D.is_honest disk.old }
@@ -108,7 +115,7 @@ fn form_log<D: Disk>(disk: &mut D) -> Result<Log, LogFault>
         → Tells result (D.history disk.old (D.attached disk.old)).reads (D.history disk.new (D.attached disk.new)) }
     ensures never_refused { FailsOtherwise result → ⊥ }
     ensures any_moment { IsTrue (D.is_honest disk.old)
-        → Stays (D.history disk.old (D.attached disk.old)) (D.history disk.new (D.attached disk.new)) (HasFrames NEWEST_VERSION []) }
+        → Stays (D.history disk.old (D.attached disk.old)) (D.history disk.new (D.attached disk.new)) IsForming }
     ensures cause { HasDiskCause result (D.faults disk.old) (D.faults disk.new) }
     ensures attached { D.attached disk.new ≡ D.attached disk.old }
     ensures honest { D.is_honest disk.new ≡ D.is_honest disk.old }

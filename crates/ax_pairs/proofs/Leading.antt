@@ -10,11 +10,16 @@ use Rattle.std.specs.Str.{bytes_eq}
 use Rattle.ax_frame.specs.Part.{PartValue}
 use Rattle.ax_pair.specs.declared.pair.Pair.{Pair}
 use Rattle.ax_pair.specs.Low.{low_in, first_pair}
-use Rattle.ax_pages.specs.Contents.{Contents, TermPage, low_of, term_page}
-use Rattle.ax_pages.specs.AfterPart.{after_part, after_parts, after_base, after_delta, with_base, is_base, is_own, is_new, is_same, is_taken}
+use Rattle.ax_pages.specs.Contents.{TermPage, low_of, term_page}
+use Rattle.ax_pages.specs.AfterPart.{after_base, after_delta, with_base, is_base, is_own, is_new, is_same, is_taken}
 use Rattle.ax_pages.specs.AfterPart.{low_at_front, most_term_pages}
 use Rattle.ax_pages.specs.TermPages.{low_pair}
 use Rattle.ax_pages.proofs.TermLists.{are_same, put_behind}
+use Rattle.ax_area.specs.Changes.{Change, Base, Delta}
+use Rattle.ax_area.specs.Contents.{Contents, after_change, after_changes}
+use Rattle.ax_area.specs.Leading as leading
+use Rattle.ax_area.specs.Parts.{change_said, after_part, after_parts}
+use Rattle.ax_area.proofs.Leading as changes
 use Rattle.ax_pairs.specs.TermParts.{LeadTo}
 
 pub lead_nothing : (pages : List TermPage) → LeadTo [] pages pages
@@ -52,8 +57,19 @@ same_from p q e =
 
 -- ---- one part
 
-step_taken : (test : Bool) (some : Contents) → test ≡ true → option_and_then (after_parts []) (cond test (Some some) None) ≡ Some some
-step_taken test some e = ap (λ (b : Bool). option_and_then (after_parts []) (cond b (Some some) None)) e
+-- a part leads where the change that it says does
+by_change : (part : PartValue) (change : Change) (before after : List TermPage) → change_said part ≡ Some change
+    → leading.LeadTo (change ∷ []) before after → LeadTo (part ∷ []) before after
+by_change part change before after said lead = record {
+  lead = λ contents same.
+      ap (λ (c : Option Change). option_and_then (after_parts []) (option_and_then (λ c. after_change c contents) c)) said
+      ∙ last_step (after_change change contents)
+      ∙ lead.lead contents same;
+}
+  where
+    last_step : (step : Option Contents) → option_and_then (after_parts []) step ≡ option_and_then (after_changes []) step
+    last_step None = refl
+    last_step (Some contents) = refl
 
 abbrev pub delta_part : ℕ → List ℕ → PartValue
 delta_part number payload = record { kind = 6; key = number; payload = payload }
@@ -63,21 +79,16 @@ base_part number payload = record { kind = 5; key = number; payload = payload }
 
 pub lead_delta : (pages : List TermPage) (number : ℕ) (payload : List ℕ) → number < length pages
     → LeadTo (delta_part number payload ∷ []) pages (after_delta number payload pages)
-lead_delta pages number payload there = record {
-  lead = λ contents same.
-      step_taken (nat_lt number (length contents.terms)) (record contents { terms = after_delta number payload contents.terms })
-      (ap (λ (terms : List TermPage). nat_lt number (length terms)) same ∙ lt-ltb number (length pages) there)
-      ∙ ap (λ (terms : List TermPage). Some (record contents { terms = after_delta number payload terms })) same;
-}
+lead_delta pages number payload there =
+    by_change (delta_part number payload) (Delta number payload) pages (after_delta number payload pages) refl
+    (changes.lead_delta pages number payload there)
 
-base_led : (pages : List TermPage) (number : ℕ) (payload : List ℕ) → is_base number payload pages ≡ true
+base_led : (pages : List TermPage) (number : ℕ) (payload : List ℕ) → is_some (low_in payload) ≡ true → is_base number payload pages ≡ true
     → LeadTo (base_part number payload ∷ []) pages (after_base number payload pages)
-base_led pages number payload within = record {
-  lead = λ contents same.
-      step_taken (is_base number payload contents.terms) (record contents { terms = after_base number payload contents.terms })
-      (ap (λ (terms : List TermPage). is_base number payload terms) same ∙ within)
-      ∙ ap (λ (terms : List TermPage). Some (record contents { terms = after_base number payload terms })) same;
-}
+base_led pages number payload low within =
+    by_change (base_part number payload) (Base number payload) pages (after_base number payload pages)
+    (ap (λ (b : Bool). cond b (Some (Base number payload)) None) low)
+    (changes.base_led pages number payload within)
 
 all_three : (a b c : Bool) → a ≡ true → b ≡ true → (a && (b || c)) ≡ true
 all_three true true c e f = refl
@@ -98,7 +109,7 @@ some_found payload low found = ap is_some found
 pub lead_base : (pages : List TermPage) (number : ℕ) (payload : List ℕ) → number < length pages → low_in payload ≡ Some (low_pair number pages)
     → LeadTo (base_part number payload ∷ []) pages (after_base number payload pages)
 lead_base pages number payload there found =
-    base_led pages number payload
+    base_led pages number payload (some_found payload (low_pair number pages) found)
     (all_three (is_some (low_in payload)) (is_own number (low_at_front payload) pages) (is_new number (low_at_front payload) pages)
     (some_found payload (low_pair number pages) found)
     (both (nat_lt number (length pages)) (is_same (low_at_front payload) (low_of (term_page number pages)))
@@ -121,7 +132,7 @@ pub lead_new : (pages : List TermPage) (number : ℕ) (payload : List ℕ) (low 
     → LeadTo (base_part number payload ∷ []) pages (pages ++ with_base payload ∷ [])
 lead_new pages number payload low next few found fresh =
     subst (λ (after : List TermPage). LeadTo (base_part number payload ∷ []) pages after) (put_behind number (with_base payload) pages next)
-    (base_led pages number payload
+    (base_led pages number payload (some_found payload low found)
     (all_other (is_some (low_in payload)) (is_own number (low_at_front payload) pages) (is_new number (low_at_front payload) pages)
     (some_found payload low found)
     (both (nat_eq number (length pages) && nat_lt number most_term_pages) (not (is_taken (low_at_front payload) pages))

@@ -8,15 +8,15 @@ use Rattle.std.proofs.lemmas.List.{append-nil}
 use Rattle.ax_disk.specs.model.Image.{Image}
 use Rattle.ax_disk.specs.model.Pending.{MayLeave}
 use Rattle.ax_disk.specs.model.Moments.{History}
-use Rattle.ax_disk.specs.model.Stays.{Turns}
-use Rattle.ax_disk.specs.laws.StaysLaws.{turns_weaken}
+use Rattle.ax_disk.specs.model.Stays.{Rests, Turns}
+use Rattle.ax_disk.specs.laws.StaysLaws.{rests_weaken, turns_weaken}
 use Rattle.ax_frame.specs.Part.{PartValue, AllFit, parts_bytes}
 use Rattle.ax_frame.specs.LogFrame.{frame_bytes, CanFrame}
 use Rattle.ax_frame.proofs.Frames.{parts_take_bytes}
 use Rattle.ax_frame.proofs.Parts.{one_list}
 use Rattle.ax_area.specs.Changes.{Change, change_of}
 use Rattle.ax_area.specs.Contents as area
-use Rattle.ax_area.specs.Image.{HasFrames, Says}
+use Rattle.ax_area.specs.Image.{HasFrames, IsLive, Says}
 use Rattle.ax_area.specs.Items.{item_bytes}
 use Rattle.ax_area.specs.Parts as said
 use Rattle.ax_area.specs.Parts.{changes_said}
@@ -32,6 +32,7 @@ use Rattle.ax_pages.specs.AfterPart.{after_parts}
 use Rattle.ax_pages.specs.Area.{IsSpan, frames_bytes}
 use Rattle.ax_pages.specs.Contents.{Contents}
 use Rattle.ax_pages.specs.declared.numbers.TheConstants.{NEWEST_VERSION}
+use Rattle.ax_log.specs.declared.log.Log.{Log}
 use Rattle.ax_log.specs.Log.{log_slot, log_area, log_generation, log_end}
 use Rattle.ax_log.specs.Agreement as log
 use Rattle.ax_log.specs.AgreementLaws.{agrees_rests}
@@ -129,7 +130,7 @@ module _ {C : Type 0} (pages : C → CachedPages) (store : Store C) (old : Histo
   }
 
   module _ (history : History) (may : MayLeave old.unsynced old.reads) (allowed : AreAllowed parts (store_contents store))
-      (turn : Turns old history (HasFrames NEWEST_VERSION agrees.frames) (HasFrames NEWEST_VERSION frames_then))
+      (turn : Turns old history (IsLive NEWEST_VERSION (log_slot store.log) agrees.frames) (IsLive NEWEST_VERSION (log_slot store.log) frames_then))
       (version : ℕ) (told : List Told) (changes : List Change) (new : area.Contents)
       (says : Says NEWEST_VERSION version told (store_contents store) old.reads) (are_said : changes_said parts ≡ Some changes)
       (leads : area.after_changes changes (store_contents store) ≡ Some new) where
@@ -158,6 +159,13 @@ module _ {C : Type 0} (pages : C → CachedPages) (store : Store C) (old : Histo
 
     pub turns : Turns old history (Says NEWEST_VERSION version told (store_contents store)) (SaysMore version told changes new)
     turns =
-        turns_weaken old history (HasFrames NEWEST_VERSION agrees.frames) (Says NEWEST_VERSION version told (store_contents store))
-        (HasFrames NEWEST_VERSION frames_then) (SaysMore version told changes new)
-        (says_by agrees.frames version told (store_contents store) tell) says_then turn
+        turns_weaken old history (IsLive NEWEST_VERSION (log_slot store.log) agrees.frames) (Says NEWEST_VERSION version told (store_contents store))
+        (IsLive NEWEST_VERSION (log_slot store.log) frames_then) (SaysMore version told changes new)
+        (λ image live. says_by agrees.frames version told (store_contents store) tell image (inr (log_slot store.log, live)))
+        (λ image live. says_then image (inr (log_slot store.log, live))) turn
+
+    -- so it is once each image has the frame more
+    pub rests_then : (now : Log) → log.Agrees now frames_then history → Rests history (SaysMore version told changes new)
+    rests_then now logged =
+        rests_weaken history (HasFrames NEWEST_VERSION frames_then) (SaysMore version told changes new) says_then
+        (agrees_rests now frames_then history logged)

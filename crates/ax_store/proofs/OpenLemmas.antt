@@ -28,7 +28,7 @@ use Rattle.ax_log.specs.declared.fault.LogFault.TheVariants as by_log
 use Rattle.ax_log.specs.Log.{log_slot, log_area, log_generation}
 use Rattle.ax_log.specs.AgreementLaws.{agrees_idles, agrees_rests}
 use Rattle.ax_log.specs.Faults as log_faults
-use Rattle.ax_log.specs.Forming.{formed_slot}
+use Rattle.ax_log.specs.Forming.{formed_image, formed_slot}
 use Rattle.ax_log.specs.Opening as opening
 use Rattle.ax_log.specs.Opening.{Keeps}
 use Rattle.ax_log.specs.OpeningLaws.{opened_frames}
@@ -124,7 +124,7 @@ module _ (l : Log) (before : Image) (mid : History) (opened : opening.IsOpened l
   -- a spoiled area is one that counts
   spoiled_live : (at : ℕ) → parts_lead.AreSpoiled opened.frames parts.no_contents at → IsLive NEWEST_VERSION (log_slot l) opened.frames before
   spoiled_live at spoiled =
-      ⊎_elim (λ (fresh : IsFresh before × (opened.frames ≡ []) × (log_slot l ≡ formed_slot)). absurd (no_spoiled opened.frames at spoiled fresh.1))
+      ⊎_elim (λ (fresh : IsFresh before × (opened.frames ≡ []) × (log_slot l ≡ formed_slot) × (mid.reads ≡ formed_image)). absurd (no_spoiled opened.frames at spoiled fresh.1))
       (λ (live : IsLive NEWEST_VERSION (log_slot l) opened.frames before). live) opened.from
 
   spoiled_area : (at : ℕ) → parts_lead.AreSpoiled opened.frames parts.no_contents at → IsDamaged NEWEST_VERSION before (log_area l) at
@@ -147,7 +147,7 @@ module _ (l : Log) (before : Image) (mid : History) (opened : opening.IsOpened l
   load_refused (Newer version) tells = absurd tells
   load_refused Memory tells = tt
 
-keeps_idle : (old mid new : History) → Keeps old mid → Idles mid new → Keeps old new
+pub keeps_idle : (old mid new : History) → Keeps old mid → Idles mid new → Keeps old new
 keeps_idle old mid new keeps idles = record {
   reads = idles.reads ∙ keeps.reads;
   stays = stays_join old mid new (MayLeave old.unsynced) keeps.stays (idles_stay mid new (MayLeave old.unsynced) keeps.stays.rests idles);

@@ -2,7 +2,7 @@
 
 ghost use Rattle.std.specs.Prelude.{◌≡◌, ◌≢◌, ◌≤◌, ◌<◌, [], ◌∷◌, ◌++◌, ℕ, List, Some, Err, true, false, length, IsTrue, IfErr, OnOk, OnErr};
 ghost use Rattle.ax_disk.specs.model.Calls.{Idles};
-ghost use Rattle.ax_disk.specs.model.Stays.{Turns};
+ghost use Rattle.ax_disk.specs.model.Stays.{Rests, Turns};
 ghost use Rattle.ax_area.specs.Changes.{Change};
 ghost use Rattle.ax_area.specs.Contents.{Contents, after_changes};
 ghost use Rattle.ax_area.specs.Image.{Says};
@@ -12,7 +12,7 @@ ghost use Rattle.ax_pages.specs.declared.numbers.TheConstants.{NEWEST_VERSION};
 ghost use Rattle.ax_store.specs.Batch.{AreAllowed, batch_parts, is_sealed};
 ghost use Rattle.ax_store.specs.Faults.{HasDiskCause};
 ghost use Rattle.ax_store.specs.Kept.{deltas_of};
-ghost use Rattle.ax_store.specs.Store.{Agrees, SameButRoom, SaysMore, store_contents, store_area, store_slots, store_spare, store_room, store_failed};
+ghost use Rattle.ax_store.specs.Store.{Agrees, SameButRoom, SaysMore, store_contents, store_parts, store_area, store_slots, store_spare, store_room, store_failed};
 
 use crate::batch::Batch;
 use crate::fault::StoreFault;
@@ -64,7 +64,7 @@ impl<C: PageCache> Store<C> {
         requires within { AreAllowed (batch_parts batch) (store_contents self.old) }
 
         ensures ok { OnOk result (after_parts (batch_parts batch) (store_contents self.old) ≡ Some (store_contents self.new)) }
-        ensures err { OnErr result (store_contents self.new ≡ store_contents self.old) }
+        ensures err { OnErr result (store_parts self.new ≡ store_parts self.old) }
         ensures agrees { IsTrue (D.is_honest disk.old)
             → OnOk result (Agrees C.pages self.new (D.history disk.new (D.attached disk.new))) }
 
@@ -77,6 +77,14 @@ impl<C: PageCache> Store<C> {
             → after_changes changes (store_contents self.old) ≡ Some new
             → Turns (D.history disk.old (D.attached disk.old)) (D.history disk.new (D.attached disk.new))
             (Says NEWEST_VERSION version told (store_contents self.old)) (SaysMore version told changes new) }
+
+        // Once it has answered Ok the changes are told, also where they change no contents.
+        ensures told { IsTrue (D.is_honest disk.old) → store_failed self.old ≡ false
+            → (version : ℕ) → (told : List Told) → (changes : List Change) → (new : Contents)
+            → Says NEWEST_VERSION version told (store_contents self.old) (D.history disk.old (D.attached disk.old)).reads
+            → changes_said (batch_parts batch) ≡ Some changes
+            → after_changes changes (store_contents self.old) ≡ Some new
+            → OnOk result (Rests (D.history disk.new (D.attached disk.new)) (SaysMore version told changes new)) }
 
         ensures works { OnOk result (store_failed self.new ≡ false) }
         ensures fails { OnErr result (store_failed self.new ≡ true) }

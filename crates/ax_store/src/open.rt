@@ -3,7 +3,7 @@
 ghost use Rattle.std.specs.Prelude.{◌≡◌, ℕ, List, IsTrue, IfOk, OnOk, false};
 ghost use Rattle.ax_disk.specs.model.Stays.{Rests, SinceBarrier};
 ghost use Rattle.ax_area.specs.Contents.{Contents};
-ghost use Rattle.ax_area.specs.Image.{Says};
+ghost use Rattle.ax_area.specs.Image.{IsFresh, Says};
 ghost use Rattle.ax_area.specs.Told.{Told};
 ghost use Rattle.ax_pages.specs.declared.numbers.TheConstants.{NEWEST_VERSION};
 ghost use Rattle.ax_log.specs.Opening.{Keeps};
@@ -43,6 +43,11 @@ impl<C: PageCache + Drop> Store<C> {
         ensures slots { IfOk result HasAllFree }
         ensures works { IfOk result (λ store. store_failed store ≡ false) }
         ensures refused { IsTrue (D.is_honest disk.old) → IsRefused result
+            → Keeps (D.history disk.old (D.attached disk.old)) (D.history disk.new (D.attached disk.new)) }
+
+        // Whatever is answered, only a fresh store is changed.
+        ensures unchanged { IsTrue (D.is_honest disk.old)
+            → (IsFresh (D.history disk.old (D.attached disk.old)).reads → ⊥)
             → Keeps (D.history disk.old (D.attached disk.old)) (D.history disk.new (D.attached disk.new)) }
 
         // A crash at any moment since the barrier, and after the call, leaves what was told there and its contents.

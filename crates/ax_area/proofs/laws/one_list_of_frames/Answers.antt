@@ -1,6 +1,10 @@
+use Rattle.ax_area.proofs.EveryImage.{every_image_of_frames}
 use Rattle.ax_area.proofs.OneImage.{one_frames, one_damage, damaged_has_no_frames, newer_has_no_frames}
 use Rattle.ax_area.proofs.OneImage.{damaged_not_newer, broken_damaged}
 use Rattle.ax_area.proofs.laws.one_list_of_frames.Goals as goal
+
+pub returns-clause-some : goal.returns-clause-some
+returns-clause-some c = every_image_of_frames
 
 pub returns-clause-frames : goal.returns-clause-frames
 returns-clause-frames c newest xs ys image = one_frames newest image xs ys

@@ -4,7 +4,8 @@ use Rattle.std.specs.Prelude.{IfOk}
 use Rattle.ax_disk.specs.laws.StaysLaws.{idles_start}
 use Rattle.ax_engine.specs.Documents.{DocumentsWork}
 use Rattle.ax_engine.specs.Stores.{IsImageOf}
-use Rattle.ax_engine.proofs.Opened.{holds_opened, idle_since, in_any, opened_rests, readable_still, refuses_by, refuses_none, rose_numbered, since_opening, since_reading, when_opened, within_by, works_numbered}
+use Rattle.ax_store.proofs.OpenLemmas.{keeps_idle}
+use Rattle.ax_engine.proofs.Opened.{holds_opened, idle_since, in_any, keeps_start, opened_rests, readable_still, refuses_by, refuses_none, rose_numbered, since_opening, since_reading, when_opened, within_by, works_numbered}
 use Rattle.ax_engine.proofs.opening.open_documents.Goals as goal
 
 pub returns-in_default-clause-any_moment : goal.returns-in_default-clause-any_moment
@@ -54,3 +55,11 @@ pub returns-in-Ok-open_store-clause-opened : goal.returns-in-Ok-open_store-claus
 returns-in-Ok-open_store-clause-opened g c = λ honest.
     in_any c.number_all.result
     (within_by (c.in-Ok-open_store.ensures.tells honest).has)
+
+pub returns-in_default-clause-unchanged : goal.returns-in_default-clause-unchanged
+returns-in_default-clause-unchanged g c = λ honest not_fresh. keeps_start _
+
+pub returns-in-Ok-open_store-clause-unchanged : goal.returns-in-Ok-open_store-clause-unchanged
+returns-in-Ok-open_store-clause-unchanged g c = λ honest not_fresh.
+    keeps_idle _ _ _ (c.open_store.ensures.unchanged honest not_fresh)
+    (c.number_all.ensures.numbers.lists (subst IsTrue (sym c.open_store.ensures.honest) honest))

@@ -16,6 +16,6 @@ returns-then-not-has_base-clause-met g c = λ honest. no_base _ (sym c.has_base.
 
 pub returns-in-Ok-true-clause-met : goal.returns-in-Ok-true-clause-met
 returns-in-Ok-true-clause-met g c = λ honest.
-    met_base (store_contents c.args.store.now) c.args.page c.payload_in.result.now (sym c.has_base.ensures ∙ c.if-not-has_base.false)
+    met_base (store_contents c.args.store.now).terms c.args.page c.payload_in.result.now (sym c.has_base.ensures ∙ c.if-not-has_base.false)
     (c.payload_in.ensures _ (read_still _ _ _ _ _ c.in-Ok.ensures.slot (c.in-Ok.ensures.read honest)))
     (c.in-Ok-true.ensures.met c.in-Ok-true.field-0-test)

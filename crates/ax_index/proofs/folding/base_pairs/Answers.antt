@@ -20,6 +20,6 @@ returns-then-not-has_base-clause-met g c = λ honest. no_base _ (sym c.has_base.
 pub returns-in-Ok-Some-clause-met : goal.returns-in-Ok-Some-clause-met
 returns-in-Ok-Some-clause-met g c = λ honest.
     let met : (base : List Pair) × IsBase c.payload_in.result.now base = rw c.in-Ok-Some.field-0-is at c.in-Ok-Some.ensures.met in
-    met_base (store_contents c.args.store.now) c.args.page c.payload_in.result.now (sym c.has_base.ensures ∙ c.if-not-has_base.false)
+    met_base (store_contents c.args.store.now).terms c.args.page c.payload_in.result.now (sym c.has_base.ensures ∙ c.if-not-has_base.false)
     (c.payload_in.ensures _ (read_still _ _ _ _ _ c.in-Ok.ensures.slot (c.in-Ok.ensures.read honest)))
     met

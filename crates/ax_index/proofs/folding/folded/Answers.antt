@@ -5,7 +5,7 @@ use Rattle.ax_store.specs.Store.{store_contents}
 use Rattle.ax_index.proofs.DeltaParts.{count_parts, delta_there}
 use Rattle.ax_index.proofs.FoldedPairs.{folded_end, folded_start, folded_step}
 use Rattle.ax_index.proofs.GrammarLemmas.{in_grammar, up_to_start, up_to_step}
-use Rattle.ax_index.proofs.Unmoved.{same_contents}
+use Rattle.ax_index.proofs.Unmoved.{same_terms}
 use Rattle.ax_index.proofs.ReadsLaws.{of_honest, others_then, read_then}
 use Rattle.ax_faults.specs.FaultLaws.{rose_since}
 use Rattle.ax_index.specs.Damage.{FailsWith}
@@ -41,11 +41,11 @@ loop-i-preserved g c =
     record {
       folded = λ honest. folded_step c.args.wanted.now page c.loop-i.i (c.loop-i.i + 1) c.loop-i.pairs.items c.in-Ok-merge_at.after.items inv.from there refl
           (λ deltas are. more.merged (subst IsTrue (sym inv.honest) honest) _
-          (delta_there _ _ c.args.page deltas (same_contents _ _ inv.reads.same.same) are c.loop-i.i inv.from there))
+          (delta_there _ _ c.args.page deltas (same_terms _ _ inv.reads.same.same) are c.loop-i.i inv.from there))
           (inv.folded honest);
       rise = more.rise;
       base = inv.base;
-      deltas = λ honest. up_to_step (store_contents c.args.store.now) _ c.args.page c.loop-i.i (c.loop-i.i + 1) (same_contents _ _ inv.reads.same.same) refl
+      deltas = λ honest. up_to_step (store_contents c.args.store.now).terms _ c.args.page c.loop-i.i (c.loop-i.i + 1) (same_terms _ _ inv.reads.same.same) refl
           (more.met (subst IsTrue (sym inv.honest) honest)) (inv.deltas honest);
       from = omega (arith, inv.from);
       within = omega (arith, there);

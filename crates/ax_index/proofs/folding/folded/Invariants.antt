@@ -4,8 +4,7 @@ use Rattle.ax_pair.specs.declared.pair.Pair.{Pair}
 use Rattle.ax_pair.specs.Order.{Rise}
 use Rattle.ax_pairs.specs.PagePairs.{AreOfBase}
 use Rattle.ax_index.proofs.GrammarLemmas.{AreDeltasUpTo}
-use Rattle.ax_pages.specs.Contents.{parts_of, term_page}
-use Rattle.ax_pages.specs.declared.page.Page.TheVariants.{Term}
+use Rattle.ax_pages.specs.Contents.{term_page, term_parts}
 use Rattle.ax_store.specs.Store.{store_contents, store_failed, store_slots}
 use Rattle.ax_index.specs.Reading.{first_delta}
 use Rattle.ax_index.specs.Reads.{Reads}
@@ -20,7 +19,7 @@ invariant-loop-i g l = record {
   base : IsTrue (g.D.Disk.is_honest l.fn.disk) → (base : List Pair) × AreOfBase (term_page l.page (store_contents l.fn.store).terms).base base;
   deltas : IsTrue (g.D.Disk.is_honest l.fn.disk) → AreDeltasUpTo (term_page l.page (store_contents l.fn.store).terms) l.i;
   from : first_delta (term_page l.page (store_contents l.fn.store).terms) ≤ l.i;
-  within : l.i ≤ length (parts_of (Term l.page) (store_contents l.fn.store));
+  within : l.i ≤ length (term_parts (term_page l.page (store_contents l.fn.store).terms));
   reads : Reads g.C.PageCache.pages (g.D.Disk.is_honest l.fn.disk) l.fn.store l.store
       (g.D.Disk.history l.fn.disk (g.D.Disk.attached l.fn.disk)) (g.D.Disk.history l.disk (g.D.Disk.attached l.disk))
       (g.D.Disk.faults l.fn.disk) (g.D.Disk.faults l.disk);

@@ -16,6 +16,6 @@ returns-in-Ok-None-clause-told g c = λ honest.
 pub returns-in-Ok-Some-clause-met : goal.returns-in-Ok-Some-clause-met
 returns-in-Ok-Some-clause-met g c = λ honest.
     let met : (changes : List TermChange) × IsDelta c.payload_in.result.now changes = rw c.in-Ok-Some.field-0-is at c.in-Ok-Some.ensures.met in
-    met_delta (store_contents c.args.store.now) c.args.page c.args.i c.payload_in.result.now
+    met_delta (store_contents c.args.store.now).terms c.args.page c.args.i c.payload_in.result.now
     (c.payload_in.ensures _ (read_still _ _ _ _ _ c.in-Ok.ensures.slot (c.in-Ok.ensures.read honest)))
     met

@@ -1,9 +1,8 @@
 use Rattle.std.proofs.Common.{ap, sym, subst}
 use Rattle.std.specs.Prelude.{IsTrue}
-use Rattle.ax_pages.specs.Contents.{Contents}
 use Rattle.ax_index.proofs.IndexPages.{by_base, by_delta}
 use Rattle.ax_index.proofs.ReadsLaws.{agrees_told, of_honest, others_then, read_then}
-use Rattle.ax_index.proofs.Unmoved.{same_contents}
+use Rattle.ax_index.proofs.Unmoved.{same_terms}
 use Rattle.ax_pool.specs.declared.slot.Slot.{Slot}
 use Rattle.ax_store.specs.declared.store.StoreFrames.{StoreFrames}
 use Rattle.ax_index.proofs.GrammarLemmas.{looked_by_base, looked_by_delta}
@@ -20,7 +19,7 @@ returns-in-None-clause-has g c = λ honest set is.
     by_base _ set c.args.pair.now c.page_of_pair-page.result is
     c.page_of_pair-page.ensures
     c.in-Ok.said (c.in-Ok.ensures.said honest) _ c.base_has.result c.in-None.is
-    (ap (λ (k : Contents). k.terms) (same_contents _ _ c.in-Ok.ensures.reads.same.same))
+    (same_terms _ _ c.in-Ok.ensures.reads.same.same)
     (c.base_has.ensures.has (subst IsTrue (sym c.look_back.ensures.honest) honest))
 
 pub base_has-requires-clause-agrees : goal.base_has-requires-clause-agrees
@@ -45,5 +44,5 @@ pub returns-in-None-clause-met : goal.returns-in-None-clause-met
 returns-in-None-clause-met g c = λ honest.
     let told = subst IsTrue (sym c.look_back.ensures.honest) honest in
     looked_by_base c.base_has.result _ _ c.page_of_pair-page.result c.args.pair.now c.in-Ok.said c.page_of_pair-page.ensures c.in-None.is
-    (ap (λ (k : Contents). k.terms) (same_contents _ _ c.in-Ok.ensures.reads.same.same)) (c.in-Ok.ensures.met honest) (c.in-Ok.ensures.said honest)
+    (same_terms _ _ c.in-Ok.ensures.reads.same.same) (c.in-Ok.ensures.met honest) (c.in-Ok.ensures.said honest)
     (c.base_has.ensures.met told) (c.base_has.ensures.has told)

@@ -11,6 +11,6 @@ returns-in-None-clause-told g c = λ honest.
 
 pub returns-in-Some-clause-met : goal.returns-in-Some-clause-met
 returns-in-Some-clause-met g c = λ honest.
-    met_delta (store_contents c.args.store.now) c.args.page c.args.i c.payload_in.result.now
+    met_delta (store_contents c.args.store.now).terms c.args.page c.args.i c.payload_in.result.now
     (c.payload_in.ensures _ (read_still _ _ _ _ _ c.in-Ok.ensures.slot (c.in-Ok.ensures.read honest)))
     c.in-Some.ensures.met

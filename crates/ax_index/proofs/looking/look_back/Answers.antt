@@ -6,7 +6,7 @@ use Rattle.ax_pages.specs.Contents.{term_page}
 use Rattle.ax_store.specs.Store.{store_contents}
 use Rattle.ax_index.proofs.DeltaParts.{count_parts, delta_there, newest_says, quiet_before, quiet_end}
 use Rattle.ax_index.proofs.GrammarLemmas.{from_end, from_less, from_step, looked_to}
-use Rattle.ax_index.proofs.Unmoved.{same_contents}
+use Rattle.ax_index.proofs.Unmoved.{same_terms}
 use Rattle.ax_index.proofs.ReadsLaws.{nothing_read, of_honest, others_itself, others_then, read_then}
 use Rattle.ax_pool.specs.declared.slot.Slot.{Slot}
 use Rattle.ax_store.specs.declared.store.StoreFrames.{StoreFrames}
@@ -35,7 +35,7 @@ returns-then-is_some-clause-said g c = λ honest deltas are.
     newest_says page deltas are c.args.pair.now (c.loop-i.i - 1) c.loop-i.i c.in-Ok.said (omega arith) (omega arith) (omega arith)
     (inv.quiet honest deltas are)
     (c.in-Ok.ensures.said (subst IsTrue (sym inv.honest) honest) _
-    (delta_there _ _ c.args.page deltas (same_contents _ _ inv.reads.same.same) are (c.loop-i.i - 1) (omega arith) (omega arith)))
+    (delta_there _ _ c.args.page deltas (same_terms _ _ inv.reads.same.same) are (c.loop-i.i - 1) (omega arith) (omega arith)))
     (sym c.is_some.ensures ∙ c.if-is_some.true)
 
 pub loop-i-preserved : goal.loop-i-preserved
@@ -48,10 +48,10 @@ loop-i-preserved g c =
           quiet_before page deltas are c.args.pair.now (c.loop-i.i - 1) c.loop-i.i c.in-Ok.said (omega arith) (omega arith) (omega arith)
           (inv.quiet honest deltas are)
           (more.said (subst IsTrue (sym inv.honest) honest) _
-          (delta_there _ _ c.args.page deltas (same_contents _ _ inv.reads.same.same) are (c.loop-i.i - 1) (omega arith) (omega arith)))
+          (delta_there _ _ c.args.page deltas (same_terms _ _ inv.reads.same.same) are (c.loop-i.i - 1) (omega arith) (omega arith)))
           (sym c.is_some.ensures ∙ c.if-is_some.false);
       met = λ honest.
-          from_step (store_contents c.args.store.now) _ c.args.page (c.loop-i.i - 1) c.loop-i.i (same_contents _ _ inv.reads.same.same) (omega arith)
+          from_step (store_contents c.args.store.now).terms _ c.args.page (c.loop-i.i - 1) c.loop-i.i (same_terms _ _ inv.reads.same.same) (omega arith)
           (more.met (subst IsTrue (sym inv.honest) honest)) (inv.met honest);
       from = omega arith;
       within = omega arith;
@@ -66,11 +66,11 @@ loop-i-preserved g c =
 pub returns-then-is_some-clause-met : goal.returns-then-is_some-clause-met
 returns-then-is_some-clause-met g c = λ honest.
     let inv = c.loop-i.invariant in
-    let same = same_contents _ _ inv.reads.same.same in
+    let same = same_terms _ _ inv.reads.same.same in
     let told = subst IsTrue (sym inv.honest) honest in
-    looked_to (store_contents c.args.store.now) _ c.args.page (c.loop-i.i - 1) c.args.pair.now c.in-Ok.said same (omega arith) (omega arith)
+    looked_to (store_contents c.args.store.now).terms _ c.args.page (c.loop-i.i - 1) c.args.pair.now c.in-Ok.said same (omega arith) (omega arith)
     (c.in-Ok.ensures.met told) (c.in-Ok.ensures.said told)
-    (from_step (store_contents c.args.store.now) _ c.args.page (c.loop-i.i - 1) c.loop-i.i same (omega arith) (c.in-Ok.ensures.met told) (inv.met honest))
+    (from_step (store_contents c.args.store.now).terms _ c.args.page (c.loop-i.i - 1) c.loop-i.i same (omega arith) (c.in-Ok.ensures.met told) (inv.met honest))
     (sym c.is_some.ensures ∙ c.if-is_some.true)
 
 pub returns-clause-met : goal.returns-clause-met

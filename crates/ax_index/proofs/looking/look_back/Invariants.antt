@@ -2,8 +2,7 @@ use Rattle.std.proofs.Common.{◌≡◌, ◌-◌, ◌≤◌, List, length, drop,
 use Rattle.std.specs.Prelude.{IsTrue}
 use Rattle.ax_delta.specs.Changes.{TermChange}
 use Rattle.ax_delta.specs.Said.{last_said}
-use Rattle.ax_pages.specs.Contents.{parts_of, term_page}
-use Rattle.ax_pages.specs.declared.page.Page.TheVariants.{Term}
+use Rattle.ax_pages.specs.Contents.{term_page, term_parts}
 use Rattle.ax_pairs.specs.PagePairs.{AreDeltas}
 use Rattle.ax_store.specs.Store.{store_contents, store_failed, store_slots}
 use Rattle.ax_index.specs.Grammar.{AreDeltasFrom}
@@ -19,7 +18,7 @@ invariant-loop-i g l = record {
       → last_said l.pair (drop (l.i - first_delta (term_page l.page (store_contents l.fn.store).terms)) deltas) ≡ None;
   met : IsTrue (g.D.Disk.is_honest l.fn.disk) → AreDeltasFrom (term_page l.page (store_contents l.fn.store).terms) l.i;
   from : first_delta (term_page l.page (store_contents l.fn.store).terms) ≤ l.i;
-  within : l.i ≤ length (parts_of (Term l.page) (store_contents l.fn.store));
+  within : l.i ≤ length (term_parts (term_page l.page (store_contents l.fn.store).terms));
   reads : Reads g.C.PageCache.pages (g.D.Disk.is_honest l.fn.disk) l.fn.store l.store
       (g.D.Disk.history l.fn.disk (g.D.Disk.attached l.fn.disk)) (g.D.Disk.history l.disk (g.D.Disk.attached l.disk))
       (g.D.Disk.faults l.fn.disk) (g.D.Disk.faults l.disk);

@@ -1,11 +1,10 @@
 use Rattle.std.proofs.Common.{◌≡◌, ◌∙◌, ap, arith, refl, subst, sym}
 use Rattle.std.specs.Prelude.{IsTrue}
-use Rattle.ax_pages.specs.Contents.{Contents}
 use Rattle.ax_store.specs.Store.{store_contents}
 use Rattle.ax_index.proofs.CallLemmas.{fails_as, rose_later}
 use Rattle.ax_index.proofs.MergingLemmas.{merge_step_on, merged_end, merged_none, number_small, walk_shorter}
 use Rattle.ax_index.proofs.ReadsLaws.{agrees_told, nothing_read, of_honest, others_itself, others_then, read_then}
-use Rattle.ax_index.proofs.Unmoved.{same_contents, told_back}
+use Rattle.ax_index.proofs.Unmoved.{same_terms, told_back}
 use Rattle.ax_pool.specs.declared.slot.Slot.{Slot}
 use Rattle.ax_store.specs.declared.store.StoreFrames.{StoreFrames}
 use Rattle.ax_index.proofs.merging.merge_pages.Goals as goal
@@ -29,7 +28,7 @@ merge_one-requires-clause-agrees g c =
 pub loop-at-smaller : goal.loop-at-smaller
 loop-at-smaller g c =
     let after : (store_contents c.merge_one.new.store).terms ≡ (store_contents c.args.store.now).terms =
-    ap (λ (k : Contents). k.terms) (same_contents _ _ c.in-Ok.ensures.reads.same.same ∙ same_contents _ _ c.loop-at.invariant.reads.same.same)
+    same_terms _ _ c.in-Ok.ensures.reads.same.same ∙ same_terms _ _ c.loop-at.invariant.reads.same.same
     in
     walk_shorter c.loop-at.at c.next_page-at.result c.in-Some.page (store_contents c.args.store.now).terms _ c.in-Some.is after c.next_page-at.ensures.found
 
@@ -38,10 +37,10 @@ loop-at-preserved g c =
     let inv = c.loop-at.invariant in
     let more = c.in-Ok.ensures in
     let now : (store_contents c.loop-at.store).terms ≡ (store_contents c.args.store.now).terms =
-    ap (λ (k : Contents). k.terms) (same_contents _ _ inv.reads.same.same)
+    same_terms _ _ inv.reads.same.same
     in
     let after : (store_contents c.merge_one.new.store).terms ≡ (store_contents c.args.store.now).terms =
-    ap (λ (k : Contents). k.terms) (same_contents _ _ more.reads.same.same) ∙ now
+    same_terms _ _ more.reads.same.same ∙ now
     in
     record {
       merging = merge_step_on _ _ c.in-Some.page c.loop-at.at c.next_page-at.result (store_contents c.args.store.now).terms

@@ -1,14 +1,13 @@
 use Rattle.std.proofs.Common.{◌≡◌, ap, refl}
-use Rattle.ax_pages.specs.Contents.{Contents}
 use Rattle.ax_store.specs.Store.{store_contents}
 use Rattle.ax_index.proofs.MergingLemmas.{stuck_whole, whole_planned}
-use Rattle.ax_index.proofs.Unmoved.{same_contents}
+use Rattle.ax_index.proofs.Unmoved.{same_terms}
 use Rattle.ax_index.proofs.merging.merge_whole.Goals as goal
 
 pub returns-in-Ok-rewrite-clause-merged : goal.returns-in-Ok-rewrite-clause-merged
 returns-in-Ok-rewrite-clause-merged g c = λ now earlier up next done.
     let same : (store_contents c.folded.new.store).terms ≡ (store_contents c.args.store.now).terms =
-    ap (λ (k : Contents). k.terms) (same_contents _ _ c.in-Ok.ensures.reads.same.same)
+    same_terms _ _ c.in-Ok.ensures.reads.same.same
     in
     whole_planned c.args.page (store_contents c.args.store.now).terms
     (store_contents c.folded.new.store).terms now earlier _ _ c.args.next.now c.rewrite.new.next c.in-Ok.pairs.items
@@ -18,7 +17,7 @@ returns-in-Ok-rewrite-clause-merged g c = λ now earlier up next done.
 pub returns-in-Ok-rewrite-clause-stuck : goal.returns-in-Ok-rewrite-clause-stuck
 returns-in-Ok-rewrite-clause-stuck g c = λ told set index done pairs has_pairs.
     let same : (store_contents c.folded.new.store).terms ≡ (store_contents c.args.store.now).terms =
-    ap (λ (k : Contents). k.terms) (same_contents _ _ c.in-Ok.ensures.reads.same.same)
+    same_terms _ _ c.in-Ok.ensures.reads.same.same
     in
     stuck_whole (store_contents c.args.store.now).terms
     (store_contents c.folded.new.store).terms set c.args.page c.args.next.now c.in-Ok.pairs.items c.as_slice.result.now pairs index

@@ -1,12 +1,12 @@
 use Rattle.std.proofs.Common.{◌≡◌, ℕ, ◌<◌, List, Option, length, refl, sym, ap, subst, ◌∙◌, rules}
 use Rattle.std.specs.Prelude.{IfSome, IsTrue}
-use Rattle.ax_pages.specs.Contents.{Contents, TermPage}
+use Rattle.ax_pages.specs.Contents.{TermPage}
 use Rattle.ax_store.specs.Store.{store_contents}
 use Rattle.ax_index.proofs.CallLemmas.{fails_as, rose_later}
 use Rattle.ax_index.proofs.Gathering.{IsGathered, step_by, stop}
 use Rattle.ax_index.proofs.GrammarLemmas.{AreMetTo, met_end, met_start, met_step}
 use Rattle.ax_index.proofs.ReadsLaws.{agrees_told, nothing_read, of_honest, others_itself, others_then, read_then}
-use Rattle.ax_index.proofs.Unmoved.{same_contents}
+use Rattle.ax_index.proofs.Unmoved.{same_terms}
 use Rattle.ax_pool.specs.declared.slot.Slot.{Slot}
 use Rattle.ax_store.specs.declared.store.StoreFrames.{StoreFrames}
 use Rattle.ax_index.proofs.numbers.gathered.Goals as goal
@@ -33,8 +33,8 @@ loop-next-preserved g c =
     let terms = (store_contents c.args.store.now).terms in
     let inv = c.loop-next.invariant in
     let more = c.in-Ok.ensures in
-    let now : (store_contents c.loop-next.store).terms ≡ terms = ap (λ (k : Contents). k.terms) (same_contents _ _ inv.reads.same.same) in
-    let after : (store_contents c.gather.new.store).terms ≡ terms = ap (λ (k : Contents). k.terms) (same_contents _ _ more.reads.same.same) ∙ now in
+    let now : (store_contents c.loop-next.store).terms ≡ terms = same_terms _ _ inv.reads.same.same in
+    let after : (store_contents c.gather.new.store).terms ≡ terms = same_terms _ _ more.reads.same.same ∙ now in
     record {
       gathered = λ told set is.
           step_by c.args.ranges.now set terms (store_contents c.loop-next.store).terms (store_contents c.gather.new.store).terms

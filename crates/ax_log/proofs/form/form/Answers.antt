@@ -30,3 +30,9 @@ returns-clause-agrees g c = λ honest.
     let honest1 = c.clear.ensures.honest ∙ honest in
     let honest2 = c.lay_out.ensures.honest ∙ honest1 in
     formed_agrees _ _ (c.in_ok-complete_root.ensures.formed honest2) refl refl
+
+pub returns-clause-formed : goal.returns-clause-formed
+returns-clause-formed g c = λ honest.
+    let honest1 = c.clear.ensures.honest ∙ honest in
+    let honest2 = c.lay_out.ensures.honest ∙ honest1 in
+    (c.in_ok-complete_root.ensures.formed honest2).reads

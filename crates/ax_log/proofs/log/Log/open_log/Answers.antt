@@ -3,6 +3,7 @@ use Rattle.ax_disk.specs.model.Image.{Image}
 use Rattle.ax_disk.specs.laws.StageLaws.{barrier_fails, barrier_passed}
 use Rattle.ax_pages.specs.declared.numbers.TheConstants.{NEWEST_VERSION}
 use Rattle.ax_area.specs.Image.{IsFresh, IsBrokenImage, IsNewer, HasFrames}
+use Rattle.ax_log.specs.Forming.{IsForming}
 use Rattle.ax_log.specs.OpeningLaws.{damaged_exactly, newer_exactly}
 use Rattle.ax_log.proofs.OpenSteps.{sync_keeps_on}
 use Rattle.ax_log.proofs.log.Log.open_log.Goals as goal
@@ -58,3 +59,16 @@ returns-in_default-clause-damaged g c = λ honest ext at damaged. inr (inl refl)
 
 pub returns-in_default-clause-newer : goal.returns-in_default-clause-newer
 returns-in_default-clause-newer g c = λ honest version newer. inr (inl refl)
+
+pub returns-in_default-clause-forming : goal.returns-in_default-clause-forming
+returns-in_default-clause-forming g c = λ honest fresh.
+    let stays = g.met.D.Disk.reads_may_stay c.args.disk.now
+    (g.D.Disk.attached c.args.disk.now) honest in
+    barrier_fails c.in_default.field-0 _ _ IsForming stays (c.in_default.ensures.lists honest)
+
+pub returns-clause-forming : goal.returns-clause-forming
+returns-clause-forming g c = λ honest fresh.
+    let sync = c.in-Ok.ensures.lists honest in
+    let fresh_now = subst (λ (i : Image). IsFresh i) (sym sync.reads) fresh in
+    barrier_passed c.in-Ok.field-0 _ _ _ IsForming sync
+    (c.recover.ensures.forming (c.sync.ensures.honest ∙ honest) fresh_now)

@@ -4,7 +4,7 @@ use Rattle.ax_log.specs.Commit.{IsCommitSpelling}
 use Rattle.ax_store.specs.Putting.{AreWithin, CanTake, Puts}
 use Rattle.ax_store.specs.Store.{store_parts}
 use Rattle.ax_store.proofs.CanFrames.{can_from}
-use Rattle.ax_store.proofs.CommitLemmas.{allowed_within, parts_say, text_of, turns, committed}
+use Rattle.ax_store.proofs.CommitLemmas.{allowed_within, parts_say, text_of, turns, rests_then, committed}
 use Rattle.ax_store.proofs.store.Store.commit.Goals as goal
 
 pub returns-in_default-clause-any_moment : goal.returns-in_default-clause-any_moment
@@ -56,3 +56,15 @@ returns-clause-any_moment g c = λ honest works version told changes new says sa
     (c.commit.ensures.any_moment honest agrees.frames (parts_bytes c.args.batch.text) agrees.logged
     (subst (λ bytes. IsCommitSpelling bytes (parts_bytes c.args.batch.text)) (sym c.deref.ensures.value) text))
     version told changes new says said lead
+
+pub returns-clause-told : goal.returns-clause-told
+returns-clause-told g c = λ honest works version told changes new says said lead.
+    let agrees = c.requires.agrees honest works in
+    let can = can_from c.args.batch.text (c.args.batch.can c.requires.sealed) in
+    let text = subst (λ bytes. IsCommitSpelling bytes (parts_bytes c.args.batch.text)) (sym c.deref.ensures.value)
+    (text_of c.args.batch.frame.items c.args.batch.text can (c.args.batch.spelled c.requires.sealed)) in
+    rests_then g.C.PageCache.pages c.args.self.now _ agrees c.args.batch.text can _
+    (g.met.D.Disk.reads_may_stay c.args.disk.now (g.D.Disk.attached c.args.disk.now) honest) c.requires.within
+    (c.commit.ensures.any_moment honest agrees.frames (parts_bytes c.args.batch.text) agrees.logged text)
+    version told changes new says said lead _
+    (c.in-Ok.ensures.acknowledged honest agrees.frames (parts_bytes c.args.batch.text) agrees.logged text)

@@ -1,6 +1,9 @@
 use Rattle.std.proofs.Common.{sym, subst, refl}
 use Rattle.std.specs.Prelude.{IsTrue}
-use Rattle.ax_store.proofs.OpenLemmas.{says_since, says_since_on, says_rest, load_opened, load_refused, load_keeps}
+use Rattle.ax_disk.specs.model.Image.{Image}
+use Rattle.ax_store.specs.Store.{TellsFault}
+use Rattle.ax_store.specs.declared.fault.StoreFault.{StoreFault}
+use Rattle.ax_store.proofs.OpenLemmas.{keeps_idle, says_since, says_since_on, says_rest, load_opened, load_refused, load_keeps, refused_store}
 use Rattle.ax_store.proofs.store.Store.open_store.Goals as goal
 
 pub returns-in-Err-clause-any_moment : goal.returns-in-Err-clause-any_moment
@@ -50,3 +53,24 @@ returns-in-Err-make-clause-any_moment g c = λ honest version told contents says
     let opened = c.in-Ok.ensures.tells honest in
     let still = subst IsTrue (sym c.open_log.ensures.honest) honest in
     says_since_on version told contents _ says c.in-Ok.log _ _ opened (c.load.ensures.lists still) _ (c.open_log.ensures.any_moment honest)
+
+pub returns-in-Ok-make-clause-unchanged : goal.returns-in-Ok-make-clause-unchanged
+returns-in-Ok-make-clause-unchanged g c = λ honest not_fresh.
+    keeps_idle _ _ _ (c.open_log.ensures.unchanged honest not_fresh)
+    (c.load.ensures.lists (subst IsTrue (sym c.open_log.ensures.honest) honest))
+
+pub returns-in-Err-load-clause-unchanged : goal.returns-in-Err-load-clause-unchanged
+returns-in-Err-load-clause-unchanged g c = λ honest not_fresh.
+    keeps_idle _ _ _ (c.open_log.ensures.unchanged honest not_fresh)
+    (c.load.ensures.lists (subst IsTrue (sym c.open_log.ensures.honest) honest))
+
+pub returns-in-Err-make-clause-unchanged : goal.returns-in-Err-make-clause-unchanged
+returns-in-Err-make-clause-unchanged g c = λ honest not_fresh.
+    keeps_idle _ _ _ (c.open_log.ensures.unchanged honest not_fresh)
+    (c.load.ensures.lists (subst IsTrue (sym c.open_log.ensures.honest) honest))
+
+pub returns-in-Err-clause-tells : goal.returns-in-Err-clause-tells
+returns-in-Err-clause-tells g c = λ honest.
+    let before : Image = (g.D.Disk.history c.args.disk.now (g.D.Disk.attached c.args.disk.now)).reads in
+    subst (λ (fault : StoreFault). TellsFault fault before) (sym c.store_fault.ensures)
+    (refused_store c.in-Err.fault before _ (c.in-Err.ensures.tells honest))
