@@ -1,5 +1,5 @@
--- When what a store has in the words of the log, which have one version, is the same as what it has
--- in the words of all versions. The number of a document is its version, and the next number is the
+-- When what a store has in its own words, which have one version, is the same as what it has in
+-- the words of all versions. The number of a document is its version, and the next number is the
 -- next version. From the store's own file format (docs/FORMAT.md, "Parts"); no other document has
 -- it.
 use Rattle.std.specs.Prelude.{◌≡◌, ℕ, List, drop, slice_index, false}
