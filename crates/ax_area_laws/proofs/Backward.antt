@@ -1,7 +1,7 @@
 -- What is told in the words of all versions, by a program that knows the first alone, is parts that lead
 -- on in the words of the store; and so it is with frames.
-use Rattle.std.proofs.Common.{◌≡◌, ℕ, ◌+◌, List, [], ◌∷◌, ◌++◌, length, inl, inr, refl, sym, ap, subst}
-use Rattle.std.proofs.Common.{◌∙◌, arith}
+use Rattle.std.proofs.Common.{◌≡◌, ℕ, ◌+◌, List, [], ◌∷◌, ◌++◌, length, refl, ap, subst}
+use Rattle.std.proofs.Common.{◌∙◌}
 use Rattle.std.specs.Prelude.{Some, option_and_then}
 use Rattle.std.proofs.lemmas.List.{append-nil}
 use Rattle.ax_frame.specs.Part.{PartValue, AllFit, part_bytes, parts_bytes}
@@ -10,7 +10,7 @@ use Rattle.ax_pages.specs.AfterPart.{after_parts}
 use Rattle.ax_pages.specs.Leads.{LeadOn}
 use Rattle.ax_pages.specs.declared.numbers.TheConstants.{NEWEST_VERSION}
 use Rattle.ax_area.specs.Items.{item_bytes}
-use Rattle.ax_area.specs.Contents.{Contents, no_contents, after_changes}
+use Rattle.ax_area.specs.Contents.{Contents, after_changes}
 use Rattle.ax_area.specs.Told.{Told, changes_of, told_bytes, AreTold, TellOn, Lead}
 use Rattle.ax_area.proofs.OneTelling.{same_some, first_step}
 use Rattle.ax_area_laws.specs.Agree.{Agree}
