@@ -89,7 +89,8 @@ module _ {C : Type 0} where
   told_spoiled store page i Memory there spoiled placed = tt
 
   -- the fault of a part that was read and is no payload
-  pub told_read : (old new : Store C) (page i : ℕ) (fault : StoreFault) → SameButReads old new → i < length (term_parts (term_page page (store_contents old).terms))
+  pub told_read : (old new : Store C) (page i : ℕ) (fault : StoreFault) → SameButReads old new
+      → i < length (term_parts (term_page page (store_contents old).terms))
       → (IsPayload (is_base_at (term_page page (store_contents old).terms) i) (term_part page i (store_contents old).terms) → ⊥)
       → IsPlacedAt new page i fault → TellsPart old fault
   told_read old new page i fault same there spoiled placed =
