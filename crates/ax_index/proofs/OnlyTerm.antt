@@ -1,6 +1,6 @@
 -- The one term of an id's range, and what the numbers in that range tell of the id.
-use Rattle.std.proofs.Common.{◌≡◌, ℕ, zero, suc, ◌<◌, List, [], ◌∷◌, ◌++◌, arith, refl, sym, ap, ◌∙◌, subst, Bool, true, false, ◌&&◌, Option, Some, None}
-use Rattle.std.proofs.Common.{slice_get}
+use Rattle.std.proofs.Common.{◌≡◌, ℕ, zero, suc, ◌<◌, List, [], ◌∷◌, ◌++◌, arith, refl, sym, ap, ◌∙◌, subst}
+use Rattle.std.proofs.Common.{Bool, true, false, ◌&&◌, Option, slice_get}
 use Rattle.std.proofs.lemmas.Bool.{eq-eqb, false_from_ne_true}
 use Rattle.std.proofs.lemmas.Cmp.{nat_list_cmp_total, tied_itself}
 use Rattle.std.specs.Cmp.{nat_cmp_total}
@@ -14,6 +14,7 @@ use Rattle.ax_delta.proofs.Numbers.{below_all}
 use Rattle.ax_delta.proofs.SamePair.{the_pair}
 use Rattle.ax_gap.proofs.Rising.{RisesFrom, rises}
 use Rattle.ax_pairs.specs.PairSets.{PairSet}
+use Rattle.ax_term.proofs.Decided.{greater}
 use Rattle.ax_term.specs.Ranges.{is_in_range}
 use Rattle.ax_term.specs.Terms.{Term}
 use Rattle.ax_term.specs.TermBytes.{term_bytes}
@@ -25,16 +26,19 @@ use Rattle.ax_index.specs.Wanted.{AreNumbersIn, HasIn}
 
 -- what is before the single byte 0 is empty
 before_zero : (x : ℕ) (xs : List ℕ) → is_lt (slice_cmp nat_cmp (x ∷ xs) (0 ∷ [])) ≡ true → ⊥
-before_zero zero [] h = cc
-before_zero zero (y ∷ ys) h = cc
-before_zero (suc x) xs h = cc
+before_zero zero [] h = let no : false ≡ true = h in cc
+before_zero zero (y ∷ ys) h = let no : false ≡ true = h in cc
+before_zero (suc x) xs h =
+    let no : false ≡ true =
+    sym (ap (λ (o : Ordering). is_lt (ordering_then o (slice_cmp nat_cmp xs []))) (greater (suc x) 0 (omega arith))) ∙ h
+    in cc
 
 -- a term that is not before another, and before that one with a byte 0 behind it, is that one
 between : (t u : List ℕ) → is_le (slice_cmp nat_cmp t u) ≡ true → is_lt (slice_cmp nat_cmp u (t ++ 0 ∷ [])) ≡ true → t ≡ u
 between [] [] h k = refl
 between [] (y ∷ us) h k = absurd (before_zero y us k)
-between (x ∷ ts) [] h k = absurd (cc)
-between (x ∷ ts) (y ∷ us) h k = by_order (nat_cmp x y) refl
+between (x ∷ ts) [] h k = let no : false ≡ true = h in absurd (cc)
+between (x ∷ ts) (y ∷ us) h k = by_order (between ts us) (nat_cmp x y) refl
   where
     turned : (o : Ordering) → nat_cmp x y ≡ o → nat_cmp y x ≡ ordering_reverse o
     turned o e = nat_cmp_total.antisymm y x ∙ ap ordering_reverse e
@@ -45,13 +49,14 @@ between (x ∷ ts) (y ∷ us) h k = by_order (nat_cmp x y) refl
     before_end : (o : Ordering) → nat_cmp x y ≡ o → is_lt (ordering_then (ordering_reverse o) (slice_cmp nat_cmp us (ts ++ 0 ∷ []))) ≡ true
     before_end o e = sym (ap (λ (p : Ordering). is_lt (ordering_then p (slice_cmp nat_cmp us (ts ++ 0 ∷ [])))) (turned o e)) ∙ k
 
-    by_order : (o : Ordering) → nat_cmp x y ≡ o → (x ∷ ts) ≡ (y ∷ us)
-    by_order Less e = let no : false ≡ true = before_end Less e in absurd (cc)
-    by_order Equal e =
+    by_order : (is_le (slice_cmp nat_cmp ts us) ≡ true → is_lt (slice_cmp nat_cmp us (ts ++ 0 ∷ [])) ≡ true → ts ≡ us) → (o : Ordering)
+        → nat_cmp x y ≡ o → (x ∷ ts) ≡ (y ∷ us)
+    by_order rest Less e = let no : false ≡ true = before_end Less e in absurd (cc)
+    by_order rest Equal e =
         let first : x ≡ y = nat_cmp-IsAntisymmetric x y e in
-        let rest : ts ≡ us = between ts us (not_before Equal e) (before_end Equal e) in
-        λ i. first i ∷ rest i
-    by_order Greater e = let no : false ≡ true = not_before Greater e in absurd (cc)
+        let same : ts ≡ us = rest (not_before Equal e) (before_end Equal e) in
+        λ i. first i ∷ same i
+    by_order rest Greater e = let no : false ≡ true = not_before Greater e in absurd (cc)
 
 -- a term is before itself with a byte behind it
 behind_it : (t : List ℕ) → slice_cmp nat_cmp t (t ++ 0 ∷ []) ≡ Less
@@ -85,7 +90,8 @@ module _ (id : List ℕ) (set : PairSet) where
   not_there : (numbers : List ℕ) (number : ℕ) → AreNumbersIn (id_range id) set numbers → has_number number numbers ≡ false
       → set (id_pair id number) ≡ false
   not_there numbers number found none =
-      false_from_ne_true (λ is. let there : has_number number numbers ≡ true = (found.are number).1 (term_bytes (Term.Id id), own_term id, is) in cc)
+      false_from_ne_true (set (id_pair id number))
+      (λ is. let there : has_number number numbers ≡ true = (found.are number).1 (term_bytes (Term.Id id), own_term id, is) in cc)
 
   pub first_number : (numbers : List ℕ) → AreNumbersIn (id_range id) set numbers → IsNumberOf id set (slice_get numbers 0)
   first_number [] found = λ number. not_there [] number found refl
