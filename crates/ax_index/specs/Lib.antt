@@ -1,4 +1,5 @@
 pub mod Bare
+pub mod ById
 pub mod Carried
 pub mod Damage
 pub mod DeltaRuns

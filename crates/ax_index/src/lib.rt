@@ -9,6 +9,7 @@
 
 mod base_numbers;
 mod bases;
+mod by_id;
 mod choice;
 mod damage;
 mod folding;
@@ -29,6 +30,7 @@ pub use ax_delta::Change;
 pub use ax_pair::Pair;
 pub use ax_store::StoreFault;
 pub use ax_term::TermRange;
+pub use by_id::number_of;
 pub use looking::has;
 pub use merging::merge_some;
 pub use numbers::{pairs_in, pairs_in_some};

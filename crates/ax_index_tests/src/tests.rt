@@ -1,4 +1,5 @@
 mod asking;
+mod by_id;
 mod crashes;
 mod few;
 mod largest;
