@@ -1,4 +1,4 @@
-use Rattle.std.proofs.Common.{◌≡◌, ap, refl}
+use Rattle.std.proofs.Common.{◌≡◌, refl}
 use Rattle.ax_store.specs.Store.{store_contents}
 use Rattle.ax_index.proofs.MergingLemmas.{stuck_whole, whole_planned}
 use Rattle.ax_index.proofs.Unmoved.{same_terms}
