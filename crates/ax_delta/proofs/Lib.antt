@@ -4,7 +4,6 @@ pub mod Passing
 pub mod Saying
 pub mod Read
 pub mod Listed
-pub mod Reaching
 pub mod Whole
 pub mod Searching
 pub mod Taking

@@ -1,11 +1,12 @@
 -- A list of term changes is its first and a list of those behind it.
-use Rattle.std.proofs.Common.{◌≡◌, ℕ, ◌+◌, ◌<◌, ◌≤◌, List, [], ◌∷◌, ◌++◌, length, take, drop, arith, refl, ap, ◌∙◌, sym, subst, suc, Option, Some, nat_eq}
+use Rattle.std.proofs.Common.{◌≡◌, ℕ, ◌+◌, ◌<◌, ◌≤◌, List, [], ◌∷◌, ◌++◌, length, take, drop, arith, refl, ap, ◌∙◌, sym, subst, zero, suc, Option, Some, nat_eq}
 use Rattle.std.proofs.lemmas.List.{append-nil, length-append, length-take-le, drop_at, length-drop}
 use Rattle.std.proofs.lemmas.List.Sums.{common_prefix_len-le}
 use Rattle.std.specs.Cmp.Lexicographic.{slice_cmp}
 use Rattle.std.specs.Ordering.{nat_cmp}
 use Rattle.std.specs.declared.cmp.Ordering.TheVariants.{Less}
 use Rattle.ax_gap.specs.Gaps.{IsRisingList, gaps}
+use Rattle.ax_leaf.specs.Listing.{AreListed, IsListing}
 use Rattle.ax_leaf.specs.Payload.{common}
 use Rattle.ax_leaf.specs.ShortTerm.{short_term, whole_term, Follows}
 use Rattle.ax_leaf.proofs.OneSpelling.{varint_parts}
@@ -13,7 +14,7 @@ use Rattle.ax_leaf.proofs.ShortTerms.{short_parts}
 use Rattle.ax_delta.specs.Changes.{TermChange}
 use Rattle.ax_delta.specs.Payload.{list_after, AreDisjoint, IsTermChange, AreAfter}
 use Rattle.ax_delta.specs.Reading.{first_change}
-use Rattle.ax_delta.specs.ChangeList.{HasListAfter, HasChangeList, Begins}
+use Rattle.ax_delta.specs.ChangeList.{HasListAfter, HasChangeList, Begins, BeginsChange}
 use Rattle.ax_delta.proofs.Read.{found, first_read, list_read, list_begins}
 
 abbrev term_found : Option (TermChange × List ℕ) → List ℕ
@@ -211,19 +212,87 @@ HasNoFirst bytes = (shared : ℕ) (part added dropped after : List ℕ) → shar
     → IsRisingList added → IsRisingList dropped → 0 < length added + length dropped
     → bytes ≡ short_term shared part ++ (gaps added ++ (gaps dropped ++ after)) → ⊥
 
+-- a spelled list begins with its first term change
+first_there : (last bytes : List ℕ) (change : TermChange) (changes : List TermChange) → IsTermChange change → bytes ≡ list_after last (change ∷ changes)
+    → BeginsChange bytes (common last change.term) (drop (common last change.term) change.term) (list_after change.term changes ++ [])
+first_there last bytes change changes is e =
+    let begins = list_begins last [] change changes is in
+    let shorter = common_prefix_len-le nat_eq last change.term in
+    record {
+      added = change.added;
+      dropped = change.dropped;
+      begins = record {
+        spelled = e ∙ sym (append-nil (list_after last (change ∷ changes))) ∙ begins.spelled;
+        some = is.some;
+        additions = is.additions;
+        removals = is.removals;
+      };
+      disjoint = is.disjoint;
+      few = omega (arith, shorter.1, is.short);
+      short = omega (arith, length-drop (common last change.term) change.term, is.short);
+    }
+
 pub fits_first : (last bytes : List ℕ) (change : TermChange) (changes : List TermChange) → IsTermChange change → bytes ≡ list_after last (change ∷ changes)
     → HasNoFirst bytes → ⊥
 fits_first last bytes change changes is e none =
-    let begins = list_begins last [] change changes is in
-    let shorter = common_prefix_len-le nat_eq last change.term in
-    none (common last change.term) (drop (common last change.term) change.term) change.added change.dropped (list_after change.term changes ++ [])
-    (omega (arith, shorter.1, is.short)) (omega (arith, length-drop (common last change.term) change.term, is.short)) is.additions is.removals is.some
-    (e ∙ sym (append-nil (list_after last (change ∷ changes))) ∙ begins.spelled)
+    let first = first_there last bytes change changes is e in
+    none _ _ first.added first.dropped _ first.few first.short first.begins.additions first.begins.removals first.begins.some first.begins.spelled
 
-pub no_first_after : (last bytes : List ℕ) (count : ℕ) → HasNoFirst bytes → HasListAfter last (suc count) bytes → ⊥
-no_first_after last bytes count none ([], is) = omega (arith, is.counted)
-no_first_after last bytes count none (change ∷ changes, is) = fits_first last bytes change changes is.are.1 is.spelled none
+-- ---- term changes as they are listed
 
-pub no_first : (bytes : List ℕ) (count : ℕ) → HasNoFirst bytes → HasChangeList (suc count) bytes → ⊥
-no_first bytes count none ([], is) = omega (arith, is.counted)
-no_first bytes count none (change ∷ changes, is) = fits_first [] bytes change changes is.are.0 is.spelled none
+begins_after : (last bytes : List ℕ) (count : ℕ) → HasListAfter last (suc count) bytes
+    → (shared : ℕ) × (part : List ℕ) × (after : List ℕ) × BeginsChange bytes shared part after
+begins_after last bytes count ([], is) = absurd (omega (arith, is.counted))
+begins_after last bytes count (change ∷ changes, is) = (
+  common last change.term,
+  drop (common last change.term) change.term,
+  list_after change.term changes ++ [],
+  first_there last bytes change changes is.are.1 is.spelled,
+)
+
+begins_list : (bytes : List ℕ) (count : ℕ) → HasChangeList (suc count) bytes → (part : List ℕ) × (after : List ℕ) × BeginsChange bytes 0 part after
+begins_list bytes count ([], is) = absurd (omega (arith, is.counted))
+begins_list bytes count (change ∷ changes, is) =
+    (change.term, list_after change.term changes ++ [], first_there [] bytes change changes is.are.0 is.spelled)
+
+list_behind : (count : ℕ) (last bytes : List ℕ) → AreListed BeginsChange count last bytes → HasListAfter last count bytes
+unfolding AreListed
+list_behind zero last bytes e = end_after last bytes 0 refl e
+list_behind (suc count) last bytes next =
+    let first = next.begins in
+    one_more last bytes next.shared next.part first.added first.dropped next.after count first.begins
+    (record {
+      follows = next.follows;
+      disjoint = first.disjoint;
+      more = list_behind count (whole_term last next.shared next.part) next.after next.others;
+    })
+
+listed_behind : (count : ℕ) (last bytes : List ℕ) → HasListAfter last count bytes → AreListed BeginsChange count last bytes
+unfolding AreListed
+listed_behind zero last bytes h = none_left last bytes h
+listed_behind (suc count) last bytes h =
+    let (shared, part, after, begins) = begins_after last bytes count h in
+    let step = one_less last bytes shared part begins.added begins.dropped after count begins.begins h in
+    record {
+      shared = shared;
+      part = part;
+      after = after;
+      begins = begins;
+      follows = step.follows;
+      others = listed_behind count (whole_term last shared part) after step.more;
+    }
+
+pub list_of : (count : ℕ) (bytes : List ℕ) → 0 < count → IsListing BeginsChange count bytes → HasChangeList count bytes
+unfolding IsListing
+list_of zero bytes some e = absurd (omega (arith, some))
+list_of (suc count) bytes some first =
+    first_more bytes 0 first.part first.begins.added first.begins.dropped first.after count first.begins.begins first.begins.short
+    (record { shares = refl; disjoint = first.begins.disjoint; more = list_behind count first.part first.after first.others })
+
+pub listing_of : (count : ℕ) (bytes : List ℕ) → 0 < count → HasChangeList count bytes → IsListing BeginsChange count bytes
+unfolding IsListing
+listing_of zero bytes some h = absurd (omega (arith, some))
+listing_of (suc count) bytes some h =
+    let (part, after, begins) = begins_list bytes count h in
+    let start = first_less bytes 0 part begins.added begins.dropped after count begins.begins h in
+    record { part = part; after = after; begins = begins; others = listed_behind count part after start.more }

@@ -1,11 +1,11 @@
 -- The term changes that bytes spell, behind a term or from the first on. Only clauses of private
 -- functions and the views cite these.
-use Rattle.std.specs.Prelude.{◌≡◌, ℕ, ◌+◌, ◌<◌, ◌≤◌, ◌^◌, List, [], ◌++◌, length}
+use Rattle.std.specs.Prelude.{◌≡◌, ℕ, ◌+◌, ◌<◌, ◌^◌, List, [], ◌++◌, length}
 use Rattle.ax_gap.specs.Gaps.{IsRisingList, gaps}
 use Rattle.ax_leaf.specs.ShortTerm.{short_term}
 use Rattle.ax_delta.specs.Changes.{TermChange}
-use Rattle.ax_delta.specs.Payload.{list_after, AreGood, AreAfter, AreTermChanges}
-use Rattle.ax_delta.specs.Reading.{changes_in, reached}
+use Rattle.ax_delta.specs.Payload.{list_after, AreDisjoint, AreGood, AreAfter, AreTermChanges}
+use Rattle.ax_delta.specs.Reading.{changes_in}
 
 -- the bytes are those of so many term changes, whose terms rise, and the first of which is after
 -- `last`
@@ -40,18 +40,12 @@ pub record Begins (bytes : List ℕ) (shared : ℕ) (part added dropped after : 
   pub additions : IsRisingList added
   pub removals : IsRisingList dropped
 
--- the bytes begin with a term change, whose term is written after `last`
-pub record Begun (last bytes : List ℕ) : Type 0 where
-  pub shared : ℕ
-  pub part : List ℕ
+-- the same of any numbers, none of them in both lists: the term has so many bytes in common with the one before and these
+-- behind them
+pub record BeginsChange (bytes : List ℕ) (shared : ℕ) (part after : List ℕ) : Type 0 where
   pub added : List ℕ
   pub dropped : List ℕ
-  pub after : List ℕ
   pub begins : Begins bytes shared part added dropped after
-  pub within : shared ≤ length last
+  pub disjoint : AreDisjoint added dropped
   pub few : shared < 2 ^ 32
   pub short : length part < 2 ^ 32
-
--- so many term changes stand one behind another
-abbrev pub CanReach : ℕ → List ℕ → Type 0
-CanReach count bytes = (k : ℕ) → k < count → Begun (reached k bytes).term (reached k bytes).bytes

@@ -34,17 +34,3 @@ put_before others (Some found) = found.0 ∷ others found.0.term found.1
 unfoldable pub changes_in : ℕ → List ℕ → List ℕ → List TermChange
 changes_in zero last bytes = []
 changes_in (suc count) last bytes = put_before (changes_in count) (first_change last bytes)
-
--- how far reading has come: the term that was read last, and the bytes that are left
-pub record Reached : Type 0 where
-  pub term : List ℕ
-  pub bytes : List ℕ
-
-abbrev pub reached_by : Option (TermChange × List ℕ) → Reached
-reached_by None = record { term = []; bytes = [] }
-reached_by (Some found) = record { term = found.0.term; bytes = found.1 }
-
--- behind so many term changes
-unfoldable pub reached : ℕ → List ℕ → Reached
-reached zero bytes = record { term = []; bytes = bytes }
-reached (suc count) bytes = reached_by (first_change (reached count bytes).term (reached count bytes).bytes)

@@ -8,7 +8,7 @@ pub mod ShortTerms
 pub mod Read
 pub mod Following
 pub mod Listed
-pub mod Reaching
+pub mod InListing
 pub mod Whole
 pub mod Meeting
 pub mod Searching

@@ -1,16 +1,17 @@
 -- A list of postings is its first and a list of those behind it.
-use Rattle.std.proofs.Common.{◌≡◌, ℕ, ◌+◌, ◌<◌, ◌≤◌, List, [], ◌∷◌, ◌++◌, length, take, drop, arith, refl, ap, ◌∙◌, sym, subst, suc, Option, Some, nat_eq}
+use Rattle.std.proofs.Common.{◌≡◌, ℕ, ◌+◌, ◌<◌, ◌≤◌, List, [], ◌∷◌, ◌++◌, length, take, drop, arith, refl, ap, ◌∙◌, sym, subst, zero, suc, Option, Some, nat_eq}
 use Rattle.std.proofs.lemmas.List.{append-nil, length-append, length-take-le, drop_at, length-drop}
 use Rattle.std.proofs.lemmas.List.Sums.{common_prefix_len-le}
 use Rattle.std.specs.Cmp.Lexicographic.{slice_cmp}
 use Rattle.std.specs.Ordering.{nat_cmp}
 use Rattle.std.specs.declared.cmp.Ordering.TheVariants.{Less}
 use Rattle.ax_gap.specs.Gaps.{IsRisingList, gaps}
+use Rattle.ax_leaf.specs.Listing.{AreListed, IsListing}
 use Rattle.ax_leaf.specs.Pairs.{Posting}
 use Rattle.ax_leaf.specs.Payload.{common, list_after, IsPosting, AreAfter}
 use Rattle.ax_leaf.specs.Reading.{first_posting}
 use Rattle.ax_leaf.specs.ShortTerm.{short_term, whole_term, Follows}
-use Rattle.ax_leaf.specs.TermList.{HasListAfter, HasTermList, Begins}
+use Rattle.ax_leaf.specs.TermList.{HasListAfter, HasTermList, Begins, BeginsPosting}
 use Rattle.ax_leaf.proofs.OneSpelling.{varint_parts}
 use Rattle.ax_leaf.proofs.Read.{found, first_read, list_read, list_begins}
 use Rattle.ax_leaf.proofs.ShortTerms.{short_parts}
@@ -190,19 +191,83 @@ abbrev pub HasNoFirst : List ℕ → Type 0
 HasNoFirst bytes = (shared : ℕ) (part numbers after : List ℕ) → shared < 4294967296 → length part < 4294967296
     → IsRisingList numbers → 0 < length numbers → bytes ≡ short_term shared part ++ (gaps numbers ++ after) → ⊥
 
+-- a spelled list begins with its first posting
+first_there : (last bytes : List ℕ) (posting : Posting) (postings : List Posting) → IsPosting posting → bytes ≡ list_after last (posting ∷ postings)
+    → BeginsPosting bytes (common last posting.term) (drop (common last posting.term) posting.term) (list_after posting.term postings ++ [])
+first_there last bytes posting postings is e =
+    let begins = list_begins last [] posting postings is.rising is.some in
+    let shorter = common_prefix_len-le nat_eq last posting.term in
+    record {
+      numbers = posting.numbers;
+      begins = record {
+        spelled = e ∙ sym (append-nil (list_after last (posting ∷ postings))) ∙ begins.spelled;
+        some = is.some;
+        rising = is.rising;
+      };
+      few = omega (arith, shorter.1, is.short);
+      short = omega (arith, length-drop (common last posting.term) posting.term, is.short);
+    }
+
 pub fits_first : (last bytes : List ℕ) (posting : Posting) (postings : List Posting) → IsPosting posting → bytes ≡ list_after last (posting ∷ postings)
     → HasNoFirst bytes → ⊥
 fits_first last bytes posting postings is e none =
-    let begins = list_begins last [] posting postings is.rising is.some in
-    let shorter = common_prefix_len-le nat_eq last posting.term in
-    none (common last posting.term) (drop (common last posting.term) posting.term) posting.numbers (list_after posting.term postings ++ [])
-    (omega (arith, shorter.1, is.short)) (omega (arith, length-drop (common last posting.term) posting.term, is.short)) is.rising is.some
-    (e ∙ sym (append-nil (list_after last (posting ∷ postings))) ∙ begins.spelled)
-
-pub no_first_after : (last bytes : List ℕ) (count : ℕ) → HasNoFirst bytes → HasListAfter last (suc count) bytes → ⊥
-no_first_after last bytes count none ([], is) = omega (arith, is.counted)
-no_first_after last bytes count none (posting ∷ postings, is) = fits_first last bytes posting postings is.are.1 is.spelled none
+    let first = first_there last bytes posting postings is e in
+    none _ _ first.numbers _ first.few first.short first.begins.rising first.begins.some first.begins.spelled
 
 pub no_first : (bytes : List ℕ) (count : ℕ) → HasNoFirst bytes → HasTermList (suc count) bytes → ⊥
 no_first bytes count none ([], is) = omega (arith, is.counted)
 no_first bytes count none (posting ∷ postings, is) = fits_first [] bytes posting postings is.are.0 is.spelled none
+
+-- ---- postings as they are listed
+
+begins_after : (last bytes : List ℕ) (count : ℕ) → HasListAfter last (suc count) bytes
+    → (shared : ℕ) × (part : List ℕ) × (after : List ℕ) × BeginsPosting bytes shared part after
+begins_after last bytes count ([], is) = absurd (omega (arith, is.counted))
+begins_after last bytes count (posting ∷ postings, is) = (
+  common last posting.term,
+  drop (common last posting.term) posting.term,
+  list_after posting.term postings ++ [],
+  first_there last bytes posting postings is.are.1 is.spelled,
+)
+
+begins_list : (bytes : List ℕ) (count : ℕ) → HasTermList (suc count) bytes → (part : List ℕ) × (after : List ℕ) × BeginsPosting bytes 0 part after
+begins_list bytes count ([], is) = absurd (omega (arith, is.counted))
+begins_list bytes count (posting ∷ postings, is) =
+    (posting.term, list_after posting.term postings ++ [], first_there [] bytes posting postings is.are.0 is.spelled)
+
+list_behind : (count : ℕ) (last bytes : List ℕ) → AreListed BeginsPosting count last bytes → HasListAfter last count bytes
+unfolding AreListed
+list_behind zero last bytes e = end_after last bytes 0 refl e
+list_behind (suc count) last bytes next =
+    one_more last bytes next.shared next.part next.begins.numbers next.after count next.begins.begins
+    (record { follows = next.follows; more = list_behind count (whole_term last next.shared next.part) next.after next.others })
+
+listed_behind : (count : ℕ) (last bytes : List ℕ) → HasListAfter last count bytes → AreListed BeginsPosting count last bytes
+unfolding AreListed
+listed_behind zero last bytes h = none_left last bytes h
+listed_behind (suc count) last bytes h =
+    let (shared, part, after, begins) = begins_after last bytes count h in
+    let step = one_less last bytes shared part begins.numbers after count begins.begins h in
+    record {
+      shared = shared;
+      part = part;
+      after = after;
+      begins = begins;
+      follows = step.follows;
+      others = listed_behind count (whole_term last shared part) after step.more;
+    }
+
+pub list_of : (count : ℕ) (bytes : List ℕ) → IsListing BeginsPosting count bytes → HasTermList count bytes
+unfolding IsListing
+list_of zero bytes e = empty_list bytes 0 refl e
+list_of (suc count) bytes first =
+    first_more bytes 0 first.part first.begins.numbers first.after count first.begins.begins first.begins.short
+    (record { shares = refl; more = list_behind count first.part first.after first.others })
+
+pub listing_of : (count : ℕ) (bytes : List ℕ) → HasTermList count bytes → IsListing BeginsPosting count bytes
+unfolding IsListing
+listing_of zero bytes h = none_listed bytes h
+listing_of (suc count) bytes h =
+    let (part, after, begins) = begins_list bytes count h in
+    let start = first_less bytes 0 part begins.numbers after count begins.begins h in
+    record { part = part; after = after; begins = begins; others = listed_behind count part after start.more }

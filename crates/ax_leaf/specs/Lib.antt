@@ -1,4 +1,5 @@
 pub mod Base
+pub mod Listing
 pub mod Lookup
 pub mod Pairs
 pub mod Payload

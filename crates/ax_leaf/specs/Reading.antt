@@ -35,17 +35,3 @@ put_before others (Some found) = found.0 ∷ others found.0.term found.1
 unfoldable pub postings_in : ℕ → List ℕ → List ℕ → List Posting
 postings_in zero last bytes = []
 postings_in (suc count) last bytes = put_before (postings_in count) (first_posting last bytes)
-
--- how far reading has come: the term that was read last, and the bytes that are left
-pub record Reached : Type 0 where
-  pub term : List ℕ
-  pub bytes : List ℕ
-
-abbrev pub reached_by : Option (Posting × List ℕ) → Reached
-reached_by None = record { term = []; bytes = [] }
-reached_by (Some found) = record { term = found.0.term; bytes = found.1 }
-
--- behind so many postings
-unfoldable pub reached : ℕ → List ℕ → Reached
-reached zero bytes = record { term = []; bytes = bytes }
-reached (suc count) bytes = reached_by (first_posting (reached count bytes).term (reached count bytes).bytes)

@@ -1,10 +1,10 @@
 -- The postings that bytes spell, behind a term or from the first on. Only clauses of private
 -- functions and the views of a leaf and of a cursor cite these.
-use Rattle.std.specs.Prelude.{◌≡◌, ℕ, ◌<◌, ◌≤◌, ◌^◌, List, [], ◌++◌, length}
+use Rattle.std.specs.Prelude.{◌≡◌, ℕ, ◌<◌, ◌^◌, List, [], ◌++◌, length}
 use Rattle.ax_gap.specs.Gaps.{IsRisingList, gaps}
 use Rattle.ax_leaf.specs.Pairs.{Posting}
 use Rattle.ax_leaf.specs.Payload.{list_after, AreGood, AreAfter, ArePostings}
-use Rattle.ax_leaf.specs.Reading.{postings_in, reached}
+use Rattle.ax_leaf.specs.Reading.{postings_in}
 use Rattle.ax_leaf.specs.ShortTerm.{short_term}
 
 -- the bytes are those of so many postings, whose terms rise, and the first of which is after `last`
@@ -37,17 +37,9 @@ pub record Begins (bytes : List ℕ) (shared : ℕ) (part numbers after : List �
   pub some : 0 < length numbers
   pub rising : IsRisingList numbers
 
--- the bytes begin with a posting, whose term is written after `last`
-pub record Begun (last bytes : List ℕ) : Type 0 where
-  pub shared : ℕ
-  pub part : List ℕ
+-- the same of any numbers: the term of the posting has so many bytes in common with the one before and these behind them
+pub record BeginsPosting (bytes : List ℕ) (shared : ℕ) (part after : List ℕ) : Type 0 where
   pub numbers : List ℕ
-  pub after : List ℕ
   pub begins : Begins bytes shared part numbers after
-  pub within : shared ≤ length last
   pub few : shared < 2 ^ 32
   pub short : length part < 2 ^ 32
-
--- so many postings stand one behind another
-abbrev pub CanReach : ℕ → List ℕ → Type 0
-CanReach count bytes = (k : ℕ) → k < count → Begun (reached k bytes).term (reached k bytes).bytes

@@ -14,6 +14,7 @@ mod finding;
 pub mod front;
 pub mod laws;
 mod leaf;
+pub mod listing;
 pub mod matching;
 mod out_of_memory;
 mod remaining;
