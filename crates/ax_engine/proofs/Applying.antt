@@ -225,7 +225,7 @@ passes_read version told contents body image says (Ok reply) met = λ query is.
     (λ none. (version, told, contents, says, none)) (met query is)
 passes_read version told contents body image says (Err store_fault.Disk) met = tt
 passes_read version told contents body image says (Err (store_fault.Damaged extent at)) met = tt
-passes_read version told contents body image says (Err (store_fault.Newer version)) met = λ query is. tt
+passes_read version told contents body image says (Err (store_fault.Newer later)) met = λ query is. tt
 passes_read version told contents body image says (Err store_fault.Memory) met = λ query is. tt
 
 -- what fits the own refusal of the query may be its reply, and so may want of memory

@@ -95,9 +95,9 @@ within_creating next policy tree contents plain full given =
     )
 
 -- when room was made they may still, and so may the parts that say them
-pub room_follows : {changes : List Change} → (old new : Store LruPages) → SameButRoom old new
+pub room_follows : (changes : List Change) (old new : Store LruPages) → SameButRoom old new
     → MayFollow changes (store_contents old) → MayFollow changes (store_contents new)
-room_follows {changes} old new same may = subst (λ parts. MayFollow changes (risen parts)) (sym same.contents) may
+room_follows changes old new same may = subst (λ parts. MayFollow changes (risen parts)) (sym same.contents) may
 
 pub may_commit : (parts : List PartValue) (changes : List Change) (contents : Contents) → changes_said parts ≡ Some changes
     → MayFollow changes contents → AreAllowed parts contents

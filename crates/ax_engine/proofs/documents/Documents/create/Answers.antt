@@ -77,7 +77,7 @@ commit-requires-clause-within g c =
     ap changes_said c.in-Ok.ensures.parts
     ∙ creating_said next c.in-Some.policy c.args.tree.now (omega (arith, c.if-number-eq0.false))
     (omega (arith, left, c.next_number-number.ensures)) c.in-Some.ensures.small in
-    let may = room_follows c.args.self.now.store c.reserve.new.self c.reserve.ensures.same
+    let may = room_follows changes c.args.self.now.store c.reserve.new.self c.reserve.ensures.same
     (within_creating next c.in-Some.policy c.args.tree.now (contents_in c.args.self.now) refl full c.in-Some.ensures.given) in
     may_commit parts changes (store_contents c.reserve.new.self) said may
 
@@ -180,14 +180,14 @@ returns-in-Ok-commit-clause-readable g c = λ honest rests.
     ap changes_said c.in-Ok.ensures.parts
     ∙ creating_said next c.in-Some.policy c.args.tree.now (omega (arith, c.if-number-eq0.false))
     (omega (arith, left, c.next_number-number.ensures)) c.in-Some.ensures.small in
-    let may = room_follows c.args.self.now.store c.reserve.new.self c.reserve.ensures.same
+    let may = room_follows changes c.args.self.now.store c.reserve.new.self c.reserve.ensures.same
     (within_creating next c.in-Some.policy c.args.tree.now (contents_in c.args.self.now) refl full c.in-Some.ensures.given) in
     readable_on c.reserve.new.self parts changes said _ _ (record {
       says = agrees_says held c.reserve.new.self _
           (agrees_same held c.args.self.now.store c.reserve.new.self _ c.reserve.ensures.same (c.requires.works.agrees honest));
       may = g.met.D.Disk.reads_may_stay c.args.disk.now (g.D.Disk.attached c.args.disk.now) honest;
       turns = c.commit.ensures.any_moment honest (c.reserve.ensures.same.failed ∙ c.requires.works.unfailed);
-    }) may.0 may.1 
+    }) may.0 may.1
     (creating_readable next c.in-Some.policy c.args.tree.now c.requires.storable) rests
 
 pub returns-in-Err-clause-readable : goal.returns-in-Err-clause-readable
@@ -201,12 +201,12 @@ returns-in-Err-clause-readable g c = λ honest rests.
     ap changes_said c.in-Ok.ensures.parts
     ∙ creating_said next c.in-Some.policy c.args.tree.now (omega (arith, c.if-number-eq0.false))
     (omega (arith, left, c.next_number-number.ensures)) c.in-Some.ensures.small in
-    let may = room_follows c.args.self.now.store c.reserve.new.self c.reserve.ensures.same
+    let may = room_follows changes c.args.self.now.store c.reserve.new.self c.reserve.ensures.same
     (within_creating next c.in-Some.policy c.args.tree.now (contents_in c.args.self.now) refl full c.in-Some.ensures.given) in
     readable_on c.reserve.new.self parts changes said _ _ (record {
       says = agrees_says held c.reserve.new.self _
           (agrees_same held c.args.self.now.store c.reserve.new.self _ c.reserve.ensures.same (c.requires.works.agrees honest));
       may = g.met.D.Disk.reads_may_stay c.args.disk.now (g.D.Disk.attached c.args.disk.now) honest;
       turns = c.commit.ensures.any_moment honest (c.reserve.ensures.same.failed ∙ c.requires.works.unfailed);
-    }) may.0 may.1 
+    }) may.0 may.1
     (creating_readable next c.in-Some.policy c.args.tree.now c.requires.storable) rests

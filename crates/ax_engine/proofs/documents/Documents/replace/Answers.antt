@@ -50,7 +50,7 @@ commit-requires-clause-within g c =
     let said : changes_said parts ≡ Some changes =
     ap changes_said c.in-Ok.ensures.parts
     ∙ replacing_said c.args.number c.in-Some.policy c.args.tree.now (c.is_held.ensures.some c.if-not-is_held.false) in
-    let may = room_follows c.args.self.now.store c.reserve.new.self c.reserve.ensures.same
+    let may = room_follows changes c.args.self.now.store c.reserve.new.self c.reserve.ensures.same
     (within_replacing c.args.number c.in-Some.policy c.args.tree.now (store_contents c.args.self.now.store) refl
     c.in-Some.ensures.given (c.is_held.ensures.held c.if-not-is_held.false)) in
     may_commit parts changes (store_contents c.reserve.new.self) said may
@@ -129,7 +129,7 @@ returns-in-Ok-commit-clause-readable g c = λ honest rests.
     let said : changes_said parts ≡ Some changes =
     ap changes_said c.in-Ok.ensures.parts
     ∙ replacing_said c.args.number c.in-Some.policy c.args.tree.now (c.is_held.ensures.some c.if-not-is_held.false) in
-    let may = room_follows c.args.self.now.store c.reserve.new.self c.reserve.ensures.same
+    let may = room_follows changes c.args.self.now.store c.reserve.new.self c.reserve.ensures.same
     (within_replacing c.args.number c.in-Some.policy c.args.tree.now (store_contents c.args.self.now.store) refl
     c.in-Some.ensures.given (c.is_held.ensures.held c.if-not-is_held.false)) in
     readable_on c.reserve.new.self parts changes said _ _ (record {
@@ -137,7 +137,7 @@ returns-in-Ok-commit-clause-readable g c = λ honest rests.
           (agrees_same held c.args.self.now.store c.reserve.new.self _ c.reserve.ensures.same (c.requires.works.agrees honest));
       may = g.met.D.Disk.reads_may_stay c.args.disk.now (g.D.Disk.attached c.args.disk.now) honest;
       turns = c.commit.ensures.any_moment honest (c.reserve.ensures.same.failed ∙ c.requires.works.unfailed);
-    }) may.0 may.1 
+    }) may.0 may.1
     (replacing_readable c.args.number c.in-Some.policy c.args.tree.now c.requires.storable) rests
 
 pub returns-in-Err-clause-readable : goal.returns-in-Err-clause-readable
@@ -147,7 +147,7 @@ returns-in-Err-clause-readable g c = λ honest rests.
     let said : changes_said parts ≡ Some changes =
     ap changes_said c.in-Ok.ensures.parts
     ∙ replacing_said c.args.number c.in-Some.policy c.args.tree.now (c.is_held.ensures.some c.if-not-is_held.false) in
-    let may = room_follows c.args.self.now.store c.reserve.new.self c.reserve.ensures.same
+    let may = room_follows changes c.args.self.now.store c.reserve.new.self c.reserve.ensures.same
     (within_replacing c.args.number c.in-Some.policy c.args.tree.now (store_contents c.args.self.now.store) refl
     c.in-Some.ensures.given (c.is_held.ensures.held c.if-not-is_held.false)) in
     readable_on c.reserve.new.self parts changes said _ _ (record {
@@ -155,5 +155,5 @@ returns-in-Err-clause-readable g c = λ honest rests.
           (agrees_same held c.args.self.now.store c.reserve.new.self _ c.reserve.ensures.same (c.requires.works.agrees honest));
       may = g.met.D.Disk.reads_may_stay c.args.disk.now (g.D.Disk.attached c.args.disk.now) honest;
       turns = c.commit.ensures.any_moment honest (c.reserve.ensures.same.failed ∙ c.requires.works.unfailed);
-    }) may.0 may.1 
+    }) may.0 may.1
     (replacing_readable c.args.number c.in-Some.policy c.args.tree.now c.requires.storable) rests
