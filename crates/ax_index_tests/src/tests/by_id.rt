@@ -85,7 +85,7 @@ fn found<D: Disk, C: PageCache>(
     id: &[u8],
 ) -> Result<Option<u32>, StoreFault>
     requires { IsReady C.pages store.old (D.is_honest disk.old) (D.history disk.old (D.attached disk.old)) }
-    ensures ready { IsReady C.pages store.new (D.is_honest disk.new) (D.history disk.new (D.attached disk.new)) }
+    ensures { IsReady C.pages store.new (D.is_honest disk.new) (D.history disk.new (D.attached disk.new)) }
 {
     number_of(alloc, store, disk, id)
 }
