@@ -14,10 +14,9 @@ pub struct Change {
     pub pair: Pair,
 }
 
-/// How the pair of a term and a number compares with a pair, by term and then by number.
-pub(crate) fn cmp_pair(term: &[u8], number: u32, pair: &Pair) -> Ordering
-    ensures { result ≡ pair_cmp (record { term = term.now; number = number }) pair.now }
+/// How the pair of a term and a number compares with another, by term and then by number.
+pub(crate) fn cmp_pair(term: &[u8], number: u32, other: &[u8], other_number: u32) -> Ordering
+    ensures { result ≡ pair_cmp (record { term = term.now; number = number }) (record { term = other.now; number = other_number }) }
 {
-    let terms = term.cmp(pair.term.as_slice());
-    terms.then(number.cmp(&pair.number))
+    term.cmp(other).then(number.cmp(&other_number))
 }

@@ -9,8 +9,7 @@ use crate::change::cmp_pair;
 use crate::numbers_left::NumbersLeft;
 use crate::out_of_memory::Memory;
 use crate::short_change::{ShortChange, split_change};
-use ax_pair::{Bytes, Pair};
-use std::alloc::Global;
+use ax_pair_list::PairList;
 use std::cmp::Ordering;
 
 /// The changes of a delta that are not yet taken, in order: those of the term that was reached, and
@@ -52,15 +51,16 @@ impl<'a> ChangesLeft<'a> {
         self.first().is_none()
     }
 
-    /// How the pair of the first change compares with a pair. `None` exactly where no change is left.
-    pub(crate) fn cmp_first(&self, pair: &Pair) -> Option<Ordering>
+    /// How the pair of the first change compares with that of a term and a number. `None` exactly
+    /// where no change is left.
+    pub(crate) fn cmp_first(&self, term: &[u8], number: u32) -> Option<Ordering>
         requires { IsReady self.now }
-        ensures { result ≡ first_cmp (changes_left self.now) pair.now }
+        ensures { result ≡ first_cmp (changes_left self.now) (record { term = term.now; number = number }) }
     {
-        let Some((_, number)) = self.first() else {
+        let Some((_, first)) = self.first() else {
             return None;
         };
-        Some(cmp_pair(self.term.as_slice(), number, pair))
+        Some(cmp_pair(self.term.as_slice(), first, term, number))
     }
 
     /// Takes the first change: is it one that adds?
@@ -76,21 +76,21 @@ impl<'a> ChangesLeft<'a> {
     }
 
     /// Takes the first change, and puts its pair at the end where it is one that adds.
-    pub(crate) fn put_first(&mut self, alloc: Global, out: &mut Vec<Pair>) -> Result<(), Memory>
+    pub(crate) fn put_first(&mut self, out: &mut PairList) -> Result<(), Memory>
         requires { IsReady self.old }
         ensures ready { OnOk result (IsReady self.new) }
         ensures rest { OnOk result (changes_left self.new ≡ drop 1 (changes_left self.old)) }
-        ensures put { OnOk result (out.new.items ≡ out.old.items ++ added_first (changes_left self.old)) }
+        ensures put { OnOk result (out.new ≡ out.old ++ added_first (changes_left self.old)) }
     {
-        self.put_added(alloc, out)?;
+        self.put_added(out)?;
         self.take()?;
         Ok(())
     }
 
     /// Puts the pair of the first change at the end where it is one that adds.
-    fn put_added(&self, alloc: Global, out: &mut Vec<Pair>) -> Result<(), Memory>
+    fn put_added(&self, out: &mut PairList) -> Result<(), Memory>
         requires { IsReady self.now }
-        ensures { OnOk result (out.new.items ≡ out.old.items ++ added_first (changes_left self.now)) }
+        ensures { OnOk result (out.new ≡ out.old ++ added_first (changes_left self.now)) }
     {
         let Some((add, number)) = self.first() else {
             return Ok(());
@@ -98,8 +98,7 @@ impl<'a> ChangesLeft<'a> {
         if !add {
             return Ok(());
         }
-        let term = copied(alloc, self.term.as_slice())?;
-        out.push(Pair { term, number })?;
+        out.push(self.term.as_slice(), number)?;
         Ok(())
     }
 
@@ -149,13 +148,4 @@ impl<'a> ChangesLeft<'a> {
         self.rest = after;
         Ok(())
     }
-}
-
-/// A term of its own with these bytes.
-fn copied(alloc: Global, term: &[u8]) -> Result<Bytes, Memory>
-    ensures { IfOk result (λ copy. copy ≡ term.now) }
-{
-    let mut bytes = Vec::new(alloc);
-    bytes.extend_from_slice(term)?;
-    Ok(Bytes::from_vec(bytes))
 }

@@ -1,6 +1,7 @@
 //! The payload of a delta of a term page: the pairs that it adds and those that it drops, by their
 //! terms, which are shortened as in a base. The crate stands on `ax_leaf`, whose terms and pairs it
-//! has, on `ax_gap`, whose gap lists hold the numbers of each term, and on `ax_tree`.
+//! has, on `ax_gap`, whose gap lists hold the numbers of each term, on `ax_pair_list`, whose lists a
+//! merge goes over and makes, and on `ax_tree`.
 //!
 //! Its one contract: rising changes have one payload, `IsDelta` of `specs/Payload.antt`. `encode`
 //! writes it. `check` reads it, and answers `None` exactly where the bytes are no payload; what it

@@ -43,3 +43,9 @@ impl From<ax_gap::Memory> for Memory {
         Memory
     }
 }
+
+impl From<ax_pair_list::Memory> for Memory {
+    fn from(_: ax_pair_list::Memory) -> Memory {
+        Memory
+    }
+}

@@ -4,6 +4,7 @@ use crate::merging::merge;
 use crate::writing::{are_in_order, encode};
 use ax_leaf::is_in_order;
 use ax_pair::{Bytes, Pair};
+use ax_pair_list::PairList;
 use std::test::Fail;
 
 // ab with 5 is added and with 7 dropped; abc, which begins as ab does, is dropped with 1; b is added
@@ -101,19 +102,16 @@ fn a_pair_is_looked_up(rt: HostRuntime) -> Result<(), Fail> {
 fn a_page_is_merged(rt: HostRuntime) -> Result<(), Fail> {
     let delta = check(THREE_TERMS).ok_or("no delta")?;
     let before: [(&[u8], u32); 5] = [(b"ab", 5), (b"ab", 7), (b"abc", 2), (b"b", 1), (b"b", 400)];
-    let mut pairs = Vec::new(rt.alloc());
+    let mut pairs = PairList::new(rt.alloc());
     for (term, number) in before {
-        let mut bytes = Vec::new(rt.alloc());
-        bytes.extend_from_slice(term)?;
-        let term = Bytes::from_vec(bytes);
-        pairs.push(Pair { term, number })?;
+        pairs.push(term, number)?;
     }
     let low = Pair {
         term: Bytes::new(rt.alloc()),
         number: 0,
     };
-    assert!(rt; is_in_order(&low, pairs.as_slice()));
-    let after = merge(rt.alloc(), pairs, &delta)?;
+    assert!(rt; is_in_order(&low, pairs.to_pairs(rt.alloc())?.as_slice()));
+    let after = merge(rt.alloc(), &pairs, &delta)?;
     let rows: [(&[u8], u32); 6] = [
         (b"ab", 5),
         (b"abc", 2),
@@ -123,9 +121,10 @@ fn a_page_is_merged(rt: HostRuntime) -> Result<(), Fail> {
         (b"b", 400),
     ];
     assert_eq!(rt; after.len(), rows.len());
-    for (pair, (term, number)) in after.iter().zip(rows) {
-        assert_eq!(rt; pair.term.as_slice(), term);
-        assert_eq!(rt; pair.number, number);
+    for at in 0..rows.len() {
+        let (term, number) = rows[at];
+        let (found, with) = after.pair(at);
+        assert!(rt; found == term && with == number, "{at}");
     }
     Ok(())
 }
@@ -134,13 +133,12 @@ fn a_page_is_merged(rt: HostRuntime) -> Result<(), Fail> {
 #[test]
 fn a_worked_delta_is_read(rt: HostRuntime) -> Result<(), Fail> {
     let delta = check(&[1, 0, 2, 1, 0x61, 1, 1, 0]).ok_or("no delta")?;
-    let after = merge(rt.alloc(), Vec::new(rt.alloc()), &delta)?;
+    let after = merge(rt.alloc(), &PairList::new(rt.alloc()), &delta)?;
     assert_eq!(rt; after.len(), 1);
+    let (term, number) = after.pair(0);
     let expected: &[u8] = &[1, 0x61];
-    for pair in after {
-        assert_eq!(rt; pair.term.as_slice(), expected);
-        assert_eq!(rt; pair.number, 1);
-    }
+    assert_eq!(rt; term, expected);
+    assert_eq!(rt; number, 1);
     Ok(())
 }
 

@@ -9,11 +9,11 @@ ghost use Rattle.ax_leaf.specs.Payload.{term_after};
 ghost use Rattle.ax_delta.specs.Changes.{changed_pairs, term_changes_of, with_added, with_dropped};
 ghost use Rattle.ax_delta.specs.Payload.{list_after, delta, IsDelta, AreGood};
 
-use crate::change::{Change, cmp_pair};
+use crate::change::Change;
 use crate::out_of_memory::Memory;
 use ax_gap::put_gaps;
 use ax_leaf::short_term::{put_length, put_term};
-use ax_pair::Pair;
+use ax_pair::{Pair, comes_before};
 use std::alloc::Global;
 
 /// The payload of the delta with these changes. There has to be one, and their pairs have to rise:
@@ -67,7 +67,12 @@ pub fn are_in_order(changes: &[Change]) -> bool
 fn is_before(first: &Pair, second: &Pair) -> bool
     ensures { result ≡ is_lt (pair_cmp first.now second.now) }
 {
-    cmp_pair(first.term.as_slice(), first.number, second).is_lt()
+    comes_before(
+        first.term.as_slice(),
+        first.number,
+        second.term.as_slice(),
+        second.number,
+    )
 }
 
 /// Writes the term changes of the changes at the end, and answers how many they are.

@@ -10,6 +10,7 @@ pub mod GrammarLemmas
 pub mod IndexPages
 pub mod Lists
 pub mod NumberLists
+pub mod NumbersFrom
 pub mod OnlyTerm
 pub mod PageSizesLemmas
 pub mod PageWalk

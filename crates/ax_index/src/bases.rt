@@ -17,11 +17,37 @@ use crate::parts::put_base;
 use crate::runs::all_belong;
 use crate::sizes::{base_len, new_pages};
 use ax_pair::{Bytes, Pair};
+use ax_pair_list::PairList;
 use ax_store::{Batch, Store};
 use std::alloc::Global;
 
 /// The most term pages that there may be.
 const MOST_PAGES: u32 = 2_147_483_648;
+
+/// Writes a page anew with rising pairs that stand in one buffer, as `rewrite` does: here each gets a term
+/// of its own.
+pub(crate) fn rewrite_list<C>(
+    alloc: Global,
+    store: &Store<C>,
+    batch: &mut Batch,
+    next: &mut u32,
+    page: u32,
+    pairs: &PairList,
+) -> Result<bool, Memory>
+    requires page { page < length (store_contents store.now).terms }
+    requires rise { Rise pairs.now }
+    ensures belong { IfOk result (λ done. done ≡ true → AllBelong pairs.now page (store_contents store.now).terms) }
+    ensures rewritten { (now : List TermPage) → next.old ≡ length now → page < length now
+        → low_pair page now ≡ low_pair page (store_contents store.now).terms
+        → AllBelong pairs.now page now
+        → IfOk result (λ done. done ≡ true → IsRewritten page pairs.now now next.new (batch_parts batch.old) (batch_parts batch.new)) }
+    ensures left { IfOk result (λ done. done ≡ false → (batch_parts batch.new ≡ batch_parts batch.old) × (next.new ≡ next.old)) }
+    ensures full { IfOk result (λ done. done ≡ false → AllBelong pairs.now page (store_contents store.now).terms
+        → NeedsTooMany next.old pairs.now) }
+{
+    let pairs = pairs.to_pairs(alloc)?;
+    rewrite(alloc, store, batch, next, page, pairs.as_slice())
+}
 
 /// Writes a page anew with these rising pairs, and new pages behind it where they are many; the next new
 /// page then has the number `next`. It answers whether it did: not where a pair is none of the page, which

@@ -19,13 +19,14 @@ ghost use Rattle.ax_index.specs.Wanted.{HaveWanted};
 
 use crate::damage::damaged_at;
 use crate::looking::oldest_delta;
+use crate::out_of_memory::Memory;
 use crate::payload::payload_in;
 use crate::wanted::Wanted;
 use ax_cache::PageCache;
 use ax_disk::Disk;
-use ax_leaf::{Memory, PairCursor};
+use ax_leaf::PairCursor;
 use ax_pages::Page;
-use ax_pair::{Bytes, Pair};
+use ax_pair_list::PairList;
 use ax_store::{Store, StoreFault, StoreSlot};
 use std::alloc::Global;
 
@@ -37,14 +38,14 @@ pub(crate) fn folded<D: Disk, C: PageCache>(
     slot: &mut StoreSlot,
     page: u32,
     wanted: &Wanted<'_>,
-) -> Result<Vec<Pair>, StoreFault>
+) -> Result<PairList, StoreFault>
     requires page { page < length (store_contents store.old).terms }
     requires slot { IsSlotOf store.old slot.old }
     requires agrees { AgreesUnlessFailed C.pages (D.is_honest disk.old) store.old
         (D.history disk.old (D.attached disk.old)) }
-    ensures rise { IfOk result (λ kept. Rise kept.items) }
+    ensures rise { IfOk result (λ kept. Rise kept) }
     ensures has { IsTrue (D.is_honest disk.old) → (pairs : List Pair) → HasPairs (term_page page (store_contents store.old).terms) pairs
-        → IfOk result (λ kept. HaveWanted wanted.now pairs kept.items) }
+        → IfOk result (λ kept. HaveWanted wanted.now pairs kept) }
     ensures met { IsTrue (D.is_honest disk.old) → OnOk result (IsInGrammar (term_page page (store_contents store.old).terms)) }
     ensures told { IsTrue (D.is_honest disk.old) → IfErr result (TellsPart store.old) }
     ensures reads { Reads C.pages (D.is_honest disk.old) store.old store.new
@@ -64,7 +65,7 @@ pub(crate) fn folded<D: Disk, C: PageCache>(
         Err(fault) => return Err(fault),
     };
     for i in first..parts {
-        pairs = match merge_at(alloc, store, disk, slot, page, i, pairs) {
+        pairs = match merge_at(alloc, store, disk, slot, page, i, &pairs) {
             Ok(after) => after,
             Err(fault) => return Err(fault),
         };
@@ -80,13 +81,13 @@ fn base_pairs<D: Disk, C: PageCache>(
     slot: &mut StoreSlot,
     page: u32,
     wanted: &Wanted<'_>,
-) -> Result<Vec<Pair>, StoreFault>
+) -> Result<PairList, StoreFault>
     requires slot { IsSlotOf store.old slot.old }
     requires agrees { AgreesUnlessFailed C.pages (D.is_honest disk.old) store.old
         (D.history disk.old (D.attached disk.old)) }
-    ensures rise { IfOk result (λ kept. Rise kept.items) }
+    ensures rise { IfOk result (λ kept. Rise kept) }
     ensures has { IsTrue (D.is_honest disk.old) → (base : List Pair) → AreOfBase (term_page page (store_contents store.old).terms).base base
-        → IfOk result (λ kept. kept.items ≡ wanted_of wanted.now base) }
+        → IfOk result (λ kept. kept ≡ wanted_of wanted.now base) }
     ensures met { IsTrue (D.is_honest disk.old) → OnOk result ((base : List Pair) × AreOfBase (term_page page (store_contents store.old).terms).base base) }
     ensures told { IsTrue (D.is_honest disk.old) → IfErr result (TellsPart store.old) }
     ensures reads { Reads C.pages (D.is_honest disk.old) store.old store.new
@@ -100,7 +101,7 @@ fn base_pairs<D: Disk, C: PageCache>(
     ensures honest { D.is_honest disk.new ≡ D.is_honest disk.old }
 {
     if !store.has_base(page) {
-        return Ok(Vec::new(alloc));
+        return Ok(PairList::new(alloc));
     }
     let len = match store.read_term(disk, page, 0, slot) {
         Ok(len) => len,
@@ -119,13 +120,13 @@ fn leaf_pairs(
     alloc: Global,
     payload: &[u8],
     wanted: &Wanted<'_>,
-) -> Result<Option<Vec<Pair>>, Memory>
+) -> Result<Option<PairList>, Memory>
     ensures has { (base : List Pair) → IsBase payload.now base
-        → IfOk result (λ found. MatchOption found ⊥ (λ kept. kept.items ≡ wanted_of wanted.now base)) }
+        → IfOk result (λ found. MatchOption found ⊥ (λ kept. kept ≡ wanted_of wanted.now base)) }
     ensures met { IfOk result (λ found. IfSome found (λ kept. (base : List Pair) × IsBase payload.now base)) }
     ensures rise { IfOk result (λ found. MatchOption found
         ((base : List Pair) × IsBase payload.now base → ⊥)
-        (λ kept. Rise kept.items)) }
+        (λ kept. Rise kept)) }
 {
     let Some(leaf) = ax_leaf::check(payload) else {
         return Ok(None);
@@ -139,28 +140,17 @@ fn take_wanted(
     alloc: Global,
     mut cursor: PairCursor<'_>,
     wanted: &Wanted<'_>,
-) -> Result<Vec<Pair>, Memory>
-    ensures { IfOk result (λ kept. kept.items ≡ wanted_of wanted.now cursor.entry) }
+) -> Result<PairList, Memory>
+    ensures { IfOk result (λ kept. kept ≡ wanted_of wanted.now cursor.entry) }
 {
-    let mut kept = Vec::new(alloc);
+    let mut kept = PairList::new(alloc);
     let mut term = Vec::new(alloc);
     while let Some(number) = cursor.next(&mut term)? {
         if wanted.has(term.as_slice()) {
-            put_pair(alloc, &mut kept, term.as_slice(), number)?;
+            kept.push(term.as_slice(), number)?;
         }
     }
     Ok(kept)
-}
-
-/// Puts the pair of a term and a number at the end.
-fn put_pair(alloc: Global, pairs: &mut Vec<Pair>, term: &[u8], number: u32) -> Result<(), Memory>
-    ensures { OnOk result (pairs.new.items ≡ pairs.old.items ++ (record { term = term.now; number = number }) ∷ []) }
-{
-    let mut bytes = Vec::new(alloc);
-    bytes.extend_from_slice(term)?;
-    let term = Bytes::from_vec(bytes);
-    pairs.push(Pair { term, number })?;
-    Ok(())
 }
 
 /// The pairs after a delta of a page, of those before it.
@@ -171,17 +161,17 @@ fn merge_at<D: Disk, C: PageCache>(
     slot: &mut StoreSlot,
     page: u32,
     i: usize,
-    pairs: Vec<Pair>,
-) -> Result<Vec<Pair>, StoreFault>
+    pairs: &PairList,
+) -> Result<PairList, StoreFault>
     requires part { i < length (term_parts (term_page page (store_contents store.old).terms)) }
     requires delta { is_base_at (term_page page (store_contents store.old).terms) i ≡ false }
     requires slot { IsSlotOf store.old slot.old }
     requires agrees { AgreesUnlessFailed C.pages (D.is_honest disk.old) store.old
         (D.history disk.old (D.attached disk.old)) }
-    requires rise { Rise pairs.items }
-    ensures rise { IfOk result (λ after. Rise after.items) }
+    requires rise { Rise pairs.now }
+    ensures rise { IfOk result (λ after. Rise after) }
     ensures merged { IsTrue (D.is_honest disk.old) → (changes : List TermChange) → IsDelta (term_part page i (store_contents store.old).terms) changes
-        → IfOk result (λ after. IsMerge pairs.items changes after.items) }
+        → IfOk result (λ after. IsMerge pairs.now changes after) }
     ensures met { IsTrue (D.is_honest disk.old) → OnOk result ((changes : List TermChange) × IsDelta (term_part page i (store_contents store.old).terms) changes) }
     ensures told { IsTrue (D.is_honest disk.old) → IfErr result (TellsPart store.old) }
     ensures reads { Reads C.pages (D.is_honest disk.old) store.old store.new
@@ -210,15 +200,15 @@ fn merge_at<D: Disk, C: PageCache>(
 fn merge_payload(
     alloc: Global,
     payload: &[u8],
-    pairs: Vec<Pair>,
-) -> Result<Option<Vec<Pair>>, ax_delta::Memory>
-    requires { Rise pairs.items }
+    pairs: &PairList,
+) -> Result<Option<PairList>, ax_delta::Memory>
+    requires { Rise pairs.now }
     ensures merged { (changes : List TermChange) → IsDelta payload.now changes
-        → IfOk result (λ found. MatchOption found ⊥ (λ after. IsMerge pairs.items changes after.items)) }
+        → IfOk result (λ found. MatchOption found ⊥ (λ after. IsMerge pairs.now changes after)) }
     ensures met { IfOk result (λ found. IfSome found (λ after. (changes : List TermChange) × IsDelta payload.now changes)) }
     ensures rise { IfOk result (λ found. MatchOption found
         ((changes : List TermChange) × IsDelta payload.now changes → ⊥)
-        (λ after. Rise after.items)) }
+        (λ after. Rise after)) }
 {
     let Some(delta) = ax_delta::check(payload) else {
         return Ok(None);

@@ -22,7 +22,7 @@ ghost use Rattle.ax_index.specs.Planning.{IsUpTo, IsPagePlanned};
 ghost use Rattle.ax_index.specs.Plans.{HasNoDeltas};
 ghost use Rattle.ax_index.specs.Reads.{KeepsTaken, Reads, Reserves};
 
-use crate::bases::rewrite;
+use crate::bases::rewrite_list;
 use crate::folding::folded;
 use crate::looking::oldest_delta;
 use crate::plan::{as_number, reserve};
@@ -196,7 +196,7 @@ pub(crate) fn has_deltas<C>(store: &Store<C>, page: u32) -> bool
     store.parts(Page::Term(page)) > oldest_delta(store, page)
 }
 
-/// Writes a page anew with its pairs, and answers whether it did (`rewrite`).
+/// Writes a page anew with its pairs, and answers whether it did (`rewrite_list`).
 fn merge_whole<D: Disk, C: PageCache>(
     alloc: Global,
     store: &mut Store<C>,
@@ -234,7 +234,7 @@ fn merge_whole<D: Disk, C: PageCache>(
         Ok(pairs) => pairs,
         Err(fault) => return Err(fault),
     };
-    match rewrite(alloc, store, batch, next, page, pairs.as_slice()) {
+    match rewrite_list(alloc, store, batch, next, page, &pairs) {
         Ok(done) => Ok(done),
         Err(_) => Err(StoreFault::Memory),
     }

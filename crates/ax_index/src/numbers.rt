@@ -29,7 +29,7 @@ use crate::ranges::{is_within_some, least_start};
 use crate::wanted::Wanted;
 use ax_cache::PageCache;
 use ax_disk::Disk;
-use ax_pair::Pair;
+use ax_pair_list::PairList;
 use ax_store::{Store, StoreFault, StoreSlot};
 use ax_term::TermRange;
 use std::alloc::{AllocError, Global};
@@ -264,7 +264,7 @@ fn gather<D: Disk, C: PageCache>(
         Ok(pairs) => pairs,
         Err(fault) => return Err(fault),
     };
-    match put_numbers(numbers, pairs.as_slice(), ranges) {
+    match put_numbers(numbers, &pairs, ranges) {
         Ok(()) => Ok(()),
         Err(_) => Err(StoreFault::Memory),
     }
@@ -273,15 +273,17 @@ fn gather<D: Disk, C: PageCache>(
 /// Puts the numbers of the pairs whose terms are in the ranges at the end.
 fn put_numbers(
     numbers: &mut Vec<u32>,
-    pairs: &[Pair],
+    pairs: &PairList,
     ranges: &[TermRange],
 ) -> Result<(), AllocError>
     ensures { OnOk result (numbers.new.items ≡ numbers.old.items ++ numbers_of ranges.now pairs.now) }
 {
-    for pair in pairs {
-        if is_within_some(ranges, pair.term.as_slice()) {
-            numbers.push(pair.number)?;
+    for at in 0..pairs.len() {
+        let (term, number) = pairs.pair(at);
+        if !is_within_some(ranges, term) {
+            continue;
         }
+        numbers.push(number)?;
     }
     Ok(())
 }

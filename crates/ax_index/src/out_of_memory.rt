@@ -30,6 +30,12 @@ impl From<ax_leaf::Memory> for Memory {
     }
 }
 
+impl From<ax_pair_list::Memory> for Memory {
+    fn from(_error: ax_pair_list::Memory) -> Memory {
+        Memory
+    }
+}
+
 impl From<ax_store::Memory> for Memory {
     fn from(_error: ax_store::Memory) -> Memory {
         Memory

@@ -27,7 +27,7 @@ ghost use Rattle.ax_index.specs.Plans.{HasNoDeltas, IsPlan};
 ghost use Rattle.ax_index.specs.Reads.{KeepsTaken, Reads, Reserves};
 ghost use Rattle.std.specs.Option.{unwrap_or};
 
-use crate::bases::rewrite;
+use crate::bases::rewrite_list;
 use crate::choice::Choice;
 use crate::folding::folded;
 use crate::out_of_memory::Memory;
@@ -38,7 +38,7 @@ use crate::wanted::Wanted;
 use ax_cache::PageCache;
 use ax_delta::Change;
 use ax_disk::Disk;
-use ax_pair::Pair;
+use ax_pair_list::PairList;
 use ax_store::{Batch, Store, StoreFault, StoreSlot};
 use std::alloc::Global;
 
@@ -366,31 +366,31 @@ fn rewrite_changed<C>(
     batch: &mut Batch,
     next: &mut u32,
     page: u32,
-    pairs: Vec<Pair>,
+    pairs: PairList,
     changes: &[Change],
 ) -> Result<bool, Memory>
     requires page { page < length (store_contents store.now).terms }
-    requires pairs { Rise pairs.items }
+    requires pairs { Rise pairs }
     requires changes { Rise (changed_pairs changes.now) }
     ensures merged { (honest : Bool) (now : List TermPage) (earlier : List PartValue)
         → IsUpTo (low_pair page (store_contents store.now).terms) (store_contents store.now).terms now earlier
         → next.old ≡ length now
         → AllBelong (changed_pairs changes.now) page (store_contents store.now).terms
-        → (IsTrue honest → (some : List Pair) → HasPairs (term_page page (store_contents store.now).terms) some → (p : Pair) → has p pairs.items ≡ has p some)
+        → (IsTrue honest → (some : List Pair) → HasPairs (term_page page (store_contents store.now).terms) some → (p : Pair) → has p pairs ≡ has p some)
         → IfOk result (λ merged. merged ≡ true → IsPagePlanned honest page changes.now (store_contents store.now).terms now true next.new (λ number. 0) (batch_parts batch.old) (batch_parts batch.new)) }
     ensures left { IfOk result (λ merged. merged ≡ false → (batch_parts batch.new ≡ batch_parts batch.old) × (next.new ≡ next.old)) }
 {
     let pairs = changed(alloc, pairs, changes)?;
-    let done = rewrite(alloc, store, batch, next, page, pairs.as_slice())?;
+    let done = rewrite_list(alloc, store, batch, next, page, &pairs)?;
     Ok(done)
 }
 
 /// The pairs as rising changes make them.
-fn changed(alloc: Global, pairs: Vec<Pair>, changes: &[Change]) -> Result<Vec<Pair>, Memory>
-    requires pairs { Rise pairs.items }
+fn changed(alloc: Global, pairs: PairList, changes: &[Change]) -> Result<PairList, Memory>
+    requires pairs { Rise pairs }
     requires changes { Rise (changed_pairs changes.now) }
-    ensures rise { IfOk result (λ after. Rise after.items) }
-    ensures made { IfOk result (λ after. (p : Pair) → has p after.items ≡ unwrap_or (said_by p changes.now) (has p pairs.items)) }
+    ensures rise { IfOk result (λ after. Rise after) }
+    ensures made { IfOk result (λ after. (p : Pair) → has p after ≡ unwrap_or (said_by p changes.now) (has p pairs)) }
 {
     if changes.len() == 0 {
         return Ok(pairs);
@@ -399,6 +399,6 @@ fn changed(alloc: Global, pairs: Vec<Pair>, changes: &[Change]) -> Result<Vec<Pa
     let Some(delta) = ax_delta::check(payload.as_slice()) else {
         unreachable!()
     };
-    let after = ax_delta::merge(alloc, pairs, &delta)?;
+    let after = ax_delta::merge(alloc, &pairs, &delta)?;
     Ok(after)
 }

@@ -1,20 +1,18 @@
-use Rattle.std.proofs.Common.{◌≡◌, ◌∷◌, sym, ◌∙◌}
-use Rattle.std.specs.Vec.Iter.{into_iter_items}
+use Rattle.std.proofs.Common.{◌≤◌, ◌+◌, drop, length, arith}
+use Rattle.std.proofs.lemmas.List.{length-drop}
+use Rattle.ax_pair_list.proofs.Reading.{drop_one}
 use Rattle.ax_delta.proofs.Stepping.{merged_step, merged_end}
 use Rattle.ax_delta.proofs.merging.passed.Goals as goal
 
-pub loop-pair-preserved : goal.loop-pair-preserved
-loop-pair-preserved c =
-    let remaining : into_iter_items c.loop-pair.pair-iterator ≡ c.in-Some.pair ∷ into_iter_items c.next.new.self = c.in-Some.ensures.steps.0 in
-    record {
-      next = tt;
-      finite = tt;
-      ready = c.in_ok-put_pair.ensures.ready;
-      made = merged_step _ _ _ _ _ _ c.in-Some.pair (into_iter_items c.next.new.self) (into_iter_items c.loop-pair.pair-iterator) _ remaining
-          c.in_ok-met.ensures.put c.in_ok-put_pair.ensures.put c.loop-pair.invariant.made;
-    }
+pub loop-at-preserved : goal.loop-at-preserved
+loop-at-preserved c = record {
+  ready = c.in_ok-put_pair.ensures.ready;
+  made = merged_step _ _ _ _ _ _ _ (drop (c.loop-at.at + 1) c.args.pairs.now) (drop c.loop-at.at c.args.pairs.now) _
+      (drop_one c.args.pairs.now c.loop-at.at _ c.pair-number.ensures) c.in_ok-met.ensures.put c.in_ok-put_pair.ensures.put c.loop-at.invariant.made;
+}
 
 pub returns-clause-made : goal.returns-clause-made
 returns-clause-made c =
-    merged_end _ _ _ (into_iter_items c.loop-pair.pair-iterator) _
-    (sym c.loop-pair.pair-iterator.rest.ok.0 ∙ c.in-None.ensures.steps.0) c.in_ok-put_others.ensures c.loop-pair.invariant.made
+    let spent : length c.args.pairs.now ≤ c.loop-at.at = omega arith in
+    merged_end _ _ _ (drop c.loop-at.at c.args.pairs.now) _ (omega (arith, spent, length-drop c.loop-at.at c.args.pairs.now)) c.in_ok-put_others.ensures
+    c.loop-at.invariant.made

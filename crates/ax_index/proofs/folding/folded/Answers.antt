@@ -18,7 +18,7 @@ loop-i-init g c =
     let page = term_page c.args.page (store_contents c.args.store.now).terms in
     let first = c.in-Ok.ensures in
     record {
-      folded = λ honest. folded_start c.args.wanted.now page c.oldest_delta-first.result c.in-Ok.pairs.items c.oldest_delta-first.ensures (first.has honest);
+      folded = λ honest. folded_start c.args.wanted.now page c.oldest_delta-first.result c.in-Ok.pairs c.oldest_delta-first.ensures (first.has honest);
       rise = first.rise;
       base = first.met;
       deltas = λ honest. up_to_start page c.oldest_delta-first.result c.oldest_delta-first.ensures;
@@ -39,7 +39,7 @@ loop-i-preserved g c =
     let more = c.in-Ok-merge_at.ensures in
     let there : c.loop-i.i < length (term_parts page) = omega (arith, c.loop-i-test.true, c.parts-parts.ensures) in
     record {
-      folded = λ honest. folded_step c.args.wanted.now page c.loop-i.i (c.loop-i.i + 1) c.loop-i.pairs.items c.in-Ok-merge_at.after.items inv.from there refl
+      folded = λ honest. folded_step c.args.wanted.now page c.loop-i.i (c.loop-i.i + 1) c.loop-i.pairs c.in-Ok-merge_at.after inv.from there refl
           (λ deltas are. more.merged (subst IsTrue (sym inv.honest) honest) _
           (delta_there _ _ c.args.page deltas (same_terms _ _ inv.reads.same.same) are c.loop-i.i inv.from there))
           (inv.folded honest);
@@ -61,7 +61,7 @@ pub returns-clause-has : goal.returns-clause-has
 returns-clause-has g c = λ honest pairs of.
     let page = term_page c.args.page (store_contents c.args.store.now).terms in
     let inv = c.loop-i.invariant in
-    folded_end c.args.wanted.now page c.loop-i.i c.loop-i.pairs.items pairs (omega (arith, c.loop-i-test.false, c.parts-parts.ensures, inv.within))
+    folded_end c.args.wanted.now page c.loop-i.i c.loop-i.pairs pairs (omega (arith, c.loop-i-test.false, c.parts-parts.ensures, inv.within))
     inv.rise (inv.folded honest) of
 
 pub returns-clause-met : goal.returns-clause-met

@@ -14,8 +14,8 @@ use Rattle.ax_index.proofs.folding.folded.Given as goal
 
 abbrev pub invariant-loop-i : goal.invariant-loop-i
 invariant-loop-i g l = record {
-  folded : IsTrue (g.D.Disk.is_honest l.fn.disk) → IsFolded l.wanted (term_page l.page (store_contents l.fn.store).terms) l.i l.pairs.items;
-  rise : Rise l.pairs.items;
+  folded : IsTrue (g.D.Disk.is_honest l.fn.disk) → IsFolded l.wanted (term_page l.page (store_contents l.fn.store).terms) l.i l.pairs;
+  rise : Rise l.pairs;
   base : IsTrue (g.D.Disk.is_honest l.fn.disk) → (base : List Pair) × AreOfBase (term_page l.page (store_contents l.fn.store).terms).base base;
   deltas : IsTrue (g.D.Disk.is_honest l.fn.disk) → AreDeltasUpTo (term_page l.page (store_contents l.fn.store).terms) l.i;
   from : first_delta (term_page l.page (store_contents l.fn.store).terms) ≤ l.i;

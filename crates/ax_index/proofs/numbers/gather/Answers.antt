@@ -1,8 +1,6 @@
-use Rattle.std.proofs.Common.{ap, sym, ◌∙◌, ◌++◌, List}
-use Rattle.ax_pair.specs.declared.pair.Pair.{Pair}
+use Rattle.std.proofs.Common.{sym, ◌∙◌}
 use Rattle.ax_pages.specs.Contents.{term_page}
 use Rattle.ax_store.specs.Store.{store_contents}
-use Rattle.ax_index.specs.Reading.{numbers_of}
 use Rattle.ax_index.proofs.BarePages.{bare_gathers}
 use Rattle.ax_index.proofs.NumberLists.{gathers}
 use Rattle.ax_index.proofs.GrammarLemmas.{bare_met}
@@ -10,8 +8,8 @@ use Rattle.ax_index.proofs.numbers.gather.Goals as goal
 
 pub returns-in-Ok-put_numbers-clause-numbers : goal.returns-in-Ok-put_numbers-clause-numbers
 returns-in-Ok-put_numbers-clause-numbers g c = λ told pairs of.
-    gathers c.args.ranges.now pairs c.in-Ok.pairs.items c.args.numbers.now.items c.put_numbers.new.numbers.items (c.in-Ok.ensures.has told pairs of).same
-    (c.in-Ok-put_numbers.ensures ∙ ap (λ (ps : List Pair). c.args.numbers.now.items ++ numbers_of c.args.ranges.now ps) c.as_slice.ensures.value)
+    gathers c.args.ranges.now pairs c.in-Ok.pairs c.args.numbers.now.items c.put_numbers.new.numbers.items (c.in-Ok.ensures.has told pairs of).same
+    c.in-Ok-put_numbers.ensures
 
 pub returns-then-not-has_deltas-clause-numbers : goal.returns-then-not-has_deltas-clause-numbers
 returns-then-not-has_deltas-clause-numbers g c = λ told pairs of.

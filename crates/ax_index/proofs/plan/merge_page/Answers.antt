@@ -5,7 +5,7 @@ use Rattle.ax_index.proofs.plan.merge_page.Goals as goal
 
 pub returns-in-Ok-rewrite_changed-clause-merged : goal.returns-in-Ok-rewrite_changed-clause-merged
 returns-in-Ok-rewrite_changed-clause-merged g c = λ now earlier up next belong done.
-    planned_there c.args.page c.args.changes.now now earlier _ _ c.args.next.now c.rewrite_changed.new.next c.in-Ok.pairs.items _
+    planned_there c.args.page c.args.changes.now now earlier _ _ c.args.next.now c.rewrite_changed.new.next c.in-Ok.pairs _
     (store_contents c.args.store.now).terms
     (ap (λ pages. pages.contents.terms) c.in-Ok.ensures.reads.same.same.pages)
     (λ up_here next_here belong_here alike. c.in-Ok-rewrite_changed.ensures.merged

@@ -1,0 +1,16 @@
+//! Pairs whose terms stand in one buffer, one after another, once where neighbours have the same. So a
+//! list of them takes memory as it grows, with no allocation for each pair. Stands on `ax_pair`, whose
+//! pairs they are, and on `ax_tree`, whose lists of bytes the terms of pairs of their own are.
+//!
+//! Its one contract: a `PairList` is seen as the list of its pairs. `push` puts one at its end,
+//! `pair` reads one, and `to_pairs` gives them all, each with a term of its own.
+#![tactic(auto)]
+
+mod out_of_memory;
+mod pair_list;
+
+pub use out_of_memory::Memory;
+pub use pair_list::PairList;
+
+#[cfg(test)]
+mod tests;
