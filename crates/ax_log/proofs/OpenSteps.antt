@@ -65,7 +65,7 @@ broken_told slot image history (Damaged extent at) counts known is = record {
       (record { slot = slot; area_is = refl; counts = counts; known = known; broken = is.1 });
 }
 broken_told slot image history (Newer version) counts known is = absurd is
-broken_told slot image history Memory counts known is = tt
+broken_told slot image history Memory counts known is = record { slot = slot; counts = counts; known = known }
 
 -- ---- a fresh store
 

@@ -8,6 +8,9 @@ use Rattle.ax_disk.specs.model.Image.{Image}
 use Rattle.ax_disk.specs.model.Pending.{MayLeave}
 use Rattle.ax_disk.specs.model.Moments.{History}
 use Rattle.ax_disk.specs.model.Stays.{Stays}
+use Rattle.ax_area.specs.declared.root.Counting.{Counting}
+use Rattle.ax_area.specs.declared.root.RootChoice.TheVariants.{Counts}
+use Rattle.ax_area.specs.Root.{IsRoot, IsKnown}
 use Rattle.ax_area.specs.Image.{IsFresh, IsLive, IsNewer, IsBrokenImage}
 use Rattle.ax_pages.specs.Area.{extent_number}
 use Rattle.ax_pages.specs.declared.numbers.TheConstants.{NEWEST_VERSION}
@@ -32,17 +35,27 @@ pub record IsDamagedAt (before : Image) (extent at : ℕ) : Type 0 where
   pub number : extent ≡ extent_number list
   pub damaged : IsBrokenImage NEWEST_VERSION before list at
 
+-- The root of the image before names an area of a version that is known: only for such an area memory is used.
+pub record NamesArea (before : Image) : Type 0 where
+  pub slot : Counting
+  pub counts : IsRoot before.root (Counts slot)
+  pub known : IsKnown NEWEST_VERSION slot
+
 -- what each answer says
 abbrev pub Tells : Result Log LogFault → Image → History → Type 0
 Tells (Ok log) before history = IsOpened log before history
 Tells (Err Disk) before history = Unit {0}
 Tells (Err (Damaged extent at)) before history = IsDamagedAt before extent at
 Tells (Err (Newer version)) before history = IsNewer NEWEST_VERSION version before
-Tells (Err Memory) before history = Unit {0}
+Tells (Err Memory) before history = NamesArea before
 
 -- This is the answer, but that the disk may fail, and memory run out.
 abbrev pub IsAnswer : LogFault → Result Log LogFault → Type 0
 IsAnswer fault result = (result ≡ Err fault) ⊎ ((result ≡ Err Disk) ⊎ (result ≡ Err Memory))
+
+-- This is the answer, but that the disk may fail.
+abbrev pub IsAnswerUnlessDisk : LogFault → Result Log LogFault → Type 0
+IsAnswerUnlessDisk fault result = (result ≡ Err fault) ⊎ (result ≡ Err Disk)
 
 -- Nothing was changed: reads give what they gave, and a crash leaves nothing that it might not have
 -- left before.

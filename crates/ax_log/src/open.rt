@@ -1,6 +1,7 @@
 //! Opening a log: the frames that a crash left are found, or a fresh store is formed.
 
 ghost use Rattle.std.specs.Prelude.{◌≡◌, ◌^◌, ◌≤◌, ℕ, List, [], IsTrue, IfOk, OnOk};
+ghost use Rattle.ax_disk.specs.declared.extent.Extent.TheVariants.{Root};
 ghost use Rattle.ax_disk.specs.model.Pending.{all_settled};
 ghost use Rattle.ax_disk.specs.model.Calls.{Idles};
 ghost use Rattle.ax_disk.specs.model.Stays.{Stays, SinceBarrier};
@@ -10,7 +11,7 @@ ghost use Rattle.ax_area.specs.Image.{IsFresh, IsBrokenImage, IsNewer, HasFrames
 ghost use Rattle.ax_pages.specs.Area.{extent_number};
 ghost use Rattle.ax_log.specs.Faults.{FailsOtherwise, HasDiskCause};
 ghost use Rattle.ax_log.specs.Forming.{IsForming};
-ghost use Rattle.ax_log.specs.Opening.{Tells, IsAnswer, Keeps};
+ghost use Rattle.ax_log.specs.Opening.{Tells, IsAnswer, IsAnswerUnlessDisk, Keeps};
 
 use crate::fault::LogFault;
 use crate::form::form;
@@ -32,13 +33,17 @@ impl Log {
         ensures tells { IsTrue (D.is_honest disk.old)
             → Tells result (D.history disk.old (D.attached disk.old)).reads (D.history disk.new (D.attached disk.new)) }
 
-        // Wherever the store is damaged, or of a later version, that is the answer.
+        // Wherever the store is damaged, or of a later version, that is the answer. Memory is used only where an
+        // area is read.
         ensures damaged { IsTrue (D.is_honest disk.old) → (ext : Extent) → (at : ℕ)
             → IsBrokenImage NEWEST_VERSION (D.history disk.old (D.attached disk.old)).reads ext at
             → IsAnswer (LogFault.Damaged (extent_number ext) at) result }
+        ensures damaged_root { IsTrue (D.is_honest disk.old) → (at : ℕ)
+            → IsBrokenImage NEWEST_VERSION (D.history disk.old (D.attached disk.old)).reads Root at
+            → IsAnswerUnlessDisk (LogFault.Damaged (extent_number Root) at) result }
         ensures newer { IsTrue (D.is_honest disk.old) → (version : ℕ)
             → IsNewer NEWEST_VERSION version (D.history disk.old (D.attached disk.old)).reads
-            → IsAnswer (LogFault.Newer version) result }
+            → IsAnswerUnlessDisk (LogFault.Newer version) result }
 
         // Only a fresh store is changed, and no store where the answer is an error other than of the disk.
         ensures unchanged { IsTrue (D.is_honest disk.old)

@@ -1,6 +1,6 @@
 -- What an image says is told by its log frames: images with the same frames say the same, and frames that are taken
 -- into pages say the contents of these.
-use Rattle.std.proofs.Common.{◌≡◌, ◌⊎◌, inl, inr, ℕ, List, [], Some, refl, sym, ap, subst, ◌∙◌}
+use Rattle.std.proofs.Common.{◌≡◌, inl, inr, ℕ, List, [], Some, refl, sym, ap, subst, ◌∙◌}
 use Rattle.ax_disk.specs.model.Image.{Image}
 use Rattle.ax_area.specs.Contents.{Contents, no_contents}
 use Rattle.ax_area.specs.Image.{HasFrames, Says}

@@ -14,6 +14,7 @@ pub mod CacheLemmas
 pub mod FramesSay
 pub mod StoreLemmas
 pub mod OpenLemmas
+pub mod OpenAnswers
 pub mod CommitLemmas
 pub mod AheadLemmas
 pub mod NextHeld
@@ -22,3 +23,4 @@ pub mod TermOrder
 pub mod PageBeforeLemmas
 pub mod TermBases
 pub mod ChangedRows
+pub mod ManyParts

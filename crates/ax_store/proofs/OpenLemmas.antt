@@ -1,5 +1,5 @@
 -- Opening a store: what its log answers, told of what images say, and where it is damaged.
-use Rattle.std.proofs.Common.{◌≡◌, ◌⊎◌, inl, inr, ⊎_elim, ℕ, false, List, [], ◌∷◌, ◌++◌, Err, refl, sym, subst, ◌∙◌}
+use Rattle.std.proofs.Common.{◌≡◌, inr, ⊎_elim, ℕ, false, List, [], ◌∷◌, ◌++◌, Err, refl, sym, subst, ◌∙◌}
 use Rattle.std.specs.Prelude.{◌≢◌}
 use Rattle.std.specs.FinMap as map
 use Rattle.ax_disk.specs.declared.extent.Extent.{Extent}
@@ -39,7 +39,7 @@ use Rattle.ax_store.specs.Faults.{IsRefusal, HasDiskCause}
 use Rattle.ax_store.specs.Loading.{nothing_kept, TakesOn, TellsLoad}
 use Rattle.ax_store.specs.Store.{IsOpened, TellsFault, of_log}
 use Rattle.ax_store.proofs.CacheLemmas.{none_held}
-use Rattle.ax_store.proofs.FramesSay.{Tell, some_frames, told_by, says_by, taken_has}
+use Rattle.ax_store.proofs.FramesSay.{some_frames, told_by, says_by, taken_has}
 use Rattle.ax_store.proofs.StoreLemmas.{barrier_weaken}
 
 -- ---- what was told before
@@ -124,7 +124,8 @@ module _ (l : Log) (before : Image) (mid : History) (opened : opening.IsOpened l
   -- a spoiled area is one that counts
   spoiled_live : (at : ℕ) → parts_lead.AreSpoiled opened.frames parts.no_contents at → IsLive NEWEST_VERSION (log_slot l) opened.frames before
   spoiled_live at spoiled =
-      ⊎_elim (λ (fresh : IsFresh before × (opened.frames ≡ []) × (log_slot l ≡ formed_slot) × (mid.reads ≡ formed_image)). absurd (no_spoiled opened.frames at spoiled fresh.1))
+      ⊎_elim (λ (fresh : IsFresh before × (opened.frames ≡ []) × (log_slot l ≡ formed_slot) × (mid.reads ≡ formed_image)).
+      absurd (no_spoiled opened.frames at spoiled fresh.1))
       (λ (live : IsLive NEWEST_VERSION (log_slot l) opened.frames before). live) opened.from
 
   spoiled_area : (at : ℕ) → parts_lead.AreSpoiled opened.frames parts.no_contents at → IsDamaged NEWEST_VERSION before (log_area l) at

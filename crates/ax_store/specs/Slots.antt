@@ -1,6 +1,6 @@
 -- The slots of a store: which are its own, and what is in them.
 -- It is this project's own; it comes from no public document.
-use Rattle.std.specs.Prelude.{◌≡◌, ◌≢◌, ℕ, false, List, [], length, take, drop, replicate, slice_index_or, Option, Some, None}
+use Rattle.std.specs.Prelude.{◌≡◌, ◌≢◌, ℕ, false, List, [], length, take, replicate, slice_index_or, Option, Some, None}
 use Rattle.ax_pages.specs.declared.page.Page.{Page}
 use Rattle.ax_pages.specs.declared.page.Page.TheVariants.{Meta, Policy, Document, Term}
 use Rattle.ax_pages.specs.Contents as parts

@@ -1,6 +1,6 @@
 -- A store as contracts see it, when it agrees with a disk, and what opening it answers.
 -- It is this project's own; it comes from no public document.
-use Rattle.std.specs.Prelude.{◌≡◌, ℕ, Bool, false, List, ◌++◌, Result, Ok, Err, IsTrue}
+use Rattle.std.specs.Prelude.{◌≡◌, ◌⊎◌, ℕ, Bool, false, List, ◌++◌, Result, Ok, Err, IsTrue}
 use Rattle.ax_disk.specs.declared.extent.Extent.{Extent}
 use Rattle.ax_disk.specs.model.Image.{Image}
 use Rattle.ax_disk.specs.model.Moments.{History}
@@ -131,6 +131,14 @@ TellsFault Memory before = Unit {0}
 abbrev pub TellsStore : {C : Type 0} → (C → CachedPages) → Result (Store C) StoreFault → Image → History → Type 0
 TellsStore pages (Ok store) before history = IsOpened pages store before history
 TellsStore pages (Err fault) before history = TellsFault fault before
+
+-- This is the answer, but that the disk may fail, and memory run out.
+abbrev pub IsAnswer : {C : Type 0} → StoreFault → Result (Store C) StoreFault → Type 0
+IsAnswer fault result = (result ≡ Err fault) ⊎ ((result ≡ Err Disk) ⊎ (result ≡ Err Memory))
+
+-- This is the answer, but that the disk may fail.
+abbrev pub IsAnswerUnlessDisk : {C : Type 0} → StoreFault → Result (Store C) StoreFault → Type 0
+IsAnswerUnlessDisk fault result = (result ≡ Err fault) ⊎ (result ≡ Err Disk)
 
 -- a fault of the log as one of the store
 abbrev pub of_log : LogFault → StoreFault

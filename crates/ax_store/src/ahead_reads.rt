@@ -1,6 +1,6 @@
 //! Reading texts ahead of a scan of documents in the order of their numbers.
 
-ghost use Rattle.std.specs.Prelude.{◌≡◌, ◌⊎◌, ◌+◌, ◌≤◌, true, false, Err, IsTrue, IfOk, IfErr, OnOk};
+ghost use Rattle.std.specs.Prelude.{◌≡◌, ◌⊎◌, ◌+◌, ◌≤◌, max, true, false, Err, IsTrue, IfOk, IfErr, OnOk};
 ghost use Rattle.std.specs.FinMap as map;
 ghost use Rattle.ax_disk.specs.model.Calls.{Idles};
 ghost use Rattle.ax_log.specs.Log.{log_end};
@@ -12,7 +12,7 @@ use crate::fault::StoreFault;
 use crate::read_ahead::ReadAhead;
 use crate::slot_reads::text_place;
 use crate::store::Store;
-use crate::together::Stretch;
+use crate::together::{Stretch, WINDOW_BYTES};
 use ax_cache::PageCache;
 use ax_disk::Disk;
 
@@ -78,9 +78,10 @@ impl<C: PageCache> Store<C> {
 
 impl<C> Store<C> {
     /// How many bytes to read for a text: its own, or where it is the next one of a scan also those of
-    /// the next numbers that lie together with it. The log has them all where it has the text.
+    /// the next numbers that lie together with it, at most a window. The log has them all where it has the text.
     fn span_from(&self, ahead: &ReadAhead, number: u32, from: u64, len: usize) -> usize
         ensures least { len ≤ result }
+        ensures most { result ≤ max len WINDOW_BYTES }
         ensures within { from + len ≤ log_end self.now.log → from + result ≤ log_end self.now.log }
     {
         if !ahead.is_next(from, len) {

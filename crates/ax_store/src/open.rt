@@ -1,22 +1,24 @@
 //! Opening a store.
 
 ghost use Rattle.std.specs.Prelude.{◌≡◌, ℕ, List, IsTrue, IfOk, OnOk, false};
+ghost use Rattle.ax_disk.specs.declared.extent.Extent.TheVariants.{Root};
 ghost use Rattle.ax_disk.specs.model.Stays.{Rests, SinceBarrier};
 ghost use Rattle.ax_area.specs.Contents.{Contents};
-ghost use Rattle.ax_area.specs.Image.{IsFresh, Says};
+ghost use Rattle.ax_area.specs.Image.{IsDamaged, IsFresh, IsNewer, Says};
 ghost use Rattle.ax_area.specs.Told.{Told};
+ghost use Rattle.ax_pages.specs.Area.{extent_number};
 ghost use Rattle.ax_pages.specs.declared.numbers.TheConstants.{NEWEST_VERSION};
 ghost use Rattle.ax_log.specs.Opening.{Keeps};
 ghost use Rattle.ax_store.specs.Faults.{IsRefused, HasDiskCause};
 ghost use Rattle.std.specs.FinMap as map;
 ghost use Rattle.ax_store.specs.Slots.{HasAllFree};
-ghost use Rattle.ax_store.specs.Store.{TellsStore, store_failed};
+ghost use Rattle.ax_store.specs.Store.{TellsStore, IsAnswer, IsAnswerUnlessDisk, store_failed};
 
 use crate::fault::{StoreFault, store_fault};
 use crate::load::load;
 use crate::store::Store;
 use ax_cache::PageCache;
-use ax_disk::Disk;
+use ax_disk::{Disk, Extent};
 use ax_log::Log;
 use ax_pool::Pool;
 use std::alloc::Global;
@@ -40,6 +42,19 @@ impl<C: PageCache + Drop> Store<C> {
         requires empty { C.pages cache ≡ map.empty }
         ensures tells { IsTrue (D.is_honest disk.old)
             → TellsStore C.pages result (D.history disk.old (D.attached disk.old)).reads (D.history disk.new (D.attached disk.new)) }
+
+        // Wherever the store is damaged, or of a later version, that is the answer. Over a damaged root, and over a
+        // later version, no memory is used.
+        ensures damaged { IsTrue (D.is_honest disk.old) → (extent : Extent) → (at : ℕ)
+            → IsDamaged NEWEST_VERSION (D.history disk.old (D.attached disk.old)).reads extent at
+            → IsAnswer (StoreFault.Damaged (extent_number extent) at) result }
+        ensures damaged_root { IsTrue (D.is_honest disk.old) → (at : ℕ)
+            → IsDamaged NEWEST_VERSION (D.history disk.old (D.attached disk.old)).reads Root at
+            → IsAnswerUnlessDisk (StoreFault.Damaged (extent_number Root) at) result }
+        ensures newer { IsTrue (D.is_honest disk.old) → (version : ℕ)
+            → IsNewer NEWEST_VERSION version (D.history disk.old (D.attached disk.old)).reads
+            → IsAnswerUnlessDisk (StoreFault.Newer version) result }
+
         ensures slots { IfOk result HasAllFree }
         ensures works { IfOk result (λ store. store_failed store ≡ false) }
         ensures refused { IsTrue (D.is_honest disk.old) → IsRefused result

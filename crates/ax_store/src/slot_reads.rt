@@ -251,8 +251,10 @@ impl<C: PageCache> Store<C> {
         Ok(Some(len))
     }
 
-    /// The text of a document. `None` exactly where the number is not held. It counts one step.
-    /// `Disk` where a read failed or the store has failed before; `Memory` where there is no room for the text.
+    /// The text of a document, as a vector of the caller's own. `None` exactly where the number is not
+    /// held. It counts one step. `Disk` where a read failed or the store has failed before; `Memory`
+    /// where there is no room for the text. It serves a caller that has no slot and no `ReadAhead`; of
+    /// this repository the tests of this crate alone call it, since queries read texts by `read_ahead`.
     pub fn fetch_text<D: Disk, L: Ledger>(
         &mut self,
         alloc: Global,

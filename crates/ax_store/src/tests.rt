@@ -5,6 +5,7 @@ ghost use Rattle.std.specs.FinMap as map;
 ghost use Rattle.ax_frame.specs.Part.{part_value};
 ghost use Rattle.ax_store.specs.Store.{Agrees, AgreesUnlessFailed};
 
+mod many_parts;
 mod reading_ahead;
 
 use crate::{Batch, Head, Store, StoreFault};
@@ -113,8 +114,13 @@ fn sixty_four_slots_are_taken(rt: HostRuntime) -> Result<(), Fail> {
 }
 
 fn empty_disk(alloc: Global) -> Result<MemDisk, ax_disk::Memory> {
+    room_for(alloc, 1000)
+}
+
+/// A fresh disk with room for so many bytes.
+fn room_for(alloc: Global, bytes: usize) -> Result<MemDisk, ax_disk::Memory> {
     let (root, a, b) = (Vec::new(alloc), Vec::new(alloc), Vec::new(alloc));
-    MemDisk::make(alloc, root, a, b, 1000, 100, Vec::new(alloc))
+    MemDisk::make(alloc, root, a, b, bytes, 100, Vec::new(alloc))
 }
 
 /// Whether a document is committed to the store of a disk.

@@ -3,6 +3,7 @@
 ghost use Rattle.std.specs.Prelude.{◌≡◌, ◌≤◌, ℕ, IsTrue, length};
 ghost use Rattle.ax_store.specs.ReadAhead.{AgreesAheadUnlessFailed};
 
+use super::room_for;
 use crate::batch::Batch;
 use crate::{ReadAhead, Store};
 use ax_cache::{NoPages, PageCache};
@@ -70,6 +71,21 @@ fn a_text_across_the_end_begins_a_window(rt: HostRuntime) -> Result<(), Fail> {
     Ok(())
 }
 
+/// A text of the largest size is read: with the number of its policy it fills a part.
+#[test]
+fn a_text_of_the_largest_size_is_read(rt: HostRuntime) -> Result<(), Fail> {
+    let alloc = rt.alloc();
+    let mut disk = room_for(alloc, 200_000)?;
+    assert!(rt; puts_texts(alloc, &mut disk, 2, 65_535, 0));
+    let opening = reads_for(alloc, &mut disk, &[], 65_535);
+    assert!(rt; opening.is_some());
+    assert_eq!(rt;
+        reads_for(alloc, &mut disk, &[1, 2], 65_535),
+        more(opening, 1)
+    );
+    Ok(())
+}
+
 /// A number that is not held has no text, and is not looked for on the disk.
 #[test]
 fn a_number_that_is_not_held_has_no_text(rt: HostRuntime) -> Result<(), Fail> {
@@ -105,12 +121,6 @@ fn failing_copy(alloc: Global, disk: &MemDisk, call: u64) -> Result<MemDisk, ax_
     let b = Vec::from_slice(alloc, disk.bytes(Extent::B))?;
     let failing = vec![in alloc; call; 1]?;
     MemDisk::make(alloc, root, a, b, 100, 100, failing)
-}
-
-/// A fresh disk with room for so many bytes.
-fn room_for(alloc: Global, bytes: usize) -> Result<MemDisk, ax_disk::Memory> {
-    let (root, a, b) = (Vec::new(alloc), Vec::new(alloc), Vec::new(alloc));
-    MemDisk::make(alloc, root, a, b, bytes, 100, Vec::new(alloc))
 }
 
 /// So many more.

@@ -1,10 +1,11 @@
 use Rattle.std.proofs.Common.{inl, inr, refl, sym, ◌∙◌, subst}
+use Rattle.ax_disk.specs.declared.extent.Extent.TheVariants.{Root}
 use Rattle.ax_disk.specs.model.Image.{Image}
 use Rattle.ax_disk.specs.laws.StageLaws.{barrier_fails, barrier_passed}
 use Rattle.ax_pages.specs.declared.numbers.TheConstants.{NEWEST_VERSION}
 use Rattle.ax_area.specs.Image.{IsFresh, IsBrokenImage, IsNewer, HasFrames}
 use Rattle.ax_log.specs.Forming.{IsForming}
-use Rattle.ax_log.specs.OpeningLaws.{damaged_exactly, newer_exactly}
+use Rattle.ax_log.specs.OpeningLaws.{damaged_exactly, damaged_root_exactly, newer_exactly}
 use Rattle.ax_log.proofs.OpenSteps.{sync_keeps_on}
 use Rattle.ax_log.proofs.log.Log.open_log.Goals as goal
 
@@ -47,6 +48,13 @@ returns-clause-damaged g c = λ honest ext at damaged.
     (subst (λ (i : Image). IsBrokenImage NEWEST_VERSION i ext at) (sym same) damaged)
     (c.recover.ensures.tells (c.sync.ensures.honest ∙ honest))
 
+pub returns-clause-damaged_root : goal.returns-clause-damaged_root
+returns-clause-damaged_root g c = λ honest at damaged.
+    let same = (c.sync.ensures.lists honest).reads in
+    damaged_root_exactly c.recover.result _ _ at
+    (subst (λ (i : Image). IsBrokenImage NEWEST_VERSION i Root at) (sym same) damaged)
+    (c.recover.ensures.tells (c.sync.ensures.honest ∙ honest))
+
 pub returns-clause-newer : goal.returns-clause-newer
 returns-clause-newer g c = λ honest version newer.
     let same = (c.sync.ensures.lists honest).reads in
@@ -57,8 +65,11 @@ returns-clause-newer g c = λ honest version newer.
 pub returns-in_default-clause-damaged : goal.returns-in_default-clause-damaged
 returns-in_default-clause-damaged g c = λ honest ext at damaged. inr (inl refl)
 
+pub returns-in_default-clause-damaged_root : goal.returns-in_default-clause-damaged_root
+returns-in_default-clause-damaged_root g c = λ honest at damaged. inr refl
+
 pub returns-in_default-clause-newer : goal.returns-in_default-clause-newer
-returns-in_default-clause-newer g c = λ honest version newer. inr (inl refl)
+returns-in_default-clause-newer g c = λ honest version newer. inr refl
 
 pub returns-in_default-clause-forming : goal.returns-in_default-clause-forming
 returns-in_default-clause-forming g c = λ honest fresh.

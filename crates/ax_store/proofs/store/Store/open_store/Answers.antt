@@ -1,9 +1,13 @@
-use Rattle.std.proofs.Common.{sym, subst, refl}
+use Rattle.std.proofs.Common.{inr, Err, sym, subst, refl}
 use Rattle.std.specs.Prelude.{IsTrue}
+use Rattle.ax_disk.specs.declared.extent.Extent.TheVariants.{Root}
 use Rattle.ax_disk.specs.model.Image.{Image}
+use Rattle.ax_log.specs.declared.fault.LogFault.TheVariants as by_log
+use Rattle.ax_pages.specs.Area.{extent_number}
 use Rattle.ax_store.specs.Store.{TellsFault}
 use Rattle.ax_store.specs.declared.fault.StoreFault.{StoreFault}
 use Rattle.ax_store.proofs.OpenLemmas.{keeps_idle, says_since, says_since_on, says_rest, load_opened, load_refused, load_keeps, refused_store}
+use Rattle.ax_store.proofs.OpenAnswers.{damaged_exactly, log_answer, opened_known, opened_whole_root}
 use Rattle.ax_store.proofs.store.Store.open_store.Goals as goal
 
 pub returns-in-Err-clause-any_moment : goal.returns-in-Err-clause-any_moment
@@ -74,3 +78,56 @@ returns-in-Err-clause-tells g c = λ honest.
     let before : Image = (g.D.Disk.history c.args.disk.now (g.D.Disk.attached c.args.disk.now)).reads in
     subst (λ (fault : StoreFault). TellsFault fault before) (sym c.store_fault.ensures)
     (refused_store c.in-Err.fault before _ (c.in-Err.ensures.tells honest))
+
+pub returns-in-Err-clause-damaged : goal.returns-in-Err-clause-damaged
+returns-in-Err-clause-damaged g c = λ honest ext at damaged.
+    let history = g.D.Disk.history c.open_log.new.disk (g.D.Disk.attached c.open_log.new.disk) in
+    damaged_exactly g.C.PageCache.pages (Err c.store_fault.result) _ history ext at damaged
+    (returns-in-Err-clause-tells g c honest)
+
+pub returns-in-Err-clause-damaged_root : goal.returns-in-Err-clause-damaged_root
+returns-in-Err-clause-damaged_root g c = λ honest at damaged.
+    log_answer c.in-Err.fault (by_log.Damaged (extent_number Root) at) c.store_fault.result c.store_fault.ensures
+    (c.in-Err.ensures.damaged_root honest at damaged)
+
+pub returns-in-Err-clause-newer : goal.returns-in-Err-clause-newer
+returns-in-Err-clause-newer g c = λ honest version newer.
+    log_answer c.in-Err.fault (by_log.Newer version) c.store_fault.result c.store_fault.ensures
+    (c.in-Err.ensures.newer honest version newer)
+
+pub returns-in-Ok-make-clause-damaged : goal.returns-in-Ok-make-clause-damaged
+returns-in-Ok-make-clause-damaged g c = λ honest ext at damaged.
+    damaged_exactly g.C.PageCache.pages _ _ _ ext at damaged (returns-in-Ok-make-clause-tells g c honest)
+
+pub returns-in-Ok-make-clause-damaged_root : goal.returns-in-Ok-make-clause-damaged_root
+returns-in-Ok-make-clause-damaged_root g c = λ honest at damaged.
+    absurd (opened_whole_root c.in-Ok.log _ _ (c.in-Ok.ensures.tells honest) at damaged)
+
+pub returns-in-Ok-make-clause-newer : goal.returns-in-Ok-make-clause-newer
+returns-in-Ok-make-clause-newer g c = λ honest version newer.
+    absurd (opened_known c.in-Ok.log _ _ (c.in-Ok.ensures.tells honest) version newer)
+
+pub returns-in-Err-load-clause-damaged : goal.returns-in-Err-load-clause-damaged
+returns-in-Err-load-clause-damaged g c = λ honest ext at damaged.
+    let history = g.D.Disk.history c.load.new.disk (g.D.Disk.attached c.load.new.disk) in
+    damaged_exactly g.C.PageCache.pages (Err c.in-Err-load.fault) _ history ext at damaged
+    (returns-in-Err-load-clause-tells g c honest)
+
+pub returns-in-Err-load-clause-damaged_root : goal.returns-in-Err-load-clause-damaged_root
+returns-in-Err-load-clause-damaged_root g c = λ honest at damaged.
+    absurd (opened_whole_root c.in-Ok.log _ _ (c.in-Ok.ensures.tells honest) at damaged)
+
+pub returns-in-Err-load-clause-newer : goal.returns-in-Err-load-clause-newer
+returns-in-Err-load-clause-newer g c = λ honest version newer.
+    absurd (opened_known c.in-Ok.log _ _ (c.in-Ok.ensures.tells honest) version newer)
+
+pub returns-in-Err-make-clause-damaged : goal.returns-in-Err-make-clause-damaged
+returns-in-Err-make-clause-damaged g c = λ honest ext at damaged. inr (inr refl)
+
+pub returns-in-Err-make-clause-damaged_root : goal.returns-in-Err-make-clause-damaged_root
+returns-in-Err-make-clause-damaged_root g c = λ honest at damaged.
+    absurd (opened_whole_root c.in-Ok.log _ _ (c.in-Ok.ensures.tells honest) at damaged)
+
+pub returns-in-Err-make-clause-newer : goal.returns-in-Err-make-clause-newer
+returns-in-Err-make-clause-newer g c = λ honest version newer.
+    absurd (opened_known c.in-Ok.log _ _ (c.in-Ok.ensures.tells honest) version newer)
