@@ -1,3 +1,5 @@
 mod expressions;
 mod functions;
 mod grammar;
+mod sieve;
+mod texts;

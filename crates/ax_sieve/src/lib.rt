@@ -20,6 +20,3 @@ mod source;
 
 pub use out_of_memory::Memory;
 pub use sieve::Sieve;
-
-#[cfg(test)]
-mod tests;

@@ -1,11 +1,12 @@
 //! Expressions over one document, which is bound to `c`, with the values worked out by hand from the
 //! definitions of the query language.
+use super::texts::{check_text, into_text, query_of};
 use ax_eval::{Env, Memory as OutOfMemory, Scope, eval, eval_in, is_true_in};
 use ax_func::Seen;
-use ax_mean::{Expr, Members, Memory, Pick, Query, Text, Tree, Value, write_tree};
-use ax_parse::parse;
+use ax_mean::{Expr, Memory, Pick, Query, Text, Tree, Value, write_tree};
 use ax_text::read_tree;
 use std::alloc::Global;
+use std::process::Abort;
 use std::test::Fail;
 
 const DOCUMENT: &str = "{\"id\":\"a\",\"kind\":3,\"list\":[10,20],\"n\":501,\"nil\":null}";
@@ -19,10 +20,9 @@ fn document(alloc: Global) -> Result<Tree, Fail> {
 }
 
 /// The query that picks the value of an expression.
-fn query_of(alloc: Global, expr: &str) -> Result<Query, Fail> {
+fn query_picking(alloc: Global, expr: &str) -> Result<Query, Fail> {
     let text = format!(in alloc; "SELECT VALUE {expr} FROM c")?;
-    let params = Members::new(alloc);
-    Ok(parse(alloc, text.as_bytes(), &params)?)
+    query_of(alloc, text.as_str())
 }
 
 /// The expression that a query picks.
@@ -35,8 +35,13 @@ fn picked(query: &Query) -> Option<&Expr> {
 
 fn env_of(alloc: Global, alias: Text, document: Tree) -> Result<Env, OutOfMemory> {
     let mut env = Env::new(alloc);
-    env.push(alias, Value::Defined(document))?;
-    Ok(env)
+    match env.push(alias, Value::Defined(document)) {
+        Ok(()) => Ok(env),
+        Err(fault) => {
+            drop(env);
+            Err(fault)
+        }
+    }
 }
 
 fn env(alloc: Global) -> Result<Env, Fail> {
@@ -45,36 +50,44 @@ fn env(alloc: Global) -> Result<Env, Fail> {
     Ok(env_of(alloc, alias, document)?)
 }
 
-fn printed(alloc: Global, value: &Value) -> Result<Vec<u8>, Memory> {
-    match value {
-        Value::Undefined => Ok(Vec::from_slice(alloc, b"undefined".as_slice())?),
-        Value::Defined(tree) => write_tree(alloc, tree),
-    }
+fn value_in(alloc: Global, expr: &Expr, env: &Env) -> Result<Vec<u8>, Fail> {
+    into_text(alloc, eval(alloc, expr, env)?)
 }
 
-fn value_in(alloc: Global, expr: &Expr, env: &Env) -> Result<Vec<u8>, Fail> {
-    let value = eval(alloc, expr, env)?;
-    Ok(printed(alloc, &value)?)
+fn value_in_document(alloc: Global, expr: &Expr) -> Result<Vec<u8>, Fail> {
+    let env = env(alloc)?;
+    let value = value_in(alloc, expr, &env);
+    drop(env);
+    value
 }
 
 fn value_picked(alloc: Global, query: &Query) -> Result<Vec<u8>, Fail> {
-    let env = env(alloc)?;
     match picked(query) {
-        Some(expr) => value_in(alloc, expr, &env),
+        Some(expr) => value_in_document(alloc, expr),
         None => Ok(Vec::new(alloc)),
     }
 }
 
 /// The text of the value that an expression has in the document.
 fn value_of(alloc: Global, expr: &str) -> Result<Vec<u8>, Fail> {
-    let query = query_of(alloc, expr)?;
-    value_picked(alloc, &query)
+    let query = query_picking(alloc, expr)?;
+    let value = value_picked(alloc, &query);
+    drop(query);
+    value
+}
+
+/// Sees that each expression has the value of this text in the document.
+fn check(rt: &impl Abort, alloc: Global, table: &[(&str, &str)]) -> Result<(), Fail> {
+    for (expr, expected) in table {
+        let found = value_of(alloc, expr)?;
+        check_text(rt, found.as_slice(), expected, expr);
+    }
+    Ok(())
 }
 
 #[test]
 fn values_are_compared(rt: HostRuntime) -> Result<(), Fail> {
-    let alloc = rt.alloc();
-    for (expr, expected) in [
+    const TABLE: [(&str, &str); 12] = [
         ("c.n > 500", "true"),
         ("c.none = 1", "undefined"),
         ("c.none = c.none", "undefined"),
@@ -87,17 +100,13 @@ fn values_are_compared(rt: HostRuntime) -> Result<(), Fail> {
         ("'b' <= 'a'", "false"),
         ("c.list = [10, 20]", "true"),
         ("c.list != [10]", "undefined"),
-    ] {
-        let found = value_of(alloc, expr)?;
-        assert_eq!(rt; found.as_slice(), expected.as_bytes(), "{expr}");
-    }
-    Ok(())
+    ];
+    check(&rt, rt.alloc(), &TABLE)
 }
 
 #[test]
 fn truths_are_joined_with_undefined(rt: HostRuntime) -> Result<(), Fail> {
-    let alloc = rt.alloc();
-    for (expr, expected) in [
+    const TABLE: [(&str, &str); 12] = [
         ("true AND c.none", "undefined"),
         ("false AND c.none", "false"),
         ("c.none AND false", "false"),
@@ -110,17 +119,13 @@ fn truths_are_joined_with_undefined(rt: HostRuntime) -> Result<(), Fail> {
         ("NOT 1", "undefined"),
         ("NOT (c.n > 500)", "false"),
         ("NOT false AND false", "false"),
-    ] {
-        let found = value_of(alloc, expr)?;
-        assert_eq!(rt; found.as_slice(), expected.as_bytes(), "{expr}");
-    }
-    Ok(())
+    ];
+    check(&rt, rt.alloc(), &TABLE)
 }
 
 #[test]
 fn a_value_is_chosen(rt: HostRuntime) -> Result<(), Fail> {
-    let alloc = rt.alloc();
-    for (expr, expected) in [
+    const TABLE: [(&str, &str); 10] = [
         ("c.none ?? 7", "7"),
         ("c.id ?? 7", "\"a\""),
         ("c.nil ?? 7", "null"),
@@ -131,17 +136,13 @@ fn a_value_is_chosen(rt: HostRuntime) -> Result<(), Fail> {
         ("1 ? 1 : 2", "2"),
         ("false ? 1 : true ? 2 : 3", "2"),
         ("c.none ?? true ? 1 : 2", "1"),
-    ] {
-        let found = value_of(alloc, expr)?;
-        assert_eq!(rt; found.as_slice(), expected.as_bytes(), "{expr}");
-    }
-    Ok(())
+    ];
+    check(&rt, rt.alloc(), &TABLE)
 }
 
 #[test]
 fn texts_count_characters(rt: HostRuntime) -> Result<(), Fail> {
-    let alloc = rt.alloc();
-    for (expr, expected) in [
+    const TABLE: [(&str, &str); 11] = [
         ("'aé' LIKE 'a_'", "true"),
         ("'é' LIKE '__'", "false"),
         ("c.id NOT LIKE 'a%'", "false"),
@@ -153,17 +154,13 @@ fn texts_count_characters(rt: HostRuntime) -> Result<(), Fail> {
         ("CONCAT(c.id, c.none)", "undefined"),
         ("c.id || 'b' || c.id", "\"aba\""),
         ("c.id || 1", "undefined"),
-    ] {
-        let found = value_of(alloc, expr)?;
-        assert_eq!(rt; found.as_slice(), expected.as_bytes(), "{expr}");
-    }
-    Ok(())
+    ];
+    check(&rt, rt.alloc(), &TABLE)
 }
 
 #[test]
 fn numbers_are_reckoned(rt: HostRuntime) -> Result<(), Fail> {
-    let alloc = rt.alloc();
-    for (expr, expected) in [
+    const TABLE: [(&str, &str); 13] = [
         ("7 / 2", "undefined"),
         ("-6 / 3", "-2"),
         ("1 / 0", "undefined"),
@@ -177,17 +174,13 @@ fn numbers_are_reckoned(rt: HostRuntime) -> Result<(), Fail> {
         ("2 * 3 % 4", "2"),
         ("-c.kind + c.n", "498"),
         ("+c.id", "undefined"),
-    ] {
-        let found = value_of(alloc, expr)?;
-        assert_eq!(rt; found.as_slice(), expected.as_bytes(), "{expr}");
-    }
-    Ok(())
+    ];
+    check(&rt, rt.alloc(), &TABLE)
 }
 
 #[test]
 fn a_value_is_among_others(rt: HostRuntime) -> Result<(), Fail> {
-    let alloc = rt.alloc();
-    for (expr, expected) in [
+    const TABLE: [(&str, &str); 11] = [
         ("c.kind BETWEEN 1 AND 3", "true"),
         ("c.kind NOT BETWEEN 1 AND 2", "true"),
         ("c.kind BETWEEN 4 AND c.none", "false"),
@@ -199,17 +192,13 @@ fn a_value_is_among_others(rt: HostRuntime) -> Result<(), Fail> {
         ("c.kind NOT IN (1, 2)", "true"),
         ("c.none IN (1)", "undefined"),
         ("c.list IN ([10], [10, 20])", "true"),
-    ] {
-        let found = value_of(alloc, expr)?;
-        assert_eq!(rt; found.as_slice(), expected.as_bytes(), "{expr}");
-    }
-    Ok(())
+    ];
+    check(&rt, rt.alloc(), &TABLE)
 }
 
 #[test]
 fn parts_are_undefined_or_there(rt: HostRuntime) -> Result<(), Fail> {
-    let alloc = rt.alloc();
-    for (expr, expected) in [
+    const TABLE: [(&str, &str); 9] = [
         ("c.list[0]", "10"),
         ("c.list[1]", "20"),
         ("c.list[2]", "undefined"),
@@ -219,18 +208,14 @@ fn parts_are_undefined_or_there(rt: HostRuntime) -> Result<(), Fail> {
         ("IS_DEFINED(null)", "true"),
         ("IS_DEFINED(c.nil)", "true"),
         ("IS_DEFINED(c.nil.x)", "false"),
-    ] {
-        let found = value_of(alloc, expr)?;
-        assert_eq!(rt; found.as_slice(), expected.as_bytes(), "{expr}");
-    }
-    Ok(())
+    ];
+    check(&rt, rt.alloc(), &TABLE)
 }
 
 // What is undefined is left out. Of a repeated name the last counts.
 #[test]
 fn lists_and_maps_are_made(rt: HostRuntime) -> Result<(), Fail> {
-    let alloc = rt.alloc();
-    for (expr, expected) in [
+    const TABLE: [(&str, &str); 7] = [
         ("[1, c.none, c.id]", "[1,\"a\"]"),
         ("[c.none]", "[]"),
         ("[[], {}]", "[[],{}]"),
@@ -238,11 +223,8 @@ fn lists_and_maps_are_made(rt: HostRuntime) -> Result<(), Fail> {
         ("{b: 1, a: 2, 'b': 3}", "{\"a\":2,\"b\":3}"),
         ("{b: 1, b: c.none}", "{}"),
         ("{select: [c.list[1]]}", "{\"select\":[20]}"),
-    ] {
-        let found = value_of(alloc, expr)?;
-        assert_eq!(rt; found.as_slice(), expected.as_bytes(), "{expr}");
-    }
-    Ok(())
+    ];
+    check(&rt, rt.alloc(), &TABLE)
 }
 
 /// Whether the condition is true of the document, and whether it is where no alias is bound.
@@ -260,35 +242,40 @@ fn holds<'a>(
     Ok((bound, unbound))
 }
 
-fn holds_of<'a>(
-    alloc: Global,
-    condition: &str,
-    alias: &'a Text,
-    document: &'a Tree,
-) -> Result<(bool, bool), Fail> {
-    let query = query_of(alloc, condition)?;
-    match picked(&query) {
-        Some(condition) => holds(alloc, condition, alias, document),
+fn holds_of(alloc: Global, query: &Query, document: &Tree) -> Result<(bool, bool), Fail> {
+    let alias = alias(alloc)?;
+    match picked(query) {
+        Some(condition) => holds(alloc, condition, &alias, document),
         None => Ok((false, false)),
     }
 }
 
-fn holds_of_document(alloc: Global, condition: &str) -> Result<(bool, bool), Fail> {
-    let alias = alias(alloc)?;
+fn holds_of_document(alloc: Global, query: &Query) -> Result<(bool, bool), Fail> {
     let document = document(alloc)?;
-    holds_of(alloc, condition, &alias, &document)
+    let found = holds_of(alloc, query, &document);
+    drop(document);
+    found
+}
+
+/// Whether a condition is true of the document, and whether it is where no alias is bound.
+fn truth_of(alloc: Global, condition: &str) -> Result<(bool, bool), Fail> {
+    let query = query_picking(alloc, condition)?;
+    let found = holds_of_document(alloc, &query);
+    drop(query);
+    found
 }
 
 #[test]
 fn a_condition_holds_of_the_bound_document(rt: HostRuntime) -> Result<(), Fail> {
-    let alloc = rt.alloc();
-    for (condition, expected) in [
+    const TABLE: [(&str, bool); 3] = [
         ("c.n > 500 AND c.kind = 3", true),
         ("c.n > 500 AND c.kind = 4", false),
         ("c.n > 500 AND c.kind = '3'", false),
-    ] {
-        let (bound, unbound) = holds_of_document(alloc, condition)?;
-        assert_eq!(rt; bound, expected, "{condition}");
+    ];
+    let alloc = rt.alloc();
+    for (condition, expected) in &TABLE {
+        let (bound, unbound) = truth_of(alloc, condition)?;
+        assert_eq!(rt; bound, *expected, "{condition}");
         assert!(rt; !unbound, "{condition}");
     }
     Ok(())
@@ -301,6 +288,12 @@ fn shown(alloc: Global, seen: &Seen) -> Result<Vec<u8>, Memory> {
     }
 }
 
+fn into_shown(alloc: Global, seen: Seen<'_>) -> Result<Vec<u8>, Fail> {
+    let text = shown(alloc, &seen);
+    drop(seen);
+    Ok(text?)
+}
+
 /// The text of the value that an expression has where the alias stands for the document.
 fn shown_in<'a>(
     alloc: Global,
@@ -310,41 +303,45 @@ fn shown_in<'a>(
 ) -> Result<Vec<u8>, Fail> {
     let mut scope = Scope::new(alloc);
     scope.push(alias, document)?;
-    let seen = eval_in(alloc, expr, &scope)?;
-    Ok(shown(alloc, &seen)?)
+    into_shown(alloc, eval_in(alloc, expr, &scope)?)
 }
 
-fn shown_of<'a>(
-    alloc: Global,
-    expr: &str,
-    alias: &'a Text,
-    document: &'a Tree,
-) -> Result<Vec<u8>, Fail> {
-    let query = query_of(alloc, expr)?;
-    match picked(&query) {
-        Some(expr) => shown_in(alloc, expr, alias, document),
+fn shown_of(alloc: Global, query: &Query, document: &Tree) -> Result<Vec<u8>, Fail> {
+    let alias = alias(alloc)?;
+    match picked(query) {
+        Some(expr) => shown_in(alloc, expr, &alias, document),
         None => Ok(Vec::new(alloc)),
     }
 }
 
-fn shown_of_document(alloc: Global, expr: &str) -> Result<Vec<u8>, Fail> {
-    let alias = alias(alloc)?;
+fn shown_of_document(alloc: Global, query: &Query) -> Result<Vec<u8>, Fail> {
     let document = document(alloc)?;
-    shown_of(alloc, expr, &alias, &document)
+    let found = shown_of(alloc, query, &document);
+    drop(document);
+    found
+}
+
+/// The text of what an expression sees in the document.
+fn seen_of(alloc: Global, expr: &str) -> Result<Vec<u8>, Fail> {
+    let query = query_picking(alloc, expr)?;
+    let found = shown_of_document(alloc, &query);
+    drop(query);
+    found
 }
 
 #[test]
 fn what_stands_in_the_document_is_seen_there(rt: HostRuntime) -> Result<(), Fail> {
-    let alloc = rt.alloc();
-    for (expr, expected) in [
+    const TABLE: [(&str, &str); 5] = [
         ("c", DOCUMENT),
         ("c.kind", "3"),
         ("c.id", "\"a\""),
         ("c.none", "undefined"),
         ("c.n + 1", "502"),
-    ] {
-        let found = shown_of_document(alloc, expr)?;
-        assert_eq!(rt; found.as_slice(), expected.as_bytes(), "{expr}");
+    ];
+    let alloc = rt.alloc();
+    for (expr, expected) in &TABLE {
+        let found = seen_of(alloc, expr)?;
+        check_text(&rt, found.as_slice(), expected, expr);
     }
     Ok(())
 }

@@ -1,24 +1,35 @@
 //! Tables of operators and functions with what they give, worked out by hand from the definitions of
 //! the query language.
+use super::texts::{check_text, into_text};
 use ax_func::{binary, call, compare, unary};
-use ax_mean::{BinaryOp, Func, Memory, Text, Tree, UnaryOp, Value, write_tree};
+use ax_mean::{BinaryOp, Func, Text, Tree, UnaryOp, Value};
 use ax_text::read_tree;
 use std::alloc::Global;
+use std::process::Abort;
 use std::test::Fail;
 
 /// The values in a list of JSON, in which the text `?` stands for undefined.
 fn values(alloc: Global, list: &str) -> Result<Vec<Value>, Fail> {
-    let mut values = Vec::new(alloc);
-    if let Tree::List(items) = read_tree(alloc, list.as_bytes())? {
-        for item in items.into_vec() {
-            values.push(value_of(item))?;
+    match read_tree(alloc, list.as_bytes())? {
+        Tree::List(items) => values_of(alloc, items.into_vec()),
+        tree => {
+            drop(tree);
+            Ok(Vec::new(alloc))
         }
+    }
+}
+
+fn values_of(alloc: Global, items: Vec<Tree>) -> Result<Vec<Value>, Fail> {
+    let mut values = Vec::new(alloc);
+    for item in items {
+        values.push(value_of(item))?;
     }
     Ok(values)
 }
 
 fn value_of(tree: Tree) -> Value {
     if is_mark(&tree) {
+        drop(tree);
         Value::Undefined
     } else {
         Value::Defined(tree)
@@ -32,31 +43,85 @@ fn is_mark(tree: &Tree) -> bool {
     }
 }
 
-fn printed(alloc: Global, value: &Value) -> Result<Vec<u8>, Memory> {
-    match value {
-        Value::Undefined => Ok(Vec::from_slice(alloc, b"undefined".as_slice())?),
-        Value::Defined(tree) => write_tree(alloc, tree),
-    }
-}
-
-fn binary_text(alloc: Global, op: BinaryOp, operands: &[Value]) -> Result<Vec<u8>, Fail> {
+/// What an operator gives; nothing where there are not two operands.
+fn binary_of(alloc: Global, op: BinaryOp, operands: &[Value]) -> Result<Vec<u8>, Fail> {
     match operands {
-        [a, b] => Ok(printed(alloc, &binary(alloc, op, a, b)?)?),
+        [a, b] => into_text(alloc, binary(alloc, op, a, b)?),
         _ => Ok(Vec::new(alloc)),
     }
 }
 
-fn unary_text(alloc: Global, op: UnaryOp, operands: &[Value]) -> Result<Vec<u8>, Fail> {
+fn binary_text(alloc: Global, op: BinaryOp, operands: &str) -> Result<Vec<u8>, Fail> {
+    let operands = values(alloc, operands)?;
+    let found = binary_of(alloc, op, operands.as_slice());
+    drop(operands);
+    found
+}
+
+/// Sees that each operator gives of its operands the value of this text.
+fn check_binary(
+    rt: &impl Abort,
+    alloc: Global,
+    table: &[(BinaryOp, &str, &str)],
+) -> Result<(), Fail> {
+    for (op, operands, expected) in table {
+        let found = binary_text(alloc, *op, operands)?;
+        check_text(rt, found.as_slice(), expected, &(*op, *operands));
+    }
+    Ok(())
+}
+
+/// What an operator gives; nothing where there is not one operand.
+fn unary_of(alloc: Global, op: UnaryOp, operands: &[Value]) -> Result<Vec<u8>, Fail> {
     match operands {
-        [a] => Ok(printed(alloc, &unary(op, a)?)?),
+        [a] => into_text(alloc, unary(op, a)?),
         _ => Ok(Vec::new(alloc)),
     }
+}
+
+fn unary_text(alloc: Global, op: UnaryOp, operands: &str) -> Result<Vec<u8>, Fail> {
+    let operands = values(alloc, operands)?;
+    let found = unary_of(alloc, op, operands.as_slice());
+    drop(operands);
+    found
+}
+
+/// Sees that each operator gives of its operand the value of this text.
+fn check_unary(
+    rt: &impl Abort,
+    alloc: Global,
+    table: &[(UnaryOp, &str, &str)],
+) -> Result<(), Fail> {
+    for (op, operands, expected) in table {
+        let found = unary_text(alloc, *op, operands)?;
+        check_text(rt, found.as_slice(), expected, &(*op, *operands));
+    }
+    Ok(())
+}
+
+fn call_of(alloc: Global, func: Func, arguments: &[Value]) -> Result<Vec<u8>, Fail> {
+    into_text(alloc, call(alloc, func, arguments)?)
+}
+
+fn call_text(alloc: Global, func: Func, arguments: &str) -> Result<Vec<u8>, Fail> {
+    let arguments = values(alloc, arguments)?;
+    let found = call_of(alloc, func, arguments.as_slice());
+    drop(arguments);
+    found
+}
+
+/// Sees that each function gives of its arguments the value of this text.
+fn check_calls(rt: &impl Abort, alloc: Global, table: &[(Func, &str, &str)]) -> Result<(), Fail> {
+    for (func, arguments, expected) in table {
+        let found = call_text(alloc, *func, arguments)?;
+        check_text(rt, found.as_slice(), expected, &(*func, *arguments));
+    }
+    Ok(())
 }
 
 #[test]
 fn values_are_compared(rt: HostRuntime) -> Result<(), Fail> {
-    let alloc = rt.alloc();
-    let table = [
+    const TABLE: [(BinaryOp, &str, &str); 17] = [
         (BinaryOp::Equal, "[1,1]", "true"),
         (BinaryOp::Equal, "[null,null]", "true"),
         (BinaryOp::NotEqual, "[null,null]", "false"),
@@ -75,22 +140,12 @@ fn values_are_compared(rt: HostRuntime) -> Result<(), Fail> {
         (BinaryOp::GreaterEqual, "[\"a\",\"b\"]", "false"),
         (BinaryOp::Greater, "[2,1]", "true"),
     ];
-    for (op, operands, expected) in table {
-        let operands = values(alloc, operands)?;
-        let found = binary_text(alloc, op, operands.as_slice())?;
-        assert_eq!(rt;
-            found.as_slice(),
-            expected.as_bytes(),
-            "{op:?} {operands:?}"
-        );
-    }
-    Ok(())
+    check_binary(&rt, rt.alloc(), &TABLE)
 }
 
 #[test]
 fn numbers_are_reckoned_exactly_or_undefined(rt: HostRuntime) -> Result<(), Fail> {
-    let alloc = rt.alloc();
-    let table = [
+    const TABLE: [(BinaryOp, &str, &str); 14] = [
         (BinaryOp::Add, "[2,3]", "5"),
         (BinaryOp::Add, "[9223372036854775807,1]", "undefined"),
         (BinaryOp::Add, "[\"a\",\"b\"]", "undefined"),
@@ -106,22 +161,12 @@ fn numbers_are_reckoned_exactly_or_undefined(rt: HostRuntime) -> Result<(), Fail
         (BinaryOp::Remainder, "[-9223372036854775808,-1]", "0"),
         (BinaryOp::Remainder, "[1,0]", "undefined"),
     ];
-    for (op, operands, expected) in table {
-        let operands = values(alloc, operands)?;
-        let found = binary_text(alloc, op, operands.as_slice())?;
-        assert_eq!(rt;
-            found.as_slice(),
-            expected.as_bytes(),
-            "{op:?} {operands:?}"
-        );
-    }
-    Ok(())
+    check_binary(&rt, rt.alloc(), &TABLE)
 }
 
 #[test]
 fn texts_are_like_patterns(rt: HostRuntime) -> Result<(), Fail> {
-    let alloc = rt.alloc();
-    let table = [
+    const TABLE: [(BinaryOp, &str, &str); 12] = [
         (BinaryOp::Like, "[\"abc\",\"a%\"]", "true"),
         (BinaryOp::Like, "[\"abc\",\"_b_\"]", "true"),
         (BinaryOp::Like, "[\"aé\",\"a_\"]", "true"),
@@ -135,22 +180,12 @@ fn texts_are_like_patterns(rt: HostRuntime) -> Result<(), Fail> {
         (BinaryOp::Like, "[\"a[b\",\"a[b\"]", "undefined"),
         (BinaryOp::Like, "[1,\"%\"]", "undefined"),
     ];
-    for (op, operands, expected) in table {
-        let operands = values(alloc, operands)?;
-        let found = binary_text(alloc, op, operands.as_slice())?;
-        assert_eq!(rt;
-            found.as_slice(),
-            expected.as_bytes(),
-            "{op:?} {operands:?}"
-        );
-    }
-    Ok(())
+    check_binary(&rt, rt.alloc(), &TABLE)
 }
 
 #[test]
 fn truths_are_joined_with_undefined(rt: HostRuntime) -> Result<(), Fail> {
-    let alloc = rt.alloc();
-    let table = [
+    const TABLE: [(BinaryOp, &str, &str); 10] = [
         (BinaryOp::Join, "[\"a\",\"é\"]", "\"aé\""),
         (BinaryOp::Join, "[\"a\",1]", "undefined"),
         (BinaryOp::And, "[false,\"?\"]", "false"),
@@ -162,22 +197,12 @@ fn truths_are_joined_with_undefined(rt: HostRuntime) -> Result<(), Fail> {
         (BinaryOp::Coalesce, "[null,3]", "null"),
         (BinaryOp::Coalesce, "[\"?\",\"?\"]", "undefined"),
     ];
-    for (op, operands, expected) in table {
-        let operands = values(alloc, operands)?;
-        let found = binary_text(alloc, op, operands.as_slice())?;
-        assert_eq!(rt;
-            found.as_slice(),
-            expected.as_bytes(),
-            "{op:?} {operands:?}"
-        );
-    }
-    Ok(())
+    check_binary(&rt, rt.alloc(), &TABLE)
 }
 
 #[test]
 fn one_operand_gives_its_value(rt: HostRuntime) -> Result<(), Fail> {
-    let alloc = rt.alloc();
-    let table = [
+    const TABLE: [(UnaryOp, &str, &str); 7] = [
         (UnaryOp::Minus, "[5]", "-5"),
         (UnaryOp::Minus, "[-9223372036854775808]", "undefined"),
         (UnaryOp::Plus, "[5]", "5"),
@@ -186,22 +211,12 @@ fn one_operand_gives_its_value(rt: HostRuntime) -> Result<(), Fail> {
         (UnaryOp::Not, "[\"?\"]", "undefined"),
         (UnaryOp::Not, "[1]", "undefined"),
     ];
-    for (op, operands, expected) in table {
-        let operands = values(alloc, operands)?;
-        let found = unary_text(alloc, op, operands.as_slice())?;
-        assert_eq!(rt;
-            found.as_slice(),
-            expected.as_bytes(),
-            "{op:?} {operands:?}"
-        );
-    }
-    Ok(())
+    check_unary(&rt, rt.alloc(), &TABLE)
 }
 
 #[test]
 fn kinds_are_told(rt: HostRuntime) -> Result<(), Fail> {
-    let alloc = rt.alloc();
-    let table = [
+    const TABLE: [(Func, &str, &str); 13] = [
         (Func::IsDefined, "[\"?\"]", "false"),
         (Func::IsDefined, "[null]", "true"),
         (Func::IsNull, "[null]", "true"),
@@ -216,22 +231,12 @@ fn kinds_are_told(rt: HostRuntime) -> Result<(), Fail> {
         (Func::IsPrimitive, "[null]", "true"),
         (Func::IsPrimitive, "[\"?\"]", "false"),
     ];
-    for (func, arguments, expected) in table {
-        let arguments = values(alloc, arguments)?;
-        let found = printed(alloc, &call(alloc, func, arguments.as_slice())?)?;
-        assert_eq!(rt;
-            found.as_slice(),
-            expected.as_bytes(),
-            "{func:?} {arguments:?}"
-        );
-    }
-    Ok(())
+    check_calls(&rt, rt.alloc(), &TABLE)
 }
 
 #[test]
 fn numbers_and_texts_are_made(rt: HostRuntime) -> Result<(), Fail> {
-    let alloc = rt.alloc();
-    let table = [
+    const TABLE: [(Func, &str, &str); 19] = [
         (Func::Abs, "[-5]", "5"),
         (Func::Abs, "[-9223372036854775808]", "undefined"),
         (Func::Sign, "[-5]", "-1"),
@@ -252,22 +257,12 @@ fn numbers_and_texts_are_made(rt: HostRuntime) -> Result<(), Fail> {
         (Func::Substring, "[\"abc\",-1,2]", "\"\""),
         (Func::Substring, "[\"abc\",1,-1]", "\"\""),
     ];
-    for (func, arguments, expected) in table {
-        let arguments = values(alloc, arguments)?;
-        let found = printed(alloc, &call(alloc, func, arguments.as_slice())?)?;
-        assert_eq!(rt;
-            found.as_slice(),
-            expected.as_bytes(),
-            "{func:?} {arguments:?}"
-        );
-    }
-    Ok(())
+    check_calls(&rt, rt.alloc(), &TABLE)
 }
 
 #[test]
 fn texts_are_searched_and_cut(rt: HostRuntime) -> Result<(), Fail> {
-    let alloc = rt.alloc();
-    let table = [
+    const TABLE: [(Func, &str, &str); 14] = [
         (Func::StartsWith, "[\"abc\",\"ab\"]", "true"),
         (Func::StartsWith, "[\"abc\",\"\"]", "true"),
         (Func::EndsWith, "[\"abc\",\"ab\"]", "false"),
@@ -283,22 +278,12 @@ fn texts_are_searched_and_cut(rt: HostRuntime) -> Result<(), Fail> {
         (Func::Right, "[\"aéb\",2]", "\"éb\""),
         (Func::Right, "[\"ab\",9]", "\"ab\""),
     ];
-    for (func, arguments, expected) in table {
-        let arguments = values(alloc, arguments)?;
-        let found = printed(alloc, &call(alloc, func, arguments.as_slice())?)?;
-        assert_eq!(rt;
-            found.as_slice(),
-            expected.as_bytes(),
-            "{func:?} {arguments:?}"
-        );
-    }
-    Ok(())
+    check_calls(&rt, rt.alloc(), &TABLE)
 }
 
 #[test]
 fn lists_are_counted_joined_and_sliced(rt: HostRuntime) -> Result<(), Fail> {
-    let alloc = rt.alloc();
-    let table = [
+    const TABLE: [(Func, &str, &str); 14] = [
         (Func::IsArray, "[[]]", "true"),
         (Func::ArrayLength, "[[1,2]]", "2"),
         (Func::ArrayContains, "[[1,2],2]", "true"),
@@ -314,14 +299,15 @@ fn lists_are_counted_joined_and_sliced(rt: HostRuntime) -> Result<(), Fail> {
         (Func::ArraySlice, "[[1,2,3],0,-1]", "[]"),
         (Func::ArraySlice, "[[1,2,3],0,\"?\"]", "undefined"),
     ];
-    for (func, arguments, expected) in table {
-        let arguments = values(alloc, arguments)?;
-        let found = printed(alloc, &call(alloc, func, arguments.as_slice())?)?;
-        assert_eq!(rt;
-            found.as_slice(),
-            expected.as_bytes(),
-            "{func:?} {arguments:?}"
-        );
+    check_calls(&rt, rt.alloc(), &TABLE)
+}
+
+/// Sees that each value is before all that are behind it, and equal to itself.
+fn check_rising(rt: &impl Abort, alloc: Global, rising: &[Value]) -> Result<(), Fail> {
+    for (i, a) in rising.iter().enumerate() {
+        for (j, b) in rising.iter().enumerate() {
+            assert_eq!(rt; compare(alloc, a, b)?, i.cmp(&j), "{a:?} {b:?}");
+        }
     }
     Ok(())
 }
@@ -335,28 +321,38 @@ fn values_have_one_order(rt: HostRuntime) -> Result<(), Fail> {
         "[\"?\",null,false,true,-10,9,\"a\",\"b\",[1,2],[1],{}]",
     )?;
     assert_eq!(rt; rising.len(), 11);
-    for (i, a) in rising.iter().enumerate() {
-        for (j, b) in rising.iter().enumerate() {
-            assert_eq!(rt; compare(alloc, a, b)?, i.cmp(&j), "{a:?} {b:?}");
-        }
+    let checked = check_rising(&rt, alloc, rising.as_slice());
+    drop(rising);
+    checked
+}
+
+fn repeated(alloc: Global, piece: &str, end: &str) -> Result<Value, Fail> {
+    let mut text = String::new(alloc);
+    for _ in 0..2000 {
+        text.push_str(piece)?;
     }
-    Ok(())
+    text.push_str(end)?;
+    Ok(Value::Defined(Tree::Text(Text::from_string(text))))
+}
+
+fn like(alloc: Global, text: &Value, pattern: &Value) -> Result<Vec<u8>, Fail> {
+    into_text(alloc, binary(alloc, BinaryOp::Like, text, pattern)?)
+}
+
+fn like_pattern(alloc: Global, text: &Value) -> Result<Vec<u8>, Fail> {
+    let pattern = repeated(alloc, "%a", "b")?;
+    let found = like(alloc, text, &pattern);
+    drop(pattern);
+    found
 }
 
 // Every `%` could begin anywhere in the text; only the last one is tried again.
 #[test]
 fn a_hostile_pattern_is_answered(rt: HostRuntime) -> Result<(), Fail> {
     let alloc = rt.alloc();
-    let mut text = String::new(alloc);
-    let mut pattern = String::new(alloc);
-    for _ in 0..2000 {
-        text.push('a')?;
-        pattern.push_str("%a")?;
-    }
-    pattern.push('b')?;
-    let text = Value::Defined(Tree::Text(Text::from_string(text)));
-    let pattern = Value::Defined(Tree::Text(Text::from_string(pattern)));
-    let result = binary(alloc, BinaryOp::Like, &text, &pattern)?;
-    assert_eq!(rt; printed(alloc, &result)?.as_slice(), b"false".as_slice());
+    let text = repeated(alloc, "a", "")?;
+    let found = like_pattern(alloc, &text);
+    drop(text);
+    assert_eq!(rt; found?.as_slice(), b"false".as_slice());
     Ok(())
 }

@@ -28,8 +28,7 @@ fn params_text(alloc: Global, items: &str) -> Result<Vec<u8>, Fail> {
 // The words by hand, from the shape of a query body.
 #[test]
 fn bodies_have_a_text_and_maybe_a_list(rt: HostRuntime) -> Result<(), Fail> {
-    let alloc = rt.alloc();
-    let table = [
+    const TABLE: [(&str, &str); 10] = [
         ("{\"query\":\"q\",\"parameters\":[]}", "body"),
         ("{\"query\":\"q\",\"other\":[null]}", "body"),
         ("{\"query\":\"q\",\"query\":1}", "query"),
@@ -41,7 +40,8 @@ fn bodies_have_a_text_and_maybe_a_list(rt: HostRuntime) -> Result<(), Fail> {
         ("{\"query\":\"q\",\"other\":1.5}", "number"),
         ("{\"query\":\"q\",\"other\":1.5,}", "json"),
     ];
-    for (body, expected) in table {
+    let alloc = rt.alloc();
+    for (body, expected) in TABLE {
         assert_eq!(rt; body_word(alloc, body)?, expected, "{body}");
     }
     Ok(())
@@ -50,8 +50,7 @@ fn bodies_have_a_text_and_maybe_a_list(rt: HostRuntime) -> Result<(), Fail> {
 // The items of the list of parameters.
 #[test]
 fn parameters_have_a_name_and_a_value(rt: HostRuntime) -> Result<(), Fail> {
-    let alloc = rt.alloc();
-    let table = [
+    const TABLE: [(&str, &str); 14] = [
         ("{\"name\":\"@a\",\"value\":null}", "body"),
         ("{\"name\":\"@_Z9\",\"value\":1,\"type\":2}", "body"),
         ("{\"name\":\"@select\",\"value\":1}", "body"),
@@ -67,7 +66,8 @@ fn parameters_have_a_name_and_a_value(rt: HostRuntime) -> Result<(), Fail> {
         ("5", "query"),
         ("{\"name\":\"@a\"},{\"name\":\"@a\",\"value\":1}", "query"),
     ];
-    for (items, expected) in table {
+    let alloc = rt.alloc();
+    for (items, expected) in TABLE {
         assert_eq!(rt; items_word(alloc, items)?, expected, "{items}");
     }
     Ok(())
@@ -76,8 +76,7 @@ fn parameters_have_a_name_and_a_value(rt: HostRuntime) -> Result<(), Fail> {
 // The canonical texts by hand: names rise by bytes, and of a repeated one the last counts.
 #[test]
 fn the_last_of_a_repeated_parameter_counts(rt: HostRuntime) -> Result<(), Fail> {
-    let alloc = rt.alloc();
-    let table = [
+    const TABLE: [(&str, &str); 4] = [
         ("", "{}"),
         (
             "{\"name\":\"@b\",\"value\":1},{\"name\":\"@a\",\"value\":[2]}",
@@ -92,7 +91,8 @@ fn the_last_of_a_repeated_parameter_counts(rt: HostRuntime) -> Result<(), Fail> 
             "{\"@B\":{\"y\":0,\"z\":0},\"@a\":\"\"}",
         ),
     ];
-    for (items, expected) in table {
+    let alloc = rt.alloc();
+    for (items, expected) in TABLE {
         let params = params_text(alloc, items)?;
         assert_eq!(rt; params.as_slice(), expected.as_bytes(), "{items}");
     }

@@ -14,7 +14,7 @@ pub fn word_of(alloc: Global, line: &[u8]) -> &'static str {
 // The words by hand, from the forms of a line.
 #[test]
 fn forms_are_told_apart(rt: HostRuntime) {
-    let table = [
+    const TABLE: [(&str, &str); 12] = [
         ("UPSERT {\"id\":\"a\"}", "document"),
         ("UPSERT {\"id\":\"a\"}\r", "document"),
         ("UPSERT  {\"id\":\"a\"}", "document"),
@@ -28,7 +28,7 @@ fn forms_are_told_apart(rt: HostRuntime) {
         ("QUERY ", "json"),
         ("QUERY", "command"),
     ];
-    for (line, expected) in table {
+    for (line, expected) in TABLE {
         assert_eq!(rt; word_of(rt.alloc(), line.as_bytes()), expected, "{line:?}");
     }
 }
@@ -36,7 +36,7 @@ fn forms_are_told_apart(rt: HostRuntime) {
 // Of several causes the first is answered; a repeated member that is dropped is none.
 #[test]
 fn documents_are_read(rt: HostRuntime) {
-    let table = [
+    const TABLE: [(&str, &str); 12] = [
         ("UPSERT {", "json"),
         ("UPSERT [1.5,", "json"),
         ("UPSERT [1.5]", "number"),
@@ -50,7 +50,7 @@ fn documents_are_read(rt: HostRuntime) {
         ("UPSERT [\"id\"]", "id"),
         ("UPSERT 5", "id"),
     ];
-    for (line, expected) in table {
+    for (line, expected) in TABLE {
         assert_eq!(rt; word_of(rt.alloc(), line.as_bytes()), expected, "{line:?}");
     }
 }

@@ -8,17 +8,15 @@ use std::test::Fail;
 // The replies by hand, from the forms of a line.
 #[test]
 fn the_plain_machine_answers(rt: HostRuntime) -> Result<(), Fail> {
-    let alloc = rt.alloc();
-    let mut machine = PlainMachine::new(alloc);
-    let all = "QUERY {\"query\":\"SELECT * FROM c\"}";
-    let table = [
-        (all, "end 0\n"),
+    const ALL: &str = "QUERY {\"query\":\"SELECT * FROM c\"}";
+    const TABLE: [(&str, &str); 13] = [
+        (ALL, "end 0\n"),
         ("UPSERT {\"id\":\"a\",\"b\":1}", "ok\n"),
         ("UPSERT {\"id\":\"b\"}", "ok\n"),
         ("READ a", "err 2 command\n"),
         ("UPSERT {\"id\":\"a\",\"a\":2}", "ok\n"),
         (
-            all,
+            ALL,
             "row {\"a\":2,\"id\":\"a\"}\nrow {\"id\":\"b\"}\nend 2\n",
         ),
         ("QUERY {}", "err 10 query\n"),
@@ -44,7 +42,9 @@ fn the_plain_machine_answers(rt: HostRuntime) -> Result<(), Fail> {
         ),
         ("UPSERT {}", "err 5 id\n"),
     ];
-    for (line, expected) in table {
+    let alloc = rt.alloc();
+    let mut machine = PlainMachine::new(alloc);
+    for (line, expected) in TABLE {
         let reply = machine.answer(alloc, line.as_bytes())?;
         assert_eq!(rt; reply.as_slice(), expected.as_bytes(), "{line}");
     }

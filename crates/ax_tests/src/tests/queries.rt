@@ -115,29 +115,29 @@ fn long_answer(alloc: Global, documents: &[&str], text: &str) -> Result<Vec<u8>,
 // Comparisons are of one kind, and undefined where kinds differ, as is NOT of that.
 #[test]
 fn only_values_of_one_kind_compare(rt: HostRuntime) -> Result<(), Fail> {
-    let alloc = rt.alloc();
-    let documents = [
+    const DOCUMENTS: [&str; 4] = [
         r#"{"id":"p","a":1}"#,
         r#"{"id":"q","a":"1"}"#,
         r#"{"id":"r","a":null}"#,
         r#"{"id":"s"}"#,
     ];
-    let table = [
+    const TABLE: [(&str, &str); 2] = [
         (
             "SELECT VALUE c.id FROM c WHERE c.a = 1 AND c.id >= 'p'",
             r#"row "p" / end 1"#,
         ),
         ("SELECT VALUE c.id FROM c WHERE NOT (c.a = 1)", "end 0"),
     ];
-    check(&rt, alloc, documents.as_slice(), table.as_slice())
+    let alloc = rt.alloc();
+    check(&rt, alloc, &DOCUMENTS, &TABLE)
 }
 
 // A document has no row where its value is undefined.
 #[test]
 fn an_undefined_value_has_no_row(rt: HostRuntime) -> Result<(), Fail> {
+    const DOCUMENTS: [&str; 3] = [r#"{"id":"a"}"#, r#"{"id":"b","x":7}"#, r#"{"id":"c"}"#];
     let alloc = rt.alloc();
-    let documents = [r#"{"id":"a"}"#, r#"{"id":"b","x":7}"#, r#"{"id":"c"}"#];
-    let reply = answer(alloc, documents.as_slice(), "SELECT VALUE c.x FROM c")?;
+    let reply = answer(alloc, &DOCUMENTS, "SELECT VALUE c.x FROM c")?;
     assert_eq!(rt; reply.as_slice(), b"row 7 / end 1".as_slice());
     Ok(())
 }
@@ -145,13 +145,12 @@ fn an_undefined_value_has_no_row(rt: HostRuntime) -> Result<(), Fail> {
 // A join goes over the elements of a list, and over nothing else.
 #[test]
 fn joins_go_over_lists(rt: HostRuntime) -> Result<(), Fail> {
-    let alloc = rt.alloc();
-    let documents = [
+    const DOCUMENTS: [&str; 3] = [
         r#"{"id":"a","t":[]}"#,
         r#"{"id":"b","t":"xy"}"#,
         r#"{"id":"c","t":[[1,2],3]}"#,
     ];
-    let table = [
+    const TABLE: [(&str, &str); 2] = [
         (
             "SELECT VALUE t FROM c JOIN t IN c.t",
             "row [1,2] / row 3 / end 2",
@@ -161,14 +160,14 @@ fn joins_go_over_lists(rt: HostRuntime) -> Result<(), Fail> {
             "row 1 / row 2 / end 2",
         ),
     ];
-    check(&rt, alloc, documents.as_slice(), table.as_slice())
+    let alloc = rt.alloc();
+    check(&rt, alloc, &DOCUMENTS, &TABLE)
 }
 
 // Kinds have an order, ties keep the order of the documents, and DESC turns the values alone.
 #[test]
 fn rows_are_ordered_by_kind_and_value(rt: HostRuntime) -> Result<(), Fail> {
-    let alloc = rt.alloc();
-    let documents = [
+    const DOCUMENTS: [&str; 9] = [
         r#"{"id":"1","v":{"k":1}}"#,
         r#"{"id":"2","v":[2]}"#,
         r#"{"id":"3","v":"t"}"#,
@@ -179,7 +178,7 @@ fn rows_are_ordered_by_kind_and_value(rt: HostRuntime) -> Result<(), Fail> {
         r#"{"id":"8"}"#,
         r#"{"id":"9","v":-5}"#,
     ];
-    let table = [
+    const TABLE: [(&str, &str); 2] = [
         (
             "SELECT VALUE c.id FROM c ORDER BY c.v",
             r#"row "8" / row "7" / row "6" / row "5" / row "4" / row "9" / row "3" / row "2" / row "1" / end 9"#,
@@ -189,19 +188,19 @@ fn rows_are_ordered_by_kind_and_value(rt: HostRuntime) -> Result<(), Fail> {
             r#"row "1" / row "2" / row "3" / row "4" / row "9" / row "5" / row "6" / row "7" / row "8" / end 9"#,
         ),
     ];
-    check(&rt, alloc, documents.as_slice(), table.as_slice())
+    let alloc = rt.alloc();
+    check(&rt, alloc, &DOCUMENTS, &TABLE)
 }
 
 // Texts that agree in 128 bytes compare by what follows.
 #[test]
 fn long_texts_compare_whole(rt: HostRuntime) -> Result<(), Fail> {
-    let alloc = rt.alloc();
-    let documents = [
+    const DOCUMENTS: [&str; 3] = [
         r#"{"id":"1","v":"Xb"}"#,
         r#"{"id":"2","v":"Xc"}"#,
         r#"{"id":"3","v":"X"}"#,
     ];
-    let table = [
+    const TABLE: [(&str, &str); 3] = [
         (
             "SELECT VALUE c.id FROM c WHERE c.v = 'Xb'",
             r#"row "1" / end 1"#,
@@ -215,8 +214,9 @@ fn long_texts_compare_whole(rt: HostRuntime) -> Result<(), Fail> {
             r#"row "3" / row "1" / row "2" / end 3"#,
         ),
     ];
-    for (text, expected) in table {
-        let reply = long_answer(alloc, documents.as_slice(), text)?;
+    let alloc = rt.alloc();
+    for (text, expected) in TABLE {
+        let reply = long_answer(alloc, &DOCUMENTS, text)?;
         assert_eq!(rt; reply.as_slice(), expected.as_bytes(), "{text}");
     }
     Ok(())
@@ -238,9 +238,8 @@ fn whole_numbers_stay_whole(rt: HostRuntime) -> Result<(), Fail> {
 // Keywords in any case, a parameter with its value and without one, and what of a row is undefined.
 #[test]
 fn parameters_and_undefined_items(rt: HostRuntime) -> Result<(), Fail> {
-    let alloc = rt.alloc();
-    let documents = [r#"{"id":"a","n":4,"s":"x_y"}"#];
-    let table = [
+    const DOCUMENTS: [&str; 1] = [r#"{"id":"a","n":4,"s":"x_y"}"#];
+    const TABLE: [(&str, &str); 3] = [
         (
             r#"{"query":"select value c.n > @k from c","parameters":[{"name":"@k","value":3}]}"#,
             "row true / end 1",
@@ -254,8 +253,9 @@ fn parameters_and_undefined_items(rt: HostRuntime) -> Result<(), Fail> {
             r#"row {"p":true,"q":4,"r":"z"} / end 1"#,
         ),
     ];
-    for (body, expected) in table {
-        let reply = reply_to(alloc, documents.as_slice(), body)?;
+    let alloc = rt.alloc();
+    for (body, expected) in TABLE {
+        let reply = reply_to(alloc, &DOCUMENTS, body)?;
         assert_eq!(rt; reply.as_slice(), expected.as_bytes(), "{body}");
     }
     Ok(())
@@ -264,9 +264,8 @@ fn parameters_and_undefined_items(rt: HostRuntime) -> Result<(), Fail> {
 // Of equal rows the first is kept; the last source varies fastest; rows are left out, then counted.
 #[test]
 fn rows_are_told_apart_and_counted(rt: HostRuntime) -> Result<(), Fail> {
-    let alloc = rt.alloc();
-    let documents = [r#"{"id":"a","t":[2,1,2]}"#];
-    let table = [
+    const DOCUMENTS: [&str; 1] = [r#"{"id":"a","t":[2,1,2]}"#];
+    const TABLE: [(&str, &str); 4] = [
         (
             "SELECT DISTINCT VALUE x FROM x IN c.t",
             "row 2 / row 1 / end 2",
@@ -278,15 +277,15 @@ fn rows_are_told_apart_and_counted(rt: HostRuntime) -> Result<(), Fail> {
         ("SELECT TOP 1 VALUE x FROM x IN c.t", "row 2 / end 1"),
         ("SELECT TOP 0 * FROM c", "end 0"),
     ];
-    check(&rt, alloc, documents.as_slice(), table.as_slice())
+    let alloc = rt.alloc();
+    check(&rt, alloc, &DOCUMENTS, &TABLE)
 }
 
 // An order by one path is kept, for every path but one; a name that nothing binds is no query.
 #[test]
 fn some_queries_are_refused(rt: HostRuntime) -> Result<(), Fail> {
-    let alloc = rt.alloc();
-    let documents = [r#"{"id":"a","t":[2,1,2]}"#];
-    let table = [
+    const DOCUMENTS: [&str; 1] = [r#"{"id":"a","t":[2,1,2]}"#];
+    const TABLE: [(&str, &str); 6] = [
         ("SELECT * FROM c ORDER BY c._etag", "err 11 order"),
         ("SELECT * FROM c ORDER BY c.id, c.t", "err 11 order"),
         (
@@ -297,22 +296,22 @@ fn some_queries_are_refused(rt: HostRuntime) -> Result<(), Fail> {
         ("SELECT VALUE COUNT(*) FROM c", "err 10 query"),
         ("SELECT c.id FROM c GROUP BY c.t", "err 10 query"),
     ];
-    check(&rt, alloc, documents.as_slice(), table.as_slice())
+    let alloc = rt.alloc();
+    check(&rt, alloc, &DOCUMENTS, &TABLE)
 }
 
 // Rows with equal values are one group, undefined among them and first; a sum is exact, and undefined
 // of a text; without GROUP BY there is one group, also of no rows.
 #[test]
 fn groups_show_one_row_each(rt: HostRuntime) -> Result<(), Fail> {
-    let alloc = rt.alloc();
-    let documents = [
+    const DOCUMENTS: [&str; 5] = [
         r#"{"id":"a","k":1,"v":5}"#,
         r#"{"id":"b","k":2,"v":7}"#,
         r#"{"id":"c","k":1,"v":6}"#,
         r#"{"id":"d","v":1}"#,
         r#"{"id":"e","k":3,"v":"x"}"#,
     ];
-    let table = [
+    const TABLE: [(&str, &str); 9] = [
         (
             "SELECT c.k, COUNT(1) AS n, SUM(c.v) AS s FROM c GROUP BY c.k",
             r#"row {"n":1,"s":1} / row {"k":1,"n":2,"s":11} / row {"k":2,"n":1,"s":7} / row {"k":3,"n":1} / end 4"#,
@@ -344,24 +343,25 @@ fn groups_show_one_row_each(rt: HostRuntime) -> Result<(), Fail> {
             "row 24 / end 1",
         ),
     ];
-    check(&rt, alloc, documents.as_slice(), table.as_slice())
+    let alloc = rt.alloc();
+    check(&rt, alloc, &DOCUMENTS, &TABLE)
 }
 
 // A sum that passes 64 bits on its way is what it is in the end.
 #[test]
 fn sums_are_exact(rt: HostRuntime) -> Result<(), Fail> {
-    let alloc = rt.alloc();
-    let documents = [
+    const DOCUMENTS: [&str; 3] = [
         r#"{"id":"a","v":9223372036854775807}"#,
         r#"{"id":"b","v":9223372036854775807}"#,
         r#"{"id":"c","v":-9223372036854775807}"#,
     ];
-    let table = [
+    const TABLE: [(&str, &str); 2] = [
         (
             "SELECT VALUE SUM(c.v) FROM c",
             "row 9223372036854775807 / end 1",
         ),
         ("SELECT VALUE SUM(c.v) FROM c WHERE c.v > 0", "end 0"),
     ];
-    check(&rt, alloc, documents.as_slice(), table.as_slice())
+    let alloc = rt.alloc();
+    check(&rt, alloc, &DOCUMENTS, &TABLE)
 }

@@ -1,7 +1,7 @@
 use Rattle.std.proofs.Common.{rules, ◌<◌, ℕ, length, sym, slice_index_or}
 use Rattle.std.proofs.lemmas.Grind.{get_or_default_zero}
 use Rattle.ax_files.proofs.Reading.{one_byte}
-use Rattle.ax_files.proofs.tests.HeldFileSystemFile.read_piece.Goals as goal
+use Rattle.ax_files.proofs.tests.held_files.HeldFileSystemFile.read_piece.Goals as goal
 
 pub returns-clause-piece : goal.returns-clause-piece
 returns-clause-piece c = λ _.

@@ -1,6 +1,6 @@
 use Rattle.std.proofs.Common.{rules, ◌<◌, length}
 use Rattle.ax_files.proofs.Reading.{one_byte}
-use Rattle.ax_files.proofs.tests.FakeFileSystemFile.read_piece.Goals as goal
+use Rattle.ax_files.proofs.tests.fake_file.FakeFileSystemFile.read_piece.Goals as goal
 
 pub returns-clause-piece : goal.returns-clause-piece
 returns-clause-piece c = λ _.
