@@ -1,2 +1,6 @@
 pub mod Ids
+pub mod Soundness
 pub mod Upserts
+pub mod ByNumber
+pub mod Writing
+pub mod Moving

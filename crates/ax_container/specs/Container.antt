@@ -1,27 +1,34 @@
--- What the store holds: the documents in the order of their creation, each with its number, its id
--- and its tree, and the number that the next creation takes. As in Azure Cosmos DB for NoSQL, an id
--- names one document. Numbers begin at 1 and are never given twice.
-use Rattle.std.specs.Prelude.{◌≡◌, ℕ, ◌<◌, ◌≤◌, List, [], ◌∷◌, length, map, find, Bool, false, Option, Some, option_map}
+-- What the store holds: the documents in the order of their creation, each with its number, its id,
+-- its tree and the policy by which it is indexed; the number that the next creation takes; and the
+-- policy now, by which a document is indexed that is written now. As in Azure Cosmos DB for NoSQL, an
+-- id names one document. Numbers begin at 1 and are never given twice.
+use Rattle.std.specs.Prelude.{◌≡◌, ℕ, ◌<◌, ◌≤◌, ◌==◌, List, [], ◌∷◌, length, map, find, Bool, false, Option, Some, option_map}
 use Rattle.std.specs.List.{list_any, AllByRecursion}
 use Rattle.std.specs.Str.{bytes_eq}
 use Rattle.ax_tree.specs.declared.tree.Tree.{Tree}
 use Rattle.ax_tree.specs.Document.{document_id}
 use Rattle.ax_tree.specs.Nesting.{nesting}
 use Rattle.ax_tree.specs.WellFormed.{IsWellFormed}
+use Rattle.ax_policy.specs.declared.policy.Policy.{Policy}
+use Rattle.ax_policy.specs.Default.{default_policy}
 
 -- one document that a container has
 pub record Entry : Type 0 where
   pub number : ℕ
   pub id : List ℕ
   pub tree : Tree
+  -- the policy by which it is indexed
+  pub indexed_by : Policy
 
 pub record Container : Type 0 where
   pub entries : List Entry
   pub next_number : ℕ
+  -- the policy now
+  pub policy : Policy
 
 -- a container of no documents
 abbrev pub fresh : Container
-fresh = record { entries = []; next_number = 1 }
+fresh = record { entries = []; next_number = 1; policy = default_policy }
 
 -- the most documents that a container has
 abbrev pub most_documents : ℕ
@@ -46,6 +53,14 @@ entry_of id container = find (has_id id) container.entries
 -- the tree of the document of that id
 abbrev pub tree_of : List ℕ → Container → Option Tree
 tree_of id container = option_map (λ entry. entry.tree) (entry_of id container)
+
+-- the entry has that number
+abbrev pub has_number : ℕ → Entry → Bool
+has_number number entry = entry.number == number
+
+-- the entry of that number
+abbrev pub entry_at : ℕ → List Entry → Option Entry
+entry_at number entries = find (has_number number) entries
 
 -- the trees of all documents, in order
 abbrev pub trees : Container → List Tree

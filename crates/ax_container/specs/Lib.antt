@@ -1,3 +1,4 @@
 pub mod Container
 pub mod ContainerCode
-pub mod Upsert
+pub mod Writes
+pub mod Reindexing

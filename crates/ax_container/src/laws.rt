@@ -1,35 +1,89 @@
 //! Laws of the definitions, each the contract of a function that does nothing.
-ghost use Rattle.std.specs.Prelude.{◌≡◌, ◌≤◌, ℕ, List, Some, Ok, false, option_map, IfSome};
+ghost use Rattle.std.specs.Prelude.{◌≡◌, ◌≤◌, ◌==◌, ◌-◌, ℕ, List, map, Some, None, Ok, false, true, option_map, IfSome, if◌then◌else◌};
 ghost use Rattle.std.specs.Str.{bytes_eq};
 ghost use Rattle.ax_tree.specs.declared.tree.Tree.{Tree};
 ghost use Rattle.ax_tree.specs.Document.{document_id};
 ghost use Rattle.ax_tree.specs.Nesting.{nesting};
 ghost use Rattle.ax_tree.specs.WellFormed.{IsWellFormed};
-ghost use Rattle.ax_container.specs.Container.{Container, IsSound, fresh, entry_of, tree_of};
-ghost use Rattle.ax_container.specs.Upsert.{upserted};
+ghost use Rattle.ax_policy.specs.declared.policy.Policy.{Policy};
+ghost use Rattle.ax_container.specs.Container.{Container, Entry, IsSound, contains, fresh, entry_at, entry_of, tree_of};
+ghost use Rattle.ax_container.specs.Writes.{created, deleted, is_full, new_entry, replaced, rewritten, upserted};
+ghost use Rattle.ax_container.specs.Reindexing.{but_policy, left, stepped, with_policy};
 
 /// A container of no documents is sound.
 pub fn a_fresh_container_is_sound()
     ensures { IsSound fresh }
 {}
 
-/// An upsert of a document that a text can stand for keeps what holds of every container: numbers
-/// that rise and are never given twice, distinct ids, and each tree a document of its entry's id.
-pub fn an_upsert_keeps_soundness()
-    ensures { (before after : Container) (tree : Tree) (id : List ℕ) → document_id tree ≡ Some id
+/// A write of a document that a text can stand for keeps what holds of every container: numbers that
+/// rise and are never given twice, distinct ids, and each tree a document of its entry's id. A creation
+/// does where the id is not held and the container is not full, which an upsert sees to.
+pub fn a_write_keeps_soundness()
+    ensures upsert { (before after : Container) (tree : Tree) (id : List ℕ) → document_id tree ≡ Some id
         → IsWellFormed tree → nesting tree ≤ 127
         → IsSound before → upserted id tree before ≡ Ok after → IsSound after }
+    ensures creation { (before : Container) (tree : Tree) (id : List ℕ) → document_id tree ≡ Some id
+        → IsWellFormed tree → nesting tree ≤ 127
+        → contains id before ≡ false → is_full before ≡ false
+        → IsSound before → IsSound (created id tree before) }
+    ensures replacement { (before : Container) (tree : Tree) (id : List ℕ) → document_id tree ≡ Some id
+        → IsWellFormed tree → nesting tree ≤ 127
+        → IsSound before → IsSound (replaced id tree before) }
+    ensures deletion { (before : Container) (id : List ℕ) → IsSound before → IsSound (deleted id before) }
 {}
 
-/// After an upsert the container has the tree under its id, the document's number is the one that
-/// it had before, if there was one, and every other document is as before.
+/// A replacement and a deletion of an id that is not held change nothing.
+pub fn an_absent_id_is_not_written()
+    ensures replacement { (before : Container) (tree : Tree) (id : List ℕ) → contains id before ≡ false
+        → replaced id tree before ≡ before }
+    ensures deletion { (before : Container) (id : List ℕ) → contains id before ≡ false → deleted id before ≡ before }
+{}
+
+/// So do another policy now, and a step of the transformation.
+pub fn another_policy_keeps_soundness()
+    ensures policy { (before : Container) (policy : Policy) → IsSound before → IsSound (with_policy policy before) }
+    ensures step { (before : Container) (count : ℕ) → IsSound before → IsSound (stepped count before) }
+{}
+
+/// A step moves as many documents as it is asked for, or all that are left; of none it changes more than the
+/// policy by which it is indexed.
+pub fn a_step_moves_documents()
+    ensures left { (before : Container) (count : ℕ) → left (stepped count before) ≡ left before - count }
+    ensures kept { (before : Container) (count : ℕ)
+        → map but_policy (stepped count before).entries ≡ map but_policy before.entries }
+{}
+
+/// After an upsert the container has the tree under its id, indexed by the policy now; the document's
+/// number is the one that it had before, if there was one; and every other document is as before.
 pub fn an_upsert_sets_one_document()
     ensures one { (before after : Container) (tree : Tree) (id : List ℕ)
         → upserted id tree before ≡ Ok after → tree_of id after ≡ Some tree }
+    ensures indexed { (before after : Container) (tree : Tree) (id : List ℕ)
+        → upserted id tree before ≡ Ok after
+        → option_map (λ entry. entry.indexed_by) (entry_of id after) ≡ Some before.policy }
     ensures number { (before after : Container) (tree : Tree) (id : List ℕ)
         → upserted id tree before ≡ Ok after → IfSome (entry_of id before) (λ entry.
         option_map (λ entry. entry.number) (entry_of id after) ≡ Some entry.number) }
     ensures others { (before after : Container) (tree : Tree) (id other : List ℕ)
         → upserted id tree before ≡ Ok after
         → bytes_eq id other ≡ false → entry_of other after ≡ entry_of other before }
+{}
+
+/// By numbers: a creation puts its entry at the next number, a replacement gives the entry of the id's
+/// number the tree and the policy now, a deletion takes that entry away, and at every other number all is
+/// as before.
+pub fn a_write_is_at_one_number()
+    ensures creation { (before : Container) (tree : Tree) (id : List ℕ) (number : ℕ) → IsSound before
+        → entry_at number (created id tree before).entries
+        ≡ (if before.next_number == number then Some (new_entry id tree before) else entry_at number before.entries) }
+    ensures replacement { (before : Container) (tree : Tree) (id : List ℕ) (found : Entry) (number : ℕ) → IsSound before
+        → entry_of id before ≡ Some found
+        → entry_at number (replaced id tree before).entries
+        ≡ (if found.number == number then Some (rewritten tree before.policy found) else entry_at number before.entries) }
+    ensures deletion { (before : Container) (id : List ℕ) (found : Entry) (number : ℕ) → IsSound before
+        → entry_of id before ≡ Some found
+        → entry_at number (deleted id before).entries
+        ≡ (if found.number == number then None else entry_at number before.entries) }
+    ensures found { (before : Container) (id : List ℕ) (found : Entry) → IsSound before
+        → entry_of id before ≡ Some found → entry_at found.number before.entries ≡ Some found }
 {}

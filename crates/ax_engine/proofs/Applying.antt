@@ -19,7 +19,7 @@ use Rattle.ax_store.specs.declared.store.Store.{Store}
 use Rattle.ax_tree.specs.Document.{document_id}
 use Rattle.ax_tree.specs.declared.tree.Tree.{Tree}
 use Rattle.ax_container.specs.Container.{Container}
-use Rattle.ax_container.specs.Upsert.{upserted}
+use Rattle.ax_container.specs.Writes.{upserted}
 use Rattle.ax_grammar.specs.Query.{query_in}
 use Rattle.ax_lines.specs.declared.body.Body.{Body}
 use Rattle.ax_lines.specs.declared.line.Line.{Line}

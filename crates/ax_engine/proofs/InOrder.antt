@@ -13,7 +13,7 @@ use Rattle.ax_tree.specs.CanonicalText.{canonical_text}
 use Rattle.ax_container.specs.Container.{Entry, Container, has_id}
 use Rattle.ax_container.specs.Container.{NumbersRise, IdsAreDistinct, IsStored}
 use Rattle.ax_container.proofs.Ids.{same_from_eq}
-use Rattle.ax_container.proofs.Upserts.{or_none}
+use Rattle.ax_container.proofs.Soundness.{or_none}
 use Rattle.ax_area.specs.Contents.{Contents, Stored}
 use Rattle.ax_pages.proofs.LastPart.{same_number, other_number}
 use Rattle.ax_image.specs.Documents.{ContentsHold}

@@ -8,6 +8,7 @@ use Rattle.std.specs.Str.{bytes_eq}
 use Rattle.std.specs.FinMap as finite
 use Rattle.std.proofs.lemmas.Bool.{lt-ltb, leb-false}
 use Rattle.ax_tree.specs.declared.tree.Tree.{Tree}
+use Rattle.ax_policy.specs.declared.policy.Policy.{Policy}
 use Rattle.ax_tree.specs.Document.{document_id}
 use Rattle.ax_tree.specs.Nesting.{nesting}
 use Rattle.ax_tree.specs.WellFormed.{IsWellFormed}
@@ -15,9 +16,10 @@ use Rattle.ax_area.specs.Changes.{Change}
 use Rattle.ax_area.specs.Contents.{after_changes, Contents, has_room, is_given, may_follow, with_change}
 use Rattle.ax_area.specs.Parts.{changes_said}
 use Rattle.ax_container.specs.Container.{Entry, Container, has_id, entry_of, most_documents, last_number}
-use Rattle.ax_container.specs.Upsert.{Full, with_tree, replaced, created, creation, is_full, upserted}
+use Rattle.ax_container.specs.Writes.{Full, with_tree, replaced, new_entry, created, creation, is_full, upserted}
 use Rattle.ax_container.proofs.Ids.{same_from_eq, bytes_eq-false_sym}
-use Rattle.ax_container.proofs.Upserts.{or_none, upsert_keeps_soundness}
+use Rattle.ax_container.proofs.Soundness.{or_none, the_entry}
+use Rattle.ax_container.proofs.Upserts.{upsert_keeps_soundness}
 use Rattle.ax_frame.specs.Part.{PartValue}
 use Rattle.ax_image.specs.Documents.{ContentsHold}
 use Rattle.ax_image.specs.UpsertChanges.{document_change, meta_change, replacing_changes, creating_changes, upsert_changes}
@@ -215,28 +217,28 @@ number_step other e x o p id number rest =
       | false ↦ rest
     ]
 
-tree_keeps_id : (id : List ℕ) (tree : Tree) (e : Entry) (b : Bool)
-    → (if b then record { number = e.number; id = e.id; tree = tree } else e).id ≡ e.id
-tree_keeps_id id tree e true = refl
-tree_keeps_id id tree e false = refl
+tree_keeps_id : (id : List ℕ) (tree : Tree) (policy : Policy) (e : Entry) (b : Bool)
+    → (if b then the_entry e.number e.id tree policy else e).id ≡ e.id
+tree_keeps_id id tree policy e true = refl
+tree_keeps_id id tree policy e false = refl
 
-tree_keeps_number : (id : List ℕ) (tree : Tree) (e : Entry) (b : Bool)
-    → (if b then record { number = e.number; id = e.id; tree = tree } else e).number ≡ e.number
-tree_keeps_number id tree e true = refl
-tree_keeps_number id tree e false = refl
+tree_keeps_number : (id : List ℕ) (tree : Tree) (policy : Policy) (e : Entry) (b : Bool)
+    → (if b then the_entry e.number e.id tree policy else e).number ≡ e.number
+tree_keeps_number id tree policy e true = refl
+tree_keeps_number id tree policy e false = refl
 
-numbers_stay : (other id : List ℕ) (tree : Tree) (es : List Entry)
-    → option_map (λ (e : Entry). e.number) (find (has_id other) (map (with_tree id tree) es))
+numbers_stay : (other id : List ℕ) (tree : Tree) (policy : Policy) (es : List Entry)
+    → option_map (λ (e : Entry). e.number) (find (has_id other) (map (with_tree id tree policy) es))
     ≡ option_map (λ (e : Entry). e.number) (find (has_id other) es)
-numbers_stay other id tree [] = refl
-numbers_stay other id tree (e ∷ es) =
-    number_step other e (with_tree id tree e) (find (has_id other) (map (with_tree id tree) es))
-    (find (has_id other) es) (tree_keeps_id id tree e (has_id id e))
-    (tree_keeps_number id tree e (has_id id e)) (numbers_stay other id tree es)
+numbers_stay other id tree policy [] = refl
+numbers_stay other id tree policy (e ∷ es) =
+    number_step other e (with_tree id tree policy e) (find (has_id other) (map (with_tree id tree policy) es))
+    (find (has_id other) es) (tree_keeps_id id tree policy e (has_id id e))
+    (tree_keeps_number id tree policy e (has_id id e)) (numbers_stay other id tree policy es)
 
 pub numbers_replaced : (other id : List ℕ) (tree : Tree) (before : Container)
     → number_in other (replaced id tree before) ≡ number_in other before
-numbers_replaced other id tree before = numbers_stay other id tree before.entries
+numbers_replaced other id tree before = numbers_stay other id tree before.policy before.entries
 
 created_step : (b new : Bool) (n : ℕ) (e : Entry) (o p : Option Entry) → (b ≡ true → new ≡ false)
     → option_map (λ (e : Entry). e.number) o ≡ cond new (Some n) (option_map (λ (e : Entry). e.number) p)
@@ -269,5 +271,5 @@ pub numbers_created : (other id : List ℕ) (tree : Tree) (before : Container)
     → number_in other (created id tree before)
     ≡ cond (bytes_eq id other) (Some before.next_number) (number_in other before)
 numbers_created other id tree before at =
-    numbers_behind other (record { number = before.next_number; id = id; tree = tree }) before.entries
+    numbers_behind other (new_entry id tree before) before.entries
     (any_found id before.entries ∙ ap is_some (no_entry (entry_of id before) at))

@@ -9,7 +9,7 @@ use Rattle.ax_area.specs.Contents.{Contents}
 use Rattle.ax_store.specs.Store.{Agrees, store_failed, store_contents}
 use Rattle.ax_tree.specs.declared.tree.Tree.{Tree}
 use Rattle.ax_container.specs.Container.{Container, entry_of, most_documents, last_number}
-use Rattle.ax_container.specs.Upsert.{Full, upserted}
+use Rattle.ax_container.specs.Writes.{Full, upserted}
 use Rattle.ax_image.specs.Documents.{ContentsHold}
 use Rattle.ax_engine.specs.Stores.{Shows}
 use Rattle.ax_engine.specs.declared.documents.Documents.{Documents}

@@ -5,7 +5,7 @@ use Rattle.ax_disk.specs.model.Image.{Image}
 use Rattle.ax_disk.specs.model.Moments.{History}
 use Rattle.ax_disk.specs.model.Stays.{Rests, Turns}
 use Rattle.ax_container.specs.Container.{Container}
-use Rattle.ax_container.specs.Upsert.{Full, upserted}
+use Rattle.ax_container.specs.Writes.{Full, upserted}
 use Rattle.ax_image.specs.Readable.{SaysReadable}
 use Rattle.ax_lines.specs.declared.line.Line.{Line}
 use Rattle.ax_lines.specs.declared.line.Line.TheVariants as line

@@ -8,7 +8,7 @@ ghost use Rattle.ax_tree.specs.Document.{document_id};
 ghost use Rattle.ax_ids.specs.Ids.{number_under};
 ghost use Rattle.ax_lines.specs.Asked.{IsStorable};
 ghost use Rattle.ax_container.specs.Container.{Container};
-ghost use Rattle.ax_container.specs.Upsert.{Full, upserted};
+ghost use Rattle.ax_container.specs.Writes.{Full, upserted};
 ghost use Rattle.ax_image.specs.Readable.{SaysReadable};
 ghost use Rattle.ax_area.specs.Contents.{is_given};
 ghost use Rattle.ax_engine.specs.Documents.{contents_in, DocumentsHold, DocumentsWork, is_full_of, TellsUpsert, WorksAfterUpsert};

@@ -13,39 +13,49 @@ use Rattle.ax_area.specs.Contents.{Contents, Stored, no_contents}
 use Rattle.ax_area.specs.Image.{IsFresh}
 use Rattle.ax_area.proofs.OneOutcome.{one_contents}
 use Rattle.ax_area.proofs.OneTelling.{same_some}
-use Rattle.ax_image_grammar.proofs.Fresh.{fresh_is}
+use Rattle.ax_image_grammar.proofs.Fresh.{default_now, fresh_is}
 use Rattle.ax_image.specs.Readable.{newest}
-use Rattle.ax_image.specs.StandsFor.{ShowsEntry, ShowEntries, ContentsShow, StandsFor}
+use Rattle.ax_image_grammar.specs.Payloads.{IsTextOf}
+use Rattle.ax_image_grammar.specs.Table.{policy_text}
+use Rattle.ax_image_grammar.proofs.OneContainer.{same_policy}
+use Rattle.ax_image.specs.StandsFor.{AreUnder, ShowsEntry, ShowEntries, ContentsShow, StandsFor}
 
-one_entry : (number : ℕ) (document : Stored) (a b : Entry) → ShowsEntry number document a
-    → ShowsEntry number document b → IsStored a → IsStored b → a ≡ b
-one_entry number document a b sa sb ha hb =
+one_entry : (text : List ℕ) (number : ℕ) (document : Stored) (a b : Entry) → ShowsEntry number document a
+    → ShowsEntry number document b → IsTextOf text a.indexed_by → IsTextOf text b.indexed_by
+    → IsStored a → IsStored b → a ≡ b
+one_entry text number document a b sa sb ua ub ha hb =
     let numbers : a.number ≡ b.number = sym sa.number_is ∙ sb.number_is in
     let texts : canonical_text a.tree ≡ canonical_text b.tree = sym sa.text_is ∙ sb.text_is in
     let trees : a.tree ≡ b.tree = one_text a.tree b.tree (numbers_fit-well_formed a.tree ha.well_formed)
     (numbers_fit-well_formed b.tree hb.well_formed) texts in
     let ids : a.id ≡ b.id = same_some a.id b.id (sym ha.own_id ∙ ap document_id trees ∙ hb.own_id) in
-    λ i. record { number = numbers i; id = ids i; tree = trees i }
+    let policies : a.indexed_by ≡ b.indexed_by = same_policy text a.indexed_by b.indexed_by ua ub in
+    λ i. record { number = numbers i; id = ids i; tree = trees i; indexed_by = policies i }
 
-one_list : (documents : List (ℕ × Stored)) (xs ys : List Entry) → ShowEntries documents xs
-    → ShowEntries documents ys → AllByRecursion IsStored xs → AllByRecursion IsStored ys → xs ≡ ys
-one_list [] [] [] sx sy hx hy = refl
-one_list [] [] (y ∷ ys) sx sy hx hy = absurd sy
-one_list [] (x ∷ xs) ys sx sy hx hy = absurd sx
-one_list (d ∷ ds) [] ys sx sy hx hy = absurd sx
-one_list (d ∷ ds) (x ∷ xs) [] sx sy hx hy = absurd sy
-one_list (d ∷ ds) (x ∷ xs) (y ∷ ys) sx sy hx hy =
-    let first = one_entry d.0 d.1 x y sx.0 sy.0 hx.0 hy.0 in
-    let others = one_list ds xs ys sx.1 sy.1 hx.1 hy.1 in
+one_list : (texts : ℕ → List ℕ) (documents : List (ℕ × Stored)) (xs ys : List Entry)
+    → ShowEntries documents xs → ShowEntries documents ys
+    → AreUnder texts documents xs → AreUnder texts documents ys
+    → AllByRecursion IsStored xs → AllByRecursion IsStored ys → xs ≡ ys
+one_list texts [] [] [] sx sy ux uy hx hy = refl
+one_list texts [] [] (y ∷ ys) sx sy ux uy hx hy = absurd sy
+one_list texts [] (x ∷ xs) ys sx sy ux uy hx hy = absurd sx
+one_list texts (d ∷ ds) [] ys sx sy ux uy hx hy = absurd sx
+one_list texts (d ∷ ds) (x ∷ xs) [] sx sy ux uy hx hy = absurd sy
+one_list texts (d ∷ ds) (x ∷ xs) (y ∷ ys) sx sy ux uy hx hy =
+    let first = one_entry (texts d.1.policy) d.0 d.1 x y sx.0 sy.0 ux.0 uy.0 hx.0 hy.0 in
+    let others = one_list texts ds xs ys sx.1 sy.1 ux.1 uy.1 hx.1 hy.1 in
     λ i. first i ∷ others i
 
 one_by_contents : (contents : Contents) (x y : Container) → ContentsShow contents x
     → ContentsShow contents y → x ≡ y
 one_by_contents contents x y sx sy =
-    let entries : x.entries ≡ y.entries = one_list (finite.entries contents.documents) x.entries y.entries
-    sx.shown sy.shown sx.sound.stored sy.sound.stored in
+    let entries : x.entries ≡ y.entries =
+    one_list (λ number. policy_text number contents) (finite.entries contents.documents) x.entries y.entries
+    sx.shown sy.shown sx.under sy.under sx.sound.stored sy.sound.stored in
     let next : x.next_number ≡ y.next_number = sym sx.next ∙ sy.next in
-    λ i. record { entries = entries i; next_number = next i }
+    let policy : x.policy ≡ y.policy =
+    same_policy (policy_text contents.policy_now contents) x.policy y.policy sx.policy sy.policy in
+    λ i. record { entries = entries i; next_number = next i; policy = policy i }
 
 pub one_container : (image : Image) (x y : Container) → StandsFor image x → StandsFor image y → x ≡ y
 one_container image x y sx sy =
@@ -66,6 +76,8 @@ nothing_shows =
     record {
       next = refl;
       shown = subst (λ documents. ShowEntries documents []) (sym none) tt;
+      under = subst (λ documents. AreUnder (λ number. policy_text number no_contents) documents []) (sym none) tt;
+      policy = default_now;
       sound = record { numbers = omega arith; last = omega arith; few = omega arith; distinct = tt; stored = tt };
     }
 

@@ -12,14 +12,16 @@ use Rattle.ax_pages.proofs.LastPart.{same_number}
 use Rattle.std.specs.FinMap.Entries.{by_order}
 use Rattle.ax_tree.specs.declared.tree.Tree.{Tree}
 use Rattle.ax_tree.specs.CanonicalText.{canonical_text}
+use Rattle.ax_policy.specs.declared.policy.Policy.{Policy}
 use Rattle.ax_container.specs.Container.{Entry, has_id, NumbersRise, IdsAreDistinct}
-use Rattle.ax_container.specs.Upsert.{with_tree}
+use Rattle.ax_container.specs.Writes.{with_tree}
 use Rattle.ax_container.proofs.Ids.{same_from_eq}
-use Rattle.ax_container.proofs.Upserts.{or_none, with_tree-own, with_tree-other}
+use Rattle.ax_container.proofs.Soundness.{the_entry, or_none}
+use Rattle.ax_container.proofs.Upserts.{with_tree-own, with_tree-other}
 use Rattle.ax_area.specs.Contents.{Stored}
 use Rattle.ax_image.specs.StandsFor.{ShowsEntry, ShowEntries}
 
-same_some : {A : Type 0} (x y : A) → Some x ≡ Some y → x ≡ y
+pub same_some : {A : Type 0} (x y : A) → Some x ≡ Some y → x ≡ y
 same_some x y e = ap (λ found. unwrap_or found x) e
 
 pub as_many : (pages : List (ℕ × Stored)) (entries : List Entry) → ShowEntries pages entries → length pages ≡ length entries
@@ -43,13 +45,13 @@ found_above id before next (e ∷ es) found rise is =
       | false ↦ λ other same. let above = found_above id e.number next es found rise.1 same in omega (arith, rise.0, above)
     ] refl is
 
-after_greater : (k : ℕ) (document : Stored) (page : ℕ × Stored) (pages : List (ℕ × Stored)) → page.0 < k
+pub after_greater : (k : ℕ) (document : Stored) (page : ℕ × Stored) (pages : List (ℕ × Stored)) → page.0 < k
     → put nat_cmp k document (page ∷ pages) ≡ page ∷ put nat_cmp k document pages
 after_greater k document page pages lt =
     ap (λ r. by_order r ((k, document) ∷ page ∷ pages) ((page.0, document) ∷ pages) (page ∷ put nat_cmp k document pages))
     (sym (nat_cmp_is k page.0 Greater lt))
 
-at_equal : (k : ℕ) (document : Stored) (page : ℕ × Stored) (pages : List (ℕ × Stored)) → k ≡ page.0
+pub at_equal : (k : ℕ) (document : Stored) (page : ℕ × Stored) (pages : List (ℕ × Stored)) → k ≡ page.0
     → put nat_cmp k document (page ∷ pages) ≡ (page.0, document) ∷ pages
 at_equal k document page pages e =
     ap (λ r. by_order r ((k, document) ∷ page ∷ pages) ((page.0, document) ∷ pages) (page ∷ put nat_cmp k document pages)) (sym (nat_cmp_is k page.0 Equal e))
@@ -68,48 +70,50 @@ shown_behind (p ∷ ps) (e ∷ es) before next document new rise shown is =
     (shown.0, shown_behind ps es e.number next document new rise.1 shown.1 is)
 
 -- where no entry is of the id, none changes
-unchanged : (id : List ℕ) (tree : Tree) (entries : List Entry) → list_any (has_id id) entries ≡ false → map (with_tree id tree) entries ≡ entries
-unchanged id tree [] none = refl
-unchanged id tree (e ∷ es) none =
+pub unchanged : (id : List ℕ) (tree : Tree) (policy : Policy) (entries : List Entry) → list_any (has_id id) entries ≡ false
+    → map (with_tree id tree policy) entries ≡ entries
+unchanged id tree policy [] none = refl
+unchanged id tree policy (e ∷ es) none =
     let parts = or_none (has_id id e) (list_any (has_id id) es) none in
-    λ i. with_tree-other id tree e parts.0 i ∷ unchanged id tree es parts.1 i
+    λ i. with_tree-other id tree policy e parts.0 i ∷ unchanged id tree policy es parts.1 i
 
 -- one page and one entry in front, which is of the id or is not
-over_first : (p : ℕ × Stored) (ps : List (ℕ × Stored)) (e : Entry) (es : List Entry) (id : List ℕ) (tree : Tree) (document : Stored)
+over_first : (p : ℕ × Stored) (ps : List (ℕ × Stored)) (e : Entry) (es : List Entry) (id : List ℕ) (tree : Tree) (policy : Policy) (document : Stored)
     (text_is : document.text ≡ canonical_text tree) (found : Entry)
     → IdsAreDistinct (e ∷ es) → ShowEntries (p ∷ ps) (e ∷ es)
-    → has_id id e ≡ true → e ≡ found → ShowEntries (put nat_cmp found.number document (p ∷ ps)) (map (with_tree id tree) (e ∷ es))
-over_first p ps e es id tree document text_is found distinct shown own same =
+    → has_id id e ≡ true → e ≡ found → ShowEntries (put nat_cmp found.number document (p ∷ ps)) (map (with_tree id tree policy) (e ∷ es))
+over_first p ps e es id tree policy document text_is found distinct shown own same =
     let number : found.number ≡ p.0 = ap (λ (x : Entry). x.number) (sym same) ∙ sym shown.0.number_is in
-    let others : map (with_tree id tree) es ≡ es = unchanged id tree es (ap (λ x. list_any (has_id x) es) (sym (same_from_eq e.id id own)) ∙ distinct.0) in
-    let first : ShowsEntry p.0 document (record { number = e.number; id = e.id; tree = tree }) =
+    let others : map (with_tree id tree policy) es ≡ es =
+    unchanged id tree policy es (ap (λ x. list_any (has_id x) es) (sym (same_from_eq e.id id own)) ∙ distinct.0) in
+    let first : ShowsEntry p.0 document (the_entry e.number e.id tree policy) =
     record { number_is = shown.0.number_is; text_is = text_is } in
-    subst (λ pages. ShowEntries pages (map (with_tree id tree) (e ∷ es))) (sym (at_equal found.number document p ps number))
-    (subst (λ x. ShowsEntry p.0 document x) (sym (with_tree-own id tree e own)) first, subst (ShowEntries ps) (sym others) shown.1)
+    subst (λ pages. ShowEntries pages (map (with_tree id tree policy) (e ∷ es))) (sym (at_equal found.number document p ps number))
+    (subst (λ x. ShowsEntry p.0 document x) (sym (with_tree-own id tree policy e own)) first, subst (ShowEntries ps) (sym others) shown.1)
 
-over_later : (p : ℕ × Stored) (ps : List (ℕ × Stored)) (e : Entry) (es : List Entry) (next : ℕ) (id : List ℕ) (tree : Tree) (document : Stored)
-    (found : Entry) → NumbersRise e.number es next → ShowEntries (p ∷ ps) (e ∷ es)
+over_later : (p : ℕ × Stored) (ps : List (ℕ × Stored)) (e : Entry) (es : List Entry) (next : ℕ) (id : List ℕ) (tree : Tree)
+    (policy : Policy) (document : Stored) (found : Entry) → NumbersRise e.number es next → ShowEntries (p ∷ ps) (e ∷ es)
     → has_id id e ≡ false → find (has_id id) es ≡ Some found
-    → ShowEntries (put nat_cmp found.number document ps) (map (with_tree id tree) es)
-    → ShowEntries (put nat_cmp found.number document (p ∷ ps)) (map (with_tree id tree) (e ∷ es))
-over_later p ps e es next id tree document found rise shown other same later =
+    → ShowEntries (put nat_cmp found.number document ps) (map (with_tree id tree policy) es)
+    → ShowEntries (put nat_cmp found.number document (p ∷ ps)) (map (with_tree id tree policy) (e ∷ es))
+over_later p ps e es next id tree policy document found rise shown other same later =
     let below : p.0 < found.number = omega (arith, found_above id e.number next es found rise same, shown.0.number_is) in
-    subst (λ pages. ShowEntries pages (map (with_tree id tree) (e ∷ es))) (sym (after_greater found.number document p ps below))
-    (subst (λ x. ShowsEntry p.0 p.1 x) (sym (with_tree-other id tree e other)) shown.0, later)
+    subst (λ pages. ShowEntries pages (map (with_tree id tree policy) (e ∷ es))) (sym (after_greater found.number document p ps below))
+    (subst (λ x. ShowsEntry p.0 p.1 x) (sym (with_tree-other id tree policy e other)) shown.0, later)
 
-pub shown_over : (pages : List (ℕ × Stored)) (entries : List Entry) (before next : ℕ) (id : List ℕ) (tree : Tree) (document : Stored)
+pub shown_over : (pages : List (ℕ × Stored)) (entries : List Entry) (before next : ℕ) (id : List ℕ) (tree : Tree) (policy : Policy) (document : Stored)
     (text_is : document.text ≡ canonical_text tree) (found : Entry)
     → NumbersRise before entries next → IdsAreDistinct entries → ShowEntries pages entries
-    → find (has_id id) entries ≡ Some found → ShowEntries (put nat_cmp found.number document pages) (map (with_tree id tree) entries)
-shown_over [] [] before next id tree document text_is found rise distinct shown is = absurd cc
-shown_over [] (e ∷ es) before next id tree document text_is found rise distinct shown is = absurd shown
-shown_over (p ∷ ps) [] before next id tree document text_is found rise distinct shown is = absurd shown
-shown_over (p ∷ ps) (e ∷ es) before next id tree document text_is found rise distinct shown is =
+    → find (has_id id) entries ≡ Some found → ShowEntries (put nat_cmp found.number document pages) (map (with_tree id tree policy) entries)
+shown_over [] [] before next id tree policy document text_is found rise distinct shown is = absurd cc
+shown_over [] (e ∷ es) before next id tree policy document text_is found rise distinct shown is = absurd shown
+shown_over (p ∷ ps) [] before next id tree policy document text_is found rise distinct shown is = absurd shown
+shown_over (p ∷ ps) (e ∷ es) before next id tree policy document text_is found rise distinct shown is =
     elim (has_id id e) as (λ b. has_id id e ≡ b → (if b then Some e else find (has_id id) es) ≡ Some found
-    → ShowEntries (put nat_cmp found.number document (p ∷ ps)) (map (with_tree id tree) (e ∷ es))) [
-      | true ↦ λ own same. over_first p ps e es id tree document text_is found distinct shown own (same_some e found same)
-      | false ↦ λ other same. over_later p ps e es next id tree document found rise.1 shown other same
-          (shown_over ps es e.number next id tree document text_is found rise.1 distinct.1 shown.1 same)
+    → ShowEntries (put nat_cmp found.number document (p ∷ ps)) (map (with_tree id tree policy) (e ∷ es))) [
+      | true ↦ λ own same. over_first p ps e es id tree policy document text_is found distinct shown own (same_some e found same)
+      | false ↦ λ other same. over_later p ps e es next id tree policy document found rise.1 shown other same
+          (shown_over ps es e.number next id tree policy document text_is found rise.1 distinct.1 shown.1 same)
     ] refl is
 
 -- the number of an entry has a page

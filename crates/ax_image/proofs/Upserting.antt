@@ -12,15 +12,18 @@ use Rattle.std.proofs.lemmas.Bool.{lt-ltb, leb-false}
 use Rattle.ax_tree.specs.declared.tree.Tree.{Tree}
 use Rattle.ax_tree.specs.CanonicalText.{canonical_text}
 use Rattle.ax_container.specs.Container.{Entry, Container, has_id, contains, entry_of, most_documents, last_number, IsSound}
-use Rattle.ax_container.specs.Upsert.{replaced, created, is_full, upserted}
-use Rattle.ax_container.proofs.Upserts.{or_none, upsert_cases}
+use Rattle.ax_container.specs.Writes.{replaced, new_entry, created, is_full, upserted}
+use Rattle.ax_container.proofs.Soundness.{or_none}
+use Rattle.ax_container.proofs.Upserts.{upsert_cases}
 use Rattle.ax_area.specs.Changes.{Change}
 use Rattle.ax_area.specs.Contents.{Contents, Stored, is_given, has_room, after_change, after_changes}
 use Rattle.ax_image.specs.Documents.{ContentsHold}
-use Rattle.ax_image.specs.StandsFor.{ShowEntries}
+use Rattle.ax_image_grammar.specs.Table.{policy_text}
+use Rattle.ax_image.specs.StandsFor.{AreUnder, ShowEntries}
 use Rattle.ax_image.specs.UpsertChanges.{document_change, replacing_changes, creating_changes, upsert_changes}
 use Rattle.ax_image.proofs.KeptApart.{apart_with}
 use Rattle.ax_image.proofs.Shown.{as_many, found_page, shown_behind, shown_over}
+use Rattle.ax_image.proofs.Under.{under_behind, under_over}
 
 both : (a b : Bool) → a ≡ true → b ≡ true → (a && b) ≡ true
 both a b x y = λ i. x i && y i
@@ -72,6 +75,10 @@ module _ (contents : Contents) (before : Container) (id : List ℕ) (tree : Tree
   abbrev policy : ℕ
   policy = contents.policy_now
 
+  -- the texts of the policies, by their numbers
+  abbrev texts : ℕ → List ℕ
+  texts = λ given. policy_text given contents
+
   abbrev documents : List (ℕ × Stored)
   documents = finite.entries contents.documents
 
@@ -98,8 +105,12 @@ module _ (contents : Contents) (before : Container) (id : List ℕ) (tree : Tree
           show = record {
             next = hold.show.next;
             shown = subst (λ shown. ShowEntries shown (replaced id tree before).entries) (sym (put_entries number))
-                (shown_over documents before.entries 0 before.next_number id tree (document_of number policy tree) refl found
+                (shown_over documents before.entries 0 before.next_number id tree before.policy (document_of number policy tree) refl found
                 hold.show.sound.numbers hold.show.sound.distinct hold.show.shown is);
+            under = subst (λ shown. AreUnder texts shown (replaced id tree before).entries) (sym (put_entries number))
+                (under_over texts documents before.entries 0 before.next_number id tree before.policy (document_of number policy tree)
+                hold.show.policy found hold.show.sound.numbers hold.show.sound.distinct hold.show.shown hold.show.under is);
+            policy = hold.show.policy;
             sound = sound;
           };
           given = hold.given;
@@ -139,8 +150,12 @@ module _ (contents : Contents) (before : Container) (id : List ℕ) (tree : Tree
         next = refl;
         shown = subst (λ shown. ShowEntries shown (created id tree before).entries) (sym (put_entries next))
             (shown_behind documents before.entries 0 next (document_of next policy tree)
-            (record { number = next; id = id; tree = tree }) hold.show.sound.numbers hold.show.shown
+            (new_entry id tree before) hold.show.sound.numbers hold.show.shown
             (record { number_is = refl; text_is = refl }));
+        under = subst (λ shown. AreUnder texts shown (created id tree before).entries) (sym (put_entries next))
+            (under_behind texts documents before.entries 0 next (document_of next policy tree) (new_entry id tree before)
+            hold.show.sound.numbers hold.show.shown hold.show.under hold.show.policy);
+        policy = hold.show.policy;
         sound = sound;
       };
       given = hold.given;

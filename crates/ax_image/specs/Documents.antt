@@ -17,7 +17,7 @@ pub record ContentsHold (contents : Contents) (container : Container) : Type 0 w
   pub given : is_given contents.policy_now contents ≡ true
   pub apart : AreApart contents
 
--- the documents of the container are those of the image
+-- the documents of the container are those of the image, each under its policy, and so is the policy now
 pub record HasDocuments (container : Container) (image : Image) : Type 0 where
   pub version : ℕ
   pub told : List Told

@@ -8,7 +8,7 @@ ghost use Rattle.ax_tree.specs.Document.{document_id};
 ghost use Rattle.ax_tree.specs.Nesting.{nesting};
 ghost use Rattle.ax_tree.specs.WellFormed.{IsWellFormed};
 ghost use Rattle.ax_container.specs.Container.{Container, fresh};
-ghost use Rattle.ax_container.specs.Upsert.{upserted};
+ghost use Rattle.ax_container.specs.Writes.{upserted};
 ghost use Rattle.ax_area.specs.Contents.{Contents, after_changes};
 ghost use Rattle.ax_area.specs.Image.{IsFresh};
 ghost use Rattle.ax_area.specs.Told.{Told};

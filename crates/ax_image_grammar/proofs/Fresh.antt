@@ -51,7 +51,7 @@ no_element : {A : Type 0} (xs : List A) → length xs ≡ 0 → xs ≡ []
 no_element [] e = refl
 no_element (x ∷ xs) e = absurd (omega (arith, e))
 
-default_now : IsTextOf (policy_text 0 no_contents) default_policy
+pub default_now : IsTextOf (policy_text 0 no_contents) default_policy
 default_now = record {
   well_formed = default_fine;
   is_policy = default_reads;

@@ -16,7 +16,7 @@ use Rattle.ax_image_grammar.specs.Container.{Entry, Container}
 use Rattle.ax_image_grammar.specs.Payloads.{IsTextOf}
 use Rattle.ax_image_grammar.specs.StandsFor.{IsShown, AreShown, ContentsStandFor, StandsFor}
 
-same_policy : (text : List ℕ) (a b : Policy) → IsTextOf text a → IsTextOf text b → a ≡ b
+pub same_policy : (text : List ℕ) (a b : Policy) → IsTextOf text a → IsTextOf text b → a ≡ b
 same_policy text a b ta tb =
     one_policy (normal_tree a) (normal_tree b) a b ta.is_policy tb.is_policy
     (sym ta.spelled ∙ tb.spelled)

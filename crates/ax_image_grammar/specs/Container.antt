@@ -1,6 +1,6 @@
 -- What a store holds, with policies and versions: the documents in the order of their creation, the
--- numbers that the next ones take, and the policy now. `ax_container` has the same without policies
--- and versions, which no line has yet; this takes its place when lines do.
+-- numbers that the next ones take, and the policy now. `ax_container` has the same without versions,
+-- which no line has yet; this takes its place when lines do.
 use Rattle.std.specs.Prelude.{◌≡◌, ℕ, ◌<◌, ◌==◌, List, [], ◌∷◌, false}
 use Rattle.std.specs.List.{list_any, AllByRecursion}
 use Rattle.std.specs.Str.{bytes_eq}

@@ -7,7 +7,8 @@ use Rattle.ax_tree.specs.Document.{document_id}
 use Rattle.ax_text.specs.Reading.{Reading, Stands, NotJson, NotWhole, reading}
 use Rattle.ax_text.proofs.ReadTrees.{IsStanding, stands}
 use Rattle.ax_container.specs.Container.{Container, IsStored, IsSound}
-use Rattle.ax_container.specs.Upsert.{WriteRefusal, upserted}
+use Rattle.ax_container.specs.Writes.{WriteRefusal, upserted}
+use Rattle.ax_container.proofs.Soundness.{the_entry}
 use Rattle.ax_container.proofs.Upserts.{upsert_keeps_soundness}
 use Rattle.ax_lines.specs.declared.body.Body.{Body}
 use Rattle.ax_lines.specs.declared.line.Line.{Line}
@@ -88,7 +89,7 @@ upsert_sound before tree (Some id) doc good sound =
     (λ number own same. stored number own same) sound made) sound
   where
     stored : (number : ℕ) (own : List ℕ) → own ≡ id
-        → IsStored (record { number = number; id = own; tree = tree })
+        → IsStored (the_entry number own tree before.policy)
     stored number own same = record {
       own_id = doc
           ∙ ap Some (sym same);

@@ -4,7 +4,7 @@ use Rattle.std.specs.Prelude.{ℕ, List, Option, Some, None, Result, Ok, Err}
 use Rattle.ax_tree.specs.declared.tree.Tree.{Tree}
 use Rattle.ax_tree.specs.Document.{document_id}
 use Rattle.ax_container.specs.Container.{Container}
-use Rattle.ax_container.specs.Upsert.{WriteRefusal, Full, upserted}
+use Rattle.ax_container.specs.Writes.{WriteRefusal, Full, upserted}
 use Rattle.ax_lines.specs.declared.line.Line.{Line}
 use Rattle.ax_lines.specs.declared.line.Line.TheVariants as line
 use Rattle.ax_lines.specs.declared.refusal.Refusal.{Refusal}

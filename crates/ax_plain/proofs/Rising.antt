@@ -7,7 +7,8 @@ use Rattle.std.specs.Ordering.{nat_cmp}
 use Rattle.std.specs.declared.cmp.Ordering.TheVariants.{Less}
 use Rattle.ax_tree.specs.declared.tree.Tree.{Tree}
 use Rattle.ax_container.specs.Container.{Entry, NumbersRise, has_id}
-use Rattle.ax_container.specs.Upsert.{with_tree}
+use Rattle.ax_container.specs.Writes.{rewritten, with_tree}
+use Rattle.ax_policy.specs.declared.policy.Policy.{Policy}
 
 all_above : (n before next : ℕ) (entries : List Entry) → n ≤ before → NumbersRise before entries next
     → AllByRecursion (λ m. nat_cmp n m ≡ Less) (map (λ entry. entry.number) entries)
@@ -36,21 +37,21 @@ pub numbers_of_pairs : (entries : List Entry)
 numbers_of_pairs [] = refl
 numbers_of_pairs (entry ∷ entries) = λ i. entry.number ∷ numbers_of_pairs entries i
 
-number_kept : (id : List ℕ) (tree : Tree) (entry : Entry)
-    → (with_tree id tree entry).number ≡ entry.number
-number_kept id tree entry =
+number_kept : (id : List ℕ) (tree : Tree) (policy : Policy) (entry : Entry)
+    → (with_tree id tree policy entry).number ≡ entry.number
+number_kept id tree policy entry =
     elim (has_id id entry) as
-    (λ b. (cond b (record { number = entry.number; id = entry.id; tree = tree }) entry).number
+    (λ b. (cond b (rewritten tree policy entry) entry).number
     ≡ entry.number)
     [ true ↦ refl | false ↦ refl ]
 
-pub rise_replaced : (id : List ℕ) (tree : Tree) (before next : ℕ) (entries : List Entry)
-    → NumbersRise before entries next → NumbersRise before (map (with_tree id tree) entries) next
-rise_replaced id tree before next [] rise = rise
-rise_replaced id tree before next (entry ∷ entries) rise =
-    subst (λ n. (before < n) × NumbersRise n (map (with_tree id tree) entries) next)
-    (sym (number_kept id tree entry))
-    (rise.0, rise_replaced id tree entry.number next entries rise.1)
+pub rise_replaced : (id : List ℕ) (tree : Tree) (policy : Policy) (before next : ℕ) (entries : List Entry)
+    → NumbersRise before entries next → NumbersRise before (map (with_tree id tree policy) entries) next
+rise_replaced id tree policy before next [] rise = rise
+rise_replaced id tree policy before next (entry ∷ entries) rise =
+    subst (λ n. (before < n) × NumbersRise n (map (with_tree id tree policy) entries) next)
+    (sym (number_kept id tree policy entry))
+    (rise.0, rise_replaced id tree policy entry.number next entries rise.1)
 
 pub rise_created : (before next : ℕ) (entries : List Entry) (entry : Entry) → entry.number ≡ next
     → NumbersRise before entries next → NumbersRise before (entries ++ entry ∷ []) (next + 1)

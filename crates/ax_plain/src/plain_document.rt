@@ -1,14 +1,16 @@
 ghost use Rattle.std.specs.Prelude.{◌≡◌, ◌==◌, IfOk};
 ghost use Rattle.std.specs.Str.{bytes_eq};
 ghost use Rattle.ax_container.specs.Container.{has_id};
-ghost use Rattle.ax_container.specs.Upsert.{with_tree};
+ghost use Rattle.ax_container.specs.Writes.{with_tree};
+ghost use Rattle.ax_policy.specs.Default.{default_policy};
 
 use crate::out_of_memory::Memory;
 use ax_tree::{Text, Tree};
 use std::alloc::Global;
 use std::marker::Model;
 
-/// One document, which contracts see as an entry of a container.
+/// One document, which contracts see as an entry of a container. It is indexed by the default policy, since no line
+/// gives another.
 #[derive(Drop)]
 pub struct PlainDocument {
     number: u32,
@@ -19,6 +21,7 @@ pub struct PlainDocument {
 impl Model for PlainDocument {
     ghost use Rattle.ax_container.specs.Container.{Entry};
     ghost use Rattle.ax_container.specs.ContainerCode.{entry_code};
+    ghost use Rattle.ax_policy.specs.Default.{default_policy};
 
     ghost Value = { Entry };
 
@@ -29,12 +32,13 @@ impl Model for PlainDocument {
       id = document.id;
       tree =
           document.tree;
+      indexed_by = default_policy;
     } };
 }
 
 impl PlainDocument {
     pub fn new(number: u32, id: Text, tree: Tree) -> PlainDocument
-        ensures { result ≡ record { number = number; id = id; tree = tree } }
+        ensures { result ≡ record { number = number; id = id; tree = tree; indexed_by = default_policy } }
     {
         PlainDocument { number, id, tree }
     }
@@ -59,7 +63,7 @@ impl PlainDocument {
 
     /// The document, or where it is of that id the document with the tree.
     pub fn with_tree(&self, alloc: Global, id: &Text, tree: &Tree) -> Result<PlainDocument, Memory>
-        ensures { IfOk result (λ after. after ≡ with_tree id.now tree.now self.now) }
+        ensures { IfOk result (λ after. after ≡ with_tree id.now tree.now default_policy self.now) }
     {
         let tree = if self.has_id(id) { tree } else { &self.tree };
         Ok(PlainDocument {

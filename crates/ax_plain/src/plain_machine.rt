@@ -2,7 +2,8 @@ ghost use Rattle.std.specs.Prelude.{◌≡◌, map, Some, IfOk, OnOk, OnErr};
 ghost use Rattle.std.specs.List.{list_any};
 ghost use Rattle.ax_tree.specs.Document.{document_id};
 ghost use Rattle.ax_container.specs.Container.{has_id};
-ghost use Rattle.ax_container.specs.Upsert.{with_tree};
+ghost use Rattle.ax_container.specs.Writes.{with_tree};
+ghost use Rattle.ax_policy.specs.Default.{default_policy};
 ghost use Rattle.ax_machine.specs.Querying.{query_reply, rows_or_refusal, rows_reply};
 ghost use Rattle.ax_machine.specs.Step.{step, upsert_by};
 ghost use Rattle.ax_machine.specs.ReplyTexts.{reply_text};
@@ -35,6 +36,7 @@ pub struct PlainMachine {
 impl Model for PlainMachine {
     ghost use Rattle.ax_container.specs.Container.{Container, NumbersRise};
     ghost use Rattle.ax_container.specs.ContainerCode.{container_code};
+    ghost use Rattle.ax_policy.specs.Default.{default_policy};
 
     ghost Value = { Container };
 
@@ -44,6 +46,7 @@ impl Model for PlainMachine {
       entries = machine.documents.items;
       next_number =
           machine.next_number;
+      policy = default_policy;
     } };
 
     ghost invariant = { λ machine. NumbersRise 0 machine.documents.items machine.next_number };
@@ -140,7 +143,7 @@ fn replaced(
     id: &Text,
     tree: &Tree,
 ) -> Result<Vec<PlainDocument>, Memory>
-    ensures { IfOk result (λ after. after.items ≡ map (with_tree id.now tree.now) documents.now) }
+    ensures { IfOk result (λ after. after.items ≡ map (with_tree id.now tree.now default_policy) documents.now) }
 {
     let mut after = Vec::with_capacity(alloc, documents.len())?;
     for document in documents {

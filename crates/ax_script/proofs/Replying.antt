@@ -5,7 +5,7 @@ use Rattle.std.specs.Prelude.{◌≢◌, IfErr, IsTrue}
 use Rattle.ax_disk.specs.model.Moments.{History}
 use Rattle.ax_disk.specs.model.Stays.{Turns}
 use Rattle.ax_container.specs.Container.{Container}
-use Rattle.ax_container.specs.Upsert.{WriteRefusal, upserted}
+use Rattle.ax_container.specs.Writes.{WriteRefusal, upserted}
 use Rattle.ax_tree.specs.Document.{document_id}
 use Rattle.ax_lines.specs.declared.line.Line.{Line}
 use Rattle.ax_lines.specs.declared.line.Line.TheVariants as line

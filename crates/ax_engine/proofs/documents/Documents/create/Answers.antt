@@ -2,7 +2,7 @@
 use Rattle.std.proofs.Common.{◌≡◌, ◌<◌, ◌-◌, ◌^◌, List, ℕ, Some, cond, refl, ap, sym, ◌∙◌, arith}
 use Rattle.std.specs.Str.{bytes_eq}
 use Rattle.ax_cache.specs.Held.{held}
-use Rattle.ax_container.specs.Upsert.{created}
+use Rattle.ax_container.specs.Writes.{created}
 use Rattle.ax_disk.specs.laws.StaysLaws.{stays_start}
 use Rattle.ax_image.specs.Readable.{SaysReadable}
 use Rattle.ax_image.proofs.ReadableUpserts.{creating_readable}

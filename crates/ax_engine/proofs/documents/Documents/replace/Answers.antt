@@ -1,7 +1,7 @@
 -- The changes lead from the container to the one in which the document is replaced.
 use Rattle.std.proofs.Common.{◌≡◌, Some, refl, ap, sym, ◌∙◌}
 use Rattle.ax_cache.specs.Held.{held}
-use Rattle.ax_container.specs.Upsert.{replaced}
+use Rattle.ax_container.specs.Writes.{replaced}
 use Rattle.ax_disk.specs.laws.StaysLaws.{stays_start}
 use Rattle.ax_image.specs.Readable.{SaysReadable}
 use Rattle.ax_image.proofs.ReadableUpserts.{replacing_readable}

@@ -1,6 +1,7 @@
 -- A replacement keeps each number, and a creation takes the next one.
 use Rattle.std.proofs.Common.{List, ◌+◌, sym, subst, ap}
 use Rattle.ax_container.specs.Container.{Entry, NumbersRise}
+use Rattle.ax_policy.specs.Default.{default_policy}
 use Rattle.ax_plain.proofs.Rising.{rise_created, rise_replaced}
 use Rattle.ax_plain.proofs.plain_machine.PlainMachine.upsert.Goals as goal
 
@@ -11,7 +12,7 @@ invariant_of-self c =
     subst (λ (entries : List Entry). NumbersRise 0 entries next)
     (sym c.as_slice-then-contains.ensures.value) c.self.invariant
     in subst (λ (entries : List Entry). NumbersRise 0 entries next) (sym c.in_ok-self-inside.ensures)
-    (rise_replaced c.in-Some.id.now c.args.tree 0 next c.as_slice-then-contains.result.now before)
+    (rise_replaced c.in-Some.id.now c.args.tree default_policy 0 next c.as_slice-then-contains.result.now before)
 
 pub invariant_of-self-2 : goal.invariant_of-self-2
 invariant_of-self-2 c =
