@@ -1,5 +1,5 @@
 //! A disk on which each call fails.
-ghost use Rattle.std.specs.Prelude.{◌≡◌, ◌≤◌, false, [], Some, IsErr};
+ghost use Rattle.std.specs.Prelude.{◌≡◌, ◌≤◌, false, [], Some, IsErr, OnOk};
 ghost use Rattle.std.proofs.lemmas.Bool.{false≢true};
 ghost use Rattle.ax_faults.specs.Faults.{raised, HasCause, CountsOnce};
 
@@ -55,6 +55,7 @@ impl Disk for DeadDisk {
     fn attach(&mut self, _name: &str) -> Result<(), DiskFailed>
         ensures fails { IsErr result }
         ensures cause { HasCause result (dead_faults self.old) (dead_faults self.new) }
+        ensures uncounted { OnOk result (dead_faults self.new ≡ dead_faults self.old) }
         ensures counts { CountsOnce result (dead_faults self.old) (dead_faults self.new) }
     {
         Err(self.fail())
@@ -63,6 +64,7 @@ impl Disk for DeadDisk {
     fn len(&mut self, _ext: Extent) -> Result<u64, DiskFailed>
         ensures fails { IsErr result }
         ensures cause { HasCause result (dead_faults self.old) (dead_faults self.new) }
+        ensures uncounted { OnOk result (dead_faults self.new ≡ dead_faults self.old) }
         ensures counts { CountsOnce result (dead_faults self.old) (dead_faults self.new) }
     {
         Err(self.fail())
@@ -71,6 +73,7 @@ impl Disk for DeadDisk {
     fn read(&mut self, _ext: Extent, _at: u64, _buf: &mut [u8]) -> Result<(), DiskFailed>
         ensures fails { IsErr result }
         ensures cause { HasCause result (dead_faults self.old) (dead_faults self.new) }
+        ensures uncounted { OnOk result (dead_faults self.new ≡ dead_faults self.old) }
         ensures counts { CountsOnce result (dead_faults self.old) (dead_faults self.new) }
     {
         Err(self.fail())
@@ -79,6 +82,7 @@ impl Disk for DeadDisk {
     fn write_at(&mut self, _ext: Extent, _at: u64, _bytes: &[u8]) -> Result<(), DiskFailed>
         ensures fails { IsErr result }
         ensures cause { HasCause result (dead_faults self.old) (dead_faults self.new) }
+        ensures uncounted { OnOk result (dead_faults self.new ≡ dead_faults self.old) }
         ensures counts { CountsOnce result (dead_faults self.old) (dead_faults self.new) }
     {
         Err(self.fail())
@@ -87,6 +91,7 @@ impl Disk for DeadDisk {
     fn cut(&mut self, _ext: Extent, _len: u64) -> Result<(), DiskFailed>
         ensures fails { IsErr result }
         ensures cause { HasCause result (dead_faults self.old) (dead_faults self.new) }
+        ensures uncounted { OnOk result (dead_faults self.new ≡ dead_faults self.old) }
         ensures counts { CountsOnce result (dead_faults self.old) (dead_faults self.new) }
     {
         Err(self.fail())
@@ -95,6 +100,7 @@ impl Disk for DeadDisk {
     fn sync(&mut self) -> Result<(), DiskFailed>
         ensures fails { IsErr result }
         ensures cause { HasCause result (dead_faults self.old) (dead_faults self.new) }
+        ensures uncounted { OnOk result (dead_faults self.new ≡ dead_faults self.old) }
         ensures counts { CountsOnce result (dead_faults self.old) (dead_faults self.new) }
     {
         Err(self.fail())

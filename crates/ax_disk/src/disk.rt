@@ -19,7 +19,7 @@ pub struct DiskFailed;
 /// below it is not, and no clause then speaks of any content. Nobody but the holder of the disk
 /// changes its lists.
 pub trait Disk {
-    /// How often a call has failed, up to the last value of a `u64`.
+    /// How often a call has failed, up to the last value of a `u64`. A call that succeeds leaves it as it is.
     ghost faults: { Self → ℕ };
 
     /// Whether it tells of its lists.
@@ -47,6 +47,7 @@ pub trait Disk {
         ensures lists { IsTrue (is_honest self.old) → (store : List ℕ)
             → Idles (history self.old store) (history self.new store) }
         ensures cause { HasCause result (faults self.old) (faults self.new) }
+        ensures uncounted { OnOk result (faults self.new ≡ faults self.old) }
         ensures honest { is_honest self.new ≡ is_honest self.old }
         ensures spent { remaining self.new ≡ one_call_less (remaining self.old) }
         ensures stopped { remaining self.old ≡ Some 0 → IsErr result };
@@ -61,6 +62,7 @@ pub trait Disk {
             → Idles (history self.old (attached self.old)) (history self.new (attached self.new)) }
         ensures attached { attached self.new ≡ attached self.old }
         ensures cause { HasCause result (faults self.old) (faults self.new) }
+        ensures uncounted { OnOk result (faults self.new ≡ faults self.old) }
         ensures honest { is_honest self.new ≡ is_honest self.old }
         ensures spent { remaining self.new ≡ one_call_less (remaining self.old) }
         ensures stopped { remaining self.old ≡ Some 0 → IsErr result };
@@ -76,6 +78,7 @@ pub trait Disk {
             → Idles (history self.old (attached self.old)) (history self.new (attached self.new)) }
         ensures attached { attached self.new ≡ attached self.old }
         ensures cause { HasCause result (faults self.old) (faults self.new) }
+        ensures uncounted { OnOk result (faults self.new ≡ faults self.old) }
         ensures honest { is_honest self.new ≡ is_honest self.old }
         ensures spent { remaining self.new ≡ one_call_less (remaining self.old) }
         ensures stopped { remaining self.old ≡ Some 0 → IsErr result };
@@ -90,6 +93,7 @@ pub trait Disk {
         ensures limit { 2 ^ 62 < at + length bytes.now → IsErr result }
         ensures attached { attached self.new ≡ attached self.old }
         ensures cause { HasCause result (faults self.old) (faults self.new) }
+        ensures uncounted { OnOk result (faults self.new ≡ faults self.old) }
         ensures honest { is_honest self.new ≡ is_honest self.old }
         ensures spent { remaining self.new ≡ one_call_less (remaining self.old) }
         ensures stopped { remaining self.old ≡ Some 0 → IsErr result };
@@ -101,6 +105,7 @@ pub trait Disk {
             (history self.new (attached self.new)) }
         ensures attached { attached self.new ≡ attached self.old }
         ensures cause { HasCause result (faults self.old) (faults self.new) }
+        ensures uncounted { OnOk result (faults self.new ≡ faults self.old) }
         ensures honest { is_honest self.new ≡ is_honest self.old }
         ensures spent { remaining self.new ≡ one_call_less (remaining self.old) }
         ensures stopped { remaining self.old ≡ Some 0 → IsErr result };
@@ -112,6 +117,7 @@ pub trait Disk {
             (history self.new (attached self.new)) }
         ensures attached { attached self.new ≡ attached self.old }
         ensures cause { HasCause result (faults self.old) (faults self.new) }
+        ensures uncounted { OnOk result (faults self.new ≡ faults self.old) }
         ensures honest { is_honest self.new ≡ is_honest self.old }
         ensures spent { remaining self.new ≡ one_call_less (remaining self.old) }
         ensures stopped { remaining self.old ≡ Some 0 → IsErr result };

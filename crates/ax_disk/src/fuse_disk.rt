@@ -87,6 +87,8 @@ impl<D: Disk> Disk for FuseDisk<D> {
             → Idles (D.history (inner_of self.old) store) (D.history (inner_of self.new) store) }
         ensures cause { HasCause result
             (all_faults D.faults self.old) (all_faults D.faults self.new) }
+        ensures uncounted { OnOk result
+            (all_faults D.faults self.new ≡ all_faults D.faults self.old) }
         ensures honest { D.is_honest (inner_of self.new) ≡ D.is_honest (inner_of self.old) }
 
         // What a fuse adds.
@@ -107,6 +109,8 @@ impl<D: Disk> Disk for FuseDisk<D> {
         ensures attached { D.attached (inner_of self.new) ≡ D.attached (inner_of self.old) }
         ensures cause { HasCause result
             (all_faults D.faults self.old) (all_faults D.faults self.new) }
+        ensures uncounted { OnOk result
+            (all_faults D.faults self.new ≡ all_faults D.faults self.old) }
         ensures honest { D.is_honest (inner_of self.new) ≡ D.is_honest (inner_of self.old) }
 
         // What a fuse adds.
@@ -127,6 +131,8 @@ impl<D: Disk> Disk for FuseDisk<D> {
         ensures attached { D.attached (inner_of self.new) ≡ D.attached (inner_of self.old) }
         ensures cause { HasCause result
             (all_faults D.faults self.old) (all_faults D.faults self.new) }
+        ensures uncounted { OnOk result
+            (all_faults D.faults self.new ≡ all_faults D.faults self.old) }
         ensures honest { D.is_honest (inner_of self.new) ≡ D.is_honest (inner_of self.old) }
 
         // What a fuse adds.
@@ -146,6 +152,8 @@ impl<D: Disk> Disk for FuseDisk<D> {
         ensures attached { D.attached (inner_of self.new) ≡ D.attached (inner_of self.old) }
         ensures cause { HasCause result
             (all_faults D.faults self.old) (all_faults D.faults self.new) }
+        ensures uncounted { OnOk result
+            (all_faults D.faults self.new ≡ all_faults D.faults self.old) }
         ensures honest { D.is_honest (inner_of self.new) ≡ D.is_honest (inner_of self.old) }
 
         // What a fuse adds.
@@ -162,6 +170,8 @@ impl<D: Disk> Disk for FuseDisk<D> {
         ensures attached { D.attached (inner_of self.new) ≡ D.attached (inner_of self.old) }
         ensures cause { HasCause result
             (all_faults D.faults self.old) (all_faults D.faults self.new) }
+        ensures uncounted { OnOk result
+            (all_faults D.faults self.new ≡ all_faults D.faults self.old) }
         ensures honest { D.is_honest (inner_of self.new) ≡ D.is_honest (inner_of self.old) }
 
         // What a fuse adds.
@@ -178,6 +188,8 @@ impl<D: Disk> Disk for FuseDisk<D> {
         ensures attached { D.attached (inner_of self.new) ≡ D.attached (inner_of self.old) }
         ensures cause { HasCause result
             (all_faults D.faults self.old) (all_faults D.faults self.new) }
+        ensures uncounted { OnOk result
+            (all_faults D.faults self.new ≡ all_faults D.faults self.old) }
         ensures honest { D.is_honest (inner_of self.new) ≡ D.is_honest (inner_of self.old) }
 
         // What a fuse adds.

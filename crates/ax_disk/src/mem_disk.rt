@@ -146,6 +146,7 @@ impl Disk for MemDisk {
         ensures lists { Idles (disk_history self.old) (disk_history self.new) }
         ensures untouched { operation_log self.new ≡ operation_log self.old }
         ensures cause { HasCause result (disk_faults self.old) (disk_faults self.new) }
+        ensures uncounted { OnOk result (disk_faults self.new ≡ disk_faults self.old) }
         ensures succeeds { IsOk result ↔ Allows (call_budget self.old) }
         ensures counts { CountsOnce result (disk_faults self.old) (disk_faults self.new) }
         ensures calls { call_budget self.new ≡ after_call (call_budget self.old) }
@@ -167,6 +168,7 @@ impl Disk for MemDisk {
         ensures lists { Idles (disk_history self.old) (disk_history self.new) }
         ensures untouched { operation_log self.new ≡ operation_log self.old }
         ensures cause { HasCause result (disk_faults self.old) (disk_faults self.new) }
+        ensures uncounted { OnOk result (disk_faults self.new ≡ disk_faults self.old) }
         ensures succeeds { IsOk result
             ↔ (Allows (call_budget self.old)
             × (length (list_of ext (disk_history self.old).reads) ≤ 2 ^ 62)) }
@@ -192,6 +194,7 @@ impl Disk for MemDisk {
         ensures lists { Idles (disk_history self.old) (disk_history self.new) }
         ensures untouched { operation_log self.new ≡ operation_log self.old }
         ensures cause { HasCause result (disk_faults self.old) (disk_faults self.new) }
+        ensures uncounted { OnOk result (disk_faults self.new ≡ disk_faults self.old) }
         ensures succeeds { IsOk result ↔ Allows (call_budget self.old) }
         ensures counts { CountsOnce result (disk_faults self.old) (disk_faults self.new) }
         ensures calls { call_budget self.new ≡ after_call (call_budget self.old) }
@@ -217,6 +220,7 @@ impl Disk for MemDisk {
             (disk_history self.old) (disk_history self.new) }
         ensures limit { 2 ^ 62 < at + length bytes.now → IsErr result }
         ensures cause { HasCause result (disk_faults self.old) (disk_faults self.new) }
+        ensures uncounted { OnOk result (disk_faults self.new ≡ disk_faults self.old) }
         ensures counts { CountsOnce result (disk_faults self.old) (disk_faults self.new) }
         ensures succeeds { IsOk result
             ↔ (HasRoomFor at (length bytes.now) self.old
@@ -265,6 +269,7 @@ impl Disk for MemDisk {
         ensures refused { (call_budget self.old).remaining ≡ 0
             → operation_log self.new ≡ operation_log self.old }
         ensures cause { HasCause result (disk_faults self.old) (disk_faults self.new) }
+        ensures uncounted { OnOk result (disk_faults self.new ≡ disk_faults self.old) }
         ensures succeeds { IsOk result ↔ Allows (call_budget self.old) }
         ensures counts { CountsOnce result (disk_faults self.old) (disk_faults self.new) }
         ensures calls { call_budget self.new ≡ after_call (call_budget self.old) }
@@ -292,6 +297,7 @@ impl Disk for MemDisk {
         ensures lists { Syncs result (disk_history self.old) (disk_history self.new) }
         ensures refused { OnErr result (operation_log self.new ≡ operation_log self.old) }
         ensures cause { HasCause result (disk_faults self.old) (disk_faults self.new) }
+        ensures uncounted { OnOk result (disk_faults self.new ≡ disk_faults self.old) }
         ensures succeeds { IsOk result ↔ Allows (call_budget self.old) }
         ensures counts { CountsOnce result (disk_faults self.old) (disk_faults self.new) }
         ensures calls { call_budget self.new ≡ after_call (call_budget self.old) }
