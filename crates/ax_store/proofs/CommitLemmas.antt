@@ -1,6 +1,6 @@
 -- Committing: parts that are allowed by what they say are within the format, and what their frame tells is told
 -- behind the rest.
-use Rattle.std.proofs.Common.{◌≡◌, ◌⊎◌, inl, inr, ℕ, ◌+◌, List, [], ◌∷◌, ◌++◌, length, Option, Some, None, refl, sym, ap, subst, ◌∙◌}
+use Rattle.std.proofs.Common.{◌≡◌, inr, ℕ, ◌+◌, List, [], ◌∷◌, ◌++◌, length, Option, Some, None, refl, sym, ap, subst, ◌∙◌}
 use Rattle.std.proofs.Common.{length-append, arith}
 use Rattle.std.specs.Prelude.{option_and_then}
 use Rattle.std.specs.Option.{option_map}
@@ -20,11 +20,11 @@ use Rattle.ax_area.specs.Image.{HasFrames, IsLive, Says}
 use Rattle.ax_area.specs.Items.{item_bytes}
 use Rattle.ax_area.specs.Parts as said
 use Rattle.ax_area.specs.Parts.{changes_said}
-use Rattle.ax_area.specs.Told.{Told, AreTold, Begins, Lead, changes_of, told_bytes}
+use Rattle.ax_area.specs.Told.{Told, AreTold, Begins, changes_of, told_bytes}
 use Rattle.ax_area.proofs.OneMore.{lead_on, tell_more}
 use Rattle.ax_area.proofs.OneTelling.{same_some, some_or_none}
 use Rattle.ax_area_laws.proofs.Parts.{are_parts, one_part_told, parts_told}
-use Rattle.ax_area_laws.proofs.Rising.{by_changes, parts_alike, risen_agrees}
+use Rattle.ax_area_laws.proofs.Rising.{parts_alike, risen_agrees}
 use Rattle.ax_area_laws.proofs.Telling.{tells}
 use Rattle.ax_area_laws.specs.Risen.{risen}
 use Rattle.ax_cache.specs.Pages.{CachedPages}
@@ -43,7 +43,7 @@ use Rattle.ax_store.specs.Cached.{HoldsParts}
 use Rattle.ax_store.specs.Change.{IsFrameOf}
 use Rattle.ax_store.specs.declared.store.Store.{Store}
 use Rattle.ax_store.specs.Kept.{Kept, Takes}
-use Rattle.ax_store.specs.Loading.{nothing_kept, TakesOn}
+use Rattle.ax_store.specs.Loading.{nothing_kept}
 use Rattle.ax_store.specs.Putting.{AreWithin, Puts}
 use Rattle.ax_store.specs.Store.{Agrees, SaysMore, store_contents, store_parts}
 use Rattle.ax_store.proofs.CacheLemmas.{held_on}
