@@ -4,8 +4,8 @@ ghost use Rattle.std.specs.Prelude.{◌≡◌, ◌≤◌, ℕ, IsTrue, length};
 ghost use Rattle.ax_store.specs.ReadAhead.{AgreesAheadUnlessFailed};
 
 use super::room_for;
-use crate::batch::Batch;
-use crate::{ReadAhead, Store};
+use ax_store::Batch;
+use ax_store::{ReadAhead, Store};
 use ax_cache::{NoPages, PageCache};
 use ax_disk::{Disk, Extent, MemDisk};
 use ax_frame::Part;

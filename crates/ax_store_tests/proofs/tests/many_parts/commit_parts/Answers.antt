@@ -4,8 +4,8 @@ use Rattle.ax_store.specs.Batch.{batch_parts}
 use Rattle.ax_store.specs.Store.{store_parts}
 use Rattle.ax_store.proofs.CommitLemmas.{within_allowed}
 use Rattle.ax_store.proofs.StoreLemmas.{agrees_same}
-use Rattle.ax_store.proofs.ManyParts.{AreMany, one_more, many_fit, many_taken, many_within}
-use Rattle.ax_store.proofs.tests.many_parts.commit_parts.Goals as goal
+use Rattle.ax_store_tests.proofs.ManyParts.{AreMany, one_more, many_fit, many_taken, many_within}
+use Rattle.ax_store_tests.proofs.tests.many_parts.commit_parts.Goals as goal
 
 pub commit-requires-clause-agrees : goal.commit-requires-clause-agrees
 commit-requires-clause-agrees g c = λ honest works.

@@ -10,7 +10,7 @@ use Rattle.ax_store.specs.Putting.{AreWithin, CanTake}
 use Rattle.ax_store.specs.Store.{store_contents, store_parts}
 use Rattle.ax_store.proofs.CommitLemmas.{within_allowed}
 use Rattle.ax_store.proofs.StoreLemmas.{agrees_same}
-use Rattle.ax_store.proofs.tests.commit_term_pages.Goals as goal
+use Rattle.ax_store_tests.proofs.tests.commit_term_pages.Goals as goal
 
 abbrev first_base : List ℕ
 first_base = 0 ∷ 0 ∷ 7 ∷ []

@@ -11,7 +11,7 @@ use Rattle.ax_store.specs.Store.{store_contents, store_parts}
 use Rattle.ax_store.proofs.CommitLemmas.{within_allowed}
 use Rattle.ax_store.proofs.Saying.{many_alike}
 use Rattle.ax_store.proofs.StoreLemmas.{agrees_same}
-use Rattle.ax_store.proofs.tests.commit_document.Goals as goal
+use Rattle.ax_store_tests.proofs.tests.commit_document.Goals as goal
 
 or_true : (a b : Bool) → b ≡ true → (a || b) ≡ true
 or_true true b e = refl

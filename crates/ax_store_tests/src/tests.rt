@@ -6,9 +6,10 @@ ghost use Rattle.ax_frame.specs.Part.{part_value};
 ghost use Rattle.ax_store.specs.Store.{Agrees, AgreesUnlessFailed};
 
 mod many_parts;
+mod opening;
 mod reading_ahead;
 
-use crate::{Batch, Head, Store, StoreFault};
+use ax_store::{Batch, Head, Store, StoreFault};
 use ax_base::Steps;
 use ax_cache::{LruPages, NoPages, PageCache};
 use ax_disk::{Disk, Extent, MemDisk};

@@ -4,7 +4,7 @@ ghost use Rattle.std.specs.Prelude.{IsTrue};
 ghost use Rattle.ax_store.specs.Store.{Agrees};
 
 use super::room_for;
-use crate::{Batch, Store, StoreFault};
+use ax_store::{Batch, Store, StoreFault};
 use ax_cache::{NoPages, PageCache};
 use ax_disk::Disk;
 use ax_frame::Part;

@@ -1,5 +1,5 @@
 use Rattle.ax_store.proofs.AheadLemmas.{ahead_honest}
-use Rattle.ax_store.proofs.tests.reading_ahead.shows.Goals as goal
+use Rattle.ax_store_tests.proofs.tests.reading_ahead.shows.Goals as goal
 
 pub returns-then-text-len : goal.returns-then-text-len
 returns-then-text-len g c = record { agrees = ahead_honest g.C.PageCache.pages _ _ _ _ _ c.read_ahead.ensures.honest c.read_ahead.ensures.agrees }
