@@ -2,6 +2,7 @@ ghost use Rattle.std.specs.Prelude.{◌≡◌, ◌<◌};
 
 mod grouped;
 mod ordered;
+mod rows;
 mod sizes;
 mod stopping;
 

@@ -35,6 +35,3 @@ pub use out_of_memory::Memory;
 pub use rows::{append_rows, envs_of, rows_of};
 pub use shown::passes_in;
 pub use walk::{Taker, walk_tree};
-
-#[cfg(test)]
-mod tests;

@@ -23,4 +23,3 @@ pub mod TermOrder
 pub mod PageBeforeLemmas
 pub mod TermBases
 pub mod ChangedRows
-pub mod ManyParts

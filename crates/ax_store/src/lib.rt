@@ -56,6 +56,3 @@ pub use pages::Meta;
 pub use read_ahead::ReadAhead;
 pub use reads::Head;
 pub use store::{Store, StoreFrames, StoreSlot};
-
-#[cfg(test)]
-mod tests;
