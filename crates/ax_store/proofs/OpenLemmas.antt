@@ -35,7 +35,7 @@ use Rattle.ax_log.specs.OpeningLaws.{opened_frames}
 use Rattle.ax_store.specs.declared.fault.StoreFault.{StoreFault}
 use Rattle.ax_store.specs.declared.fault.StoreFault.TheVariants.{Disk, Damaged, Newer, Memory}
 use Rattle.ax_store.specs.declared.store.Store.{Store}
-use Rattle.ax_store.specs.Faults.{IsRefusal, HasDiskCause}
+use Rattle.ax_store.specs.Faults.{IsRefusal}
 use Rattle.ax_store.specs.Loading.{nothing_kept, TakesOn, TellsLoad}
 use Rattle.ax_store.specs.Store.{IsOpened, TellsFault, of_log}
 use Rattle.ax_store.proofs.CacheLemmas.{none_held}
@@ -97,13 +97,6 @@ refused_log by_log.Disk refused = absurd refused
 refused_log (by_log.Damaged extent at) refused = λ x. x
 refused_log (by_log.Newer version) refused = λ x. x
 refused_log by_log.Memory refused = absurd refused
-
-pub log_cause : {C : Type 0} (fault : LogFault) (before now : ℕ) → log_faults.HasDiskCause {T = Log} (Err fault) before now
-    → HasDiskCause {T = Store C} (Err (of_log fault)) before now
-log_cause by_log.Disk before now cause = record { never_falls = cause.never_falls; failed = λ failed. cause.failed failed; uncounted = tt }
-log_cause (by_log.Damaged extent at) before now cause = record { never_falls = cause.never_falls; failed = λ failed. absurd failed; uncounted = cause.uncounted }
-log_cause (by_log.Newer version) before now cause = record { never_falls = cause.never_falls; failed = λ failed. absurd failed; uncounted = cause.uncounted }
-log_cause by_log.Memory before now cause = record { never_falls = cause.never_falls; failed = λ failed. absurd failed; uncounted = cause.uncounted }
 
 -- ---- its frames are not taken
 
