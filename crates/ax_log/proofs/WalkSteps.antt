@@ -153,7 +153,7 @@ damaged_told area bytes at fault is broken = subst (λ (f : LogFault). IsEndOf a
     (sym is) (refl, broken)
 
 pub no_disk_cause : (fault : LogFault) (extent at before now : ℕ) → fault ≡ Damaged extent at
-    → before ≤ now → HasDiskCause {T = ℕ} (Err fault) before now
-no_disk_cause fault extent at before now is rises =
+    → now ≡ before → HasDiskCause {T = ℕ} (Err fault) before now
+no_disk_cause fault extent at before now is same =
     subst (λ (f : LogFault). HasDiskCause {T = ℕ} (Err f) before now) (sym is)
-    (record { never_falls = rises; failed = λ by_disk. absurd by_disk })
+    (record { never_falls = omega (arith, same); failed = λ by_disk. absurd by_disk; uncounted = same })

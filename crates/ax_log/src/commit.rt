@@ -42,6 +42,7 @@ impl Log {
         ensures end_stays { OnErr result (log_end self.new ≡ log_end self.old) }
         ensures disk_alone { IfErr result (λ fault. fault ≡ LogFault.Disk) }
         ensures cause { HasCause result (D.faults disk.old) (D.faults disk.new) }
+        ensures uncounted { OnOk result (D.faults disk.new ≡ D.faults disk.old) }
         ensures attached { D.attached disk.new ≡ D.attached disk.old }
         ensures honest { D.is_honest disk.new ≡ D.is_honest disk.old }
     {
@@ -75,6 +76,7 @@ fn write_behind<D: Disk>(
         → OnOk result (IsStaged area end frame.now (D.history disk.old (D.attached disk.old)) (D.history disk.new (D.attached disk.new))) }
     ensures limit { OnOk result (end + 1 + length frame.now ≤ 2 ^ 62) }
     ensures cause { HasCause result (D.faults disk.old) (D.faults disk.new) }
+    ensures uncounted { OnOk result (D.faults disk.new ≡ D.faults disk.old) }
     ensures attached { D.attached disk.new ≡ D.attached disk.old }
     ensures honest { D.is_honest disk.new ≡ D.is_honest disk.old }
 {
@@ -102,6 +104,7 @@ fn open_gate<D: Disk>(disk: &mut D, area: Extent, end: u64) -> Result<(), DiskFa
     ensures root { IsTrue (D.is_honest disk.old) → area ≢ Root
         → OnOk result ((D.history disk.new (D.attached disk.new)).reads.root ≡ (D.history disk.old (D.attached disk.old)).reads.root) }
     ensures cause { HasCause result (D.faults disk.old) (D.faults disk.new) }
+    ensures uncounted { OnOk result (D.faults disk.new ≡ D.faults disk.old) }
     ensures attached { D.attached disk.new ≡ D.attached disk.old }
     ensures honest { D.is_honest disk.new ≡ D.is_honest disk.old }
 {

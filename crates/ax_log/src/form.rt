@@ -32,6 +32,7 @@ pub(crate) fn form<D: Disk>(disk: &mut D) -> Result<Log, DiskFailed>
     ensures any_moment { IsTrue (D.is_honest disk.old)
         → Stays (D.history disk.old (D.attached disk.old)) (D.history disk.new (D.attached disk.new)) IsForming }
     ensures cause { HasCause result (D.faults disk.old) (D.faults disk.new) }
+    ensures uncounted { OnOk result (D.faults disk.new ≡ D.faults disk.old) }
     ensures attached { D.attached disk.new ≡ D.attached disk.old }
     ensures honest { D.is_honest disk.new ≡ D.is_honest disk.old }
 {
@@ -58,6 +59,7 @@ fn clear<D: Disk>(disk: &mut D) -> Result<(), DiskFailed>
     ensures any_moment { IsTrue (D.is_honest disk.old)
         → Stays (D.history disk.old (D.attached disk.old)) (D.history disk.new (D.attached disk.new)) IsFresh }
     ensures cause { HasCause result (D.faults disk.old) (D.faults disk.new) }
+    ensures uncounted { OnOk result (D.faults disk.new ≡ D.faults disk.old) }
     ensures attached { D.attached disk.new ≡ D.attached disk.old }
     ensures honest { D.is_honest disk.new ≡ D.is_honest disk.old }
 {
@@ -74,6 +76,7 @@ fn lay_out<D: Disk>(disk: &mut D) -> Result<(), DiskFailed>
     ensures any_moment { IsTrue (D.is_honest disk.old)
         → Stays (D.history disk.old (D.attached disk.old)) (D.history disk.new (D.attached disk.new)) IsFresh }
     ensures cause { HasCause result (D.faults disk.old) (D.faults disk.new) }
+    ensures uncounted { OnOk result (D.faults disk.new ≡ D.faults disk.old) }
     ensures attached { D.attached disk.new ≡ D.attached disk.old }
     ensures honest { D.is_honest disk.new ≡ D.is_honest disk.old }
 {
@@ -98,6 +101,7 @@ fn complete_root<D: Disk>(disk: &mut D) -> Result<(), DiskFailed>
     ensures any_moment { IsTrue (D.is_honest disk.old)
         → Stays (D.history disk.old (D.attached disk.old)) (D.history disk.new (D.attached disk.new)) IsForming }
     ensures cause { HasCause result (D.faults disk.old) (D.faults disk.new) }
+    ensures uncounted { OnOk result (D.faults disk.new ≡ D.faults disk.old) }
     ensures attached { D.attached disk.new ≡ D.attached disk.old }
     ensures honest { D.is_honest disk.new ≡ D.is_honest disk.old }
 {

@@ -24,6 +24,7 @@ impl Log {
         ensures lists { IsTrue (D.is_honest disk.old)
             → Idles (D.history disk.old (D.attached disk.old)) (D.history disk.new (D.attached disk.new)) }
         ensures cause { HasCause result (D.faults disk.old) (D.faults disk.new) }
+        ensures uncounted { OnOk result (D.faults disk.new ≡ D.faults disk.old) }
         ensures attached { D.attached disk.new ≡ D.attached disk.old }
         ensures honest { D.is_honest disk.new ≡ D.is_honest disk.old }
     {

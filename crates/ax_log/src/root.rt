@@ -1,6 +1,6 @@
 //! What the root of a store on a disk says.
 
-ghost use Rattle.std.specs.Prelude.{◌≡◌, ◌+◌, ◌≤◌, ℕ, List, length, take, drop, IsTrue, IfOk};
+ghost use Rattle.std.specs.Prelude.{◌≡◌, ◌+◌, ◌≤◌, ℕ, List, length, take, drop, IsTrue, IfOk, OnOk};
 ghost use Rattle.ax_faults.specs.Faults.{HasCause};
 ghost use Rattle.ax_disk.specs.model.Calls.{Idles};
 ghost use Rattle.ax_frame.specs.RootSlot.{IsSlot};
@@ -20,6 +20,7 @@ pub(crate) fn read_root<D: Disk>(disk: &mut D) -> Result<RootChoice, DiskFailed>
     ensures lists { IsTrue (D.is_honest disk.old)
         → Idles (D.history disk.old (D.attached disk.old)) (D.history disk.new (D.attached disk.new)) }
     ensures cause { HasCause result (D.faults disk.old) (D.faults disk.new) }
+    ensures uncounted { OnOk result (D.faults disk.new ≡ D.faults disk.old) }
     ensures attached { D.attached disk.new ≡ D.attached disk.old }
     ensures honest { D.is_honest disk.new ≡ D.is_honest disk.old }
 {
@@ -39,6 +40,7 @@ fn read_slot_at<D: Disk>(disk: &mut D, at: u64) -> Result<RootSlot, DiskFailed>
     ensures lists { IsTrue (D.is_honest disk.old)
         → Idles (D.history disk.old (D.attached disk.old)) (D.history disk.new (D.attached disk.new)) }
     ensures cause { HasCause result (D.faults disk.old) (D.faults disk.new) }
+    ensures uncounted { OnOk result (D.faults disk.new ≡ D.faults disk.old) }
     ensures attached { D.attached disk.new ≡ D.attached disk.old }
     ensures honest { D.is_honest disk.new ≡ D.is_honest disk.old }
 {

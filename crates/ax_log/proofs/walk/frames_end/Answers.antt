@@ -18,7 +18,7 @@ loop-at-init g c =
           (c.show.ensures.lists (c.len.ensures.honest ∙ honest));
       same_store = c.show.ensures.attached ∙ c.len.ensures.attached;
       same_honesty = c.show.ensures.honest ∙ c.len.ensures.honest;
-      faults = omega (arith, c.len.ensures.cause.never_falls, c.show.ensures.cause.never_falls);
+      faults = c.in-Ok-show.ensures.uncounted ∙ c.in-Ok-len.ensures.uncounted;
     }
 
 pub reach-requires-clause-shows : goal.reach-requires-clause-shows
@@ -34,11 +34,12 @@ returns-in_default-reach-clause-lists g c = λ honest.
 
 pub returns-in_default-reach-clause-cause : goal.returns-in_default-reach-clause-cause
 returns-in_default-reach-clause-cause g c =
-    let rises = c.loop-at.invariant.faults in
+    let same = c.loop-at.invariant.faults in
     record {
-      never_falls = omega (arith, rises, c.reach.ensures.cause.never_falls);
-      failed = λ by_disk. rose_since _ _ _ _ rises (omega arith)
+      never_falls = omega (arith, same, c.reach.ensures.cause.never_falls);
+      failed = λ by_disk. rose_since _ _ _ _ (omega (arith, same)) (omega arith)
           (c.in_default-reach.ensures.cause.failed refl);
+      uncounted = tt;
     }
 
 pub returns-in-Closed-clause-is : goal.returns-in-Closed-clause-is
@@ -66,6 +67,7 @@ returns-in-Closed-clause-cause g c =
         c.reach.ensures.cause.never_falls,
       );
       failed = λ by_disk. absurd by_disk;
+      uncounted = c.in-Ok-reach.ensures.uncounted ∙ c.loop-at.invariant.faults;
     }
 
 pub loop-at-preserved : goal.loop-at-preserved
@@ -88,7 +90,7 @@ loop-at-preserved g c =
           (c.reach.ensures.lists (inv.same_honesty ∙ honest));
       same_store = c.reach.ensures.attached ∙ inv.same_store;
       same_honesty = c.reach.ensures.honest ∙ inv.same_honesty;
-      faults = omega (arith, inv.faults, c.reach.ensures.cause.never_falls);
+      faults = c.in-Ok-reach.ensures.uncounted ∙ inv.faults;
     }
 
 pub returns-in-Broken-clause-is : goal.returns-in-Broken-clause-is
@@ -111,7 +113,7 @@ returns-in-Broken-clause-lists g c = λ honest.
 pub returns-in-Broken-clause-cause : goal.returns-in-Broken-clause-cause
 returns-in-Broken-clause-cause g c =
     no_disk_cause c.damaged.result _ _ _ _ c.damaged.ensures
-    (omega (arith, c.loop-at.invariant.faults, c.reach.ensures.cause.never_falls))
+    (c.in-Ok-reach.ensures.uncounted ∙ c.loop-at.invariant.faults)
 
 pub returns-clause-is : goal.returns-clause-is
 returns-clause-is g c = λ honest.

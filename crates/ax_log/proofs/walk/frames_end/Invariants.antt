@@ -17,7 +17,7 @@ invariant-loop-at g l =
       idle : IsTrue (honest l.fn.disk) → Idles first (history l.disk (attached l.disk));
       same_store : attached l.disk ≡ attached l.fn.disk;
       same_honesty : honest l.disk ≡ honest l.fn.disk;
-      faults : g.D.Disk.faults l.fn.disk ≤ g.D.Disk.faults l.disk;
+      faults : g.D.Disk.faults l.disk ≡ g.D.Disk.faults l.fn.disk;
     }
 
 abbrev pub decreases-loop-at : goal.decreases-loop-at
