@@ -2,7 +2,6 @@
 use Rattle.std.proofs.Common.{◌≡◌, ℕ, ◌+◌, ◌<◌, ◌≤◌, List, [], ◌∷◌, ◌++◌, length, take, drop, arith}
 use Rattle.std.proofs.Common.{refl, sym, ap, ◌∙◌, subst, Bool, true, false, Option, Result, Ok, Err}
 use Rattle.std.specs.Option.{unwrap_or}
-use Rattle.ax_faults.specs.FaultLaws.{rose_since}
 use Rattle.ax_frame.specs.Part.{PartValue}
 use Rattle.ax_pair.specs.declared.pair.Pair.{Pair}
 use Rattle.ax_pair.specs.Order.{Rise}
@@ -21,7 +20,7 @@ use Rattle.ax_pairs.specs.PagePairs.{HasPairs}
 use Rattle.std.specs.Prelude.{IfErr, IfOk, OnOk, IsTrue}
 use Rattle.ax_store.specs.declared.fault.StoreFault.{StoreFault}
 use Rattle.ax_store.specs.declared.fault.StoreFault.TheVariants.{Memory}
-use Rattle.ax_store.specs.Faults.{IsDiskFault, FailsByDisk, HasDiskCause}
+use Rattle.ax_store.specs.Faults.{IsDiskFault, FailsByDisk, UnlessDisk, unless_disk, HasDiskCause}
 use Rattle.ax_store.specs.declared.store.Store.{Store}
 use Rattle.ax_store.specs.Kept.{deltas_of}
 use Rattle.ax_index.specs.DeltaRuns.{AreCarried}
@@ -136,9 +135,18 @@ not_by_disk : {T : Type 0} (result : Result T StoreFault) → IfErr result (λ f
 not_by_disk (Ok value) is fails = fails
 not_by_disk (Err fault) is fails = subst IsDiskFault is fails
 
-pub no_disk_fault : {T U : Type 0} (result : Result T StoreFault) (earlier : Result U StoreFault) (before now : ℕ) → IfErr result (λ fault. fault ≡ Memory)
-    → HasDiskCause earlier before now → HasDiskCause result before now
-no_disk_fault result earlier before now memory cause = record { never_falls = cause.never_falls; failed = λ fails. absurd (not_by_disk result memory fails) }
+unless_memory : {T : Type 0} (result : Result T StoreFault) (before now : ℕ) → IfErr result (λ fault. fault ≡ Memory) → now ≡ before
+    → UnlessDisk result (now ≡ before)
+unless_memory (Ok value) before now is same = same
+unless_memory (Err fault) before now is same = subst (λ (f : StoreFault). unless_disk f (now ≡ before)) (sym is) same
+
+pub no_disk_fault : {T U : Type 0} (result : Result T StoreFault) (earlier : U) (before now : ℕ) → IfErr result (λ fault. fault ≡ Memory)
+    → HasDiskCause {T = U} (Ok earlier) before now → HasDiskCause result before now
+no_disk_fault result earlier before now memory cause = record {
+  never_falls = cause.never_falls;
+  failed = λ fails. absurd (not_by_disk result memory fails);
+  uncounted = unless_memory result before now memory cause.uncounted;
+}
 
 -- and leaves the store as it was
 pub no_failure : {T : Type 0} (result : Result T StoreFault) (before after : Bool) → IfErr result (λ fault. fault ≡ Memory) → after ≡ before
@@ -146,13 +154,12 @@ pub no_failure : {T : Type 0} (result : Result T StoreFault) (before after : Boo
 no_failure (Ok value) before after memory same = same
 no_failure (Err fault) before after memory same = let P : StoreFault → Type 0 = λ f. FailsWith f before after in subst P (sym memory) same
 
--- the same fault, of a call that began earlier
-pub rose_later : {T U : Type 0} (fault : StoreFault) (before mid now : ℕ) → before ≤ mid → HasDiskCause {T = T} (Err fault) mid now
+-- the same fault, of a call that began earlier, when the count was the same
+pub cause_later : {T U : Type 0} (fault : StoreFault) (before mid now : ℕ) → mid ≡ before → HasDiskCause {T = T} (Err fault) mid now
     → HasDiskCause {T = U} (Err fault) before now
-rose_later fault before mid now earlier cause = record {
-  never_falls = omega (arith, earlier, cause.never_falls);
-  failed = λ fails. rose_since before mid now now earlier (omega arith) (cause.failed fails);
-}
+cause_later fault before mid now same cause =
+    let told = subst (λ (n : ℕ). HasDiskCause {T = T} (Err fault) n now) same cause in
+    record { never_falls = told.never_falls; failed = told.failed; uncounted = told.uncounted }
 
 -- what a fault does to the store, told of a store that had failed as much
 pub fails_as : (fault : StoreFault) (before mid after : Bool) → mid ≡ before → FailsWith fault mid after → FailsWith fault before after

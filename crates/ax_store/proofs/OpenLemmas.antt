@@ -100,10 +100,10 @@ refused_log by_log.Memory refused = absurd refused
 
 pub log_cause : {C : Type 0} (fault : LogFault) (before now : ℕ) → log_faults.HasDiskCause {T = Log} (Err fault) before now
     → HasDiskCause {T = Store C} (Err (of_log fault)) before now
-log_cause by_log.Disk before now cause = record { never_falls = cause.never_falls; failed = λ failed. cause.failed failed }
-log_cause (by_log.Damaged extent at) before now cause = record { never_falls = cause.never_falls; failed = λ failed. absurd failed }
-log_cause (by_log.Newer version) before now cause = record { never_falls = cause.never_falls; failed = λ failed. absurd failed }
-log_cause by_log.Memory before now cause = record { never_falls = cause.never_falls; failed = λ failed. absurd failed }
+log_cause by_log.Disk before now cause = record { never_falls = cause.never_falls; failed = λ failed. cause.failed failed; uncounted = tt }
+log_cause (by_log.Damaged extent at) before now cause = record { never_falls = cause.never_falls; failed = λ failed. absurd failed; uncounted = cause.uncounted }
+log_cause (by_log.Newer version) before now cause = record { never_falls = cause.never_falls; failed = λ failed. absurd failed; uncounted = cause.uncounted }
+log_cause by_log.Memory before now cause = record { never_falls = cause.never_falls; failed = λ failed. absurd failed; uncounted = cause.uncounted }
 
 -- ---- its frames are not taken
 

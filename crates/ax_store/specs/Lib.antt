@@ -16,4 +16,5 @@ pub mod Reading
 pub mod Store
 pub mod Slots
 pub mod Places
+pub mod Reads
 pub mod ReadAhead

@@ -1,12 +1,11 @@
 //! Reading texts ahead of a scan of documents in the order of their numbers.
 
-ghost use Rattle.std.specs.Prelude.{◌≡◌, ◌⊎◌, ◌+◌, ◌≤◌, max, true, false, Err, IsTrue, IfOk, IfErr, OnOk};
+ghost use Rattle.std.specs.Prelude.{◌≡◌, ◌+◌, ◌≤◌, max, IsTrue, IfOk};
 ghost use Rattle.std.specs.FinMap as map;
-ghost use Rattle.ax_disk.specs.model.Calls.{Idles};
 ghost use Rattle.ax_log.specs.Log.{log_end};
-ghost use Rattle.ax_store.specs.Faults.{HasDiskCause};
 ghost use Rattle.ax_store.specs.ReadAhead.{AgreesAheadUnlessFailed, IsAhead, ahead_text};
-ghost use Rattle.ax_store.specs.Store.{SameButReads, store_contents, store_slots, store_failed};
+ghost use Rattle.ax_store.specs.Reads.{FailsOrWantsMemory, ReadsStore};
+ghost use Rattle.ax_store.specs.Store.{store_contents, store_slots, store_failed};
 
 use crate::fault::StoreFault;
 use crate::read_ahead::ReadAhead;
@@ -38,19 +37,14 @@ impl<C: PageCache> Store<C> {
         ensures found { IfOk result (λ found. found ≡ map.contains_key (store_contents self.old).documents number) }
         ensures agrees { AgreesAheadUnlessFailed C.pages (D.is_honest disk.old) self.new ahead.new
             (D.history disk.new (D.attached disk.new)) }
-        ensures same { SameButReads self.old self.new }
+        ensures reads { ReadsStore C.pages (D.is_honest disk.old) self.old self.new
+            (D.history disk.old (D.attached disk.old)) (D.history disk.new (D.attached disk.new))
+            (D.faults disk.old) (D.faults disk.new) }
         ensures cache { self.new.cache ≡ self.old.cache }
         ensures slots { store_slots self.new ≡ store_slots self.old }
-        ensures works { OnOk result (store_failed self.new ≡ false) }
-        ensures fails { result ≡ Err StoreFault.Disk → store_failed self.new ≡ true }
-        ensures memory { result ≡ Err StoreFault.Memory → store_failed self.new ≡ store_failed self.old }
+        ensures fails { FailsOrWantsMemory result (store_failed self.old) (store_failed self.new)
+            (D.faults disk.old) (D.faults disk.new) }
         ensures kept { result ≡ Err StoreFault.Memory → ahead_text ahead.new ≡ ahead_text ahead.old }
-        ensures only { IfErr result (λ fault. (fault ≡ StoreFault.Disk) ⊎ (fault ≡ StoreFault.Memory)) }
-        ensures lists { IsTrue (D.is_honest disk.old)
-            → Idles (D.history disk.old (D.attached disk.old)) (D.history disk.new (D.attached disk.new)) }
-        ensures failed_before { store_failed self.old ≡ true → result ≡ Err StoreFault.Disk }
-        ensures cause { store_failed self.old ≡ false → HasDiskCause result (D.faults disk.old) (D.faults disk.new) }
-        ensures never_falls { D.faults disk.old ≤ D.faults disk.new }
         ensures attached { D.attached disk.new ≡ D.attached disk.old }
         ensures honest { D.is_honest disk.new ≡ D.is_honest disk.old }
     {

@@ -120,6 +120,7 @@ impl ReadAhead {
         ensures lists { IsTrue (D.is_honest disk.old)
             → Idles (D.history disk.old (D.attached disk.old)) (D.history disk.new (D.attached disk.new)) }
         ensures cause { HasCause result (D.faults disk.old) (D.faults disk.new) }
+        ensures uncounted { OnOk result (D.faults disk.new ≡ D.faults disk.old) }
         ensures attached { D.attached disk.new ≡ D.attached disk.old }
         ensures honest { D.is_honest disk.new ≡ D.is_honest disk.old }
     {
@@ -150,6 +151,7 @@ fn read_front<D: Disk>(
     ensures lists { IsTrue (D.is_honest disk.old)
         → Idles (D.history disk.old (D.attached disk.old)) (D.history disk.new (D.attached disk.new)) }
     ensures cause { HasCause result (D.faults disk.old) (D.faults disk.new) }
+    ensures uncounted { OnOk result (D.faults disk.new ≡ D.faults disk.old) }
     ensures attached { D.attached disk.new ≡ D.attached disk.old }
     ensures honest { D.is_honest disk.new ≡ D.is_honest disk.old }
 {

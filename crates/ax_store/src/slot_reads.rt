@@ -1,6 +1,6 @@
 //! Reading parts and documents into slots.
 
-ghost use Rattle.std.specs.Prelude.{◌≡◌, ◌+◌, ◌-◌, ◌^◌, ◌<◌, ◌≤◌, min, ℕ, List, true, false, Err, IsTrue, IfOk, IfErr, IfSome, OnOk, OnErr, length, take, drop, option_map, Some, None};
+ghost use Rattle.std.specs.Prelude.{◌≡◌, ◌+◌, ◌-◌, ◌^◌, ◌<◌, ◌≤◌, min, ℕ, List, IsTrue, IfOk, IfSome, OnOk, length, take, drop, option_map, Some, None};
 ghost use Rattle.std.specs.FinMap as map;
 ghost use Rattle.ax_faults.specs.Faults.{HasCause};
 ghost use Rattle.ax_disk.specs.model.Calls.{Idles};
@@ -11,9 +11,9 @@ ghost use Rattle.ax_log.specs.Agreement as logged;
 ghost use Rattle.ax_pool.specs.Frames.{IsTaken, bytes_at};
 ghost use Rattle.ax_store.specs.Cached.{HoldsParts};
 ghost use Rattle.ax_store.specs.Rows.{payload_kept, offset_kept};
-ghost use Rattle.ax_store.specs.Faults.{HasDiskCause};
 ghost use Rattle.ax_store.specs.Slots.{IsSlotOf, AreOthersSame, IsRead, IsFetched, part_at, term_part, ticks_of};
-ghost use Rattle.ax_store.specs.Store.{AgreesUnlessFailed, SameButReads, store_contents, store_parts, store_slots, store_failed};
+ghost use Rattle.ax_store.specs.Reads.{FailsAlone, FailsOrWantsMemory, ReadsStore};
+ghost use Rattle.ax_store.specs.Store.{AgreesUnlessFailed, store_contents, store_parts, store_slots, store_failed};
 
 use crate::cached::read_bytes;
 use crate::fault::StoreFault;
@@ -51,20 +51,14 @@ impl<C: PageCache> Store<C> {
             → IfOk result (IsRead (part_at page i (store_parts self.old)) (store_slots self.new) slot.old.number) }
         ensures len { IfOk result (λ len. len ≡ length (part_at page i (store_parts self.old))) }
         ensures most { IfOk result (λ len. len ≤ 65536) }
-        ensures agrees { AgreesUnlessFailed C.pages (D.is_honest disk.old) self.new
-            (D.history disk.new (D.attached disk.new)) }
         ensures others { AreOthersSame slot.old.number (store_slots self.old) (store_slots self.new) }
-        ensures same { SameButReads self.old self.new }
-        ensures works { OnOk result (store_failed self.new ≡ false) }
-        ensures fails { OnErr result (store_failed self.new ≡ true) }
+        ensures reads { ReadsStore C.pages (D.is_honest disk.old) self.old self.new
+            (D.history disk.old (D.attached disk.old)) (D.history disk.new (D.attached disk.new))
+            (D.faults disk.old) (D.faults disk.new) }
+        ensures fails { FailsAlone result (store_failed self.old) (store_failed self.new)
+            (D.faults disk.old) (D.faults disk.new) }
         ensures slot { slot.new ≡ slot.old }
         ensures ticked { steps.new ≡ steps.old + ticks_of page }
-        ensures lists { IsTrue (D.is_honest disk.old)
-            → Idles (D.history disk.old (D.attached disk.old)) (D.history disk.new (D.attached disk.new)) }
-        ensures disk_alone { IfErr result (λ fault. fault ≡ StoreFault.Disk) }
-        ensures failed_before { store_failed self.old ≡ true → result ≡ Err StoreFault.Disk }
-        ensures cause { store_failed self.old ≡ false → HasDiskCause result (D.faults disk.old) (D.faults disk.new) }
-        ensures never_falls { D.faults disk.old ≤ D.faults disk.new }
         ensures attached { D.attached disk.new ≡ D.attached disk.old }
         ensures honest { D.is_honest disk.new ≡ D.is_honest disk.old }
     {
@@ -88,19 +82,13 @@ impl<C: PageCache> Store<C> {
             → IfOk result (IsRead (term_part page i (store_contents self.old).terms) (store_slots self.new) slot.old.number) }
         ensures len { IfOk result (λ len. len ≡ length (term_part page i (store_contents self.old).terms)) }
         ensures most { IfOk result (λ len. len ≤ 65536) }
-        ensures agrees { AgreesUnlessFailed C.pages (D.is_honest disk.old) self.new
-            (D.history disk.new (D.attached disk.new)) }
         ensures others { AreOthersSame slot.old.number (store_slots self.old) (store_slots self.new) }
-        ensures same { SameButReads self.old self.new }
-        ensures works { OnOk result (store_failed self.new ≡ false) }
-        ensures fails { OnErr result (store_failed self.new ≡ true) }
+        ensures reads { ReadsStore C.pages (D.is_honest disk.old) self.old self.new
+            (D.history disk.old (D.attached disk.old)) (D.history disk.new (D.attached disk.new))
+            (D.faults disk.old) (D.faults disk.new) }
+        ensures fails { FailsAlone result (store_failed self.old) (store_failed self.new)
+            (D.faults disk.old) (D.faults disk.new) }
         ensures slot { slot.new ≡ slot.old }
-        ensures lists { IsTrue (D.is_honest disk.old)
-            → Idles (D.history disk.old (D.attached disk.old)) (D.history disk.new (D.attached disk.new)) }
-        ensures disk_alone { IfErr result (λ fault. fault ≡ StoreFault.Disk) }
-        ensures failed_before { store_failed self.old ≡ true → result ≡ Err StoreFault.Disk }
-        ensures cause { store_failed self.old ≡ false → HasDiskCause result (D.faults disk.old) (D.faults disk.new) }
-        ensures never_falls { D.faults disk.old ≤ D.faults disk.new }
         ensures attached { D.attached disk.new ≡ D.attached disk.old }
         ensures honest { D.is_honest disk.new ≡ D.is_honest disk.old }
     {
@@ -123,19 +111,13 @@ impl<C: PageCache> Store<C> {
             → IfOk result (IsRead (part_at page i (store_parts self.old)) (store_slots self.new) slot.old.number) }
         ensures len { IfOk result (λ len. len ≡ length (part_at page i (store_parts self.old))) }
         ensures most { IfOk result (λ len. len ≤ 65536) }
-        ensures agrees { AgreesUnlessFailed C.pages (D.is_honest disk.old) self.new
-            (D.history disk.new (D.attached disk.new)) }
         ensures others { AreOthersSame slot.old.number (store_slots self.old) (store_slots self.new) }
-        ensures same { SameButReads self.old self.new }
-        ensures works { OnOk result (store_failed self.new ≡ false) }
-        ensures fails { OnErr result (store_failed self.new ≡ true) }
+        ensures reads { ReadsStore C.pages (D.is_honest disk.old) self.old self.new
+            (D.history disk.old (D.attached disk.old)) (D.history disk.new (D.attached disk.new))
+            (D.faults disk.old) (D.faults disk.new) }
+        ensures fails { FailsAlone result (store_failed self.old) (store_failed self.new)
+            (D.faults disk.old) (D.faults disk.new) }
         ensures slot { slot.new ≡ slot.old }
-        ensures lists { IsTrue (D.is_honest disk.old)
-            → Idles (D.history disk.old (D.attached disk.old)) (D.history disk.new (D.attached disk.new)) }
-        ensures disk_alone { IfErr result (λ fault. fault ≡ StoreFault.Disk) }
-        ensures failed_before { store_failed self.old ≡ true → result ≡ Err StoreFault.Disk }
-        ensures cause { store_failed self.old ≡ false → HasDiskCause result (D.faults disk.old) (D.faults disk.new) }
-        ensures never_falls { D.faults disk.old ≤ D.faults disk.new }
         ensures attached { D.attached disk.new ≡ D.attached disk.old }
         ensures honest { D.is_honest disk.new ≡ D.is_honest disk.old }
     {
@@ -178,20 +160,14 @@ impl<C: PageCache> Store<C> {
             → IfOk result (IsFetched (map.get (store_contents self.old).documents number) (store_slots self.new) slot.old.number) }
         ensures len { IfOk result (λ found. found ≡ option_map (λ document. length document.text) (map.get (store_contents self.old).documents number)) }
         ensures most { IfOk result (λ found. IfSome found (λ len. len ≤ 65536)) }
-        ensures agrees { AgreesUnlessFailed C.pages (D.is_honest disk.old) self.new
-            (D.history disk.new (D.attached disk.new)) }
         ensures others { AreOthersSame slot.old.number (store_slots self.old) (store_slots self.new) }
-        ensures same { SameButReads self.old self.new }
-        ensures works { OnOk result (store_failed self.new ≡ false) }
-        ensures fails { OnErr result (store_failed self.new ≡ true) }
+        ensures reads { ReadsStore C.pages (D.is_honest disk.old) self.old self.new
+            (D.history disk.old (D.attached disk.old)) (D.history disk.new (D.attached disk.new))
+            (D.faults disk.old) (D.faults disk.new) }
+        ensures fails { FailsAlone result (store_failed self.old) (store_failed self.new)
+            (D.faults disk.old) (D.faults disk.new) }
         ensures slot { slot.new ≡ slot.old }
         ensures ticked { steps.new ≡ steps.old + 1 }
-        ensures lists { IsTrue (D.is_honest disk.old)
-            → Idles (D.history disk.old (D.attached disk.old)) (D.history disk.new (D.attached disk.new)) }
-        ensures disk_alone { IfErr result (λ fault. fault ≡ StoreFault.Disk) }
-        ensures failed_before { store_failed self.old ≡ true → result ≡ Err StoreFault.Disk }
-        ensures cause { store_failed self.old ≡ false → HasDiskCause result (D.faults disk.old) (D.faults disk.new) }
-        ensures never_falls { D.faults disk.old ≤ D.faults disk.new }
         ensures attached { D.attached disk.new ≡ D.attached disk.old }
         ensures honest { D.is_honest disk.new ≡ D.is_honest disk.old }
     {
@@ -213,19 +189,13 @@ impl<C: PageCache> Store<C> {
             → IfOk result (IsFetched (map.get (store_contents self.old).documents number) (store_slots self.new) slot.old.number) }
         ensures len { IfOk result (λ found. found ≡ option_map (λ document. length document.text) (map.get (store_contents self.old).documents number)) }
         ensures most { IfOk result (λ found. IfSome found (λ len. len ≤ 65536)) }
-        ensures agrees { AgreesUnlessFailed C.pages (D.is_honest disk.old) self.new
-            (D.history disk.new (D.attached disk.new)) }
         ensures others { AreOthersSame slot.old.number (store_slots self.old) (store_slots self.new) }
-        ensures same { SameButReads self.old self.new }
-        ensures works { OnOk result (store_failed self.new ≡ false) }
-        ensures fails { OnErr result (store_failed self.new ≡ true) }
+        ensures reads { ReadsStore C.pages (D.is_honest disk.old) self.old self.new
+            (D.history disk.old (D.attached disk.old)) (D.history disk.new (D.attached disk.new))
+            (D.faults disk.old) (D.faults disk.new) }
+        ensures fails { FailsAlone result (store_failed self.old) (store_failed self.new)
+            (D.faults disk.old) (D.faults disk.new) }
         ensures slot { slot.new ≡ slot.old }
-        ensures lists { IsTrue (D.is_honest disk.old)
-            → Idles (D.history disk.old (D.attached disk.old)) (D.history disk.new (D.attached disk.new)) }
-        ensures disk_alone { IfErr result (λ fault. fault ≡ StoreFault.Disk) }
-        ensures failed_before { store_failed self.old ≡ true → result ≡ Err StoreFault.Disk }
-        ensures cause { store_failed self.old ≡ false → HasDiskCause result (D.faults disk.old) (D.faults disk.new) }
-        ensures never_falls { D.faults disk.old ≤ D.faults disk.new }
         ensures attached { D.attached disk.new ≡ D.attached disk.old }
         ensures honest { D.is_honest disk.new ≡ D.is_honest disk.old }
     {
@@ -268,19 +238,13 @@ impl<C: PageCache> Store<C> {
             ≡ option_map (λ document. document.text) (map.get (store_contents self.old).documents number)) }
         ensures len { IfOk result (λ found. option_map (λ text. length text.items) found
             ≡ option_map (λ document. length document.text) (map.get (store_contents self.old).documents number)) }
-        ensures agrees { AgreesUnlessFailed C.pages (D.is_honest disk.old) self.new
-            (D.history disk.new (D.attached disk.new)) }
-        ensures same { SameButReads self.old self.new }
+        ensures reads { ReadsStore C.pages (D.is_honest disk.old) self.old self.new
+            (D.history disk.old (D.attached disk.old)) (D.history disk.new (D.attached disk.new))
+            (D.faults disk.old) (D.faults disk.new) }
         ensures slots { store_slots self.new ≡ store_slots self.old }
         ensures ticked { steps.new ≡ steps.old + 1 }
-        ensures lists { IsTrue (D.is_honest disk.old)
-            → Idles (D.history disk.old (D.attached disk.old)) (D.history disk.new (D.attached disk.new)) }
-        ensures failed_before { store_failed self.old ≡ true → result ≡ Err StoreFault.Disk }
-        ensures works { OnOk result (store_failed self.new ≡ false) }
-        ensures fails { result ≡ Err StoreFault.Disk → store_failed self.new ≡ true }
-        ensures memory { result ≡ Err StoreFault.Memory → store_failed self.new ≡ store_failed self.old }
-        ensures cause { store_failed self.old ≡ false → HasDiskCause result (D.faults disk.old) (D.faults disk.new) }
-        ensures never_falls { D.faults disk.old ≤ D.faults disk.new }
+        ensures fails { FailsOrWantsMemory result (store_failed self.old) (store_failed self.new)
+            (D.faults disk.old) (D.faults disk.new) }
         ensures attached { D.attached disk.new ≡ D.attached disk.old }
         ensures honest { D.is_honest disk.new ≡ D.is_honest disk.old }
     {
@@ -359,6 +323,7 @@ fn load<D: Disk, C: PageCache>(
     ensures lists { IsTrue (D.is_honest disk.old)
         → Idles (D.history disk.old (D.attached disk.old)) (D.history disk.new (D.attached disk.new)) }
     ensures cause { HasCause result (D.faults disk.old) (D.faults disk.new) }
+    ensures uncounted { OnOk result (D.faults disk.new ≡ D.faults disk.old) }
     ensures attached { D.attached disk.new ≡ D.attached disk.old }
     ensures honest { D.is_honest disk.new ≡ D.is_honest disk.old }
 {

@@ -7,7 +7,7 @@ use Rattle.ax_index.proofs.FoldedPairs.{folded_end, folded_start, folded_step}
 use Rattle.ax_index.proofs.GrammarLemmas.{in_grammar, up_to_start, up_to_step}
 use Rattle.ax_index.proofs.Unmoved.{same_terms}
 use Rattle.ax_index.proofs.ReadsLaws.{of_honest, others_then, read_then}
-use Rattle.ax_faults.specs.FaultLaws.{rose_since}
+use Rattle.ax_index.proofs.CallLemmas.{cause_later}
 use Rattle.ax_index.specs.Damage.{FailsWith}
 use Rattle.ax_pool.specs.declared.slot.Slot.{Slot}
 use Rattle.ax_store.specs.declared.store.StoreFrames.{StoreFrames}
@@ -26,6 +26,7 @@ loop-i-init g c =
       within = omega (arith, c.oldest_delta-first.ensures, count_parts page);
       reads = first.reads;
       failed = first.fails;
+      count = λ works. (first.cause works).uncounted;
       slot = first.slot;
       others = first.others;
       attached = first.attached;
@@ -51,6 +52,7 @@ loop-i-preserved g c =
       within = omega (arith, there);
       reads = read_then g.C.PageCache.pages _ _ _ _ _ _ _ _ _ _ inv.reads (of_honest g.C.PageCache.pages _ _ inv.honest _ _ _ _ _ _ more.reads);
       failed = more.fails ∙ inv.failed;
+      count = λ works. (more.cause (inv.failed ∙ works)).uncounted ∙ inv.count works;
       slot = more.slot ∙ inv.slot;
       others = others_then _ _ _ _ _ (ap (λ (slot : Slot StoreFrames). slot.number) inv.slot) inv.others more.others;
       attached = more.attached ∙ inv.attached;
@@ -84,11 +86,7 @@ returns-in-Err-merge_at-clause-reads g c =
 
 pub returns-in-Err-merge_at-clause-cause : goal.returns-in-Err-merge_at-clause-cause
 returns-in-Err-merge_at-clause-cause g c = λ works.
-    let cause = c.in-Err-merge_at.ensures.cause (c.loop-i.invariant.failed ∙ works) in
-    record {
-      never_falls = omega (arith, c.loop-i.invariant.reads.never_falls, cause.never_falls);
-      failed = λ fails. rose_since _ _ _ _ c.loop-i.invariant.reads.never_falls (omega arith) (cause.failed fails);
-    }
+    cause_later c.in-Err-merge_at.fault _ _ _ (c.loop-i.invariant.count works) (c.in-Err-merge_at.ensures.cause (c.loop-i.invariant.failed ∙ works))
 
 pub returns-in-Err-merge_at-clause-others : goal.returns-in-Err-merge_at-clause-others
 returns-in-Err-merge_at-clause-others g c =

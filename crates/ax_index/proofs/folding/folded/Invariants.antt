@@ -1,4 +1,4 @@
-use Rattle.std.proofs.Common.{◌≡◌, ◌≤◌, List, length}
+use Rattle.std.proofs.Common.{◌≡◌, ◌≤◌, false, List, length}
 use Rattle.std.specs.Prelude.{IsTrue}
 use Rattle.ax_pair.specs.declared.pair.Pair.{Pair}
 use Rattle.ax_pair.specs.Order.{Rise}
@@ -24,6 +24,7 @@ invariant-loop-i g l = record {
       (g.D.Disk.history l.fn.disk (g.D.Disk.attached l.fn.disk)) (g.D.Disk.history l.disk (g.D.Disk.attached l.disk))
       (g.D.Disk.faults l.fn.disk) (g.D.Disk.faults l.disk);
   failed : store_failed l.store ≡ store_failed l.fn.store;
+  count : store_failed l.fn.store ≡ false → g.D.Disk.faults l.disk ≡ g.D.Disk.faults l.fn.disk;
   slot : l.slot ≡ l.fn.slot;
   others : AreOthersSame l.fn.slot.number (store_slots l.fn.store) (store_slots l.store);
   attached : g.D.Disk.attached l.disk ≡ g.D.Disk.attached l.fn.disk;

@@ -9,7 +9,7 @@ use Rattle.ax_index.proofs.folding.merge_at.Goals as goal
 pub returns-in-Ok-None-clause-told : goal.returns-in-Ok-None-clause-told
 returns-in-Ok-None-clause-told g c = λ honest.
     let none : (changes : List TermChange) × IsDelta c.payload_in.result.now changes → ⊥ = rw c.in-Ok-None.field-0-is at c.in-Ok-None.ensures.rise in
-    told_delta c.args.store.now _ c.args.page c.args.i c.damaged_at.result c.payload_in.result.now c.in-Ok.ensures.same c.requires.part c.requires.delta
+    told_delta c.args.store.now _ c.args.page c.args.i c.damaged_at.result c.payload_in.result.now c.in-Ok.ensures.reads.same c.requires.part c.requires.delta
     (c.payload_in.ensures _ (read_still _ _ _ _ _ c.in-Ok.ensures.slot (c.in-Ok.ensures.read honest)))
     none c.damaged_at.ensures
 

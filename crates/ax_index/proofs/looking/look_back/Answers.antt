@@ -1,6 +1,6 @@
 use Rattle.std.proofs.Common.{◌-◌, Bool, refl, sym, subst, ◌∙◌, arith, rules, ap}
 use Rattle.std.specs.Prelude.{IsTrue}
-use Rattle.ax_faults.specs.FaultLaws.{rose_since}
+use Rattle.ax_index.proofs.CallLemmas.{cause_later}
 use Rattle.ax_index.specs.Damage.{FailsWith}
 use Rattle.ax_pages.specs.Contents.{term_page}
 use Rattle.ax_store.specs.Store.{store_contents}
@@ -22,6 +22,7 @@ loop-i-init g c =
       within = omega (arith, c.parts-i.ensures);
       reads = nothing_read g.C.PageCache.pages _ c.args.store.now _ _ c.requires.agrees;
       failed = refl;
+      count = λ works. refl;
       slot = search rules;
       others = others_itself _ _;
       attached = search rules;
@@ -57,6 +58,7 @@ loop-i-preserved g c =
       within = omega arith;
       reads = read_then g.C.PageCache.pages _ _ _ _ _ _ _ _ _ _ inv.reads (of_honest g.C.PageCache.pages _ _ inv.honest _ _ _ _ _ _ more.reads);
       failed = more.fails ∙ inv.failed;
+      count = λ works. (more.cause (inv.failed ∙ works)).uncounted ∙ inv.count works;
       slot = more.slot ∙ inv.slot;
       others = others_then _ _ _ _ _ (ap (λ (slot : Slot StoreFrames). slot.number) inv.slot) inv.others more.others;
       attached = more.attached ∙ inv.attached;
@@ -97,11 +99,7 @@ returns-then-is_some-clause-reads g c =
 
 pub returns-in-Err-clause-cause : goal.returns-in-Err-clause-cause
 returns-in-Err-clause-cause g c = λ works.
-    let cause = c.in-Err.ensures.cause (c.loop-i.invariant.failed ∙ works) in
-    record {
-      never_falls = omega (arith, c.loop-i.invariant.reads.never_falls, cause.never_falls);
-      failed = λ fails. rose_since _ _ _ _ c.loop-i.invariant.reads.never_falls (omega arith) (cause.failed fails);
-    }
+    cause_later c.in-Err.fault _ _ _ (c.loop-i.invariant.count works) (c.in-Err.ensures.cause (c.loop-i.invariant.failed ∙ works))
 
 pub returns-then-is_some-clause-fails : goal.returns-then-is_some-clause-fails
 returns-then-is_some-clause-fails g c = c.in-Ok.ensures.fails ∙ c.loop-i.invariant.failed

@@ -1,7 +1,7 @@
 use Rattle.std.proofs.Common.{◌≡◌, ◌∙◌, ap, arith, refl, subst, sym}
 use Rattle.std.specs.Prelude.{IsTrue}
 use Rattle.ax_store.specs.Store.{store_contents}
-use Rattle.ax_index.proofs.CallLemmas.{fails_as, rose_later}
+use Rattle.ax_index.proofs.CallLemmas.{fails_as, cause_later}
 use Rattle.ax_index.proofs.MergingLemmas.{merge_step_on, merged_end, merged_none, number_small, walk_shorter}
 use Rattle.ax_index.proofs.ReadsLaws.{agrees_told, nothing_read, of_honest, others_itself, others_then, read_then}
 use Rattle.ax_index.proofs.Unmoved.{same_terms, told_back}
@@ -15,6 +15,7 @@ loop-at-init g c = record {
   most = omega arith;
   reads = nothing_read g.C.PageCache.pages _ c.args.store.now _ _ c.requires.agrees;
   failed = refl;
+  count = λ works. refl;
   slot = refl;
   others = others_itself _ _;
   attached = refl;
@@ -52,6 +53,7 @@ loop-at-preserved g c =
       reads = read_then g.C.PageCache.pages _ _ _ _ _ _ _ _ _ _ inv.reads
           (of_honest g.C.PageCache.pages _ _ inv.honest _ _ _ _ _ _ more.reads);
       failed = more.fails ∙ inv.failed;
+      count = λ works. (more.cause (inv.failed ∙ works)).uncounted ∙ inv.count works;
       slot = more.slot ∙ inv.slot;
       others = others_then _ _ _ _ _ (ap (λ (slot : Slot StoreFrames). slot.number) inv.slot) inv.others more.others;
       attached = more.attached ∙ inv.attached;
@@ -74,7 +76,7 @@ returns-in-Err-clause-reads g c =
 pub returns-in-Err-clause-cause : goal.returns-in-Err-clause-cause
 returns-in-Err-clause-cause g c = λ works.
     let inv = c.loop-at.invariant in
-    rose_later c.in-Err.fault _ _ _ inv.reads.never_falls (c.in-Err.ensures.cause (inv.failed ∙ works))
+    cause_later c.in-Err.fault _ _ _ (inv.count works) (c.in-Err.ensures.cause (inv.failed ∙ works))
 
 pub returns-clause-merged : goal.returns-clause-merged
 returns-clause-merged g c =

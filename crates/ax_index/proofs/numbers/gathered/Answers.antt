@@ -2,7 +2,7 @@ use Rattle.std.proofs.Common.{◌≡◌, ℕ, ◌<◌, List, Option, length, ref
 use Rattle.std.specs.Prelude.{IfSome, IsTrue}
 use Rattle.ax_pages.specs.Contents.{TermPage}
 use Rattle.ax_store.specs.Store.{store_contents}
-use Rattle.ax_index.proofs.CallLemmas.{fails_as, rose_later}
+use Rattle.ax_index.proofs.CallLemmas.{fails_as, cause_later}
 use Rattle.ax_index.proofs.Gathering.{IsGathered, step_by, stop}
 use Rattle.ax_index.proofs.GrammarLemmas.{AreMetTo, met_end, met_start, met_step}
 use Rattle.ax_index.proofs.ReadsLaws.{agrees_told, nothing_read, of_honest, others_itself, others_then, read_then}
@@ -18,6 +18,7 @@ loop-next-init g c = record {
   there = search rules;
   reads = nothing_read g.C.PageCache.pages _ c.args.store.now _ _ c.requires.agrees;
   failed = refl;
+  count = λ works. refl;
   slot = search rules;
   others = others_itself _ _;
   attached = search rules;
@@ -54,6 +55,7 @@ loop-next-preserved g c =
       reads = read_then g.C.PageCache.pages _ _ _ _ _ _ _ _ _ _ inv.reads
           (of_honest g.C.PageCache.pages _ _ inv.honest _ _ _ _ _ _ more.reads);
       failed = more.fails ∙ inv.failed;
+      count = λ works. (more.cause (inv.failed ∙ works)).uncounted ∙ inv.count works;
       slot = more.slot ∙ inv.slot;
       others = others_then _ _ _ _ _ (ap (λ (slot : Slot StoreFrames). slot.number) inv.slot) inv.others more.others;
       attached = more.attached ∙ inv.attached;
@@ -70,7 +72,7 @@ returns-in-Err-clause-reads g c =
 
 pub returns-in-Err-clause-cause : goal.returns-in-Err-clause-cause
 returns-in-Err-clause-cause g c = λ works.
-    rose_later c.in-Err.fault _ _ _ c.loop-next.invariant.reads.never_falls (c.in-Err.ensures.cause (c.loop-next.invariant.failed ∙ works))
+    cause_later c.in-Err.fault _ _ _ (c.loop-next.invariant.count works) (c.in-Err.ensures.cause (c.loop-next.invariant.failed ∙ works))
 
 pub returns-clause-numbers : goal.returns-clause-numbers
 returns-clause-numbers g c = λ told set is.

@@ -1,7 +1,7 @@
 use Rattle.std.proofs.Common.{◌∙◌, ap, arith, refl, subst, sym}
 use Rattle.std.specs.Prelude.{IsTrue}
 use Rattle.ax_store.specs.Store.{store_contents}
-use Rattle.ax_index.proofs.CallLemmas.{fails_as, planned_begin, planned_end, planned_on, room_for_all, rose_later, told_planned}
+use Rattle.ax_index.proofs.CallLemmas.{fails_as, planned_begin, planned_end, planned_on, room_for_all, cause_later, told_planned}
 use Rattle.ax_index.proofs.PlanningLemmas.{planned_all}
 use Rattle.ax_index.proofs.ReadsLaws.{agrees_told, nothing_reserved, of_honest_too, others_itself, others_still, others_then, reserve_then, room_behind}
 use Rattle.ax_pool.specs.declared.slot.Slot.{Slot}
@@ -16,6 +16,7 @@ loop-rest-init g c = record {
   few = omega arith;
   reserves = nothing_reserved g.C.PageCache.pages _ c.args.store.now _ _ c.requires.agrees;
   failed = refl;
+  count = λ works. refl;
   slot = refl;
   others = others_itself _ _;
   attached = refl;
@@ -35,6 +36,7 @@ loop-rest-preserved g c =
       reserves = reserve_then g.C.PageCache.pages _ _ _ _ _ _ _ _ _ _ inv.reserves
           (of_honest_too g.C.PageCache.pages _ _ inv.honest _ _ _ _ _ _ more.reserves);
       failed = more.fails ∙ inv.failed;
+      count = λ works. (more.cause (inv.failed ∙ works)).uncounted ∙ inv.count works;
       slot = more.slot ∙ inv.slot;
       others = others_then _ _ _ _ _ (ap (λ (slot : Slot StoreFrames). slot.number) inv.slot) inv.others more.others;
       attached = more.attached ∙ inv.attached;
@@ -61,7 +63,7 @@ returns-in-Err-clause-reserves g c =
 pub returns-in-Err-clause-cause : goal.returns-in-Err-clause-cause
 returns-in-Err-clause-cause g c = λ works.
     let inv = c.loop-rest.invariant in
-    rose_later c.in-Err.fault _ _ _ inv.reserves.never_falls (c.in-Err.ensures.cause (inv.failed ∙ works))
+    cause_later c.in-Err.fault _ _ _ (inv.count works) (c.in-Err.ensures.cause (inv.failed ∙ works))
 
 pub returns-in-Ok-reserve-clause-reserves : goal.returns-in-Ok-reserve-clause-reserves
 returns-in-Ok-reserve-clause-reserves g c =

@@ -18,7 +18,7 @@ loop-at-preserved g c =
       agrees = λ honest frames agrees. more.agrees (subst IsTrue (sym inv.honest) honest) frames (inv.agrees honest frames agrees);
       idles = λ honest. idles_join _ _ _ (inv.idles honest) (more.lists (subst IsTrue (sym inv.honest) honest));
       within = more.within.1;
-      count = omega (arith, inv.count, more.cause.never_falls);
+      count = more.cause.uncounted ∙ inv.count;
       attached = more.attached ∙ inv.attached;
       honest = more.honest ∙ inv.honest;
     }

@@ -19,7 +19,7 @@ invariant-loop-at g l = record {
   idles : IsTrue (g.D.Disk.is_honest l.fn.disk)
       → Idles (g.D.Disk.history l.fn.disk (g.D.Disk.attached l.fn.disk)) (g.D.Disk.history l.disk (g.D.Disk.attached l.disk));
   within : l.at ≤ log_end l.log;
-  count : g.D.Disk.faults l.fn.disk ≤ g.D.Disk.faults l.disk;
+  count : g.D.Disk.faults l.disk ≡ g.D.Disk.faults l.fn.disk;
   attached : g.D.Disk.attached l.disk ≡ g.D.Disk.attached l.fn.disk;
   honest : g.D.Disk.is_honest l.disk ≡ g.D.Disk.is_honest l.fn.disk;
 }

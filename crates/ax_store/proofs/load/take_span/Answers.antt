@@ -13,7 +13,7 @@ loop-here-init g c = record {
   idles = λ honest. idles_start _;
   before = omega arith;
   within = omega arith;
-  count = omega arith;
+  count = refl;
   attached = refl;
   honest = refl;
 }
@@ -34,7 +34,7 @@ loop-here-preserved g c =
       idles = λ honest. idles_join _ _ _ (inv.idles honest) (more.lists (subst IsTrue (sym inv.honest) honest));
       before = omega (arith, inv.before);
       within = more.within.1;
-      count = omega (arith, inv.count, more.cause.never_falls);
+      count = more.cause.uncounted ∙ inv.count;
       attached = more.attached ∙ inv.attached;
       honest = more.honest ∙ inv.honest;
     }

@@ -22,7 +22,7 @@ invariant-loop-here g l = record {
       → Idles (g.D.Disk.history l.fn.disk (g.D.Disk.attached l.fn.disk)) (g.D.Disk.history l.disk (g.D.Disk.attached l.disk));
   before : l.fn.at ≤ l.here;
   within : l.here ≤ l.fn.at + l.fn.len;
-  count : g.D.Disk.faults l.fn.disk ≤ g.D.Disk.faults l.disk;
+  count : g.D.Disk.faults l.disk ≡ g.D.Disk.faults l.fn.disk;
   attached : g.D.Disk.attached l.disk ≡ g.D.Disk.attached l.fn.disk;
   honest : g.D.Disk.is_honest l.disk ≡ g.D.Disk.is_honest l.fn.disk;
 }

@@ -26,15 +26,20 @@ returns-clause-text g c = λ honest.
     ∙ ap (option_map (λ (payload : List ℕ). drop 1 payload)) c.in-Some.ensures.payload
     ∙ text_says (store_parts c.args.self.now) c.args.number
 
-pub returns-clause-agrees : goal.returns-clause-agrees
-returns-clause-agrees g c = λ honest works.
-    let agrees = c.requires.agrees honest works in
-    let part = c.in-Some.part.now in
-    let is = text_readable g.C.PageCache.pages c.args.self.now _ agrees c.args.self.now.log.small
-    (offset_kept part) c.text_place-from.result.0 c.text_place-from.result.1 (payload_kept part) c.args.number
-    c.in-Some.ensures.payload c.in-Some.ensures.offset c.text_place-from.ensures.from c.text_place-from.ensures.len in
-    agrees_read g.C.PageCache.pages c.args.self.now _ _ _ agrees refl refl
-    (c.read_bytes.ensures.caches honest agrees.frames agrees.logged agrees.caches is.within) (c.read_bytes.ensures.lists honest)
+pub returns-clause-reads : goal.returns-clause-reads
+returns-clause-reads g c = record {
+  same = record { logged = refl; pages = refl };
+  agrees = λ honest works.
+      let agrees = c.requires.agrees honest works in
+      let part = c.in-Some.part.now in
+      let is = text_readable g.C.PageCache.pages c.args.self.now _ agrees c.args.self.now.log.small
+      (offset_kept part) c.text_place-from.result.0 c.text_place-from.result.1 (payload_kept part) c.args.number
+      c.in-Some.ensures.payload c.in-Some.ensures.offset c.text_place-from.ensures.from c.text_place-from.ensures.len in
+      agrees_read g.C.PageCache.pages c.args.self.now _ _ _ agrees refl refl
+      (c.read_bytes.ensures.caches honest agrees.frames agrees.logged agrees.caches is.within) (c.read_bytes.ensures.lists honest);
+  lists = c.read_bytes.ensures.lists;
+  never_falls = c.read_bytes.ensures.cause.never_falls;
+}
 
 pub returns-in_default-clause-text : goal.returns-in_default-clause-text
 returns-in_default-clause-text g c = λ honest.

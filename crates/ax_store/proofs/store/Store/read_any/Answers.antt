@@ -25,12 +25,17 @@ returns-clause-len g c =
     ∙ ap length
     (sym (got (parts_of c.args.page (store_parts c.args.self.now)) c.args.i (payload_kept c.in-Some.part.now) (sym c.in-Some.ensures.payload)))
 
-pub returns-clause-agrees : goal.returns-clause-agrees
-returns-clause-agrees g c = λ honest works.
-    let agrees = c.requires.agrees honest works in
-    let part = c.in-Some.part.now in
-    let is = part_readable g.C.PageCache.pages c.args.self.now _ agrees c.args.self.now.log.small
-    (offset_kept part) c.saturating_add-from.result part.len (payload_kept part) c.args.page c.args.i c.requires.part
-    c.in-Some.ensures.payload c.in-Some.ensures.offset c.saturating_add-from.ensures part.whole in
-    agrees_read g.C.PageCache.pages c.args.self.now _ _ _ agrees refl refl
-    (c.load.ensures.caches honest agrees.frames agrees.logged agrees.caches is.within) (c.load.ensures.lists honest)
+pub returns-clause-reads : goal.returns-clause-reads
+returns-clause-reads g c = record {
+  same = record { logged = refl; pages = refl };
+  agrees = λ honest works.
+      let agrees = c.requires.agrees honest works in
+      let part = c.in-Some.part.now in
+      let is = part_readable g.C.PageCache.pages c.args.self.now _ agrees c.args.self.now.log.small
+      (offset_kept part) c.saturating_add-from.result part.len (payload_kept part) c.args.page c.args.i c.requires.part
+      c.in-Some.ensures.payload c.in-Some.ensures.offset c.saturating_add-from.ensures part.whole in
+      agrees_read g.C.PageCache.pages c.args.self.now _ _ _ agrees refl refl
+      (c.load.ensures.caches honest agrees.frames agrees.logged agrees.caches is.within) (c.load.ensures.lists honest);
+  lists = c.load.ensures.lists;
+  never_falls = c.load.ensures.cause.never_falls;
+}
