@@ -6,7 +6,7 @@ use Rattle.std.specs.List.{All}
 use Rattle.std.specs.Str.{bytes_eq}
 use Rattle.std.proofs.lemmas.Bool.{and_parts, cases_lt, cases_order, eq-eqb, ne_eqb}
 use Rattle.std.proofs.lemmas.List.{length-append, length-drop, take_all}
-use Rattle.std.proofs.lemmas.List.Elements.{All-take}
+use Rattle.std.proofs.lemmas.List.Elements.{All-drop, All-take}
 use Rattle.std.proofs.lemmas.List.Sums.{common_prefix_len-le}
 use Rattle.std.proofs.lemmas.Slice.Eq.{bytes_eq-Decides}
 use Rattle.ax_gap.specs.Gaps.{gaps}
@@ -190,13 +190,13 @@ base_fits payload low pairs is short few =
       spelled_fits low (postings_of pairs) is.short is.number is.count is.are,
       costs_of pairs,
       short.0,
-      first_short pairs short.1,
+      first_within pairs short.1,
       few,
     )
   where
-    first_short : (some : List Pair) → All (λ pair. length pair.term ≤ most_term_bytes) some → first_length some ≤ 4096
-    first_short [] all = omega arith
-    first_short (pair ∷ some) all = all 0 pair (omega arith)
+    first_within : (some : List Pair) → All (λ pair. length pair.term ≤ most_term_bytes) some → first_length some ≤ 4096
+    first_within [] all = omega arith
+    first_within (pair ∷ some) all = all 0 pair (omega arith)
 
 -- ---- one pair more
 
@@ -251,11 +251,15 @@ whole_fits (pair ∷ pairs) i bytes past few counted =
 
 -- ---- short terms
 
-pub first_short : (n : ℕ) (low : Pair) (pairs front : List Pair) → front ≡ take n pairs → AreShort low pairs → AreShort low front
-first_short n low pairs front is short = (short.0, subst HasShort (sym is) (All-take (λ pair. length pair.term ≤ most_term_bytes) n pairs short.1))
-  where
-    HasShort : List Pair → Type 0
-    HasShort some = All (λ pair. length pair.term ≤ most_term_bytes) some
+pub front_short : (n : ℕ) (low : Pair) (pairs front : List Pair) → front ≡ take n pairs → AreShort low pairs → AreShort low front
+front_short n low pairs front is short =
+    subst (AreShort low) (sym is) (short.0, All-take (λ pair. length pair.term ≤ most_term_bytes) n pairs short.1)
+
+pub behind_short : (n : ℕ) (pairs behind : List Pair) → behind ≡ drop n pairs → All (λ pair. length pair.term ≤ most_term_bytes) pairs
+    → All (λ pair. length pair.term ≤ most_term_bytes) behind
+behind_short n pairs behind is short =
+    subst (λ (some : List Pair). All (λ pair. length pair.term ≤ most_term_bytes) some) (sym is)
+    (All-drop (λ pair. length pair.term ≤ most_term_bytes) n pairs short)
 
 -- the pairs of a new page, whose low pair is the first of them
 pub own_short : (low : Pair) (pairs rest : List Pair) → pairs ≡ low ∷ rest → All (λ pair. length pair.term ≤ most_term_bytes) pairs → AreShort low pairs
@@ -277,7 +281,8 @@ short_or_long low (pair ∷ pairs) =
     with_first s all zero d lt = s
     with_first s all (suc k) d lt = all k d (omega (arith, lt))
 
--- what a test of short terms tells where it fails
-pub long_where : (short : Bool) (low : Pair) (pairs : List Pair) → (IsTrue short ↔ AreShort low pairs) → IsTrue short ⊎ HasLongTerm low pairs
-long_where short low pairs exact =
-    ⊎_elim (λ (all : AreShort low pairs). inl (exact.1 all)) (λ (long : HasLongTerm low pairs). inr long) (short_or_long low pairs)
+-- where a test of short terms fails
+pub long_unless : (short : Bool) (low : Pair) (pairs : List Pair) → (IsTrue short ↔ AreShort low pairs) → short ≡ false → HasLongTerm low pairs
+long_unless short low pairs exact no =
+    ⊎_elim (λ (all : AreShort low pairs). let so : short ≡ true = exact.1 all in absurd (cc)) (λ (long : HasLongTerm low pairs). long)
+    (short_or_long low pairs)

@@ -86,7 +86,10 @@ fn has_room(next: u32, low: &Pair, pairs: &[Pair]) -> bool
     ensures few { IsTrue result → HasNumbers next (rest_of pairs.now) }
     ensures stuck { IsTrue result ⊎ AreStuck next low.now pairs.now }
 {
-    are_short(low, pairs) && has_numbers(next, pairs)
+    if !are_short(low, pairs) {
+        return false;
+    }
+    has_numbers(next, pairs)
 }
 
 /// Whether there are numbers for the new pages that the pairs need.

@@ -127,7 +127,9 @@ pub(crate) fn are_short(low: &Pair, pairs: &[Pair]) -> bool
     ensures { IsTrue result ↔ AreShort low.now pairs.now }
 {
     low.term.as_slice().len() <= MOST_TERM_BYTES
-        && pairs.iter().all(|pair| pair.term.as_slice().len() <= MOST_TERM_BYTES)
+        && pairs
+            .iter()
+            .all(|pair| pair.term.as_slice().len() <= MOST_TERM_BYTES)
 }
 
 /// How many of rising changes a delta is to have: as many as surely fit a part.

@@ -36,7 +36,7 @@ loop-i-preserved c =
       counted,
       c.loop-i.invariant.counted (omega arith),
       base_more c.args.pairs.now c.loop-i.i c.index-pairs-i.result c.index-pairs-i-in-loop-i.result c.loop-i.auto.i c.loop-i-test.true
-      c.index-pairs-i.is c.index-pairs-i-in-loop-i.is,
+          c.index-pairs-i.is c.index-pairs-i-in-loop-i.is,
     )
     in
     let kept = kept_within
