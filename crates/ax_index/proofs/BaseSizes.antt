@@ -283,6 +283,6 @@ short_or_long low (pair ∷ pairs) =
 
 -- where a test of short terms fails
 pub long_unless : (short : Bool) (low : Pair) (pairs : List Pair) → (IsTrue short ↔ AreShort low pairs) → short ≡ false → HasLongTerm low pairs
-long_unless short low pairs exact no =
+long_unless short low pairs exact fails =
     ⊎_elim (λ (all : AreShort low pairs). let so : short ≡ true = exact.1 all in absurd (cc)) (λ (long : HasLongTerm low pairs). long)
     (short_or_long low pairs)

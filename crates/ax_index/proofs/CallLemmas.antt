@@ -2,6 +2,7 @@
 use Rattle.std.proofs.Common.{◌≡◌, ℕ, ◌+◌, ◌<◌, ◌≤◌, List, [], ◌∷◌, ◌++◌, length, take, drop, arith}
 use Rattle.std.proofs.Common.{refl, sym, ap, ◌∙◌, subst, Bool, true, false, Option, Result, Ok, Err}
 use Rattle.std.specs.Option.{unwrap_or}
+use Rattle.ax_faults.specs.Faults.{Rose}
 use Rattle.ax_frame.specs.Part.{PartValue}
 use Rattle.ax_pair.specs.declared.pair.Pair.{Pair}
 use Rattle.ax_pair.specs.Order.{Rise}
@@ -157,9 +158,11 @@ no_failure (Err fault) before after memory same = let P : StoreFault → Type 0 
 -- the same fault, of a call that began earlier, when the count was the same
 pub cause_later : {T U : Type 0} (fault : StoreFault) (before mid now : ℕ) → mid ≡ before → HasDiskCause {T = T} (Err fault) mid now
     → HasDiskCause {T = U} (Err fault) before now
-cause_later fault before mid now same cause =
-    let told = subst (λ (n : ℕ). HasDiskCause {T = T} (Err fault) n now) same cause in
-    record { never_falls = told.never_falls; failed = told.failed; uncounted = told.uncounted }
+cause_later fault before mid now same cause = record {
+  never_falls = subst (λ (n : ℕ). n ≤ now) same cause.never_falls;
+  failed = λ fails. subst (λ (n : ℕ). Rose n now) same (cause.failed fails);
+  uncounted = subst (λ (n : ℕ). unless_disk fault (now ≡ n)) same cause.uncounted;
+}
 
 -- what a fault does to the store, told of a store that had failed as much
 pub fails_as : (fault : StoreFault) (before mid after : Bool) → mid ≡ before → FailsWith fault mid after → FailsWith fault before after

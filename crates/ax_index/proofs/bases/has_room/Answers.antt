@@ -1,4 +1,4 @@
-use Rattle.std.proofs.Common.{◌⊎◌, inl, inr, ⊎_elim}
+use Rattle.std.proofs.Common.{inl, inr, ⊎_elim}
 use Rattle.ax_index.proofs.BaseSizes.{long_unless}
 use Rattle.ax_index.proofs.bases.has_room.Goals as goal
 
