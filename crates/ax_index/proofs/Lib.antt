@@ -1,4 +1,5 @@
 pub mod BarePages
+pub mod BaseSizes
 pub mod CallLemmas
 pub mod DeltaParts
 pub mod CarriedLemmas

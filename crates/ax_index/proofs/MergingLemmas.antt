@@ -35,7 +35,7 @@ use Rattle.ax_index.specs.Bare.{has_deltas, with_deltas}
 use Rattle.ax_index.specs.Carried.{HasLowPair, HasSome, bases_put}
 use Rattle.ax_index.specs.Grammar.{IsInGrammar}
 use Rattle.ax_index.specs.Merging.{IsStuck, IsMergePlan, IsPassed, IsReady, IsBehind, IsMergedTo, bases_due}
-use Rattle.ax_index.specs.PageSizes.{NeedsTooMany}
+use Rattle.ax_index.specs.PageSizes.{AreStuck, NeedsTooMany}
 use Rattle.ax_index.specs.Planning.{IsUpTo, IsPageDone, IsPagePlanned}
 use Rattle.ax_index.proofs.CarriedLemmas.{later_bases, same_bases}
 use Rattle.ax_index.proofs.DeltaRunLemmas.{carry_nothing}
@@ -140,15 +140,18 @@ passed_or_here page at pages n behind h passed =
 stuck_still : {honest : Bool} (n : ℕ) (before now after : List TermPage) → term_page n after ≡ term_page n now → length now ≤ length after
     → IsStuck honest n before now → IsStuck honest n before after
 stuck_still n before now after same longer stuck told set index deltas pairs has_pairs =
-    let (count, take, over) = stuck told set index (ap has_deltas (sym same) ∙ deltas) pairs has_pairs in
-    (count, take, omega (arith, over, longer))
+    ⊎_elim
+    (λ (many : NeedsTooMany (length now) pairs). inl (many.0, many.1, omega (arith, many.2, longer)))
+    (λ long. inr long)
+    (stuck told set index (ap has_deltas (sym same) ∙ deltas) pairs has_pairs)
 
 stuck_by_number : {honest : Bool} (n page : ℕ) (before after : List TermPage) → n < length before → page < length before
     → low_pair n before ≡ low_pair page before → IsStuck honest page before after → IsStuck honest n before after
 stuck_by_number n page before after h there same stuck told set index =
     let one : n ≡ page = index.apart.apart n page h there same in
     subst
-    (λ (k : ℕ). has_deltas (term_page k after) ≡ true → (pairs : List Pair) → HasPairs (term_page k before) pairs → NeedsTooMany (length after) pairs)
+    (λ (k : ℕ). has_deltas (term_page k after) ≡ true → (pairs : List Pair) → HasPairs (term_page k before) pairs
+    → AreStuck (length after) (low_pair k before) pairs)
     (sym one) (stuck told set index)
 
 -- ---- a page is merged, or left
@@ -450,7 +453,7 @@ pub step_done : {honest : Bool} (page : ℕ) (at : Option ℕ) (before : List Te
     → done ≡ true → IsPagePlanned honest page [] before now true later (λ number. 0) here new)
     → (done ≡ false → (new ≡ here) × (later ≡ next))
     → (IsTrue honest → (set : PairSet) → IsIndex before set → done ≡ false → (pairs : List Pair) → HasPairs (term_page page before) pairs
-    → NeedsTooMany next pairs)
+    → AreStuck next (low_pair page before) pairs)
     → (IsTrue honest → IsInGrammar (term_page page before))
     → IsMergedTo honest at before (merged + as_number done) later old new
 step_done {honest = honest} page at before merged next later old here new true behind is deltas planned left stuck met =
@@ -460,7 +463,7 @@ step_done {honest = honest} page at before merged next later old here new false 
     let kept : IsMergedTo honest at before merged next old here =
     left_one page at before merged next old here behind is
     (λ now next_is alike told set index still pairs has_pairs.
-    subst (λ (n : ℕ). NeedsTooMany n pairs) next_is (stuck told set index refl pairs has_pairs))
+    subst (λ (n : ℕ). AreStuck n (low_pair page before) pairs) next_is (stuck told set index refl pairs has_pairs))
     in
     subst (λ (n : ℕ). IsMergedTo honest at before n later old new) (omega arith)
     (subst (λ (n : ℕ). IsMergedTo honest at before merged n old new) (sym same.1)
@@ -495,13 +498,14 @@ whole_planned page before here now earlier old new next later pairs list there u
 pub stuck_whole : (before here : List TermPage) (set : PairSet) (page next : ℕ) (pairs list some : List Pair) → IsIndex before set
     → page < length before → here ≡ before → list ≡ pairs → Rise pairs
     → ((any : List Pair) → HasPairs (term_page page before) any → (p : Pair) → has p pairs ≡ has p any) → HasPairs (term_page page before) some
-    → (AllBelong list page here → NeedsTooMany next list) → NeedsTooMany next some
+    → (AllBelong list page here → AreStuck next (low_pair page here) list) → AreStuck next (low_pair page before) some
 stuck_whole before here set page next pairs list some index there same list_is rise has_pairs has_some full =
     let all : AllBelong list page before =
     subst (λ (ps : List Pair). AllBelong ps page before) (sym list_is) (all_of_page before set page pairs index there has_pairs)
     in
     let they : pairs ≡ some = its_pairs (term_page page before) pairs some rise has_some (has_pairs some has_some) in
-    subst (NeedsTooMany next) (list_is ∙ they) (full (subst (λ (ts : List TermPage). AllBelong list page ts) (sym same) all))
+    subst (λ (ts : List TermPage). AreStuck next (low_pair page ts) some) same
+    (subst (AreStuck next (low_pair page here)) (list_is ∙ they) (full (subst (λ (ts : List TermPage). AllBelong list page ts) (sym same) all)))
 
 -- ---- a step, by what merging answers
 
@@ -512,7 +516,7 @@ pub step_by : {honest : Bool} (result : Result Bool StoreFault) (page : ℕ) (at
     → IfOk result (λ done. done ≡ true → IsPagePlanned honest page [] before now true later (λ number. 0) here new))
     → IfOk result (λ done. done ≡ false → (new ≡ here) × (later ≡ next))
     → (IsTrue honest → (set : PairSet) → IsIndex before set
-    → IfOk result (λ done. done ≡ false → (pairs : List Pair) → HasPairs (term_page page before) pairs → NeedsTooMany next pairs))
+    → IfOk result (λ done. done ≡ false → (pairs : List Pair) → HasPairs (term_page page before) pairs → AreStuck next (low_pair page before) pairs))
     → (IsTrue honest → OnOk result (IsInGrammar (term_page page before)))
     → IfOk result (λ done. IsMergedTo honest at before (merged + as_number done) later old new)
 step_by (Ok done) page at before merged next later old here new behind is deltas planned left stuck met =

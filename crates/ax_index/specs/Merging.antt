@@ -15,15 +15,15 @@ use Rattle.ax_store.specs.Kept.{deltas_of}
 use Rattle.ax_index.specs.Bare.{has_deltas, with_deltas}
 use Rattle.ax_index.specs.Grammar.{IsInGrammar}
 use Rattle.ax_index.specs.Carried.{HasLowPair, HasSome, bases_put}
-use Rattle.ax_index.specs.PageSizes.{NeedsTooMany}
+use Rattle.ax_index.specs.PageSizes.{AreStuck}
 use Rattle.ax_index.specs.Planning.{IsUpTo}
 
--- Of an index on an honest disk, a page that still has deltas needs more new pages than may be: the last would have a
--- number which no page may have.
+-- Of an index on an honest disk, a page that still has deltas needs more new pages than may be, of which the last would
+-- have a number that no page may have, or has a term of more than 4,096 bytes.
 abbrev pub IsStuck : Bool → ℕ → List TermPage → List TermPage → Type 0
 IsStuck honest number before after =
     IsTrue honest → (set : PairSet) → IsIndex before set → has_deltas (term_page number after) ≡ true → (pairs : List Pair)
-    → HasPairs (term_page number before) pairs → NeedsTooMany (length after) pairs
+    → HasPairs (term_page number before) pairs → AreStuck (length after) (low_pair number before) pairs
 
 -- how many bases are put of a page that was there, by whether it had deltas and whether it has some then
 abbrev pub bases_due : Bool → Bool → ℕ

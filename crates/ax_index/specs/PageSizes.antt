@@ -1,9 +1,10 @@
 -- How many pages the pairs of a page take when it is written anew.
 -- It is this project's own; it comes from no public document.
-use Rattle.std.specs.Prelude.{◌≡◌, ℕ, zero, suc, ◌+◌, ◌-◌, ◌<◌, ◌≤◌, ◌==◌, ◌&&◌, nat_lt, if◌then◌else◌, List, [], ◌∷◌, length}
+use Rattle.std.specs.Prelude.{◌≡◌, ℕ, zero, suc, ◌+◌, ◌-◌, ◌<◌, ◌≤◌, ◌==◌, ◌&&◌, ◌⊎◌, nat_lt, if◌then◌else◌, List, [], ◌∷◌, length}
 use Rattle.ax_leaf.specs.Payload.{common}
 use Rattle.ax_pair.specs.declared.pair.Pair.{Pair}
 use Rattle.ax_pages.specs.AfterPart.{most_term_pages}
+use Rattle.ax_index.specs.DeltaSizes.{HasLongTerm}
 
 -- how many bytes a number takes, seven bits a byte
 abbrev pub number_bytes : ℕ → ℕ
@@ -16,6 +17,16 @@ bytes_beside before pair =
     if (common before.term pair.term == length pair.term) && (common before.term pair.term == length before.term)
     then number_bytes (pair.number - before.number)
     else 4 + number_bytes pair.number + (length pair.term - common before.term pair.term)
+
+-- as how many bytes pairs are counted behind another
+abbrev pub bytes_behind : Pair → List Pair → ℕ
+bytes_behind before [] = 0
+bytes_behind before (pair ∷ pairs) = bytes_beside before pair + bytes_behind pair pairs
+
+-- as how many bytes the pairs of a base are counted, without the term of the first
+abbrev pub base_bytes : List Pair → ℕ
+base_bytes [] = 0
+base_bytes (pair ∷ pairs) = 25 + bytes_behind pair pairs
 
 -- What a base leaves of the pairs behind one, where so many bytes are counted up to that one: nothing, where all
 -- are 4,096 bytes at most; and else what is behind the last up to which there are 2,048 at most.
@@ -44,3 +55,8 @@ NeedsTooMany next pairs = (count : ℕ) × TakePages count (rest_of pairs) × (m
 -- and there are numbers for the pages that these pairs take
 abbrev pub HasNumbers : ℕ → List Pair → Type 0
 HasNumbers next pairs = (count : ℕ) × TakePages count pairs × (next + count ≤ most_term_pages)
+
+-- Where the next new page has this number, a page of this low pair with these pairs is not written anew: it needs too
+-- many new pages, or a term of it is too long.
+abbrev pub AreStuck : ℕ → Pair → List Pair → Type 0
+AreStuck next low pairs = NeedsTooMany next pairs ⊎ HasLongTerm low pairs

@@ -1,6 +1,6 @@
 //! A page written anew: its base, and new pages for the pairs that it is not to have.
 
-ghost use Rattle.std.specs.Prelude.{◌≡◌, ◌<◌, List, length, true, false, ◌+◌, ◌⊎◌, IsTrue, OnOk, IfOk};
+ghost use Rattle.std.specs.Prelude.{◌≡◌, ◌<◌, ◌≤◌, List, length, true, false, ◌+◌, ◌⊎◌, IsTrue, OnOk, IfOk};
 ghost use Rattle.ax_pair.specs.declared.pair.Pair.{Pair};
 ghost use Rattle.ax_pair.specs.Order.{Rise, BeginsFrom};
 ghost use Rattle.ax_pages.specs.AfterPart.{most_term_pages};
@@ -9,13 +9,14 @@ ghost use Rattle.ax_pages.specs.TermPages.{low_pair};
 ghost use Rattle.ax_pairs.specs.Index.{AllBelong};
 ghost use Rattle.ax_store.specs.Batch.{batch_parts};
 ghost use Rattle.ax_store.specs.Store.{store_contents};
-ghost use Rattle.ax_index.specs.PageSizes.{HasNumbers, NeedsTooMany, rest_of};
+ghost use Rattle.ax_index.specs.DeltaSizes.{AreShort};
+ghost use Rattle.ax_index.specs.PageSizes.{AreStuck, HasNumbers, NeedsTooMany, base_bytes, rest_of};
 ghost use Rattle.ax_index.specs.Rewriting.{IsBasePut, IsRewritten};
 
 use crate::out_of_memory::Memory;
 use crate::parts::put_base;
 use crate::runs::all_belong;
-use crate::sizes::{base_len, new_pages};
+use crate::sizes::{are_short, base_len, new_pages};
 use ax_pair::{Bytes, Pair};
 use ax_pair_list::PairList;
 use ax_store::{Batch, Store};
@@ -43,7 +44,7 @@ pub(crate) fn rewrite_list<C>(
         → IfOk result (λ done. done ≡ true → IsRewritten page pairs.now now next.new (batch_parts batch.old) (batch_parts batch.new)) }
     ensures left { IfOk result (λ done. done ≡ false → (batch_parts batch.new ≡ batch_parts batch.old) × (next.new ≡ next.old)) }
     ensures full { IfOk result (λ done. done ≡ false → AllBelong pairs.now page (store_contents store.now).terms
-        → NeedsTooMany next.old pairs.now) }
+        → AreStuck next.old (low_pair page (store_contents store.now).terms) pairs.now) }
 {
     let pairs = pairs.to_pairs(alloc)?;
     rewrite(alloc, store, batch, next, page, pairs.as_slice())
@@ -51,7 +52,7 @@ pub(crate) fn rewrite_list<C>(
 
 /// Writes a page anew with these rising pairs, and new pages behind it where they are many; the next new
 /// page then has the number `next`. It answers whether it did: not where a pair is none of the page, which
-/// is so in no index, nor where there are no numbers for the new pages.
+/// is so in no index, nor where a term has more than 4,096 bytes or there are no numbers for the new pages.
 pub(crate) fn rewrite<C>(
     alloc: Global,
     store: &Store<C>,
@@ -69,14 +70,26 @@ pub(crate) fn rewrite<C>(
         → IfOk result (λ done. done ≡ true → IsRewritten page pairs.now now next.new (batch_parts batch.old) (batch_parts batch.new)) }
     ensures left { IfOk result (λ done. done ≡ false → (batch_parts batch.new ≡ batch_parts batch.old) × (next.new ≡ next.old)) }
     ensures full { IfOk result (λ done. done ≡ false → AllBelong pairs.now page (store_contents store.now).terms
-        → NeedsTooMany next.old pairs.now) }
+        → AreStuck next.old (low_pair page (store_contents store.now).terms) pairs.now) }
 {
-    if !all_belong(store, page, pairs) || !has_numbers(*next, pairs) {
+    let low = low_of(alloc, store, page)?;
+    if !all_belong(store, page, pairs) || !has_room(*next, &low, pairs) {
         return Ok(false);
     }
-    let low = low_of(alloc, store, page)?;
     put_bases(alloc, batch, next, page, &low, pairs)?;
     Ok(true)
+}
+
+/// Whether the bases of these pairs fit parts, and there are numbers for the new pages that they need.
+fn has_room(next: u32, low: &Pair, pairs: &[Pair]) -> bool
+    ensures short { IsTrue result → AreShort low.now pairs.now }
+    ensures few { IsTrue result → HasNumbers next (rest_of pairs.now) }
+    ensures stuck { IsTrue result ⊎ AreStuck next low.now pairs.now }
+{
+    if !are_short(low, pairs) {
+        return false;
+    }
+    has_numbers(next, pairs)
 }
 
 /// Whether there are numbers for the new pages that the pairs need.
@@ -108,6 +121,7 @@ fn put_bases(
 ) -> Result<(), Memory>
     requires rise { Rise pairs.now }
     requires begins { BeginsFrom low.now pairs.now }
+    requires short { AreShort low.now pairs.now }
     requires numbers { HasNumbers next.old (rest_of pairs.now) }
     ensures { (now : List TermPage) → next.old ≡ length now → page < length now → low_pair page now ≡ low.now
         → AllBelong pairs.now page now
@@ -133,6 +147,8 @@ fn put_new_page(
 ) -> Result<(), Memory>
     requires rise { Rise pairs.now }
     requires begins { BeginsFrom low.now pairs.now }
+    requires short { AreShort low.now pairs.now }
+    requires few { base_bytes pairs.now ≤ 4096 }
     requires number { next.old < most_term_pages }
     ensures put { OnOk result (IsBasePut next.old low.now pairs.now (batch_parts batch.old) (batch_parts batch.new)) }
     ensures next { OnOk result ((next.new ≡ next.old + 1) × (next.old < most_term_pages)) }

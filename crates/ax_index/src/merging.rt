@@ -17,7 +17,7 @@ ghost use Rattle.ax_index.specs.Bare.{has_deltas as does_have_deltas};
 ghost use Rattle.ax_index.specs.Damage.{FailsBy, TellsPart};
 ghost use Rattle.ax_index.specs.Grammar.{IsInGrammar};
 ghost use Rattle.ax_index.specs.Merging.{IsBehind, IsMergePlan, IsMergedTo};
-ghost use Rattle.ax_index.specs.PageSizes.{NeedsTooMany};
+ghost use Rattle.ax_index.specs.PageSizes.{AreStuck};
 ghost use Rattle.ax_index.specs.Planning.{IsUpTo, IsPagePlanned};
 ghost use Rattle.ax_index.specs.Plans.{HasNoDeltas};
 ghost use Rattle.ax_index.specs.Reads.{KeepsTaken, Reads, Reserves};
@@ -35,9 +35,10 @@ use std::alloc::Global;
 
 /// Puts parts behind those of a batch that merge `n` term pages with deltas, from the least low pair on, and
 /// answers how many they are: fewer only where no page is left that has deltas, but for those whose fold
-/// needs so many new pages that the last would have a number from 2^31 on. No pair is changed, and no page
-/// is made without one. Over an honest disk a page is merged only where each of its parts is in its grammar.
-/// It makes the room that a commit of the batch needs.
+/// needs so many new pages that the last would have a number from 2^31 on, and those that have a term of more
+/// than 4,096 bytes, which no change brings. No pair is changed, and no page is made without one. Over an honest
+/// disk a page is merged only where each of its parts is in its grammar. It makes the room that a commit of the
+/// batch needs.
 ///
 /// `Disk`, `Damaged`: as `has`. `Memory` where there is no room; the store is then as before but for room,
 /// and the batch may hold further parts.
@@ -217,7 +218,7 @@ fn merge_whole<D: Disk, C: PageCache>(
     ensures left { IfOk result (λ done. done ≡ false → (batch_parts batch.new ≡ batch_parts batch.old) × (next.new ≡ next.old)) }
     ensures stuck { IsTrue (D.is_honest disk.old) → (set : PairSet) → IsIndex (store_contents store.old).terms set
         → IfOk result (λ done. done ≡ false → (pairs : List Pair) → HasPairs (term_page page (store_contents store.old).terms) pairs
-        → NeedsTooMany next.old pairs) }
+        → AreStuck next.old (low_pair page (store_contents store.old).terms) pairs) }
     ensures met { IsTrue (D.is_honest disk.old) → OnOk result (IsInGrammar (term_page page (store_contents store.old).terms)) }
     ensures told { IsTrue (D.is_honest disk.old) → IfErr result (TellsPart store.old) }
     ensures slot { slot.new ≡ slot.old }

@@ -6,7 +6,8 @@ ghost use Rattle.ax_pair.specs.Order.{Rise, BeginsFrom};
 ghost use Rattle.ax_pages.specs.Contents.{TermPage};
 ghost use Rattle.ax_store.specs.Batch.{batch_parts};
 ghost use Rattle.ax_index.specs.DeltaRuns.{AreFew, ArePut};
-ghost use Rattle.ax_index.specs.DeltaSizes.{HaveShortTerms, counted_bytes};
+ghost use Rattle.ax_index.specs.DeltaSizes.{AreShort, HaveShortTerms, counted_bytes};
+ghost use Rattle.ax_index.specs.PageSizes.{base_bytes};
 ghost use Rattle.ax_index.specs.Rewriting.{IsBasePut};
 
 use crate::out_of_memory::Memory;
@@ -77,8 +78,7 @@ fn put_delta(alloc: Global, batch: &mut Batch, page: u32, changes: &[Change]) ->
     Ok(())
 }
 
-/// Puts a base of a page of this low pair. `Memory` also where its payload is longer than a part may be, as it
-/// is only where a term of the pages has more bytes than a change may bring.
+/// Puts a base of a page of this low pair.
 pub(crate) fn put_base(
     alloc: Global,
     batch: &mut Batch,
@@ -88,12 +88,11 @@ pub(crate) fn put_base(
 ) -> Result<(), Memory>
     requires rise { Rise pairs.now }
     requires begins { BeginsFrom low.now pairs.now }
+    requires short { AreShort low.now pairs.now }
+    requires few { base_bytes pairs.now ≤ 4096 }
     ensures { OnOk result (IsBasePut page low.now pairs.now (batch_parts batch.old) (batch_parts batch.new)) }
 {
     let payload = ax_leaf::encode(alloc, low, pairs)?;
-    if payload.len() > MOST_PAYLOAD {
-        return Err(Memory);
-    }
     put_part(alloc, batch, BASE, page, payload.as_slice())?;
     Ok(())
 }

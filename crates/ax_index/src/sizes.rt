@@ -7,8 +7,8 @@
 //! three quarters of the most.
 
 ghost use Rattle.std.specs.Prelude.{◌≡◌, ◌↔◌, ◌+◌, ◌<◌, ◌≤◌, ◌^◌, IsTrue, nat_lt, if◌then◌else◌, length, take, drop};
-ghost use Rattle.ax_index.specs.DeltaSizes.{HaveShortTerms, counted_bytes};
-ghost use Rattle.ax_index.specs.PageSizes.{TakePages, bytes_beside, number_bytes, rest_of};
+ghost use Rattle.ax_index.specs.DeltaSizes.{AreShort, HaveShortTerms, counted_bytes};
+ghost use Rattle.ax_index.specs.PageSizes.{TakePages, base_bytes, bytes_beside, number_bytes, rest_of};
 
 use ax_delta::Change;
 use ax_leaf::short_term::in_common;
@@ -45,6 +45,7 @@ pub(crate) fn base_len(pairs: &[Pair]) -> usize
     ensures within { result ≤ length pairs.now }
     ensures some { 0 < length pairs.now → 0 < result }
     ensures cut { drop result pairs.now ≡ rest_of pairs.now }
+    ensures fits { base_bytes (take result pairs.now) ≤ 4096 }
 {
     let mut bytes = BESIDE_TERM;
     let mut front = 1;
@@ -119,6 +120,16 @@ pub fn have_short_terms(changes: &[Change]) -> bool
     ensures { IsTrue result ↔ HaveShortTerms changes.now }
 {
     changes.iter().all(|change| change.pair.term.as_slice().len() <= MOST_TERM_BYTES)
+}
+
+/// Has no term of a page's low pair and of these pairs more than 4,096 bytes? `put_base` requires it.
+pub(crate) fn are_short(low: &Pair, pairs: &[Pair]) -> bool
+    ensures { IsTrue result ↔ AreShort low.now pairs.now }
+{
+    low.term.as_slice().len() <= MOST_TERM_BYTES
+        && pairs
+            .iter()
+            .all(|pair| pair.term.as_slice().len() <= MOST_TERM_BYTES)
 }
 
 /// How many of rising changes a delta is to have: as many as surely fit a part.

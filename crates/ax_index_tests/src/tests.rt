@@ -3,6 +3,7 @@ mod by_id;
 mod crashes;
 mod few;
 mod largest;
+mod long_terms;
 mod many;
 mod random;
 mod several;

@@ -33,7 +33,7 @@ pub fn disk_of(alloc: Global, area: &[u8]) -> Result<MemDisk, Fail> {
         root,
         a,
         Vec::new(alloc),
-        4096,
+        1 << 14,
         CALLS,
         Vec::new(alloc),
     )?)
