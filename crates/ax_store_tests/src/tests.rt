@@ -9,12 +9,12 @@ mod many_parts;
 mod opening;
 mod reading_ahead;
 
-use ax_store::{Batch, Head, Store, StoreFault};
 use ax_base::Steps;
 use ax_cache::{LruPages, NoPages, PageCache};
 use ax_disk::{Disk, Extent, MemDisk};
 use ax_frame::Part;
 use ax_pages::Page;
+use ax_store::{Batch, Head, Store, StoreFault};
 use std::alloc::Global;
 use std::marker::Brand;
 use std::sync::ledger::{Blank, Ledger};

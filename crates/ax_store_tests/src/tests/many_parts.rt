@@ -4,11 +4,11 @@ ghost use Rattle.std.specs.Prelude.{IsTrue};
 ghost use Rattle.ax_store.specs.Store.{Agrees};
 
 use super::room_for;
-use ax_store::{Batch, Store, StoreFault};
 use ax_cache::{NoPages, PageCache};
 use ax_disk::Disk;
 use ax_frame::Part;
 use ax_pages::Page;
+use ax_store::{Batch, Store, StoreFault};
 use std::alloc::Global;
 use std::test::Fail;
 

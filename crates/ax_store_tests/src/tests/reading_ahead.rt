@@ -4,11 +4,10 @@ ghost use Rattle.std.specs.Prelude.{◌≡◌, ◌≤◌, ℕ, IsTrue, length};
 ghost use Rattle.ax_store.specs.ReadAhead.{AgreesAheadUnlessFailed};
 
 use super::room_for;
-use ax_store::Batch;
-use ax_store::{ReadAhead, Store};
 use ax_cache::{NoPages, PageCache};
 use ax_disk::{Disk, Extent, MemDisk};
-use ax_frame::Part;
+use ax_frame::{Part, PartsText, write_frame};
+use ax_store::{ReadAhead, Store};
 use std::alloc::Global;
 use std::test::Fail;
 
@@ -142,38 +141,38 @@ fn puts_texts<D: Disk>(alloc: Global, disk: &mut D, last: u8, len: usize, betwee
 
 /// The frame of the documents, behind an open gate, with a closed one at its end.
 fn frame_of(alloc: Global, last: u8, len: usize, between: usize) -> Option<Vec<u8>> {
-    let mut batch = Batch::begin(alloc);
+    let mut parts = PartsText::begin(alloc);
     for number in 1..last {
-        adds_document(alloc, &mut batch, number, len, between)?;
+        adds_document(alloc, &mut parts, number, len, between)?;
     }
-    adds_document(alloc, &mut batch, last, len, between)?;
-    if batch.parts() == 0 {
+    adds_document(alloc, &mut parts, last, len, between)?;
+    if parts.is_empty() {
         return None;
     }
-    let batch = batch.seal(alloc).ok()?;
+    let frame = write_frame(alloc, &parts).ok()?;
     let mut bytes = vec![in alloc; 1; 1].ok()?;
-    bytes.extend_from_slice(&batch.frame).ok()?;
+    bytes.extend_from_slice(&frame).ok()?;
     Some(bytes)
 }
 
 /// Adds a policy of so many bytes, if that is one, and a document.
 fn adds_document(
     alloc: Global,
-    batch: &mut Batch,
+    parts: &mut PartsText,
     number: u8,
     len: usize,
     between: usize,
 ) -> Option<()> {
     if between > 0 {
-        adds_part(alloc, batch, 2, number, between, 0)?;
+        adds_part(alloc, parts, 2, number, between, 0)?;
     }
-    adds_part(alloc, batch, 3, number, len.checked_add(1)?, number)
+    adds_part(alloc, parts, 3, number, len.checked_add(1)?, number)
 }
 
 /// Adds a part of so many bytes: 0, and the others as asked.
 fn adds_part(
     alloc: Global,
-    batch: &mut Batch,
+    parts: &mut PartsText,
     kind: u8,
     key: u8,
     len: usize,
@@ -189,7 +188,7 @@ fn adds_part(
         key: u32::from(key),
         payload: &payload,
     };
-    batch.add(alloc, part).ok()
+    parts.add(part).ok()
 }
 
 /// How often the disk is read while the store is opened and the texts of these numbers are asked for.
