@@ -69,8 +69,7 @@ fn looked_at_for_keys(alloc: Global, text: &str) -> Result<Vec<u8>, Fail> {
 
 #[test]
 fn paths_of_the_pick_and_of_where(rt: HostRuntime) -> Result<(), Fail> {
-    let alloc = rt.alloc();
-    for (text, expected) in [
+    const TABLE: [(&str, &str); 6] = [
         ("SELECT VALUE c.id FROM c", "{id}"),
         ("SELECT c.b.a, c.a AS x FROM c", "{a,b{a}}"),
         ("SELECT VALUE 1 FROM c", "{}"),
@@ -83,7 +82,9 @@ fn paths_of_the_pick_and_of_where(rt: HostRuntime) -> Result<(), Fail> {
             "SELECT VALUE c.a.x FROM c WHERE IS_DEFINED(c.a.y) AND NOT c.b IN (c.a.z, 1)",
             "{a{x,y,z},b}",
         ),
-    ] {
+    ];
+    let alloc = rt.alloc();
+    for (text, expected) in TABLE {
         assert_eq!(rt;
             looked_at(alloc, text)?.as_slice(),
             expected.as_bytes(),
@@ -97,8 +98,7 @@ fn paths_of_the_pick_and_of_where(rt: HostRuntime) -> Result<(), Fail> {
 // whole, and nothing of a map that stands where a list is looked for.
 #[test]
 fn paths_within_others_and_into_lists(rt: HostRuntime) -> Result<(), Fail> {
-    let alloc = rt.alloc();
-    for (text, expected) in [
+    const TABLE: [(&str, &str); 8] = [
         ("SELECT VALUE c.a FROM c WHERE c.a.b = 1", "{a}"),
         ("SELECT VALUE c.a.b FROM c WHERE c.a", "{a}"),
         ("SELECT VALUE c.a.b FROM c WHERE c.aa.b", "{a{b},aa{b}}"),
@@ -107,7 +107,9 @@ fn paths_within_others_and_into_lists(rt: HostRuntime) -> Result<(), Fail> {
         ("SELECT VALUE c.list[0] FROM c WHERE c.list", "{list}"),
         ("SELECT VALUE c[0] FROM c", "{}"),
         ("SELECT VALUE c['a b']['c'] FROM c", "{a b{c}}"),
-    ] {
+    ];
+    let alloc = rt.alloc();
+    for (text, expected) in TABLE {
         assert_eq!(rt;
             looked_at(alloc, text)?.as_slice(),
             expected.as_bytes(),
@@ -119,8 +121,7 @@ fn paths_within_others_and_into_lists(rt: HostRuntime) -> Result<(), Fail> {
 
 #[test]
 fn paths_of_orders_and_groups(rt: HostRuntime) -> Result<(), Fail> {
-    let alloc = rt.alloc();
-    for (text, expected) in [
+    const TABLE: [(&str, &str); 4] = [
         ("SELECT VALUE c.id FROM c ORDER BY c.n", "{id,n}"),
         ("SELECT VALUE 1 FROM c ORDER BY c.a.b DESC, c.d", "{a{b},d}"),
         ("SELECT c.k, COUNT(1) AS n FROM c GROUP BY c.k", "{k}"),
@@ -128,7 +129,9 @@ fn paths_of_orders_and_groups(rt: HostRuntime) -> Result<(), Fail> {
             "SELECT VALUE COUNT(1) FROM c GROUP BY c.a.b, c.d",
             "{a{b},d}",
         ),
-    ] {
+    ];
+    let alloc = rt.alloc();
+    for (text, expected) in TABLE {
         assert_eq!(rt;
             looked_at(alloc, text)?.as_slice(),
             expected.as_bytes(),
@@ -140,8 +143,7 @@ fn paths_of_orders_and_groups(rt: HostRuntime) -> Result<(), Fail> {
 
 #[test]
 fn arguments_of_aggregates(rt: HostRuntime) -> Result<(), Fail> {
-    let alloc = rt.alloc();
-    for (text, expected) in [
+    const TABLE: [(&str, &str); 4] = [
         ("SELECT VALUE COUNT(1) FROM c", "{}"),
         ("SELECT VALUE SUM(c.n) + 1 FROM c", "{n}"),
         (
@@ -149,7 +151,9 @@ fn arguments_of_aggregates(rt: HostRuntime) -> Result<(), Fail> {
             "{a{b},k}",
         ),
         ("SELECT VALUE [MIN(c.x), {a: MAX(c.y)}] FROM c", "{x,y}"),
-    ] {
+    ];
+    let alloc = rt.alloc();
+    for (text, expected) in TABLE {
         assert_eq!(rt;
             looked_at(alloc, text)?.as_slice(),
             expected.as_bytes(),
@@ -162,8 +166,7 @@ fn arguments_of_aggregates(rt: HostRuntime) -> Result<(), Fail> {
 // What a source binds that begins at another alias than the document's is in what that one binds.
 #[test]
 fn sources(rt: HostRuntime) -> Result<(), Fail> {
-    let alloc = rt.alloc();
-    for (text, expected) in [
+    const TABLE: [(&str, &str); 6] = [
         ("SELECT VALUE t FROM c JOIN t IN c.tags", "{tags}"),
         (
             "SELECT VALUE u.x FROM c JOIN t IN c.a.tags JOIN u IN t.items WHERE t.n = c.n",
@@ -173,7 +176,9 @@ fn sources(rt: HostRuntime) -> Result<(), Fail> {
         ("SELECT VALUE x.k FROM c.a x", "{a}"),
         ("SELECT VALUE d.a FROM root AS d", "{a}"),
         ("SELECT VALUE t FROM t IN c", "whole"),
-    ] {
+    ];
+    let alloc = rt.alloc();
+    for (text, expected) in TABLE {
         assert_eq!(rt;
             looked_at(alloc, text)?.as_slice(),
             expected.as_bytes(),
@@ -186,11 +191,12 @@ fn sources(rt: HostRuntime) -> Result<(), Fail> {
 // All is kept that stands around a name that JSON writes with an escape.
 #[test]
 fn names_with_an_escape(rt: HostRuntime) -> Result<(), Fail> {
-    let alloc = rt.alloc();
-    for (text, expected) in [
+    const TABLE: [(&str, &str); 2] = [
         ("SELECT VALUE c.a['x\"y'] FROM c", "{a}"),
         ("SELECT VALUE c.a.b['\\\\'].d FROM c WHERE c.e", "{a{b},e}"),
-    ] {
+    ];
+    let alloc = rt.alloc();
+    for (text, expected) in TABLE {
         assert_eq!(rt;
             looked_at(alloc, text)?.as_slice(),
             expected.as_bytes(),
@@ -203,8 +209,7 @@ fn names_with_an_escape(rt: HostRuntime) -> Result<(), Fail> {
 // The document itself, and names in it that JSON writes with an escape.
 #[test]
 fn documents_read_whole(rt: HostRuntime) -> Result<(), Fail> {
-    let alloc = rt.alloc();
-    for text in [
+    const TABLE: [&str; 7] = [
         "SELECT * FROM c",
         "SELECT VALUE c FROM c",
         "SELECT VALUE {a: c} FROM c",
@@ -212,7 +217,9 @@ fn documents_read_whole(rt: HostRuntime) -> Result<(), Fail> {
         "SELECT VALUE c.id FROM c JOIN t IN c",
         "SELECT VALUE c['a\"b'] FROM c",
         "SELECT VALUE c.id FROM c WHERE c['a\\\\'].b = 1",
-    ] {
+    ];
+    let alloc = rt.alloc();
+    for text in TABLE {
         assert_eq!(rt;
             looked_at(alloc, text)?.as_slice(),
             b"whole".as_slice(),
@@ -224,14 +231,15 @@ fn documents_read_whole(rt: HostRuntime) -> Result<(), Fail> {
 
 #[test]
 fn documents_shown_as_they_are_stored(rt: HostRuntime) -> Result<(), Fail> {
-    let alloc = rt.alloc();
-    for (text, expected) in [
+    const TABLE: [(&str, &str); 5] = [
         ("SELECT * FROM c", "{}"),
         ("SELECT VALUE c FROM c", "{}"),
         ("SELECT * FROM c WHERE c.a.b = 1", "{a{b}}"),
         ("SELECT * FROM c WHERE c.n > 1 ORDER BY c.m DESC", "{m,n}"),
         ("SELECT * FROM c WHERE IS_OBJECT(c)", "whole"),
-    ] {
+    ];
+    let alloc = rt.alloc();
+    for (text, expected) in TABLE {
         assert_eq!(rt;
             looked_at_for_keys(alloc, text)?.as_slice(),
             expected.as_bytes(),

@@ -31,7 +31,7 @@ fn left_by_two(alloc: Global, text: &[u8]) -> Option<Vec<u8>> {
 // By hand: what stands under `b`, and of `d`, where that is a map, what stands under `e`.
 #[test]
 fn members_that_are_named_are_left(rt: HostRuntime) -> Result<(), Fail> {
-    for (text, expected) in [
+    const TABLE: [(&str, &str); 9] = [
         (
             r#"{"a":1,"b":2,"c":3,"d":{"e":4,"f":5}}"#,
             r#"{"b":2,"d":{"e":4}}"#,
@@ -53,7 +53,8 @@ fn members_that_are_named_are_left(rt: HostRuntime) -> Result<(), Fail> {
         ("{}", "{}"),
         ("[1]", "[1]"),
         ("\"b\"", "\"b\""),
-    ] {
+    ];
+    for (text, expected) in TABLE {
         let left = left_by_two(rt.alloc(), text.as_bytes());
         let Some(left) = left else {
             assert!(rt; false, "{text}");
@@ -79,7 +80,7 @@ fn are_none(alloc: Global, text: &[u8]) -> Option<bool> {
 // Bytes that are no JSON, and numbers that are not whole, are told so, and not as out of memory.
 #[test]
 fn bytes_that_stand_for_no_tree_are_told(rt: HostRuntime) -> Result<(), Fail> {
-    for text in [
+    const TABLE: [&str; 7] = [
         r#"{"b":x}"#,
         r#"{"b":1.5}"#,
         r#"{"b":[1e0]}"#,
@@ -87,7 +88,8 @@ fn bytes_that_stand_for_no_tree_are_told(rt: HostRuntime) -> Result<(), Fail> {
         r#"{"d":{"e":"\x"}}"#,
         "1.5",
         "[",
-    ] {
+    ];
+    for text in TABLE {
         let told = are_none(rt.alloc(), text.as_bytes());
         assert_eq!(rt; told, Some(true), "{text}");
     }

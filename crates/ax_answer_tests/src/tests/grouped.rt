@@ -6,17 +6,7 @@ use std::test::Fail;
 
 #[test]
 fn groups_of_several_rows(rt: HostRuntime) -> Result<(), Fail> {
-    let alloc = rt.alloc();
-    let documents = [
-        (1, r#"{"k":"a","v":1}"#),
-        (2, r#"{"k":"b","v":2}"#),
-        (3, r#"{"k":"a"}"#),
-        (4, r#"{"v":5}"#),
-        (5, r#"{"k":"a","v":-4}"#),
-        (6, r#"{"k":null}"#),
-        (7, r#"{"v":null}"#),
-    ];
-    for (text, expected) in [
+    const TABLE: [(&str, &str); 4] = [
         (
             "SELECT c.k, COUNT(1) AS n, COUNT(c.v) AS d FROM c GROUP BY c.k",
             r#"{"d":2,"n":2} {"d":0,"k":null,"n":1} {"d":2,"k":"a","n":3} {"d":1,"k":"b","n":1} "#,
@@ -30,8 +20,19 @@ fn groups_of_several_rows(rt: HostRuntime) -> Result<(), Fail> {
             r#"{"g":5,"l":null} {"k":null} {"g":1,"k":"a","l":-4} {"g":2,"k":"b","l":2} "#,
         ),
         ("SELECT VALUE c.k FROM c GROUP BY c.k", r#"null "a" "b" "#),
-    ] {
-        let (rows, added) = answered(alloc, text, &documents)?;
+    ];
+    const DOCUMENTS: [(u32, &str); 7] = [
+        (1, r#"{"k":"a","v":1}"#),
+        (2, r#"{"k":"b","v":2}"#),
+        (3, r#"{"k":"a"}"#),
+        (4, r#"{"v":5}"#),
+        (5, r#"{"k":"a","v":-4}"#),
+        (6, r#"{"k":null}"#),
+        (7, r#"{"v":null}"#),
+    ];
+    let alloc = rt.alloc();
+    for (text, expected) in TABLE {
+        let (rows, added) = answered(alloc, text, &DOCUMENTS)?;
         assert_eq!(rt; rows.as_slice(), expected.as_bytes(), "{text}");
         assert_eq!(rt; added, 7, "{text}");
     }
@@ -41,18 +42,7 @@ fn groups_of_several_rows(rt: HostRuntime) -> Result<(), Fail> {
 // Across kinds null is the least and texts are the greatest; with a list there is neither.
 #[test]
 fn the_least_and_the_greatest_across_kinds(rt: HostRuntime) -> Result<(), Fail> {
-    let alloc = rt.alloc();
-    let documents = [
-        (1, r#"{"v":3}"#),
-        (2, r#"{"v":"a"}"#),
-        (3, r#"{"v":1}"#),
-        (4, "{}"),
-        (5, r#"{"v":null}"#),
-        (6, r#"{"v":true}"#),
-        (7, r#"{"v":"b"}"#),
-        (8, r#"{"w":[1]}"#),
-    ];
-    for (text, expected) in [
+    const TABLE: [(&str, &str); 3] = [
         (
             "SELECT VALUE [MIN(c.v), MAX(c.v), COUNT(c.v)] FROM c",
             r#"[null,"b",6] "#,
@@ -65,8 +55,20 @@ fn the_least_and_the_greatest_across_kinds(rt: HostRuntime) -> Result<(), Fail> 
             "SELECT VALUE {n: COUNT(c), l: MIN(c.w), g: MAX(c.w), s: SUM(c.v)} FROM c",
             r#"{"n":8} "#,
         ),
-    ] {
-        let (rows, _) = answered(alloc, text, &documents)?;
+    ];
+    const DOCUMENTS: [(u32, &str); 8] = [
+        (1, r#"{"v":3}"#),
+        (2, r#"{"v":"a"}"#),
+        (3, r#"{"v":1}"#),
+        (4, "{}"),
+        (5, r#"{"v":null}"#),
+        (6, r#"{"v":true}"#),
+        (7, r#"{"v":"b"}"#),
+        (8, r#"{"w":[1]}"#),
+    ];
+    let alloc = rt.alloc();
+    for (text, expected) in TABLE {
+        let (rows, _) = answered(alloc, text, &DOCUMENTS)?;
         assert_eq!(rt; rows.as_slice(), expected.as_bytes(), "{text}");
     }
     Ok(())
@@ -74,17 +76,17 @@ fn the_least_and_the_greatest_across_kinds(rt: HostRuntime) -> Result<(), Fail> 
 
 #[test]
 fn groups_by_two_values(rt: HostRuntime) -> Result<(), Fail> {
-    let alloc = rt.alloc();
-    let documents = [
+    const DOCUMENTS: [(u32, &str); 5] = [
         (1, r#"{"k":"a","v":1}"#),
         (2, r#"{"k":"a"}"#),
         (3, r#"{"v":5}"#),
         (4, r#"{"k":"a","v":1}"#),
         (5, r#"{"v":null}"#),
     ];
+    let alloc = rt.alloc();
     let text = "SELECT c.k, c.v, COUNT(1) AS n FROM c GROUP BY c.k, c.v";
     let expected = r#"{"n":1,"v":null} {"n":1,"v":5} {"k":"a","n":1} {"k":"a","n":2,"v":1} "#;
-    let (rows, _) = answered(alloc, text, &documents)?;
+    let (rows, _) = answered(alloc, text, &DOCUMENTS)?;
     assert_eq!(rt; rows.as_slice(), expected.as_bytes());
     Ok(())
 }
@@ -92,15 +94,7 @@ fn groups_by_two_values(rt: HostRuntime) -> Result<(), Fail> {
 // DISTINCT, OFFSET and LIMIT choose among the rows of the groups.
 #[test]
 fn rows_of_groups_are_told_apart_and_cut(rt: HostRuntime) -> Result<(), Fail> {
-    let alloc = rt.alloc();
-    let documents = [
-        (1, r#"{"k":2}"#),
-        (2, r#"{"k":1}"#),
-        (3, r#"{"k":3}"#),
-        (4, r#"{"k":2}"#),
-        (5, "{}"),
-    ];
-    for (text, expected) in [
+    const TABLE: [(&str, &str); 4] = [
         ("SELECT VALUE COUNT(1) FROM c GROUP BY c.k", "1 1 2 1 "),
         ("SELECT DISTINCT VALUE COUNT(1) FROM c GROUP BY c.k", "1 2 "),
         (
@@ -111,8 +105,17 @@ fn rows_of_groups_are_told_apart_and_cut(rt: HostRuntime) -> Result<(), Fail> {
             "SELECT TOP 1 c.k, COUNT(1) AS n FROM c GROUP BY c.k",
             "{\"n\":1} ",
         ),
-    ] {
-        let (rows, added) = answered(alloc, text, &documents)?;
+    ];
+    const DOCUMENTS: [(u32, &str); 5] = [
+        (1, r#"{"k":2}"#),
+        (2, r#"{"k":1}"#),
+        (3, r#"{"k":3}"#),
+        (4, r#"{"k":2}"#),
+        (5, "{}"),
+    ];
+    let alloc = rt.alloc();
+    for (text, expected) in TABLE {
+        let (rows, added) = answered(alloc, text, &DOCUMENTS)?;
         assert_eq!(rt; rows.as_slice(), expected.as_bytes(), "{text}");
         assert_eq!(rt; added, 5, "{text}");
     }
@@ -122,9 +125,7 @@ fn rows_of_groups_are_told_apart_and_cut(rt: HostRuntime) -> Result<(), Fail> {
 // Without GROUP BY there is one group, also of no rows.
 #[test]
 fn aggregates_of_no_rows(rt: HostRuntime) -> Result<(), Fail> {
-    let alloc = rt.alloc();
-    let documents = [(1, r#"{"k":1}"#)];
-    for (text, expected) in [
+    const TABLE: [(&str, &str); 5] = [
         ("SELECT VALUE COUNT(1) FROM c WHERE c.k = 2", "0 "),
         (
             "SELECT VALUE [COUNT(c.k), SUM(c.k)] FROM c WHERE c.k = 2",
@@ -139,7 +140,10 @@ fn aggregates_of_no_rows(rt: HostRuntime) -> Result<(), Fail> {
             "SELECT VALUE COUNT(1) FROM c WHERE c.k = 2 GROUP BY c.k",
             "",
         ),
-    ] {
+    ];
+    let alloc = rt.alloc();
+    let documents = [(1, r#"{"k":1}"#)];
+    for (text, expected) in TABLE {
         let (rows, _) = answered(alloc, text, &documents)?;
         assert_eq!(rt; rows.as_slice(), expected.as_bytes(), "{text}");
     }
@@ -148,14 +152,7 @@ fn aggregates_of_no_rows(rt: HostRuntime) -> Result<(), Fail> {
 
 #[test]
 fn aggregates_over_two_joins(rt: HostRuntime) -> Result<(), Fail> {
-    let alloc = rt.alloc();
-    let documents = [
-        (1, r#"{"t":[1,2,3]}"#),
-        (2, r#"{"t":[]}"#),
-        (3, r#"{"t":[1,2]}"#),
-        (4, "{}"),
-    ];
-    for (text, expected) in [
+    const TABLE: [(&str, &str); 3] = [
         (
             "SELECT VALUE COUNT(1) FROM c JOIN a IN c.t JOIN b IN c.t",
             "13 ",
@@ -168,8 +165,16 @@ fn aggregates_over_two_joins(rt: HostRuntime) -> Result<(), Fail> {
             "SELECT a, COUNT(1) AS n FROM c JOIN a IN c.t JOIN b IN c.t WHERE b > 1 GROUP BY a",
             r#"{"a":1,"n":3} {"a":2,"n":3} {"a":3,"n":2} "#,
         ),
-    ] {
-        let (rows, _) = answered(alloc, text, &documents)?;
+    ];
+    const DOCUMENTS: [(u32, &str); 4] = [
+        (1, r#"{"t":[1,2,3]}"#),
+        (2, r#"{"t":[]}"#),
+        (3, r#"{"t":[1,2]}"#),
+        (4, "{}"),
+    ];
+    let alloc = rt.alloc();
+    for (text, expected) in TABLE {
+        let (rows, _) = answered(alloc, text, &DOCUMENTS)?;
         assert_eq!(rt; rows.as_slice(), expected.as_bytes(), "{text}");
     }
     Ok(())

@@ -6,16 +6,7 @@ use std::test::Fail;
 // Undefined comes first, then numbers, then texts; of equal ones the document that came first.
 #[test]
 fn a_limit_takes_the_first_rows_in_their_order(rt: HostRuntime) -> Result<(), Fail> {
-    let alloc = rt.alloc();
-    let documents = [
-        (1, r#"{"n":3,"s":"x"}"#),
-        (2, r#"{"n":1,"s":"y"}"#),
-        (3, r#"{"s":"z"}"#),
-        (4, r#"{"n":2,"s":"x"}"#),
-        (5, r#"{"n":1,"s":"w"}"#),
-        (6, r#"{"n":"a","s":"v"}"#),
-    ];
-    for (text, expected) in [
+    const TABLE: [(&str, &str); 7] = [
         (
             "SELECT VALUE c.s FROM c ORDER BY c.n",
             r#""z" "y" "w" "x" "x" "v" "#,
@@ -41,8 +32,18 @@ fn a_limit_takes_the_first_rows_in_their_order(rt: HostRuntime) -> Result<(), Fa
             r#""a" 1 3 2 "#,
         ),
         ("SELECT TOP 3 VALUE c.m FROM c ORDER BY c.n", ""),
-    ] {
-        let (rows, added) = answered(alloc, text, &documents)?;
+    ];
+    const DOCUMENTS: [(u32, &str); 6] = [
+        (1, r#"{"n":3,"s":"x"}"#),
+        (2, r#"{"n":1,"s":"y"}"#),
+        (3, r#"{"s":"z"}"#),
+        (4, r#"{"n":2,"s":"x"}"#),
+        (5, r#"{"n":1,"s":"w"}"#),
+        (6, r#"{"n":"a","s":"v"}"#),
+    ];
+    let alloc = rt.alloc();
+    for (text, expected) in TABLE {
+        let (rows, added) = answered(alloc, text, &DOCUMENTS)?;
         assert_eq!(rt; rows.as_slice(), expected.as_bytes(), "{text}");
         assert_eq!(rt; added, 6, "{text}");
     }
@@ -51,14 +52,7 @@ fn a_limit_takes_the_first_rows_in_their_order(rt: HostRuntime) -> Result<(), Fa
 
 #[test]
 fn with_distinct_the_first_of_equal_rows_is_kept(rt: HostRuntime) -> Result<(), Fail> {
-    let alloc = rt.alloc();
-    let documents = [
-        (1, r#"{"n":3,"s":"x"}"#),
-        (2, r#"{"n":1,"s":"y"}"#),
-        (3, r#"{"s":"z"}"#),
-        (4, r#"{"n":2,"s":"x"}"#),
-    ];
-    for (text, expected) in [
+    const TABLE: [(&str, &str); 3] = [
         (
             "SELECT DISTINCT VALUE c.s FROM c ORDER BY c.n",
             r#""z" "y" "x" "#,
@@ -71,8 +65,16 @@ fn with_distinct_the_first_of_equal_rows_is_kept(rt: HostRuntime) -> Result<(), 
             "SELECT DISTINCT VALUE c.s FROM c ORDER BY c.n DESC OFFSET 1 LIMIT 2",
             r#""y" "z" "#,
         ),
-    ] {
-        let (rows, _) = answered(alloc, text, &documents)?;
+    ];
+    const DOCUMENTS: [(u32, &str); 4] = [
+        (1, r#"{"n":3,"s":"x"}"#),
+        (2, r#"{"n":1,"s":"y"}"#),
+        (3, r#"{"s":"z"}"#),
+        (4, r#"{"n":2,"s":"x"}"#),
+    ];
+    let alloc = rt.alloc();
+    for (text, expected) in TABLE {
+        let (rows, _) = answered(alloc, text, &DOCUMENTS)?;
         assert_eq!(rt; rows.as_slice(), expected.as_bytes(), "{text}");
     }
     Ok(())
@@ -81,8 +83,19 @@ fn with_distinct_the_first_of_equal_rows_is_kept(rt: HostRuntime) -> Result<(), 
 // Of 12 rows 1 to 4 are wanted, so what came is put in order several times.
 #[test]
 fn the_least_of_many_rows_are_kept(rt: HostRuntime) -> Result<(), Fail> {
-    let alloc = rt.alloc();
-    let documents = [
+    const TABLE: [(&str, &str); 4] = [
+        ("SELECT TOP 1 VALUE c.n FROM c ORDER BY c.n", "1 "),
+        ("SELECT TOP 4 VALUE c.n FROM c ORDER BY c.n", "1 2 3 4 "),
+        (
+            "SELECT VALUE c.n FROM c ORDER BY c.n OFFSET 3 LIMIT 1",
+            "4 ",
+        ),
+        (
+            "SELECT TOP 3 VALUE c.n FROM c ORDER BY c.n DESC",
+            "12 11 10 ",
+        ),
+    ];
+    const DOCUMENTS: [(u32, &str); 12] = [
         (1, "{\"n\":7}"),
         (2, "{\"n\":3}"),
         (3, "{\"n\":9}"),
@@ -96,19 +109,9 @@ fn the_least_of_many_rows_are_kept(rt: HostRuntime) -> Result<(), Fail> {
         (11, "{\"n\":4}"),
         (12, "{\"n\":6}"),
     ];
-    for (text, expected) in [
-        ("SELECT TOP 1 VALUE c.n FROM c ORDER BY c.n", "1 "),
-        ("SELECT TOP 4 VALUE c.n FROM c ORDER BY c.n", "1 2 3 4 "),
-        (
-            "SELECT VALUE c.n FROM c ORDER BY c.n OFFSET 3 LIMIT 1",
-            "4 ",
-        ),
-        (
-            "SELECT TOP 3 VALUE c.n FROM c ORDER BY c.n DESC",
-            "12 11 10 ",
-        ),
-    ] {
-        let (rows, _) = answered(alloc, text, &documents)?;
+    let alloc = rt.alloc();
+    for (text, expected) in TABLE {
+        let (rows, _) = answered(alloc, text, &DOCUMENTS)?;
         assert_eq!(rt; rows.as_slice(), expected.as_bytes(), "{text}");
     }
     Ok(())
@@ -116,14 +119,7 @@ fn the_least_of_many_rows_are_kept(rt: HostRuntime) -> Result<(), Fail> {
 
 #[test]
 fn rows_of_a_document_stay_in_the_order_of_their_places(rt: HostRuntime) -> Result<(), Fail> {
-    let alloc = rt.alloc();
-    let documents = [
-        (1, r#"{"n":1,"t":[1,2]}"#),
-        (2, r#"{"n":2,"t":[3,4,5]}"#),
-        (3, r#"{"n":2,"t":[6]}"#),
-        (4, r#"{"n":0,"t":[]}"#),
-    ];
-    for (text, expected) in [
+    const TABLE: [(&str, &str); 3] = [
         (
             "SELECT TOP 4 VALUE t FROM c JOIN t IN c.t ORDER BY c.n DESC",
             "3 4 5 6 ",
@@ -136,8 +132,16 @@ fn rows_of_a_document_stay_in_the_order_of_their_places(rt: HostRuntime) -> Resu
             "SELECT VALUE t FROM c JOIN t IN c.t ORDER BY c.n DESC OFFSET 1 LIMIT 2",
             "4 5 ",
         ),
-    ] {
-        let (rows, _) = answered(alloc, text, &documents)?;
+    ];
+    const DOCUMENTS: [(u32, &str); 4] = [
+        (1, r#"{"n":1,"t":[1,2]}"#),
+        (2, r#"{"n":2,"t":[3,4,5]}"#),
+        (3, r#"{"n":2,"t":[6]}"#),
+        (4, r#"{"n":0,"t":[]}"#),
+    ];
+    let alloc = rt.alloc();
+    for (text, expected) in TABLE {
+        let (rows, _) = answered(alloc, text, &DOCUMENTS)?;
         assert_eq!(rt; rows.as_slice(), expected.as_bytes(), "{text}");
     }
     Ok(())

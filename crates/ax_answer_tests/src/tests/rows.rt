@@ -78,8 +78,7 @@ fn the_first_source_varies_slowest(rt: HostRuntime) -> Result<(), Fail> {
 // from the first and from the second on.
 #[test]
 fn an_answer_is_sorted_told_apart_and_cut(rt: HostRuntime) -> Result<(), Fail> {
-    let alloc = rt.alloc();
-    for (text, expected) in [
+    const TABLE: [(&str, &str); 2] = [
         (
             "SELECT DISTINCT VALUE c.n FROM c ORDER BY c.n DESC OFFSET 0 LIMIT 2",
             "3:5 1:2 ",
@@ -88,7 +87,9 @@ fn an_answer_is_sorted_told_apart_and_cut(rt: HostRuntime) -> Result<(), Fail> {
             "SELECT DISTINCT VALUE c.n FROM c ORDER BY c.n DESC OFFSET 1 LIMIT 2",
             "1:2 2:1 ",
         ),
-    ] {
+    ];
+    let alloc = rt.alloc();
+    for (text, expected) in TABLE {
         let query = query_of(alloc, text)?;
         let rows = finished_rows(alloc, &query)?;
         assert_eq!(rt; rows.as_slice(), expected.as_bytes(), "{text}");
@@ -98,13 +99,14 @@ fn an_answer_is_sorted_told_apart_and_cut(rt: HostRuntime) -> Result<(), Fail> {
 
 /// What is answered of the rows of four documents, which come in no order.
 fn finished_rows(alloc: Global, query: &Query) -> Result<Vec<u8>, Fail> {
-    let mut all = Vec::new(alloc);
-    for (number, text) in [
+    const TABLE: [(u32, &str); 4] = [
         (1, r#"{"n":2}"#),
         (4, r#"{"n":5}"#),
         (2, r#"{"n":1}"#),
         (3, r#"{"n":5}"#),
-    ] {
+    ];
+    let mut all = Vec::new(alloc);
+    for (number, text) in TABLE {
         let (rows, _) = rows_by(alloc, query, number, text)?;
         for row in rows {
             all.push(row)?;

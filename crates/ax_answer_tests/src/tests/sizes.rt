@@ -46,9 +46,7 @@ fn rising(alloc: Global, count: u32) -> Result<String, Fail> {
 // 0 to 699 have 2,690 bytes with a blank behind each, 0 to 599 have 2,290, and 600 to 689 have 360.
 #[test]
 fn rows_of_a_list_of_700_numbers(rt: HostRuntime) -> Result<(), Fail> {
-    let alloc = rt.alloc();
-    let document = rising(alloc, 700)?;
-    for (query, bytes) in [
+    const TABLE: [(&str, usize); 11] = [
         ("SELECT VALUE t FROM t IN c.t", 2_690),
         ("SELECT TOP 600 VALUE t FROM t IN c.t", 2_290),
         ("SELECT VALUE t FROM t IN c.t OFFSET 600 LIMIT 90", 360),
@@ -75,7 +73,10 @@ fn rows_of_a_list_of_700_numbers(rt: HostRuntime) -> Result<(), Fail> {
             "SELECT DISTINCT VALUE t FROM t IN c.t GROUP BY t OFFSET 600 LIMIT 90",
             360,
         ),
-    ] {
+    ];
+    let alloc = rt.alloc();
+    let document = rising(alloc, 700)?;
+    for (query, bytes) in TABLE {
         let found = shown_of(alloc, query, document.as_str())?;
         assert_eq!(rt; found, bytes, "{query}");
     }
@@ -94,16 +95,17 @@ fn documents(alloc: Global, count: u32) -> Result<Vec<Document<'static>>, AllocE
 
 #[test]
 fn rows_of_700_documents(rt: HostRuntime) -> Result<(), Fail> {
-    let alloc = rt.alloc();
-    let documents = documents(alloc, 700)?;
-    for (query, bytes) in [
+    const TABLE: [(&str, usize); 6] = [
         ("SELECT VALUE c.n FROM c", 1_400),
         ("SELECT VALUE c.n FROM c ORDER BY c.n", 1_400),
         ("SELECT TOP 699 VALUE c.n FROM c ORDER BY c.n DESC", 1_398),
         ("SELECT DISTINCT VALUE c.n FROM c", 4),
         ("SELECT VALUE COUNT(1) FROM c", 4),
         ("SELECT VALUE SUM(c.n) FROM c GROUP BY c.n", 6),
-    ] {
+    ];
+    let alloc = rt.alloc();
+    let documents = documents(alloc, 700)?;
+    for (query, bytes) in TABLE {
         let found = shown(alloc, query, documents.as_slice())?;
         assert_eq!(rt; found, bytes, "{query}");
     }
@@ -128,13 +130,14 @@ fn picking(alloc: Global, value: &str, back: &str) -> Result<String, AllocError>
 // The names a0 to a255 have 914 bytes; each has two quotes, a colon and a digit beside it.
 #[test]
 fn a_row_shows_256_items(rt: HostRuntime) -> Result<(), Fail> {
-    let alloc = rt.alloc();
-    for (value, back) in [
+    const TABLE: [(&str, &str); 4] = [
         ("c.a", " FROM c"),
         ("c.a", " FROM c GROUP BY c.a"),
         ("COUNT(1)", " FROM c"),
         ("MAX(c.a)", " FROM c GROUP BY c.b"),
-    ] {
+    ];
+    let alloc = rt.alloc();
+    for (value, back) in TABLE {
         let query = picking(alloc, value, back)?;
         let found = shown_of(alloc, query.as_str(), r#"{"a":1}"#)?;
         assert_eq!(rt; found, 2_196, "{value}{back}");
@@ -144,8 +147,7 @@ fn a_row_shows_256_items(rt: HostRuntime) -> Result<(), Fail> {
 
 #[test]
 fn a_list_of_256_values_is_written(rt: HostRuntime) -> Result<(), Fail> {
-    let alloc = rt.alloc();
-    for (front, piece, back, bytes) in [
+    const TABLE: [(&str, &str, &str, usize); 7] = [
         ("SELECT VALUE [c.a", ",c.a", "] FROM c", 514),
         ("SELECT VALUE [COUNT(1)", ",COUNT(1)", "] FROM c", 514),
         ("SELECT VALUE [c.a", ",c.a", "] FROM c GROUP BY c.a", 514),
@@ -153,7 +155,9 @@ fn a_list_of_256_values_is_written(rt: HostRuntime) -> Result<(), Fail> {
         ("SELECT VALUE COUNT(1) IN (2", ",1", ") FROM c", 5),
         ("SELECT VALUE c.a", "+1", " FROM c", 4),
         ("SELECT VALUE COUNT(1)", "*1", " FROM c", 2),
-    ] {
+    ];
+    let alloc = rt.alloc();
+    for (front, piece, back, bytes) in TABLE {
         let query = built(alloc, front, piece, 255, back)?;
         let found = shown_of(alloc, query.as_str(), r#"{"a":1}"#)?;
         assert_eq!(rt; found, bytes, "{front}");
@@ -164,16 +168,17 @@ fn a_list_of_256_values_is_written(rt: HostRuntime) -> Result<(), Fail> {
 // The text has 70,002 bytes with its quotes, the list 140,001, and a blank stands behind each.
 #[test]
 fn long_values_are_shown_and_compared(rt: HostRuntime) -> Result<(), Fail> {
-    let alloc = rt.alloc();
-    let text = built(alloc, r#"{"a":""#, "x", 70_000, r#""}"#)?;
-    let list = built(alloc, r#"{"a":[1"#, ",1", 69_999, "]}")?;
-    for query in [
+    const TABLE: [&str; 5] = [
         "SELECT VALUE c.a FROM c",
         "SELECT DISTINCT VALUE c.a FROM c",
         "SELECT VALUE c.a FROM c ORDER BY c.a",
         "SELECT TOP 1 VALUE c.a FROM c ORDER BY c.a DESC",
         "SELECT VALUE c.a FROM c GROUP BY c.a",
-    ] {
+    ];
+    let alloc = rt.alloc();
+    let text = built(alloc, r#"{"a":""#, "x", 70_000, r#""}"#)?;
+    let list = built(alloc, r#"{"a":[1"#, ",1", 69_999, "]}")?;
+    for query in TABLE {
         let found = shown_of(alloc, query, text.as_str())?;
         assert_eq!(rt; found, 70_003, "{query}");
         let found = shown_of(alloc, query, list.as_str())?;

@@ -48,13 +48,14 @@ fn a_line_has_262144_bytes_at_most(rt: HostRuntime) -> Result<(), Fail> {
 // An id is 255 bytes long at most, however few letters these are.
 #[test]
 fn ids_are_counted_by_bytes(rt: HostRuntime) -> Result<(), Fail> {
-    let alloc = rt.alloc();
-    for (letter, count, expected) in [
-        ("a", 255usize, "document"),
+    const TABLE: [(&str, usize, &str); 4] = [
+        ("a", 255, "document"),
         ("a", 256, "id"),
         ("é", 127, "document"),
         ("é", 128, "id"),
-    ] {
+    ];
+    let alloc = rt.alloc();
+    for (letter, count, expected) in TABLE {
         let line = built(alloc, "UPSERT {\"id\":\"", letter, count, "\"}")?;
         assert_eq!(rt;
             word_of(alloc, line.as_bytes()),
@@ -101,13 +102,14 @@ fn a_document_has_60000_bytes_at_most(rt: HostRuntime) -> Result<(), Fail> {
 // The map round the lists is one level more.
 #[test]
 fn an_argument_nests_100_levels_at_most(rt: HostRuntime) -> Result<(), Fail> {
-    let alloc = rt.alloc();
-    for (lists, document, body) in [
-        (99usize, "document", "body"),
+    const TABLE: [(usize, &str, &str); 4] = [
+        (99, "document", "body"),
         (100, "large", "large"),
         (126, "large", "large"),
         (127, "json", "json"),
-    ] {
+    ];
+    let alloc = rt.alloc();
+    for (lists, document, body) in TABLE {
         let line = nested(alloc, "UPSERT {\"id\":\"a\",\"v\":", lists)?;
         assert_eq!(rt;
             word_of(alloc, line.as_bytes()),
