@@ -2,6 +2,7 @@
 
 use crate::tests::asking::{changes_of_rows, disk_of, numbers};
 use ax_cache::NoPages;
+use ax_frame::MOST_PAYLOAD;
 use ax_gap::varint::put_varint;
 use ax_index_support::{change, merge, open};
 use ax_pages::numbers::{BASE, DELTA};
@@ -9,29 +10,30 @@ use std::alloc::Global;
 use std::test::Fail;
 
 /// How many bytes the longest terms have that a change may bring.
-const LONGEST: usize = 4096;
+const LONGEST: u16 = 4096;
 
 /// Puts a part of page 0 behind others.
 fn put_part(parts: &mut Vec<u8>, kind: u8, payload: &[u8]) -> Result<(), Fail> {
     parts.push(kind)?;
     parts.extend_from_slice(&0u32.to_le_bytes())?;
-    parts.extend_from_slice(&(payload.len() as u32).to_le_bytes())?;
+    parts.extend_from_slice(&(payload.len().min(MOST_PAYLOAD) as u32).to_le_bytes())?;
     parts.extend_from_slice(payload)?;
     Ok(())
 }
 
 /// The payload of a base with the pair of 1 and a term of so many bytes, each of them a.
-fn base_with(alloc: Global, len: usize) -> Result<Vec<u8>, Fail> {
+fn base_with(alloc: Global, len: u16) -> Result<Vec<u8>, Fail> {
     let mut base = Vec::from_slice(alloc, &[0, 0, 1, 0])?;
-    put_varint(&mut base, len as u32)?;
-    let term = base.len() + len;
-    base.resize(term, b'a')?;
+    put_varint(&mut base, u32::from(len))?;
+    let mut term = Vec::new(alloc);
+    term.resize(usize::from(len), b'a')?;
+    base.extend_from_slice(term.as_slice())?;
     base.extend_from_slice(&[1, 1])?;
     Ok(base)
 }
 
 /// An area whose page has 17 parts: such a base, and deltas that add the term b to the numbers from 1 to 16.
-fn area_with(alloc: Global, len: usize) -> Result<Vec<u8>, Fail> {
+fn area_with(alloc: Global, len: u16) -> Result<Vec<u8>, Fail> {
     let mut parts = Vec::new(alloc);
     put_part(&mut parts, BASE, base_with(alloc, len)?.as_slice())?;
     for number in 1..17 {
@@ -46,7 +48,7 @@ fn area_with(alloc: Global, len: usize) -> Result<Vec<u8>, Fail> {
 
 /// How many pages a change of that page merges, how many a merge does then, and how many numbers a look at
 /// the long term and one at b find at last.
-fn merged_with(alloc: Global, len: usize) -> Result<(u32, u32, usize, usize), Fail> {
+fn merged_with(alloc: Global, len: u16) -> Result<(u32, u32, usize, usize), Fail> {
     let area = area_with(alloc, len)?;
     let mut disk = disk_of(alloc, area.as_slice())?;
     let mut store = open(alloc, &mut disk, NoPages)?;
