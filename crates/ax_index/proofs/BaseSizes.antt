@@ -1,6 +1,7 @@
 -- How many bytes a base takes at most.
 use Rattle.std.proofs.Common.{◌≡◌, ℕ, ◌+◌, ◌-◌, ◌*◌, ◌<◌, ◌≤◌, ◌^◌, List, [], ◌∷◌, ◌++◌, length}
-use Rattle.std.proofs.Common.{zero, suc, take, get_or, drop, arith, ap, refl, sym, ◌∙◌, Bool, true, false, cond, subst, IsTrue, ◌↔◌, inl, inr, ⊎_elim, ◌⊎◌, eqb-true}
+use Rattle.std.proofs.Common.{zero, suc, take, get_or, drop, arith, ap, refl, sym, ◌∙◌, Bool, true, false, cond}
+use Rattle.std.proofs.Common.{subst, IsTrue, ◌↔◌, inl, inr, ⊎_elim, ◌⊎◌, eqb-true}
 use Rattle.std.specs.Prelude.{nat_eq, nat_lt, ◌==◌, ◌&&◌}
 use Rattle.std.specs.List.{All}
 use Rattle.std.specs.Str.{bytes_eq}

@@ -52,7 +52,8 @@ pub(crate) fn rewrite_list<C>(
 
 /// Writes a page anew with these rising pairs, and new pages behind it where they are many; the next new
 /// page then has the number `next`. It answers whether it did: not where a pair is none of the page, which
-/// is so in no index, nor where a term has more than 4,096 bytes or there are no numbers for the new pages.
+/// is so in no index, nor where a term, or that of the page's low pair, has more than 4,096 bytes, or there are
+/// no numbers for the new pages.
 pub(crate) fn rewrite<C>(
     alloc: Global,
     store: &Store<C>,
@@ -80,7 +81,7 @@ pub(crate) fn rewrite<C>(
     Ok(true)
 }
 
-/// Whether the bases of these pairs fit parts, and there are numbers for the new pages that they need.
+/// Whether no term is too long for a base, and there are numbers for the new pages that the pairs need.
 fn has_room(next: u32, low: &Pair, pairs: &[Pair]) -> bool
     ensures short { IsTrue result → AreShort low.now pairs.now }
     ensures few { IsTrue result → HasNumbers next (rest_of pairs.now) }

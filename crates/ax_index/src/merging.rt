@@ -35,10 +35,11 @@ use std::alloc::Global;
 
 /// Puts parts behind those of a batch that merge `n` term pages with deltas, from the least low pair on, and
 /// answers how many they are: fewer only where no page is left that has deltas, but for those whose fold
-/// needs so many new pages that the last would have a number from 2^31 on, and those that have a term of more
-/// than 4,096 bytes, which no change brings. No pair is changed, and no page is made without one. Over an honest
-/// disk a page is merged only where each of its parts is in its grammar. It makes the room that a commit of the
-/// batch needs.
+/// needs so many new pages that the last would have a number from 2^31 on, those that have a term of more than
+/// 4,096 bytes or a low pair with such a term, which no change brings, and those that have a pair which is none of
+/// theirs, as no page of an index has. No pair is changed, and no page is made without one. Over an honest disk a
+/// page is merged only where each of its parts is in its grammar. It makes the room that a commit of the batch
+/// needs.
 ///
 /// `Disk`, `Damaged`: as `has`. `Memory` where there is no room; the store is then as before but for room,
 /// and the batch may hold further parts.

@@ -49,9 +49,10 @@ use std::alloc::Global;
 /// It answers how many term pages it merges, at most 16. Each other page gets just the changes of its pairs:
 /// one delta, but where it would be longer than a part may be, and none where nothing of it is changed. It
 /// reads the parts of pages that it merges, and of those that it would merge if they did not need a number from
-/// 2^31 on or have a term of more than 4,096 bytes, which no change brings. New pages have no deltas, and none
-/// is empty. Over an honest disk a page is merged only where each of its parts is in its grammar. It makes the
-/// room that a commit of the batch needs.
+/// 2^31 on, have a term of more than 4,096 bytes or a low pair with such a term, which no change brings, or have a
+/// pair that is none of theirs, as no page of an index has. New pages have no deltas, and none is empty. Over an
+/// honest disk a page is merged only where each of its parts is in its grammar. It makes the room that a commit of
+/// the batch needs.
 ///
 /// `Disk`, `Damaged`: as `has`. `Memory` where there is no room; the store is then as before but for room,
 /// and the batch may hold further parts.

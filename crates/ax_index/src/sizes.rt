@@ -1,8 +1,9 @@
 //! How large bases and deltas are to be, and how many bytes of them a pair and a change take.
 //!
 //! A document of 1 KB has some 30 terms on as many pages, so a write appends 30 deltas of some 40 bytes
-//! with their heads. A page that has `MOST_PARTS` is merged at its next change: so a look-up reads so many
-//! parts at most, and a write causes 30 / 17, about 2, merges. Each of them writes a base, whose size
+//! with their heads. A page that has `MOST_PARTS` is merged at its next change, unless it is stuck (`rewrite`),
+//! as no page of a container is: so a look-up reads so many parts at most, and a write causes 30 / 17, about 2,
+//! merges. Each of them writes a base, whose size
 //! decides what a write costs: bases of `MOST_BASE_BYTES` at most, split to `SPLIT_BASE_BYTES`, have about
 //! three quarters of the most.
 
@@ -50,7 +51,7 @@ pub(crate) fn base_len(pairs: &[Pair]) -> usize
     let mut bytes = BESIDE_TERM;
     let mut front = 1;
     for i in 1..pairs.len() {
-        bytes += bytes_behind(&pairs[i - 1], &pairs[i]);
+        bytes += bytes_of_pair(&pairs[i - 1], &pairs[i]);
         if bytes > MOST_BASE_BYTES {
             return front;
         }
@@ -88,7 +89,7 @@ pub(crate) fn new_pages(pairs: &[Pair]) -> usize
 
 /// How many bytes of a base a pair takes behind another, counted from above where they are of two terms,
 /// and about so many where they are of one.
-fn bytes_behind(before: &Pair, pair: &Pair) -> usize
+fn bytes_of_pair(before: &Pair, pair: &Pair) -> usize
     ensures few { result ≤ 2 ^ 63 + 8 }
     ensures is { result ≡ bytes_beside before.now pair.now }
 {

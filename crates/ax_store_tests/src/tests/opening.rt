@@ -16,17 +16,18 @@ const NO_KIND: [u8; 22] = [
     1, 12, 0, 0, 0, 0, 0, 0, 0, 11, 1, 0, 0, 0, 3, 0, 0, 0, 0, b'{', b'}', 0,
 ];
 
-/// Opening makes at least these calls: a sync, the length of the root, its two slots, the length of the
-/// area, a read that finds the frame, and one that reads its parts.
-const LEAST_CALLS: u64 = 7;
+/// Opening makes these calls: a sync, the length of the root, its two slots, the length of the area, a read
+/// that finds the frame, and one that reads its parts.
+const CALLS: Option<u64> = Some(7);
 
-/// A failing call is told as a disk that failed, wherever it is; where none fails the store is opened.
+/// A failing call is told as a disk that failed, wherever it is; where none fails the store is opened, with its
+/// document.
 #[test]
 fn a_failed_call_is_told(rt: HostRuntime) -> Result<(), Fail> {
     let alloc = rt.alloc();
     let root = new_root(alloc)?;
-    let made = calls_told(alloc, &root, &DOCUMENT, None)?;
-    assert!(rt; made >= Some(LEAST_CALLS), "{made:?}");
+    let made = calls_told(alloc, &root, &DOCUMENT, Ok(1))?;
+    assert_eq!(rt; made, CALLS);
     Ok(())
 }
 
@@ -36,8 +37,8 @@ fn a_part_that_is_none_is_told(rt: HostRuntime) -> Result<(), Fail> {
     let alloc = rt.alloc();
     let root = new_root(alloc)?;
     let damaged = StoreFault::Damaged { extent: 1, at: 9 };
-    let made = calls_told(alloc, &root, &NO_KIND, Some(damaged))?;
-    assert!(rt; made >= Some(LEAST_CALLS), "{made:?}");
+    let made = calls_told(alloc, &root, &NO_KIND, Err(damaged))?;
+    assert_eq!(rt; made, CALLS);
     Ok(())
 }
 
@@ -47,32 +48,32 @@ fn calls_told(
     alloc: Global,
     root: &[u8],
     area: &[u8],
-    answer: Option<StoreFault>,
+    answer: Result<usize, StoreFault>,
 ) -> Result<Option<u64>, Fail> {
     for made in 0..50 {
         let found = opening(alloc, &mut disk_with(alloc, root, area, made + 1)?);
         if found == answer {
             return Ok(Some(made));
         }
-        if found != Some(StoreFault::Disk) {
+        if found != Err(StoreFault::Disk) {
             return Ok(None);
         }
     }
     Ok(None)
 }
 
-/// Why a store is not opened. `None` where it is.
-fn opening<D: Disk>(alloc: Global, disk: &mut D) -> Option<StoreFault> {
+/// How many documents the store has that is opened, or why none is.
+fn opening<D: Disk>(alloc: Global, disk: &mut D) -> Result<usize, StoreFault> {
     match Store::open_store(alloc, disk, NoPages) {
-        Ok(_store) => None,
-        Err(fault) => Some(fault),
+        Ok(store) => Ok(store.documents()),
+        Err(fault) => Err(fault),
     }
 }
 
 /// The root of a new store.
 fn new_root(alloc: Global) -> Result<Vec<u8>, Fail> {
     let mut disk = disk_with(alloc, &[], &[], 0)?;
-    let _opened = opening(alloc, &mut disk);
+    opening(alloc, &mut disk).map_err(|_| "no store is formed")?;
     Ok(Vec::from_slice(alloc, disk.bytes(Extent::Root))?)
 }
 

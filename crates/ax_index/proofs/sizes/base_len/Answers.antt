@@ -17,20 +17,20 @@ loop-i-init c = record {
 
 pub returns-then-bytes-gt-MOST_BASE_BYTES-clause-cut : goal.returns-then-bytes-gt-MOST_BASE_BYTES-clause-cut
 returns-then-bytes-gt-MOST_BASE_BYTES-clause-cut c =
-    let counted : c.loop-i.bytes + c.bytes_behind-bytes.result ≡ c.loop-i.bytes + bytes_beside c.index-pairs-i.result c.index-pairs-i-in-loop-i.result =
-    omega (arith, c.bytes_behind-bytes.ensures.is)
+    let counted : c.loop-i.bytes + c.bytes_of_pair-bytes.result ≡ c.loop-i.bytes + bytes_beside c.index-pairs-i.result c.index-pairs-i-in-loop-i.result =
+    omega (arith, c.bytes_of_pair-bytes.ensures.is)
     in
     cut_here c.args.pairs.now c.loop-i.i c.loop-i.bytes c.loop-i.front c.index-pairs-i.result c.index-pairs-i-in-loop-i.result c.loop-i-test.true
     c.loop-i.auto.i
-    c.index-pairs-i.is c.index-pairs-i-in-loop-i.is c.loop-i.invariant.so_far (c.loop-i.bytes + c.bytes_behind-bytes.result) counted
+    c.index-pairs-i.is c.index-pairs-i-in-loop-i.is c.loop-i.invariant.so_far (c.loop-i.bytes + c.bytes_of_pair-bytes.result) counted
     c.if-bytes-gt-MOST_BASE_BYTES.true
 
 pub loop-i-preserved : goal.loop-i-preserved
 loop-i-preserved c =
-    let counted : c.loop-i.bytes + c.bytes_behind-bytes.result ≡ c.loop-i.bytes + bytes_beside c.index-pairs-i.result c.index-pairs-i-in-loop-i.result =
-    omega (arith, c.bytes_behind-bytes.ensures.is)
+    let counted : c.loop-i.bytes + c.bytes_of_pair-bytes.result ≡ c.loop-i.bytes + bytes_beside c.index-pairs-i.result c.index-pairs-i-in-loop-i.result =
+    omega (arith, c.bytes_of_pair-bytes.ensures.is)
     in
-    let sum : c.loop-i.bytes + c.bytes_behind-bytes.result ≡ base_bytes (take (c.loop-i.i + 1) c.args.pairs.now) =
+    let sum : c.loop-i.bytes + c.bytes_of_pair-bytes.result ≡ base_bytes (take (c.loop-i.i + 1) c.args.pairs.now) =
     omega (
       arith,
       counted,
@@ -40,7 +40,7 @@ loop-i-preserved c =
     )
     in
     let kept = kept_within
-    (nat_lt 2048 (c.loop-i.bytes + c.bytes_behind-bytes.result)) c.loop-i.front c.loop-i.i c.front_after-front.result c.front_after-front.ensures
+    (nat_lt 2048 (c.loop-i.bytes + c.bytes_of_pair-bytes.result)) c.loop-i.front c.loop-i.i c.front_after-front.result c.front_after-front.ensures
     c.loop-i.invariant.some c.loop-i.invariant.up_to
     in
     record {
@@ -48,10 +48,10 @@ loop-i-preserved c =
       up_to = kept.1;
       few = c.if-bytes-gt-MOST_BASE_BYTES.false;
       counted = λ some. sum;
-      fits = kept_fits c.args.pairs.now (nat_lt 2048 (c.loop-i.bytes + c.bytes_behind-bytes.result)) c.loop-i.i c.loop-i.front c.front_after-front.result
+      fits = kept_fits c.args.pairs.now (nat_lt 2048 (c.loop-i.bytes + c.bytes_of_pair-bytes.result)) c.loop-i.i c.loop-i.front c.front_after-front.result
           c.front_after-front.ensures c.loop-i.invariant.fits (omega (arith, sum, c.if-bytes-gt-MOST_BASE_BYTES.false));
       so_far = goes_on c.args.pairs.now c.loop-i.i c.loop-i.bytes c.loop-i.front c.index-pairs-i.result c.index-pairs-i-in-loop-i.result c.loop-i-test.true
-          c.loop-i.auto.i c.index-pairs-i.is c.index-pairs-i-in-loop-i.is c.loop-i.invariant.so_far (c.loop-i.bytes + c.bytes_behind-bytes.result)
+          c.loop-i.auto.i c.index-pairs-i.is c.index-pairs-i-in-loop-i.is c.loop-i.invariant.so_far (c.loop-i.bytes + c.bytes_of_pair-bytes.result)
           c.front_after-front.result counted c.if-bytes-gt-MOST_BASE_BYTES.false c.front_after-front.ensures;
     }
 
