@@ -38,7 +38,7 @@ fn rows_in<L: Ledger>(
     number: u32,
     document: &Tree,
     blank: Blank,
-) -> Result<(Vec<KeyedRow>, usize), Memory>
+) -> Result<(Vec<KeyedRow>, usize), ax_rows::Memory>
     requires name { blank.name ≡ L.name }
     requires parts { blank.parts ≡ L.parts }
     requires some { 0 < blank.parts }
