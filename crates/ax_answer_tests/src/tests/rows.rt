@@ -60,16 +60,38 @@ fn rows_by(
     Ok(rows_in::<Brand>(alloc, query, number, &document, Blank::new(1))?)
 }
 
+/// The rows of the document, printed, and how many environments it has.
+fn printed_by(
+    alloc: Global,
+    query: &Query,
+    number: u32,
+    text: &str,
+) -> Result<(Vec<u8>, usize), Fail> {
+    let (rows, envs) = rows_by(alloc, query, number, text)?;
+    Ok((printed(alloc, rows.as_slice())?, envs))
+}
+
+/// The same, of the query of a text.
+fn printed_rows(
+    alloc: Global,
+    query: &str,
+    number: u32,
+    text: &str,
+) -> Result<(Vec<u8>, usize), Fail> {
+    let query = query_of(alloc, query)?;
+    printed_by(alloc, &query, number, text)
+}
+
 // Worked out by hand: of three elements the second is no list.
 #[test]
 fn the_first_source_varies_slowest(rt: HostRuntime) -> Result<(), Fail> {
-    let alloc = rt.alloc();
-    let query = query_of(alloc, "SELECT VALUE u FROM c JOIN t IN c.t JOIN u IN t")?;
-    let (rows, envs) = rows_by(alloc, &query, 7, r#"{"t":[[1,2],3,[4]]}"#)?;
-    assert_eq!(rt;
-        printed(alloc, rows.as_slice())?.as_slice(),
-        b"700:1 701:2 720:4 ".as_slice()
-    );
+    let (out, envs) = printed_rows(
+        rt.alloc(),
+        "SELECT VALUE u FROM c JOIN t IN c.t JOIN u IN t",
+        7,
+        r#"{"t":[[1,2],3,[4]]}"#,
+    )?;
+    assert_eq!(rt; out.as_slice(), b"700:1 701:2 720:4 ".as_slice());
     assert_eq!(rt; envs, 3);
     Ok(())
 }
@@ -88,30 +110,50 @@ fn an_answer_is_sorted_told_apart_and_cut(rt: HostRuntime) -> Result<(), Fail> {
             "1:2 2:1 ",
         ),
     ];
-    let alloc = rt.alloc();
     for (text, expected) in TABLE {
-        let query = query_of(alloc, text)?;
-        let rows = finished_rows(alloc, &query)?;
+        let rows = finished_by(rt.alloc(), text)?;
         assert_eq!(rt; rows.as_slice(), expected.as_bytes(), "{text}");
     }
     Ok(())
 }
 
-/// What is answered of the rows of four documents, which come in no order.
+/// What the query of a text answers of the rows of four documents, which come in no order.
+fn finished_by(alloc: Global, text: &str) -> Result<Vec<u8>, Fail> {
+    let query = query_of(alloc, text)?;
+    finished_rows(alloc, &query)
+}
+
 fn finished_rows(alloc: Global, query: &Query) -> Result<Vec<u8>, Fail> {
-    const TABLE: [(u32, &str); 4] = [
+    const DOCUMENTS: [(u32, &str); 4] = [
         (1, r#"{"n":2}"#),
         (4, r#"{"n":5}"#),
         (2, r#"{"n":1}"#),
         (3, r#"{"n":5}"#),
     ];
     let mut all = Vec::new(alloc);
-    for (number, text) in TABLE {
-        let (rows, _) = rows_by(alloc, query, number, text)?;
-        for row in rows {
-            all.push(row)?;
-        }
+    for (number, text) in DOCUMENTS {
+        add_rows(alloc, query, number, text, &mut all)?;
     }
-    let rows = finish(alloc, query, all)?;
+    finished(alloc, query, all)
+}
+
+/// Puts the rows of a document behind others.
+fn add_rows(
+    alloc: Global,
+    query: &Query,
+    number: u32,
+    text: &str,
+    all: &mut Vec<KeyedRow>,
+) -> Result<(), Fail> {
+    let (rows, _) = rows_by(alloc, query, number, text)?;
+    for row in rows {
+        all.push(row)?;
+    }
+    Ok(())
+}
+
+/// What is answered of rows, printed.
+fn finished(alloc: Global, query: &Query, rows: Vec<KeyedRow>) -> Result<Vec<u8>, Fail> {
+    let rows = finish(alloc, query, rows)?;
     Ok(printed(alloc, rows.as_slice())?)
 }
