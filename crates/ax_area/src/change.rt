@@ -10,10 +10,8 @@ ghost use Rattle.ax_area.specs.Contents.{follows};
 
 use crate::kind::{Kind, kind_of_number};
 use ax_frame::Part;
+use ax_pages::numbers::LAST_POLICY;
 use ax_pair::split_low;
-
-/// The greatest number of a policy.
-const LAST_POLICY: u32 = 8;
 
 /// A change, as a part has it. The text of a long document goes on in its pieces.
 #[derive(Clone, Copy, Debug)]

@@ -1,6 +1,6 @@
 use std::alloc::AllocError;
 
-/// Out of memory.
+/// Out of memory: the one answer that no contract ties to a cause.
 #[derive(Clone, Copy, Debug, PartialEq, Eq)]
 pub struct Memory;
 

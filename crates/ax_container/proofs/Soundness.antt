@@ -149,7 +149,7 @@ rises_lower lower before next (e ∷ es) less h = let above : before < e.number 
 abbrev pub without : List ℕ → List Entry → List Entry
 without id es = filter (λ e. not (has_id id e)) es
 
-numbers_without : (id : List ℕ) (es : List Entry) (before next : ℕ) → NumbersRise before es next → NumbersRise before (without id es) next
+pub numbers_without : (id : List ℕ) (es : List Entry) (before next : ℕ) → NumbersRise before es next → NumbersRise before (without id es) next
 numbers_without id [] before next h = h
 numbers_without id (e ∷ es) before next h =
     let rest : NumbersRise e.number (without id es) next = numbers_without id es e.number next h.1 in
@@ -258,7 +258,7 @@ module _ (policy : Policy) where
   stored_moved (suc n) [] h = h
   stored_moved (suc n) (e ∷ es) h =
       elim (is_behind policy e) as (λ b. AllByRecursion IsStored (cond b (moved policy e ∷ moved_first n policy es) (e ∷ moved_first (suc n) policy es))) [
-        | true ↦ (record { own_id = h.0.own_id; well_formed = h.0.well_formed; shallow = h.0.shallow }, stored_moved n es h.1)
+        | true ↦ (record { own_id = h.0.own_id; storable = h.0.storable }, stored_moved n es h.1)
         | false ↦ (h.0, stored_moved (suc n) es h.1)
       ]
 

@@ -10,7 +10,7 @@ use Rattle.ax_container.proofs.Ids.{bytes_eq-self, bytes_eq-other}
 use Rattle.ax_container.proofs.Soundness.{the_entry, MayBe, or_none, id-with_tree, sound_replaced, sound_created}
 
 -- what a write that is not refused leads to is one container
-abbrev done : Container → Result Container WriteRefusal
+abbrev pub done : Container → Result Container WriteRefusal
 done container = Ok container
 
 pub done_same : (a b : Container) → done a ≡ done b → a ≡ b

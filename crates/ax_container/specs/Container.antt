@@ -7,8 +7,7 @@ use Rattle.std.specs.List.{list_any, AllByRecursion}
 use Rattle.std.specs.Str.{bytes_eq}
 use Rattle.ax_tree.specs.declared.tree.Tree.{Tree}
 use Rattle.ax_tree.specs.Document.{document_id}
-use Rattle.ax_tree.specs.Nesting.{nesting}
-use Rattle.ax_tree.specs.WellFormed.{IsWellFormed}
+use Rattle.ax_lines.specs.Asked.{IsStorable}
 use Rattle.ax_policy.specs.declared.policy.Policy.{Policy}
 use Rattle.ax_policy.specs.Default.{default_policy}
 
@@ -78,11 +77,10 @@ IdsAreDistinct [] = Unit {0}
 IdsAreDistinct (entry ∷ entries) =
     (list_any (has_id entry.id) entries ≡ false) × IdsAreDistinct entries
 
--- the tree of an entry is a document of its id, which a text can stand for
+-- the tree of an entry is a document of its id, which a store can hold
 pub record IsStored (entry : Entry) : Type 0 where
   pub own_id : document_id entry.tree ≡ Some entry.id
-  pub well_formed : IsWellFormed entry.tree
-  pub shallow : nesting entry.tree ≤ 127
+  pub storable : IsStorable entry.tree
 
 -- what holds of every container that writes lead to
 pub record IsSound (container : Container) : Type 0 where

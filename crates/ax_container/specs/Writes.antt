@@ -1,8 +1,9 @@
 -- What a write of a document does. A creation puts it behind all others under the next number; a
 -- replacement gives the document of that id the tree, and it keeps its position and its number; both
--- are indexed by the policy now. A deletion takes it away, and the next number stays. An upsert is a
--- replacement where the id is held, and else a creation, which is refused where the container is full;
--- a write that is refused changes nothing.
+-- are indexed by the policy now. A deletion takes it away, and the next number stays. A creation is
+-- refused where the id is held, and else where the container is full; a replacement and a deletion where
+-- the id is not held. An upsert is a replacement where the id is held, and else a creation. A write that
+-- is refused changes nothing.
 use Rattle.std.specs.Prelude.{ℕ, ◌+◌, List, [], ◌∷◌, ◌++◌, length, map, Bool, not, ◌||◌, nat_le, if◌then◌else◌, Result, Ok, Err}
 use Rattle.std.specs.List.{filter}
 use Rattle.ax_tree.specs.declared.tree.Tree.{Tree}
@@ -11,6 +12,11 @@ use Rattle.ax_container.specs.Container.{Entry, Container, most_documents, last_
 
 -- why a write is refused
 pub data WriteRefusal : Type 0 where
+  -- a document of that id is held
+  Conflict : WriteRefusal
+  -- no document of that id is held
+  Absent : WriteRefusal
+  -- no document can be created
   Full : WriteRefusal
 
 -- the entry with another tree, indexed by that policy
@@ -56,6 +62,20 @@ is_full container =
 -- after the creation of a document whose id the container does not have
 abbrev pub creation : List ℕ → Tree → Container → Result Container WriteRefusal
 creation id tree container = if is_full container then Err Full else Ok (created id tree container)
+
+-- after the creation of a document, or why it is refused
+abbrev pub inserted : List ℕ → Tree → Container → Result Container WriteRefusal
+inserted id tree container =
+    if contains id container then Err Conflict else creation id tree container
+
+-- after the replacement of the document of that id, or why it is refused
+abbrev pub exchanged : List ℕ → Tree → Container → Result Container WriteRefusal
+exchanged id tree container =
+    if contains id container then Ok (replaced id tree container) else Err Absent
+
+-- after the deletion of the document of that id, or why it is refused
+abbrev pub removed : List ℕ → Container → Result Container WriteRefusal
+removed id container = if contains id container then Ok (deleted id container) else Err Absent
 
 -- after an upsert of the document of that id, or why it is refused
 abbrev pub upserted : List ℕ → Tree → Container → Result Container WriteRefusal

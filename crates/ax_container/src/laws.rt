@@ -1,13 +1,13 @@
 //! Laws of the definitions, each the contract of a function that does nothing.
-ghost use Rattle.std.specs.Prelude.{◌≡◌, ◌≤◌, ◌==◌, ◌-◌, ℕ, List, map, Some, None, Ok, false, true, option_map, IfSome, if◌then◌else◌};
+ghost use Rattle.std.specs.Prelude.{◌≡◌, ◌≤◌, ◌==◌, ◌-◌, ℕ, List, map, Some, None, Ok, Err, false, true, option_map, IfSome, if◌then◌else◌};
 ghost use Rattle.std.specs.Str.{bytes_eq};
 ghost use Rattle.ax_tree.specs.declared.tree.Tree.{Tree};
 ghost use Rattle.ax_tree.specs.Document.{document_id};
-ghost use Rattle.ax_tree.specs.Nesting.{nesting};
-ghost use Rattle.ax_tree.specs.WellFormed.{IsWellFormed};
+ghost use Rattle.ax_lines.specs.Asked.{IsStorable};
 ghost use Rattle.ax_policy.specs.declared.policy.Policy.{Policy};
 ghost use Rattle.ax_container.specs.Container.{Container, Entry, IsSound, contains, fresh, entry_at, entry_of, tree_of};
-ghost use Rattle.ax_container.specs.Writes.{created, deleted, is_full, new_entry, replaced, rewritten, upserted};
+ghost use Rattle.ax_container.specs.Writes.{Absent, Conflict, Full, created, deleted, exchanged, inserted, is_full, new_entry};
+ghost use Rattle.ax_container.specs.Writes.{removed, replaced, rewritten, upserted};
 ghost use Rattle.ax_container.specs.Reindexing.{but_policy, left, stepped, with_policy};
 
 /// A container of no documents is sound.
@@ -15,20 +15,23 @@ pub fn a_fresh_container_is_sound()
     ensures { IsSound fresh }
 {}
 
-/// A write of a document that a text can stand for keeps what holds of every container: numbers that
+/// A write of a document that a store can hold keeps what holds of every container: numbers that
 /// rise and are never given twice, distinct ids, and each tree a document of its entry's id. A creation
-/// does where the id is not held and the container is not full, which an upsert sees to.
+/// does where the id is not held and the container is not full, which an insertion and an upsert see to.
 pub fn a_write_keeps_soundness()
     ensures upsert { (before after : Container) (tree : Tree) (id : List ℕ) → document_id tree ≡ Some id
-        → IsWellFormed tree → nesting tree ≤ 127
-        → IsSound before → upserted id tree before ≡ Ok after → IsSound after }
+        → IsStorable tree → IsSound before → upserted id tree before ≡ Ok after → IsSound after }
+    ensures insertion { (before after : Container) (tree : Tree) (id : List ℕ) → document_id tree ≡ Some id
+        → IsStorable tree → IsSound before → inserted id tree before ≡ Ok after → IsSound after }
+    ensures exchange { (before after : Container) (tree : Tree) (id : List ℕ) → document_id tree ≡ Some id
+        → IsStorable tree → IsSound before → exchanged id tree before ≡ Ok after → IsSound after }
+    ensures removal { (before after : Container) (id : List ℕ)
+        → IsSound before → removed id before ≡ Ok after → IsSound after }
     ensures creation { (before : Container) (tree : Tree) (id : List ℕ) → document_id tree ≡ Some id
-        → IsWellFormed tree → nesting tree ≤ 127
-        → contains id before ≡ false → is_full before ≡ false
+        → IsStorable tree → contains id before ≡ false → is_full before ≡ false
         → IsSound before → IsSound (created id tree before) }
     ensures replacement { (before : Container) (tree : Tree) (id : List ℕ) → document_id tree ≡ Some id
-        → IsWellFormed tree → nesting tree ≤ 127
-        → IsSound before → IsSound (replaced id tree before) }
+        → IsStorable tree → IsSound before → IsSound (replaced id tree before) }
     ensures deletion { (before : Container) (id : List ℕ) → IsSound before → IsSound (deleted id before) }
 {}
 
@@ -67,6 +70,25 @@ pub fn an_upsert_sets_one_document()
     ensures others { (before after : Container) (tree : Tree) (id other : List ℕ)
         → upserted id tree before ≡ Ok after
         → bytes_eq id other ≡ false → entry_of other after ≡ entry_of other before }
+{}
+
+/// Each write is refused exactly where it must be: a creation for an id that is held, and else where the
+/// container is full; a replacement and a deletion for an id that is not held; an upsert of an id that is not
+/// held where the container is full.
+pub fn a_write_is_refused_for_a_cause()
+    ensures conflict { (before : Container) (tree : Tree) (id : List ℕ) → contains id before ≡ true
+        → inserted id tree before ≡ Err Conflict }
+    ensures full { (before : Container) (tree : Tree) (id : List ℕ) → contains id before ≡ false
+        → is_full before ≡ true
+        → (inserted id tree before ≡ Err Full) × (upserted id tree before ≡ Err Full) }
+    ensures created { (before : Container) (tree : Tree) (id : List ℕ) → contains id before ≡ false
+        → is_full before ≡ false
+        → (inserted id tree before ≡ Ok (created id tree before)) × (upserted id tree before ≡ Ok (created id tree before)) }
+    ensures absent { (before : Container) (tree : Tree) (id : List ℕ) → contains id before ≡ false
+        → (exchanged id tree before ≡ Err Absent) × (removed id before ≡ Err Absent) }
+    ensures held { (before : Container) (tree : Tree) (id : List ℕ) → contains id before ≡ true
+        → (exchanged id tree before ≡ Ok (replaced id tree before)) × (upserted id tree before ≡ Ok (replaced id tree before))
+        × (removed id before ≡ Ok (deleted id before)) }
 {}
 
 /// By numbers: a creation puts its entry at the next number, a replacement gives the entry of the id's

@@ -26,6 +26,3 @@ pub use delta::{Delta, check};
 pub use merging::merge;
 pub use out_of_memory::Memory;
 pub use writing::{are_in_order, encode};
-
-#[cfg(test)]
-mod tests;

@@ -26,6 +26,3 @@ pub use extent::Extent;
 pub use fuse_disk::FuseDisk;
 pub use mem_disk::MemDisk;
 pub use out_of_memory::Memory;
-
-#[cfg(test)]
-mod tests;

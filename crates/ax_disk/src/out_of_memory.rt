@@ -1,7 +1,7 @@
 //! Out of memory.
 use std::alloc::{AllocError, AllocFailed};
 
-/// There was not enough memory.
+/// Out of memory: the one answer that no contract ties to a cause.
 #[derive(Clone, Copy, Debug, PartialEq, Eq)]
 pub struct Memory;
 

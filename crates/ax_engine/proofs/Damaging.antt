@@ -250,5 +250,6 @@ on_ok (Err error) Is is = tt
 
 pub on_rows : (reply : Reply) (One Other : Type 0) → (One → Other) → OnRows reply One → OnRows reply Other
 on_rows given.Ok One Other to is = tt
+on_rows (given.Doc text) One Other to is = tt
 on_rows (given.Rows rows) One Other to is = to is
 on_rows (given.Refused why) One Other to is = tt

@@ -20,7 +20,7 @@ use Rattle.ax_area_laws.proofs.Rising.{by_changes}
 use Rattle.ax_area_laws.specs.Risen.{risen}
 use Rattle.ax_frame.specs.Part.{PartValue}
 use Rattle.ax_image.specs.Readable.{newest, SaysReadable}
-use Rattle.ax_image.specs.Documents.{ContentsHold}
+use Rattle.ax_image.specs.Documents.{ContentsHold, LeadsTo}
 use Rattle.ax_image.proofs.InGrammar.{stands}
 use Rattle.ax_image_grammar.specs.Payloads.{IsReadable}
 use Rattle.ax_cache.specs.Held.{held}
@@ -104,11 +104,6 @@ holds_same old new before contents numbers holds = record {
 }
 
 -- ---- changes that lead from a container to another
-
-pub record LeadsTo (contents : Contents) (changes : List Change) (after : Container) : Type 0 where
-  pub new : Contents
-  pub lead : after_changes changes contents ≡ Some new
-  pub hold : ContentsHold new after
 
 same_contents : (x y : Contents) → Some x ≡ Some y → x ≡ y
 same_contents x y is = cc

@@ -96,6 +96,10 @@ behind n k p ps e es le lt same found =
       text_is = found.text_is;
     }
 
+-- what a document may nest, a text may nest
+pub within_text : {depth : ℕ} → depth ≤ 100 → depth ≤ 127
+within_text low = omega (arith, low)
+
 module _ (n k next : ℕ) (p : ℕ × Stored) (ps : List (ℕ × Stored)) (e : Entry) (es : List Entry)
     (rise : NumbersRise e.number es next) (shown : ShowEntries (p ∷ ps) (e ∷ es))
     (below : n < e.number) (lt : n < k) (held : is_some (finite.find nat_cmp k (p ∷ ps)) ≡ true)
@@ -264,7 +268,7 @@ module _ (contents : Contents) (container : Container)
       → reading (canonical_text next.entry.tree) ≡ Stands next.entry.tree
   reads_here n k next =
       let stored = stored_here n k next in
-      text-stands next.entry.tree stored.well_formed stored.shallow
+      text-stands next.entry.tree stored.storable.well_formed (within_text stored.storable.shallow)
 
   -- one document more was taken in
   pub taken_on : (n k : ℕ) (done : List (ℕ × Tree)) (next : Next n k pages container.entries)

@@ -1,6 +1,7 @@
 pub mod Applying
 mod Damaging
 pub mod Holding
+mod Committing
 mod InOrder
 mod Numbers
 pub mod Opened

@@ -1,19 +1,18 @@
 -- What a store that was opened stands for; and what is opened is neither damaged nor of a later version.
-use Rattle.std.proofs.Common.{◌≡◌, ◌⊎◌, inl, inr, ℕ, ◌≤◌, Bool, List, Result, Ok, Err, refl, sym, ap, subst, arith}
+use Rattle.std.proofs.Common.{◌≡◌, ◌⊎◌, inl, inr, ℕ, Bool, List, Result, Ok, Err, refl, sym, ap, subst, ◌∙◌, arith}
 use Rattle.std.specs.Prelude.{IfOk, IfErr, IsTrue, OnOk}
-use Rattle.ax_cache.specs.Held.{held}
+use Rattle.ax_cache.specs.PageLaws.{no_pages}
 use Rattle.ax_cache.specs.declared.lru_pages.LruPages.{LruPages}
+use Rattle.ax_cache.specs.declared.no_pages.NoPages.{NoPages}
 use Rattle.ax_disk.specs.laws.MomentLaws.{progress_stays, progress_within}
 use Rattle.ax_disk.specs.laws.CallLaws.{idles_leave}
 use Rattle.ax_disk.specs.laws.StageLaws.{barrier_goes_on}
-use Rattle.ax_disk.specs.laws.StaysLaws.{idles_rest, idles_stay, rests_weaken, stays_start}
+use Rattle.ax_disk.specs.laws.StaysLaws.{idles_rest, idles_start, idles_stay, rests_weaken, stays_start}
 use Rattle.ax_disk.specs.model.Calls.{Idles}
 use Rattle.ax_disk.specs.model.Image.{Image}
 use Rattle.ax_disk.specs.model.Moments.{History}
 use Rattle.ax_disk.specs.model.Pending.{MayLeave}
 use Rattle.ax_disk.specs.model.Stays.{BarrierStage, Rests, SinceBarrier}
-use Rattle.ax_faults.specs.Faults.{Rose}
-use Rattle.ax_faults.specs.FaultLaws.{rose_since}
 use Rattle.ax_area.specs.Contents.{Contents}
 use Rattle.ax_area.specs.Image.{IsNewer, Says}
 use Rattle.ax_area.specs.Told.{Told}
@@ -26,9 +25,9 @@ use Rattle.ax_store.specs.declared.read_ahead.ReadAhead.{ReadAhead}
 use Rattle.ax_store.specs.declared.store.Store.{Store}
 use Rattle.ax_store.specs.declared.fault.StoreFault.{StoreFault}
 use Rattle.ax_store.specs.declared.fault.StoreFault.TheVariants as fault
-use Rattle.ax_store.specs.Faults.{IsRefused}
+use Rattle.ax_store.specs.Faults.{HasDiskCause, IsRefused}
 use Rattle.ax_store.specs.Kept.{Kept}
-use Rattle.ax_store.specs.Store.{Has, IsOpened, TellsFault, store_contents}
+use Rattle.ax_store.specs.Store.{Has, IsOpened, SameButCache, TellsFault, store_contents}
 use Rattle.ax_store.proofs.StoreLemmas.{barrier_weaken}
 use Rattle.ax_container.specs.Container.{Container}
 use Rattle.ax_image.specs.Readable.{SaysReadable, newest}
@@ -37,7 +36,7 @@ use Rattle.ax_image.specs.StandsFor.{StandsFor}
 use Rattle.ax_image.proofs.InGrammar.{documents_back, readable_back}
 use Rattle.ax_engine.specs.declared.documents.Documents.{Documents}
 use Rattle.ax_engine.specs.Documents.{DocumentsHold, DocumentsWork, number_in}
-use Rattle.ax_engine.specs.Opening.{IsDamagedIn, Numbers, RefusesBy, TellsNumbers}
+use Rattle.ax_engine.specs.Opening.{IsAnswerUnlessDisk, IsDamagedIn, Numbers, RefusesBy, TellsNumbers}
 use Rattle.ax_engine.specs.Scans.{ScanFails, Scanned}
 use Rattle.ax_engine.specs.StoreSays.{kept_says}
 use Rattle.ax_engine.specs.Stores.{IsImageOf, IsStore, IsWithin}
@@ -117,8 +116,8 @@ module _ (old mid : History) where
   refuses_by fault.Disk tells keeps = tt
   refuses_by fault.Memory tells keeps = tt
 
-  module _ (store : Store LruPages) (before : Container) (was : IsStore before old)
-      (opened : IsOpened held store old.reads mid) where
+  module _ (store : Store NoPages) (before : Container) (was : IsStore before old)
+      (opened : IsOpened (λ _. no_pages) store old.reads mid) where
     -- the contents that the store was opened by are those of the container
     opened_hold : ContentsHold (store_contents store) before
     opened_hold =
@@ -128,64 +127,108 @@ module _ (old mid : History) where
         (store_contents store) documents.says opened.has.2)
         documents.hold
 
-    pub holds_opened : (honest : Bool) (result : Result Documents StoreFault) (new : History) (l m : ℕ)
-        → TellsNumbers honest result store new l m → IsTrue honest
+    pub holds_opened : (honest : Bool) (result : Result Documents StoreFault) (new : History)
+        → TellsNumbers honest result store new → IsTrue honest
         → IfOk result (λ documents. DocumentsHold documents before)
-    holds_opened honest (Err why) new l m tells h = tt
-    holds_opened honest (Ok documents) new l m tells h = record {
-      hold = subst (λ (kept : Kept). ContentsHold (kept_says kept) before) (sym tells.same.pages) opened_hold;
+    holds_opened honest (Err why) new tells h = tt
+    holds_opened honest (Ok documents) new tells h = record {
+      hold = subst (λ (kept : Kept). ContentsHold (kept_says kept) before) (sym tells.pages) opened_hold;
       numbers = tells.numbers h before opened_hold;
     }
 
 -- ---- what finding the numbers answers
 
-pub numbers_made : (honest : Bool) (store : Store LruPages) (documents : Documents) (ahead : ReadAhead)
-    (before after : History) (l m : ℕ) → Scanned honest store documents.store ahead before after l m
-    → (IsTrue honest → (container : Container) → ContentsHold (store_contents store) container
-    → (id : List ℕ) → number_under documents.numbers id ≡ number_in id container)
-    → Numbers honest (Ok documents) store before after l m
-numbers_made honest store documents ahead before after l m scanned numbers = record {
-  tells = record {
-    same = scanned.same;
-    works = record { unfailed = scanned.ready.works; agrees = λ h. (scanned.ready.agrees h).agrees };
-    numbers = numbers;
-  };
-  lists = scanned.lists;
-  never_falls = scanned.never_falls;
+-- a store over another cache, and then what was read of it
+module _ (honest : Bool) (first : Store NoPages) (store : Store LruPages) (same : SameButCache first store) where
+  pub numbers_made : (documents : Documents) (ahead : ReadAhead)
+      (before after : History) (l m : ℕ) → Scanned honest store documents.store ahead before after l m
+      → (IsTrue honest → (container : Container) → ContentsHold (store_contents store) container
+      → (id : List ℕ) → number_under documents.numbers id ≡ number_in id container)
+      → Numbers honest (Ok documents) first before after l m
+  numbers_made documents ahead before after l m scanned numbers = record {
+    tells = record {
+      pages = scanned.same.pages ∙ same.pages;
+      works = record { unfailed = scanned.ready.works; agrees = λ h. (scanned.ready.agrees h).agrees };
+      numbers = λ h container hold.
+          numbers h container (subst (λ (kept : Kept). ContentsHold (kept_says kept) container) (sym same.pages) hold);
+    };
+    lists = scanned.lists;
+    cause = record {
+      never_falls = omega (arith, scanned.uncounted);
+      failed = λ is. absurd is;
+      uncounted = scanned.uncounted;
+    };
+  }
+
+  pub numbers_failed : (why : StoreFault) (now : Store LruPages) (ahead : ReadAhead)
+      (before after : History) (l m : ℕ) → ScanFails honest why store now ahead before after l m
+      → (why ≡ fault.Disk) ⊎ (why ≡ fault.Memory) → Numbers honest (Err why) first before after l m
+  numbers_failed fault.Disk now ahead before after l m fails only = record {
+    tells = tt;
+    lists = fails.lists;
+    cause = record { never_falls = fails.never_falls; failed = λ _. fails.rose; uncounted = tt };
+  }
+  numbers_failed (fault.Damaged extent at) now ahead before after l m fails (inl is) = absurd cc
+  numbers_failed (fault.Damaged extent at) now ahead before after l m fails (inr is) = absurd cc
+  numbers_failed (fault.Newer version) now ahead before after l m fails only = absurd fails
+  numbers_failed fault.Memory now ahead before after l m fails only = record {
+    tells = tt;
+    lists = fails.lists;
+    cause = record {
+      never_falls = omega (arith, fails.uncounted);
+      failed = λ is. absurd is;
+      uncounted = fails.uncounted;
+    };
+  }
+
+-- there was no memory for the cache
+pub numbers_unmade : (honest : Bool) (store : Store NoPages) (history : History) (n : ℕ)
+    → Numbers honest (Err fault.Memory) store history history n n
+numbers_unmade honest store history n = record {
+  tells = tt;
+  lists = λ h. idles_start history;
+  cause = record { never_falls = omega arith; failed = λ is. absurd is; uncounted = refl };
 }
 
-pub numbers_failed : (honest : Bool) (why : StoreFault) (store now : Store LruPages) (ahead : ReadAhead)
-    (before after : History) (l m : ℕ) → ScanFails honest why store now ahead before after l m
-    → (why ≡ fault.Disk) ⊎ (why ≡ fault.Memory) → Numbers honest (Err why) store before after l m
-numbers_failed honest fault.Disk store now ahead before after l m fails only =
-    record { tells = fails.rose; lists = fails.lists; never_falls = fails.never_falls }
-numbers_failed honest (fault.Damaged extent at) store now ahead before after l m fails (inl is) = absurd cc
-numbers_failed honest (fault.Damaged extent at) store now ahead before after l m fails (inr is) = absurd cc
-numbers_failed honest (fault.Newer version) store now ahead before after l m fails only = absurd fails
-numbers_failed honest fault.Memory store now ahead before after l m fails only =
-    record { tells = tt; lists = fails.lists; never_falls = fails.never_falls }
-
-pub works_numbered : (honest : Bool) (result : Result Documents StoreFault) (store : Store LruPages) (new : History) (l m : ℕ)
-    → TellsNumbers honest result store new l m → IfOk result (λ documents. DocumentsWork (IsTrue honest) documents new)
-works_numbered honest (Ok documents) store new l m tells = tells.works
-works_numbered honest (Err why) store new l m tells = tt
+pub works_numbered : (honest : Bool) (result : Result Documents StoreFault) (store : Store NoPages) (new : History)
+    → TellsNumbers honest result store new → IfOk result (λ documents. DocumentsWork (IsTrue honest) documents new)
+works_numbered honest (Ok documents) store new tells = tells.works
+works_numbered honest (Err why) store new tells = tt
 
 -- only a read that failed and want of memory refuse no store
-pub refuses_none : (honest : Bool) (result : Result Documents StoreFault) (store : Store LruPages) (old new : History) (l m : ℕ)
-    → TellsNumbers honest result store new l m → IfErr result (λ why. RefusesBy why old new)
-refuses_none honest (Ok documents) store old new l m tells = tt
-refuses_none honest (Err fault.Disk) store old new l m tells = tt
-refuses_none honest (Err (fault.Damaged extent at)) store old new l m tells = absurd tells
-refuses_none honest (Err (fault.Newer version)) store old new l m tells = absurd tells
-refuses_none honest (Err fault.Memory) store old new l m tells = tt
+pub refuses_none : (honest : Bool) (result : Result Documents StoreFault) (store : Store NoPages) (old new : History)
+    → TellsNumbers honest result store new → IfErr result (λ why. RefusesBy why old new)
+refuses_none honest (Ok documents) store old new tells = tt
+refuses_none honest (Err fault.Disk) store old new tells = tt
+refuses_none honest (Err (fault.Damaged extent at)) store old new tells = absurd tells
+refuses_none honest (Err (fault.Newer version)) store old new tells = absurd tells
+refuses_none honest (Err fault.Memory) store old new tells = tt
 
-pub rose_numbered : (honest : Bool) (result : Result Documents StoreFault) (store : Store LruPages) (new : History) (first l m : ℕ)
-    → TellsNumbers honest result store new l m → first ≤ l → result ≡ Err fault.Disk → Rose first m
-rose_numbered honest (Ok documents) store new first l m tells since is = absurd cc
-rose_numbered honest (Err fault.Disk) store new first l m tells since is = rose_since first l m m since (omega arith) tells
-rose_numbered honest (Err (fault.Damaged extent at)) store new first l m tells since is = absurd tells
-rose_numbered honest (Err (fault.Newer version)) store new first l m tells since is = absurd tells
-rose_numbered honest (Err fault.Memory) store new first l m tells since is = absurd cc
+-- a call that counted nothing, and then another: together they count what the second does
+pub cause_numbered : (result : Result Documents StoreFault) (first l m : ℕ) → l ≡ first
+    → HasDiskCause result l m → HasDiskCause result first m
+cause_numbered result first l m same cause = subst (λ n. HasDiskCause result n m) same cause
+
+-- what refuses a store is no answer of a call that was Ok, and is passed on by who answers that fault
+abbrev refusal : {T : Type 0} → StoreFault → Result T StoreFault
+refusal why = Err why
+
+ok_is : {T : Type 0} (value : T) (why : StoreFault) → Ok value ≡ refusal why → ⊥
+ok_is value why is = cc
+
+same_fault : {T : Type 0} (x y : StoreFault) → refusal {T = T} x ≡ refusal y → x ≡ y
+same_fault x y is = cc
+
+pub never_answered : {S T : Type 0} (value : S) (why : StoreFault) (result : Result T StoreFault)
+    → (Ok value ≡ refusal why) ⊎ (Ok value ≡ refusal fault.Disk) → IsAnswerUnlessDisk why result
+never_answered value why result (inl is) = absurd (ok_is value why is)
+never_answered value why result (inr is) = absurd (ok_is value fault.Disk is)
+
+pub passed_on : {S T : Type 0} (x why : StoreFault)
+    → (refusal {T = S} x ≡ refusal why) ⊎ (refusal {T = S} x ≡ refusal fault.Disk)
+    → IsAnswerUnlessDisk {T = T} why (Err x)
+passed_on {S = S} x why (inl is) = inl (ap Err (same_fault {T = S} x why is))
+passed_on {S = S} x why (inr is) = inr (ap Err (same_fault {T = S} x fault.Disk is))
 
 pub when_opened : {P : Type 0} → (result : Result Documents StoreFault) → P → OnOk result P
 when_opened (Ok documents) p = p

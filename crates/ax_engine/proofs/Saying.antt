@@ -11,11 +11,11 @@ use Rattle.ax_area.specs.Changes as change
 use Rattle.ax_area.specs.Items.{number_at}
 use Rattle.ax_area.specs.Parts.{change_said, changes_said}
 use Rattle.ax_frame.specs.Part.{PartValue}
-use Rattle.ax_image.specs.UpsertChanges.{document_change, meta_change, replacing_changes, creating_changes}
+use Rattle.ax_image.specs.WriteChanges.{document_change, meta_change, replacing_changes, creating_changes, deleting_changes}
 use Rattle.ax_pages.specs.Contents as log
 use Rattle.ax_tree.specs.CanonicalText.{canonical_text}
 use Rattle.ax_tree.specs.declared.tree.Tree.{Tree}
-use Rattle.ax_engine.specs.Batches.{document_part, meta_part, replacing_parts, creating_parts}
+use Rattle.ax_engine.specs.Batches.{document_part, meta_part, gone_part, replacing_parts, creating_parts, deleting_parts}
 
 both : (a b : Bool) → a ≡ true → b ≡ true → (a && b) ≡ true
 both a b x y = λ i. x i && y i
@@ -53,3 +53,12 @@ creating_said number policy tree some left small =
     ap (with_others (document_part number policy tree ∷ []))
     (meta_said (number + 1) policy (omega arith) (omega (arith, left)) (omega (arith, small)))
     ∙ ap (option_map (λ changes. meta_change (number + 1) policy ∷ changes)) (replacing_said number policy tree some)
+
+gone_said : (number : ℕ) → 0 < number → change_said (gone_part number) ≡ Some (change.Gone number)
+gone_said number some =
+    ap (λ test. if test then Some (change.Gone number) else None)
+    (both (nat_lt 0 number) _ (lt-ltb 0 number some) refl)
+
+pub deleting_said : (number : ℕ) → 0 < number
+    → changes_said (deleting_parts number) ≡ Some (deleting_changes number)
+deleting_said number some = ap (with_others []) (gone_said number some)

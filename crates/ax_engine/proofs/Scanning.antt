@@ -28,7 +28,7 @@ nothing_scanned honest store ahead history faults ready = record {
   same = unread store;
   ready = ready;
   lists = λ _. idles_start history;
-  never_falls = omega arith;
+  uncounted = refl;
 }
 
 -- told of the same honesty
@@ -44,15 +44,15 @@ module _ (now then : Bool) (a b c : Store LruPages) (ahead later : ReadAhead) (x
     same = reads_on a b c first.same second.same;
     ready = second.ready;
     lists = λ h. idles_join x y z (first.lists h) (second.lists h);
-    never_falls = omega (arith, first.never_falls, second.never_falls);
+    uncounted = second.uncounted ∙ first.uncounted;
   }
 
   fails : (why : StoreFault) → ScanFails then why b c later y z m n → ScanFails then why a c later x z l n
   fails fault.Disk failed = record {
     same = reads_on a b c first.same failed.same;
     lists = λ h. idles_join x y z (first.lists h) (failed.lists h);
-    never_falls = omega (arith, first.never_falls, failed.never_falls);
-    rose = rose_since l m n n first.never_falls (omega arith) failed.rose;
+    never_falls = omega (arith, first.uncounted, failed.never_falls);
+    rose = rose_since l m n n (omega (arith, first.uncounted)) (omega arith) failed.rose;
   }
   fails (fault.Damaged extent at) failed = (on failed.0, failed.1)
   fails (fault.Newer version) failed = absurd failed
@@ -80,7 +80,7 @@ scans_of honest (Ok value) old new ahead before after earlier later works same a
   same = same;
   ready = record { works = ok; agrees = λ h. agrees h ok };
   lists = lists;
-  never_falls = (cause works).never_falls;
+  uncounted = (cause works).uncounted;
 }
 scans_of honest (Err fault.Disk) old new ahead before after earlier later works same agrees ok memory only lists cause = record {
   same = same;
@@ -98,5 +98,5 @@ scans_of honest (Err fault.Memory) old new ahead before after earlier later work
       same = same;
       ready = record { works = still; agrees = λ h. agrees h still };
       lists = lists;
-      never_falls = (cause works).never_falls;
+      uncounted = (cause works).uncounted;
     }

@@ -1,5 +1,5 @@
 -- A commit of changes that can be read keeps readable all that images tell.
-use Rattle.std.proofs.Common.{◌≡◌, ◌⊎◌, ⊎_elim, ℕ, List, [], ◌∷◌, ◌++◌, sym, subst}
+use Rattle.std.proofs.Common.{◌⊎◌, ⊎_elim, ℕ, List, [], ◌∷◌, ◌++◌, sym, subst}
 use Rattle.std.specs.List.{AllByRecursion}
 use Rattle.ax_area.proofs.OneOutcome.{one_told}
 use Rattle.ax_area.specs.Changes.{Change}

@@ -1,37 +1,40 @@
--- The changes of an upsert: they may follow what the store has, and they lead to the upserted container.
-use Rattle.std.proofs.Common.{◌≡◌, ℕ, ◌+◌, ◌^◌, ◌<◌, ◌≤◌, Bool, true, false, cond, List, [], ◌∷◌, ◌++◌, map, length}
-use Rattle.std.proofs.Common.{find, Option, Some, None, is_some, Ok, Err, refl, sym, ap, subst, ◌∙◌, arith}
+-- The changes of a write: they may follow what the store has, and they lead to what it makes of the container.
+use Rattle.std.proofs.Common.{◌≡◌, ℕ, ◌+◌, ◌<◌, Bool, true, false, cond, List, [], ◌∷◌, ◌++◌, map, length}
+use Rattle.std.proofs.Common.{find, Option, Some, None, is_some, Result, Ok, Err, refl, sym, ap, subst, ◌∙◌}
 use Rattle.std.specs.Prelude.{option_map, option_and_then, if◌then◌else◌, ◌&&◌, ◌||◌, nat_le, nat_lt, not}
 use Rattle.std.specs.List.{list_any}
-use Rattle.std.specs.Option.{option_map_or}
 use Rattle.std.specs.Str.{bytes_eq}
 use Rattle.std.specs.FinMap as finite
 use Rattle.std.proofs.lemmas.Bool.{lt-ltb, leb-false}
 use Rattle.ax_tree.specs.declared.tree.Tree.{Tree}
 use Rattle.ax_policy.specs.declared.policy.Policy.{Policy}
 use Rattle.ax_tree.specs.Document.{document_id}
-use Rattle.ax_tree.specs.Nesting.{nesting}
-use Rattle.ax_tree.specs.WellFormed.{IsWellFormed}
 use Rattle.ax_area.specs.Changes.{Change}
+use Rattle.ax_area.specs.Changes as change
 use Rattle.ax_area.specs.Contents.{after_changes, Contents, has_room, is_given, may_follow, with_change}
 use Rattle.ax_area.specs.Parts.{changes_said}
-use Rattle.ax_container.specs.Container.{Entry, Container, has_id, entry_of, most_documents, last_number}
-use Rattle.ax_container.specs.Writes.{Full, with_tree, replaced, new_entry, created, creation, is_full, upserted}
-use Rattle.ax_container.proofs.Ids.{same_from_eq, bytes_eq-false_sym}
-use Rattle.ax_container.proofs.Soundness.{or_none, the_entry}
-use Rattle.ax_container.proofs.Upserts.{upsert_keeps_soundness}
+use Rattle.ax_container.specs.Container.{Entry, Container, has_id, contains, entry_of, most_documents, last_number, IsSound}
+use Rattle.ax_container.specs.Writes.{WriteRefusal, Conflict, Full, with_tree, replaced, new_entry, created, creation, deleted, inserted, is_full, removed, upserted}
+use Rattle.ax_container.proofs.ByNumber.{found_above}
+use Rattle.ax_container.proofs.Ids.{same_from_eq, bytes_eq-false_sym, bytes_eq-other}
+use Rattle.ax_container.proofs.Refusing.{removal_made}
+use Rattle.ax_container.proofs.Soundness.{MayBe, or_none, the_entry, without}
 use Rattle.ax_frame.specs.Part.{PartValue}
-use Rattle.ax_image.specs.Documents.{ContentsHold}
-use Rattle.ax_image.specs.UpsertChanges.{document_change, meta_change, replacing_changes, creating_changes, upsert_changes}
+use Rattle.ax_image.specs.Documents.{ContentsHold, LeadsTo}
+use Rattle.ax_image.specs.WriteChanges.{document_change, meta_change, replacing_changes, creating_changes, deleting_changes}
 use Rattle.ax_image.proofs.Shown.{as_many}
-use Rattle.ax_image.proofs.Upserting.{Written, written, any_found}
+use Rattle.ax_image.proofs.Writing.{any_found, created_by, deleted_by, replaced_by}
 use Rattle.ax_area_laws.specs.Risen.{risen}
+use Rattle.ax_area_laws.proofs.Rising.{by_changes}
+use Rattle.ax_lines.specs.Asked.{IsStorable}
 use Rattle.ax_cache.specs.declared.lru_pages.LruPages.{LruPages}
 use Rattle.ax_store.specs.Batch.{AreAllowed}
 use Rattle.ax_store.specs.Store.{SameButRoom, store_contents}
 use Rattle.ax_store.specs.declared.store.Store.{Store}
-use Rattle.ax_engine.specs.Documents.{number_in, is_full_of}
-use Rattle.ax_engine.proofs.Holding.{LeadsTo, allowed_by}
+use Rattle.ax_ids.specs.Ids.{number_under}
+use Rattle.ax_engine.specs.Documents.{DocumentsHold, number_in, is_full_of}
+use Rattle.ax_engine.specs.declared.documents.Documents.{Documents}
+use Rattle.ax_engine.proofs.Holding.{allowed_by}
 
 -- ---- what may follow
 
@@ -105,103 +108,148 @@ pub may_commit : (parts : List PartValue) (changes : List Change) (contents : Co
     → MayFollow changes contents → AreAllowed parts contents
 may_commit parts changes contents said may = (may.0, allowed_by contents may.0 parts changes said may.1)
 
--- ---- what leads to the upserted container
+-- a deletion may follow any contents
+pub within_deleting : (number : ℕ) (contents : Contents) → MayFollow (deleting_changes number) contents
+within_deleting number contents = (with_change (change.Gone number) contents, refl)
 
-leads : (contents : Contents) (before after : Container) (tree : Tree) (id : List ℕ) → contents.versioned ≡ false
-    → ContentsHold contents before → document_id tree ≡ Some id → IsWellFormed tree
-    → nesting tree ≤ 127 → upserted id tree before ≡ Ok after → Written contents id tree before after
-leads contents before after tree id plain hold doc formed shallow =
-    written contents before id tree plain hold after (λ container. upsert_keeps_soundness before container id tree
-    (λ number own same. record { own_id = doc ∙ ap Some (sym same); well_formed = formed; shallow = shallow }) hold.show.sound)
+-- changes that parts say lead on where the parts are allowed
+pub allowed_leads : (parts : List PartValue) (changes : List Change) (contents : Contents) → changes_said parts ≡ Some changes
+    → (allowed : AreAllowed parts contents) → after_changes changes contents ≡ Some allowed.0
+allowed_leads parts changes contents said allowed =
+    sym (by_changes parts contents ∙ ap (option_and_then (λ these. after_changes these contents)) said) ∙ allowed.1
 
-by_changes : (contents : Contents) (before after : Container) (tree : Tree) (id : List ℕ)
-    (changes : List Change) → upsert_changes id tree contents.policy_now before ≡ changes
-    → Written contents id tree before after → LeadsTo contents changes after
-by_changes contents before after tree id changes are w = record {
-  new = w.0;
-  lead = subst (λ list. after_changes list contents ≡ Some w.0) are w.1;
-  hold = w.2;
-}
+-- ---- whether an id is held, by its number
 
--- what a line may nest, a text may nest
-pub within_text : {n : ℕ} → n ≤ 100 → n ≤ 127
-within_text low = omega (arith, low)
-
-some_entry : (o : Option Entry) (number : ℕ) → option_map (λ (e : Entry). e.number) o ≡ Some number
+pub some_entry : (o : Option Entry) (number : ℕ) → option_map (λ (e : Entry). e.number) o ≡ Some number
     → (e : Entry) × (o ≡ Some e) × (e.number ≡ number)
 some_entry None number is = absurd cc
 some_entry (Some e) number is = (e, refl, cc)
 
-no_entry : (o : Option Entry) → option_map (λ (e : Entry). e.number) o ≡ None → o ≡ None
+pub no_entry : (o : Option Entry) → option_map (λ (e : Entry). e.number) o ≡ None → o ≡ None
 no_entry None is = refl
 no_entry (Some e) is = absurd cc
 
-made_or_full : {made : Container} → Ok made ≡ Err Full → ⊥
-made_or_full is = cc
+pub is_there : (id : List ℕ) (before : Container) (number : ℕ) → number_in id before ≡ Some number
+    → contains id before ≡ true
+is_there id before number at =
+    any_found id before.entries ∙ ap is_some (some_entry (entry_of id before) number at).1
 
-module _ (contents : Contents) (before : Container) (tree : Tree) (id : List ℕ)
-    (plain : contents.versioned ≡ false) (hold : ContentsHold contents before) (doc : document_id tree ≡ Some id)
-    (formed : IsWellFormed tree) (shallow : nesting tree ≤ 127) where
-  pub replaces : (number : ℕ) → number_in id before ≡ Some number
-      → upserted id tree before ≡ Ok (replaced id tree before)
-  replaces number at =
-      let e = some_entry (entry_of id before) number at in
-      ap (λ b. if b then Ok (replaced id tree before) else creation id tree before)
-      (any_found id before.entries ∙ ap is_some e.1)
+pub is_absent : (id : List ℕ) (before : Container) → number_in id before ≡ None → contains id before ≡ false
+is_absent id before at = any_found id before.entries ∙ ap is_some (no_entry (entry_of id before) at)
 
-  pub replaced_leads : (number policy : ℕ) → number_in id before ≡ Some number → policy ≡ contents.policy_now
-      → LeadsTo contents (replacing_changes number policy tree) (replaced id tree before)
-  replaced_leads number policy at now =
-      let e = some_entry (entry_of id before) number at in
-      by_changes contents before (replaced id tree before) tree id (replacing_changes number policy tree)
-      (ap (λ found. option_map_or (λ (entry : Entry). replacing_changes entry.number contents.policy_now tree) found
-      (creating_changes before.next_number contents.policy_now tree)) e.1
-      ∙ (λ i. replacing_changes (e.2 i) (sym now i) tree))
-      (leads contents before (replaced id tree before) tree id plain hold doc formed shallow (replaces number at))
+-- what each write makes, by whether its id is held
+pub insertion_is : (id : List ℕ) (tree : Tree) (before : Container) → number_in id before ≡ None
+    → inserted id tree before ≡ creation id tree before
+insertion_is id tree before at =
+    ap (λ b. if b then Err Conflict else creation id tree before) (is_absent id before at)
 
-  full_same : is_full_of contents ≡ is_full before
+pub upsert_is : (id : List ℕ) (tree : Tree) (before : Container) → number_in id before ≡ None
+    → upserted id tree before ≡ creation id tree before
+upsert_is id tree before at =
+    ap (λ b. if b then Ok (replaced id tree before) else creation id tree before) (is_absent id before at)
+
+pub removal_is : (id own : List ℕ) (before : Container) (number : ℕ) → own ≡ id → number_in id before ≡ Some number
+    → removed id before ≡ Ok (deleted own before)
+removal_is id own before number same at =
+    subst (λ i. removed id before ≡ Ok (deleted i before)) (sym same) (removal_made id before (is_there id before number at))
+
+-- a write that was made is refused by nothing
+pub not_refused : {P : Type 0} {made : Container} {why : WriteRefusal} → (result : Result Container WriteRefusal)
+    → result ≡ Ok made → result ≡ Err why → P
+not_refused result made refused = absurd cc
+
+-- and one that was refused, by one thing alone
+pub one_refusal : {one other : WriteRefusal} → (result : Result Container WriteRefusal) → result ≡ Err one → result ≡ Err other
+    → one ≡ other
+one_refusal result is same = cc
+
+-- the number that was found of an id, or that there is none
+pub found_in : (documents : Documents) (before : Container) (id own : List ℕ) (found : Option ℕ) → DocumentsHold documents before
+    → own ≡ id → found ≡ number_under documents.numbers own → number_in id before ≡ found
+found_in documents before id own found holds same is =
+    sym (holds.numbers id) ∙ ap (number_under documents.numbers) (sym same) ∙ sym is
+
+-- an entry's number is above 0
+pub above_zero : (id : List ℕ) (before : Container) (number : ℕ) → IsSound before → number_in id before ≡ Some number
+    → 0 < number
+above_zero id before number sound at =
+    let e = some_entry (entry_of id before) number at in
+    let above : 0 < e.0.number = found_above id 0 before.next_number before.entries e.0 sound.numbers e.1 in
+    subst (λ n. 0 < n) e.2 above
+
+-- ---- what leads to the container after a write
+
+module _ (contents : Contents) (before : Container) (hold : ContentsHold contents before) where
+  pub full_same : is_full_of contents ≡ is_full before
   full_same =
       let count : finite.len contents.documents ≡ length before.entries =
       finite.len-entries contents.documents ∙ as_many (finite.entries contents.documents) before.entries hold.show.shown in
       λ i. nat_le most_documents (count i) || nat_le last_number (hold.show.next i)
 
-  created_or_full : number_in id before ≡ None
-      → upserted id tree before ≡ (if is_full_of contents then Err Full else Ok (created id tree before))
-  created_or_full at =
-      ap (λ b. if b then Ok (replaced id tree before) else creation id tree before)
-      (any_found id before.entries ∙ ap is_some (no_entry (entry_of id before) at))
-      ∙ ap (λ b. if b then Err Full else Ok (created id tree before)) (sym full_same)
+  pub refuses_full : (id : List ℕ) (tree : Tree) → is_full_of contents ≡ true → creation id tree before ≡ Err Full
+  refuses_full id tree full = ap (λ b. if b then Err Full else Ok (created id tree before)) (sym full_same ∙ full)
 
-  pub is_refused : number_in id before ≡ None → is_full_of contents ≡ true
-      → upserted id tree before ≡ Err Full
-  is_refused at full = created_or_full at
-      ∙ ap (λ b. if b then Err Full else Ok (created id tree before)) full
+  pub creates : (id : List ℕ) (tree : Tree) → is_full_of contents ≡ false
+      → creation id tree before ≡ Ok (created id tree before)
+  creates id tree space = ap (λ b. if b then Err Full else Ok (created id tree before)) (sym full_same ∙ space)
 
-  pub creates : number_in id before ≡ None → is_full_of contents ≡ false
-      → upserted id tree before ≡ Ok (created id tree before)
-  creates at full = created_or_full at
-      ∙ ap (λ b. if b then Err Full else Ok (created id tree before)) full
+  made_or_refused : {made : Container} {why : WriteRefusal} → Ok made ≡ Err why → ⊥
+  made_or_refused is = cc
 
-  -- a document that is held is replaced, full or not
-  pub never_full : (number : ℕ) → number_in id before ≡ Some number → upserted id tree before ≡ Err Full → ⊥
-  never_full number at is = made_or_full (sym (replaces number at) ∙ is)
+  abbrev refused_by : WriteRefusal → Result Container WriteRefusal
+  refused_by why = Err why
 
-  pub full_then : number_in id before ≡ None → upserted id tree before ≡ Err Full → is_full_of contents ≡ true
-  full_then at is =
-      elim (is_full_of contents) as (λ b. (if b then Err Full else Ok (created id tree before)) ≡ Err Full → b ≡ true) [
-        | true ↦ λ _. refl
-        | false ↦ λ made. absurd (made_or_full made)
-      ] (sym (created_or_full at) ∙ is)
+  same_refusal : (x y : WriteRefusal) → refused_by x ≡ refused_by y → x ≡ y
+  same_refusal x y is = cc
 
-  pub created_leads : (number policy : ℕ) → number_in id before ≡ None → is_full_of contents ≡ false
-      → number ≡ before.next_number → policy ≡ contents.policy_now
-      → LeadsTo contents (creating_changes number policy tree) (created id tree before)
-  created_leads number policy at full next now =
-      by_changes contents before (created id tree before) tree id (creating_changes number policy tree)
-      (ap (λ found. option_map_or (λ (entry : Entry). replacing_changes entry.number contents.policy_now tree) found
-      (creating_changes before.next_number contents.policy_now tree)) (no_entry (entry_of id before) at)
-      ∙ (λ i. creating_changes (sym next i) (sym now i) tree))
-      (leads contents before (created id tree before) tree id plain hold doc formed shallow (creates at full))
+  -- what refuses a creation of an id that is not held is that the container is full
+  pub full_then : (id : List ℕ) (tree : Tree) (why : WriteRefusal) → creation id tree before ≡ Err why
+      → (is_full_of contents ≡ true) × (why ≡ Full)
+  full_then id tree why is =
+      elim (is_full_of contents) as (λ b. is_full_of contents ≡ b → (b ≡ true) × (why ≡ Full)) [
+        | true ↦ λ full. (refl, same_refusal why Full (sym is ∙ refuses_full id tree full))
+        | false ↦ λ space. absurd (made_or_refused (sym (creates id tree space) ∙ is))
+      ] refl
+
+  -- where there is room nothing refuses it
+  pub never_refused : {P : Type 0} → (id : List ℕ) (tree : Tree) (why : WriteRefusal) → is_full_of contents ≡ false
+      → creation id tree before ≡ Err why → P
+  never_refused {P} id tree why space is = absurd (made_or_refused (sym (creates id tree space) ∙ is))
+
+  -- and where there is none it is that the container is full
+  pub refused_as_full : (id : List ℕ) (tree : Tree) (why : WriteRefusal) → creation id tree before ≡ Err why → Full ≡ why
+  refused_as_full id tree why is = sym (full_then id tree why is).1
+
+  module _ (tree : Tree) (id : List ℕ) (plain : contents.versioned ≡ false) (doc : document_id tree ≡ Some id)
+      (storable : IsStorable tree) where
+    may_be : MayBe id tree before.policy
+    may_be = λ number own same. record {
+      own_id = doc ∙ ap Some (sym same);
+      storable = storable;
+    }
+
+    pub replaced_leads : (number policy : ℕ) → number_in id before ≡ Some number → policy ≡ contents.policy_now
+        → LeadsTo contents (replacing_changes number policy tree) (replaced id tree before)
+    replaced_leads number policy at now =
+        let e = some_entry (entry_of id before) number at in
+        subst (λ n. LeadsTo contents (replacing_changes n policy tree) (replaced id tree before)) e.2
+        (subst (λ p. LeadsTo contents (replacing_changes e.0.number p tree) (replaced id tree before)) (sym now)
+        (replaced_by contents before hold id tree plain may_be e.0 e.1))
+
+    pub created_leads : (number policy : ℕ) → number_in id before ≡ None → is_full_of contents ≡ false
+        → number ≡ before.next_number → policy ≡ contents.policy_now
+        → LeadsTo contents (creating_changes number policy tree) (created id tree before)
+    created_leads number policy at space next now =
+        subst (λ n. LeadsTo contents (creating_changes n policy tree) (created id tree before)) (sym next)
+        (subst (λ p. LeadsTo contents (creating_changes before.next_number p tree) (created id tree before)) (sym now)
+        (created_by contents before hold id tree plain may_be (is_absent id before at) (sym full_same ∙ space)))
+
+  pub deleted_leads : (id : List ℕ) (number : ℕ) → number_in id before ≡ Some number
+      → LeadsTo contents (deleting_changes number) (deleted id before)
+  deleted_leads id number at =
+      let e = some_entry (entry_of id before) number at in
+      subst (λ n. LeadsTo contents (deleting_changes n) (deleted id before)) e.2
+      (deleted_by contents before hold id e.0 e.1)
 
 -- ---- the numbers of ids
 
@@ -273,3 +321,41 @@ pub numbers_created : (other id : List ℕ) (tree : Tree) (before : Container)
 numbers_created other id tree before at =
     numbers_behind other (new_entry id tree before) before.entries
     (any_found id before.entries ∙ ap is_some (no_entry (entry_of id before) at))
+
+-- without the document of an id every other one has its number
+absent_step : (id other : List ℕ) (e : Entry) (es : List Entry) (b : Bool) → has_id id e ≡ b → bytes_eq id other ≡ true
+    → find (has_id other) (without id es) ≡ None
+    → find (has_id other) (if not b then e ∷ without id es else without id es) ≡ None
+absent_step id other e es true own same later = later
+absent_step id other e es false differs same later =
+    let apart : has_id other e ≡ false = ap (bytes_eq e.id) (sym (same_from_eq id other same)) ∙ differs in
+    ap (λ b. if b then Some e else find (has_id other) (without id es)) apart ∙ later
+
+absent_found : (id other : List ℕ) (es : List Entry) → bytes_eq id other ≡ true
+    → find (has_id other) (without id es) ≡ None
+absent_found id other [] same = refl
+absent_found id other (e ∷ es) same =
+    absent_step id other e es (has_id id e) refl same (absent_found id other es same)
+
+other_step : (id other : List ℕ) (e : Entry) (es : List Entry) (b : Bool) → has_id id e ≡ b → bytes_eq id other ≡ false
+    → find (has_id other) (without id es) ≡ find (has_id other) es
+    → find (has_id other) (if not b then e ∷ without id es else without id es)
+    ≡ (if has_id other e then Some e else find (has_id other) es)
+other_step id other e es true own differs later =
+    later ∙ ap (λ b. if b then Some e else find (has_id other) es) (sym (bytes_eq-other e.id id other own differs))
+other_step id other e es false apart differs later = ap (λ rest. if has_id other e then Some e else rest) later
+
+other_found : (id other : List ℕ) (es : List Entry) → bytes_eq id other ≡ false
+    → find (has_id other) (without id es) ≡ find (has_id other) es
+other_found id other [] differs = refl
+other_found id other (e ∷ es) differs =
+    other_step id other e es (has_id id e) refl differs (other_found id other es differs)
+
+pub numbers_deleted : (other id : List ℕ) (before : Container)
+    → number_in other (deleted id before) ≡ cond (bytes_eq id other) None (number_in other before)
+numbers_deleted other id before = by_test (bytes_eq id other) refl
+  where
+    by_test : (b : Bool) → bytes_eq id other ≡ b
+        → number_in other (deleted id before) ≡ cond b None (number_in other before)
+    by_test true same = ap (option_map (λ (e : Entry). e.number)) (absent_found id other before.entries same)
+    by_test false differs = ap (option_map (λ (e : Entry). e.number)) (other_found id other before.entries differs)

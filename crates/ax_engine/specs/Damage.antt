@@ -72,7 +72,11 @@ MeetsTrees query contents = LooksAtEach query → StandForTrees (IsReadWhole que
 -- Rows are the reply to a query only where it meets none among the documents of the image: none is
 -- passed over.
 abbrev pub PassesOverNone : Line → Reply → Image → Type 0
+PassesOverNone (line.Create tree) reply image = Unit {0}
 PassesOverNone (line.Upsert tree) reply image = Unit {0}
+PassesOverNone (line.Replace tree) reply image = Unit {0}
+PassesOverNone (line.Delete id) reply image = Unit {0}
+PassesOverNone (line.Read id) reply image = Unit {0}
 PassesOverNone (line.Query body) reply image =
     (query : Query) → query_in body.params body.text ≡ Some query
     → OnRows reply ((version : ℕ) × (told : List Told) × (contents : Contents)

@@ -1,20 +1,21 @@
 -- The documents of an open store: what it says, and under which number each id stands.
-use Rattle.std.specs.Prelude.{◌≡◌, ℕ, List, Bool, ◌||◌, nat_le, false, Option, option_map, Result, Ok, Err}
+use Rattle.std.specs.Prelude.{◌≡◌, ◌≤◌, ℕ, List, Bool, ◌||◌, nat_le, false, IsTrue, Option, option_map, Result, Ok, Err}
 use Rattle.std.specs.FinMap as map
 use Rattle.ax_ids.specs.Ids.{number_under}
 use Rattle.ax_cache.specs.Held.{held}
 use Rattle.ax_disk.specs.model.Moments.{History}
-use Rattle.ax_disk.specs.model.Stays.{Turns}
+use Rattle.ax_disk.specs.model.Stays.{Rests, Stays, Turns}
 use Rattle.ax_area.specs.Contents.{Contents}
+use Rattle.ax_faults.specs.Faults.{Rose}
 use Rattle.ax_store.specs.Store.{Agrees, store_failed, store_contents}
-use Rattle.ax_tree.specs.declared.tree.Tree.{Tree}
 use Rattle.ax_container.specs.Container.{Container, entry_of, most_documents, last_number}
-use Rattle.ax_container.specs.Writes.{Full, upserted}
+use Rattle.ax_container.specs.Writes.{WriteRefusal, Conflict, Absent, Full}
 use Rattle.ax_image.specs.Documents.{ContentsHold}
+use Rattle.ax_image.specs.Readable.{SaysReadable}
 use Rattle.ax_engine.specs.Stores.{Shows}
 use Rattle.ax_engine.specs.declared.documents.Documents.{Documents}
-use Rattle.ax_engine.specs.declared.documents.UpsertFault.{UpsertFault}
-use Rattle.ax_engine.specs.declared.documents.UpsertFault.TheVariants as upsert
+use Rattle.ax_engine.specs.declared.documents.WriteFault.{WriteFault}
+use Rattle.ax_engine.specs.declared.documents.WriteFault.TheVariants as fault
 
 abbrev pub contents_in : Documents → Contents
 contents_in documents = store_contents documents.store
@@ -38,23 +39,81 @@ abbrev pub is_full_of : Contents → Bool
 is_full_of contents =
     nat_le most_documents (map.len contents.documents) || nat_le last_number contents.next_number
 
--- what an upsert answers
-abbrev pub TellsUpsert : Type 0 → Container → List ℕ → Tree → Result (Unit {0}) UpsertFault → Documents
-    → History → History → Type 0
-TellsUpsert honest before id tree (Ok made) documents old new =
-    (after : Container) × (upserted id tree before ≡ Ok after) × DocumentsHold documents after
-    × (honest → Turns old new (Shows before) (Shows after))
-TellsUpsert honest before id tree (Err upsert.Full) documents old new =
-    (upserted id tree before ≡ Err Full) × DocumentsHold documents before
-    × (honest → Turns old new (Shows before) (Shows before))
-TellsUpsert honest before id tree (Err upsert.Memory) documents old new =
+-- the documents are as they were, and so is what a crash leaves of them
+abbrev pub AreKept : Type 0 → Container → Documents → History → History → Type 0
+AreKept honest before documents old new =
     DocumentsHold documents before × (honest → Turns old new (Shows before) (Shows before))
-TellsUpsert honest before id tree (Err upsert.Disk) documents old new =
-    (after : Container) × (upserted id tree before ≡ Ok after)
-    × (honest → Turns old new (Shows before) (Shows after))
 
-abbrev pub WorksAfterUpsert : Type 0 → Result (Unit {0}) UpsertFault → Documents → History → Type 0
-WorksAfterUpsert honest (Ok made) documents history = DocumentsWork honest documents history
-WorksAfterUpsert honest (Err upsert.Full) documents history = DocumentsWork honest documents history
-WorksAfterUpsert honest (Err upsert.Memory) documents history = DocumentsWork honest documents history
-WorksAfterUpsert honest (Err upsert.Disk) documents history = Unit {0}
+-- What a write answers that makes this of the container, or is refused: it was made; it was refused, and nothing
+-- changed; memory ran out, and nothing changed; or the disk failed while it was made.
+abbrev pub TellsWrite : Type 0 → Container → Result Container WriteRefusal → Result (Unit {0}) WriteFault → Documents
+    → History → History → Type 0
+TellsWrite honest before made (Ok done) documents old new =
+    (after : Container) × (made ≡ Ok after) × DocumentsHold documents after
+    × (honest → Turns old new (Shows before) (Shows after))
+TellsWrite honest before made (Err fault.Conflict) documents old new =
+    (made ≡ Err Conflict) × AreKept honest before documents old new
+TellsWrite honest before made (Err fault.Absent) documents old new =
+    (made ≡ Err Absent) × AreKept honest before documents old new
+TellsWrite honest before made (Err fault.Full) documents old new =
+    (made ≡ Err Full) × AreKept honest before documents old new
+TellsWrite honest before made (Err fault.Memory) documents old new = AreKept honest before documents old new
+TellsWrite honest before made (Err fault.Disk) documents old new =
+    (after : Container) × (made ≡ Ok after) × (honest → Turns old new (Shows before) (Shows after))
+
+-- the answer of a write that the container refuses
+abbrev pub fault_of : WriteRefusal → WriteFault
+fault_of Conflict = fault.Conflict
+fault_of Absent = fault.Absent
+fault_of Full = fault.Full
+
+-- ---- the faults that a write may have
+
+-- of a document that is held, or is not: no refusal
+abbrev pub IsOfCommit : WriteFault → Type 0
+IsOfCommit fault.Memory = Unit {0}
+IsOfCommit fault.Disk = Unit {0}
+IsOfCommit other = ⊥
+
+abbrev pub IsOfCreation : WriteFault → Type 0
+IsOfCreation fault.Absent = ⊥
+IsOfCreation other = Unit {0}
+
+abbrev pub IsOfUpsert : WriteFault → Type 0
+IsOfUpsert fault.Conflict = ⊥
+IsOfUpsert fault.Absent = ⊥
+IsOfUpsert other = Unit {0}
+
+-- of a write that wants the id held
+abbrev pub IsOfHeld : WriteFault → Type 0
+IsOfHeld fault.Conflict = ⊥
+IsOfHeld fault.Full = ⊥
+IsOfHeld other = Unit {0}
+
+-- ---- what a write leaves
+
+-- until the disk fails the documents work
+abbrev pub WorksAfterWrite : Type 0 → Result (Unit {0}) WriteFault → Documents → History → Type 0
+WorksAfterWrite honest (Err fault.Disk) documents history = Unit {0}
+WorksAfterWrite honest other documents history = DocumentsWork honest documents history
+
+-- the disk's count of faults rises exactly where the disk failed
+abbrev pub CountsWrite : Result (Unit {0}) WriteFault → ℕ → ℕ → Type 0
+CountsWrite (Err fault.Disk) earlier later = Rose earlier later
+CountsWrite other earlier later = later ≡ earlier
+
+-- what a write leaves, whatever it writes
+pub record WriteLeaves (honest : Bool) (result : Result (Unit {0}) WriteFault) (documents : Documents)
+    (before after : History) (earlier later : ℕ) : Type 0 where
+  pub works : WorksAfterWrite (IsTrue honest) result documents after
+  pub readable : IsTrue honest → Rests before SaysReadable → Stays before after SaysReadable
+  pub counted : CountsWrite result earlier later
+  pub never_falls : earlier ≤ later
+
+-- what the commit of changes answers that lead to the container after: they are made, or the disk failed
+abbrev pub TellsCommit : Type 0 → Container → Container → Result (Unit {0}) WriteFault → Documents → History → History
+    → Type 0
+TellsCommit honest before after (Ok done) documents old new =
+    ContentsHold (contents_in documents) after × (honest → Turns old new (Shows before) (Shows after))
+TellsCommit honest before after (Err fault.Disk) documents old new = honest → Turns old new (Shows before) (Shows after)
+TellsCommit honest before after (Err other) documents old new = ⊥

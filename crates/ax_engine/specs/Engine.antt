@@ -1,22 +1,25 @@
 -- An engine at work: which container it has, and what it answers to a line.
-use Rattle.std.specs.Prelude.{◌≡◌, ℕ, List, None, Some, Result, Ok, Err}
+use Rattle.std.specs.Prelude.{◌≡◌, ℕ, List, Option, None, Some, Result, Ok, Err, if◌then◌else◌}
 use Rattle.ax_disk.specs.model.Calls.{Idles}
 use Rattle.ax_disk.specs.model.Image.{Image}
 use Rattle.ax_disk.specs.model.Moments.{History}
 use Rattle.ax_disk.specs.model.Stays.{Rests, Turns}
-use Rattle.ax_container.specs.Container.{Container}
-use Rattle.ax_container.specs.Writes.{Full, upserted}
+use Rattle.ax_faults.specs.Faults.{Rose}
+use Rattle.ax_container.specs.Container.{Container, contains}
+use Rattle.ax_container.specs.Writes.{WriteRefusal, Absent, inserted, exchanged, removed, upserted}
 use Rattle.ax_image.specs.Readable.{SaysReadable}
 use Rattle.ax_lines.specs.declared.line.Line.{Line}
 use Rattle.ax_lines.specs.declared.line.Line.TheVariants as line
 use Rattle.ax_machine.specs.Reply as reply
 use Rattle.ax_machine.specs.Run.{Outcome, Served, OutOfMemory}
 use Rattle.ax_machine.specs.Step.{served}
+use Rattle.ax_tree.specs.declared.tree.Tree.{Tree}
 use Rattle.ax_tree.specs.Document.{document_id}
-use Rattle.ax_engine.specs.Documents.{DocumentsHold, DocumentsWork}
+use Rattle.ax_engine.specs.Documents.{DocumentsHold, DocumentsWork, IsOfCreation, IsOfUpsert, IsOfHeld}
 use Rattle.ax_engine.specs.Replies.{IsReply}
 use Rattle.ax_engine.specs.Stores.{IsImageOf, Shows}
 use Rattle.ax_engine.specs.declared.documents.Documents.{Documents}
+use Rattle.ax_engine.specs.declared.documents.WriteFault.{WriteFault}
 use Rattle.ax_engine.specs.declared.engine.Engine.{Engine}
 use Rattle.ax_engine.specs.declared.engine.Fault.{Fault}
 use Rattle.ax_engine.specs.declared.engine.Fault.TheVariants as fault
@@ -63,18 +66,62 @@ abbrev pub Applies : Type 0 → Container → Line → Result Reply Fault → En
 Applies honest before line result engine old new =
     TellsOf honest before line result (HoldsOver engine new) IsImageOf old new
 
--- the line creates a document, and the container is full
-abbrev pub FindsFull : Container → Line → Type 0
-FindsFull before (line.Upsert tree) =
-    (id : List ℕ) × (document_id tree ≡ Some id) × (upserted id tree before ≡ Err Full)
-FindsFull before (line.Query body) = ⊥
+-- ---- what a line makes of the container, or why the container refuses it
 
--- a query leaves the disk's lists as they are
+abbrev pub by_document : (List ℕ → Tree → Container → Result Container WriteRefusal) → Option (List ℕ) → Tree → Container
+    → Result Container WriteRefusal
+by_document write (Some id) tree before = write id tree before
+by_document write None tree before = Err Absent
+
+-- A read is refused where the container has no document of its id, and else it makes nothing of it; a query makes
+-- nothing. No line asks for a write of a tree that has no id.
+abbrev pub made_of : Line → Container → Result Container WriteRefusal
+made_of (line.Create tree) before = by_document inserted (document_id tree) tree before
+made_of (line.Upsert tree) before = by_document upserted (document_id tree) tree before
+made_of (line.Replace tree) before = by_document exchanged (document_id tree) tree before
+made_of (line.Delete id) before = removed id before
+made_of (line.Read id) before = if contains id before then Ok before else Err Absent
+made_of (line.Query body) before = Ok before
+
+-- ---- what lines do
+
+-- it is a write of a document
+abbrev pub IsWrite : Line → Type 0
+IsWrite (line.Create tree) = Unit {0}
+IsWrite (line.Upsert tree) = Unit {0}
+IsWrite (line.Replace tree) = Unit {0}
+IsWrite (line.Delete id) = Unit {0}
+IsWrite (line.Read id) = ⊥
+IsWrite (line.Query body) = ⊥
+
+-- the faults of a write that a line may have
+abbrev pub MayFail : Line → WriteFault → Type 0
+MayFail (line.Create tree) why = IsOfCreation why
+MayFail (line.Upsert tree) why = IsOfUpsert why
+MayFail (line.Replace tree) why = IsOfHeld why
+MayFail (line.Delete id) why = IsOfHeld why
+MayFail (line.Read id) why = ⊥
+MayFail (line.Query body) why = ⊥
+
+-- a read and a query leave the disk's lists as they are
 abbrev pub LeavesLists : Line → History → History → Type 0
+LeavesLists (line.Create tree) old new = Unit {0}
 LeavesLists (line.Upsert tree) old new = Unit {0}
+LeavesLists (line.Replace tree) old new = Unit {0}
+LeavesLists (line.Delete id) old new = Unit {0}
+LeavesLists (line.Read id) old new = Idles old new
 LeavesLists (line.Query body) old new = Idles old new
 
 -- only a query meets a text that is none of a document
 abbrev pub IsOfLine : Line → Fault → Type 0
+IsOfLine (line.Create tree) why = why ≡ fault.Disk
 IsOfLine (line.Upsert tree) why = why ≡ fault.Disk
+IsOfLine (line.Replace tree) why = why ≡ fault.Disk
+IsOfLine (line.Delete id) why = why ≡ fault.Disk
+IsOfLine (line.Read id) why = why ≡ fault.Disk
 IsOfLine (line.Query body) why = Unit {0}
+
+-- the disk's count of faults rises where the disk failed, and nowhere else
+abbrev pub CountsAnswer : Result Reply Fault → ℕ → ℕ → Type 0
+CountsAnswer (Err fault.Disk) earlier later = Rose earlier later
+CountsAnswer other earlier later = later ≡ earlier

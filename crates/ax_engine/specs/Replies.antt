@@ -14,8 +14,8 @@ use Rattle.ax_machine.specs.ReplyTexts.{row_text}
 use Rattle.ax_mean.specs.declared.query.Query.{Query}
 use Rattle.ax_store.specs.declared.fault.StoreFault.{StoreFault}
 use Rattle.ax_store.specs.declared.fault.StoreFault.TheVariants as store_fault
-use Rattle.ax_engine.specs.declared.documents.UpsertFault.{UpsertFault}
-use Rattle.ax_engine.specs.declared.documents.UpsertFault.TheVariants as upsert
+use Rattle.ax_engine.specs.declared.documents.WriteFault.{WriteFault}
+use Rattle.ax_engine.specs.declared.documents.WriteFault.TheVariants as write
 use Rattle.ax_engine.specs.declared.engine.Fault.{Fault}
 use Rattle.ax_engine.specs.declared.engine.Fault.TheVariants as fault
 use Rattle.ax_engine.specs.declared.reply.Reply.{Reply}
@@ -34,6 +34,7 @@ pub record AreRows (rows : Rows) (texts : List (List ℕ)) : Type 0 where
 -- the reply is this one
 abbrev pub IsReply : Reply → reply.Reply → Type 0
 IsReply given.Ok meant = meant ≡ reply.Ok
+IsReply (given.Doc text) meant = meant ≡ reply.Doc text.items
 IsReply (given.Rows rows) meant =
     (texts : List (List ℕ)) × AreRows rows texts × (meant ≡ reply.Rows texts reply.End)
 IsReply (given.Refused why) meant = meant ≡ reply.Refused why
@@ -41,6 +42,7 @@ IsReply (given.Refused why) meant = meant ≡ reply.Refused why
 -- where the reply is rows, this is so
 abbrev pub OnRows : Reply → Type 0 → Type 0
 OnRows given.Ok Is = Unit {0}
+OnRows (given.Doc text) Is = Unit {0}
 OnRows (given.Rows rows) Is = Is
 OnRows (given.Refused why) Is = Unit {0}
 
@@ -60,17 +62,45 @@ own_refusal (Some query) = refusal_in (unless (causes query) (Ok (tt {0})))
 -- what a query is answered that has this refusal, or none: it, or rows
 abbrev pub FitsRefusal : Option Refusal → Reply → Type 0
 FitsRefusal own given.Ok = ⊥
+FitsRefusal own (given.Doc text) = ⊥
 FitsRefusal own (given.Rows rows) = own ≡ None
 FitsRefusal own (given.Refused why) = own ≡ Some why
 
+-- what a write is answered that may be refused so: that it was made, or that
+abbrev pub FitsWrite : (Refusal → Type 0) → Reply → Type 0
+FitsWrite MayRefuse given.Ok = Unit {0}
+FitsWrite MayRefuse (given.Doc text) = ⊥
+FitsWrite MayRefuse (given.Rows rows) = ⊥
+FitsWrite MayRefuse (given.Refused why) = MayRefuse why
+
+abbrev pub RefusesCreation : Refusal → Type 0
+RefusesCreation why = (why ≡ refusal.Conflict) ⊎ ((why ≡ refusal.Full) ⊎ (why ≡ refusal.Memory))
+
+abbrev pub RefusesUpsert : Refusal → Type 0
+RefusesUpsert why = (why ≡ refusal.Full) ⊎ (why ≡ refusal.Memory)
+
+-- of a line for an id that is to be held
+abbrev pub RefusesAbsent : Refusal → Type 0
+RefusesAbsent why = (why ≡ refusal.Absent) ⊎ (why ≡ refusal.Memory)
+
+-- what a read is answered: a document, that there is none, or that memory ran out
+abbrev pub FitsRead : Reply → Type 0
+FitsRead given.Ok = ⊥
+FitsRead (given.Doc text) = Unit {0}
+FitsRead (given.Rows rows) = ⊥
+FitsRead (given.Refused why) = RefusesAbsent why
+
 -- What a line may be answered, whatever the store holds. A query: rows only where it has no refusal of its own,
--- that refusal, or that memory ran out. An upsert: that it was made, that the store is full, or that memory ran out.
+-- that refusal, or that memory ran out. A write: that it was made, or a refusal that is one of its line. A read: a
+-- document, that there is none, or that memory ran out.
 abbrev pub MayReply : Line → Reply → Type 0
+MayReply (line.Create tree) made = FitsWrite RefusesCreation made
+MayReply (line.Upsert tree) made = FitsWrite RefusesUpsert made
+MayReply (line.Replace tree) made = FitsWrite RefusesAbsent made
+MayReply (line.Delete id) made = FitsWrite RefusesAbsent made
+MayReply (line.Read id) made = FitsRead made
 MayReply (line.Query body) made =
     FitsRefusal (own_refusal (query_in body.params body.text)) made ⊎ (made ≡ given.Refused refusal.Memory)
-MayReply (line.Upsert tree) given.Ok = Unit {0}
-MayReply (line.Upsert tree) (given.Rows rows) = ⊥
-MayReply (line.Upsert tree) (given.Refused why) = (why ≡ refusal.Full) ⊎ (why ≡ refusal.Memory)
 
 -- ---- what the parts of the engine answered, as the answer to a line
 
@@ -89,9 +119,11 @@ read_answer (Err (store_fault.Damaged extent at)) = Err (fault.Damaged extent at
 read_answer (Err (store_fault.Newer version)) = Ok (given.Refused refusal.Memory)
 read_answer (Err store_fault.Memory) = Ok (given.Refused refusal.Memory)
 
--- what an upsert came to, as the answer to its line: a refusal as full, and want of memory
-abbrev pub upsert_answer : Result (Unit {0}) UpsertFault → Result Reply Fault
-upsert_answer (Ok made) = Ok given.Ok
-upsert_answer (Err upsert.Full) = Ok (given.Refused refusal.Full)
-upsert_answer (Err upsert.Memory) = Ok (given.Refused refusal.Memory)
-upsert_answer (Err upsert.Disk) = Err fault.Disk
+-- what a write came to, as the answer to its line: a refusal of the store, and want of memory
+abbrev pub write_answer : Result (Unit {0}) WriteFault → Result Reply Fault
+write_answer (Ok made) = Ok given.Ok
+write_answer (Err write.Conflict) = Ok (given.Refused refusal.Conflict)
+write_answer (Err write.Absent) = Ok (given.Refused refusal.Absent)
+write_answer (Err write.Full) = Ok (given.Refused refusal.Full)
+write_answer (Err write.Memory) = Ok (given.Refused refusal.Memory)
+write_answer (Err write.Disk) = Err fault.Disk

@@ -20,13 +20,13 @@ pub record IsReady (honest : Bool) (store : Store LruPages) (ahead : ReadAhead) 
   pub works : store_failed store ≡ false
   pub agrees : IsTrue honest → AgreesAhead held store ahead history
 
--- no read failed
+-- no read failed, and the disk counted no fault
 pub record Scanned (honest : Bool) (old new : Store LruPages) (ahead : ReadAhead) (before after : History)
     (earlier later : ℕ) : Type 0 where
   pub same : SameButReads old new
   pub ready : IsReady honest new ahead after
   pub lists : IsTrue honest → Idles before after
-  pub never_falls : earlier ≤ later
+  pub uncounted : later ≡ earlier
 
 -- a read failed, and the disk's count of faults rose
 pub record ReadFailed (honest : Bool) (old new : Store LruPages) (before after : History)

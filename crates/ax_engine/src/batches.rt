@@ -5,11 +5,10 @@ ghost use Rattle.ax_tree.specs.CanonicalText.{canonical_text};
 ghost use Rattle.ax_lines.specs.Lines.{most_bytes};
 ghost use Rattle.ax_pages.specs.Contents.{meta_bytes};
 ghost use Rattle.ax_store.specs.Batch.{batch_parts, is_sealed};
-ghost use Rattle.ax_engine.specs.Batches.{replacing_parts, creating_parts};
+ghost use Rattle.ax_engine.specs.Batches.{replacing_parts, creating_parts, deleting_parts};
 
-use ax_frame::Part;
-use ax_pages::numbers::{PLAIN_DOCUMENT, PLAIN_META};
-use ax_store::{Batch, Memory};
+use ax_pages::numbers::{GONE, PLAIN_DOCUMENT, PLAIN_META};
+use ax_store::{Batch, Memory, Part};
 use ax_tree::{Tree, append_tree};
 use std::alloc::Global;
 
@@ -63,6 +62,23 @@ pub(crate) fn creating(alloc: Global, number: u32, policy: u8, tree: &Tree) -> R
             kind: PLAIN_DOCUMENT,
             key: number,
             payload,
+        },
+    )?;
+    batch.seal(alloc)
+}
+
+/// The sealed batch by which a document is deleted.
+pub(crate) fn deleting(alloc: Global, number: u32) -> Result<Batch, Memory>
+    ensures parts { IfOk result (λ batch. batch_parts batch ≡ deleting_parts number) }
+    ensures sealed { IfOk result (λ batch. is_sealed batch ≡ true) }
+{
+    let mut batch = Batch::begin(alloc);
+    batch.add(
+        alloc,
+        Part {
+            kind: GONE,
+            key: number,
+            payload: &[],
         },
     )?;
     batch.seal(alloc)

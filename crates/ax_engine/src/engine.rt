@@ -1,24 +1,28 @@
 //! An engine over an open store.
 
-ghost use Rattle.std.specs.Prelude.{◌≡◌, ◌≤◌, ◌+◌, Ok, Err, Some, None, IsTrue, IfOk, IfErr, OnOk};
-ghost use Rattle.ax_faults.specs.Faults.{Rose};
+ghost use Rattle.std.specs.Prelude.{◌≡◌, ◌≤◌, ◌+◌, ℕ, Ok, Err, Some, None, IsTrue, IfOk, IfErr, OnOk};
 ghost use Rattle.ax_disk.specs.model.Calls.{Idles};
 ghost use Rattle.ax_disk.specs.model.Stays.{Rests, SinceBarrier, Stays};
-ghost use Rattle.ax_area.specs.Image.{IsFresh};
+ghost use Rattle.ax_area.specs.Image.{IsDamaged, IsFresh, IsNewer};
+ghost use Rattle.ax_pages.specs.Area.{extent_number};
+ghost use Rattle.ax_disk.specs.declared.extent.Extent.TheVariants.{Root};
+ghost use Rattle.ax_store.specs.Faults.{HasDiskCause};
 ghost use Rattle.ax_container.specs.Container.{Container};
+ghost use Rattle.ax_container.specs.Writes.{WriteRefusal};
 ghost use Rattle.ax_log.specs.Opening.{Keeps};
-ghost use Rattle.ax_lines.specs.Asked.{IsAsked, IsStorable};
+ghost use Rattle.ax_lines.specs.Asked.{IsAsked};
 ghost use Rattle.ax_lines.specs.declared.line.Line.TheVariants as line;
-ghost use Rattle.ax_image.specs.Readable.{SaysReadable};
+ghost use Rattle.ax_image.specs.Readable.{SaysReadable, newest};
 ghost use Rattle.ax_machine.specs.Needs.{most_steps_of};
+ghost use Rattle.ax_machine.specs.Step.{write_refusal};
 ghost use Rattle.ax_engine.specs.Damage.{Meets, PassesOverNone};
-ghost use Rattle.ax_engine.specs.Documents.{DocumentsHold, DocumentsWork};
-ghost use Rattle.ax_engine.specs.Engine.{Applies, FindsFull, Holds, HoldsOver, IsOfLine, LeavesLists, Tells, Works};
-ghost use Rattle.ax_engine.specs.Opening.{RefusesBy};
-ghost use Rattle.ax_engine.specs.Replies.{IsOfReading, MayReply, read_answer, upsert_answer};
+ghost use Rattle.ax_engine.specs.Documents.{fault_of, DocumentsHold, DocumentsWork, TellsWrite, WriteLeaves};
+ghost use Rattle.ax_engine.specs.Engine.{made_of, Applies, CountsAnswer, Holds, HoldsOver, IsOfLine, IsWrite, LeavesLists, MayFail, Tells, Works};
+ghost use Rattle.ax_engine.specs.Opening.{IsAnswerUnlessDisk, RefusesBy};
+ghost use Rattle.ax_engine.specs.Replies.{FitsRead, IsOfReading, MayReply, read_answer, write_answer};
 ghost use Rattle.ax_engine.specs.Stores.{IsImageOf, IsStore, IsWithin};
 
-use crate::documents::{Documents, UpsertFault};
+use crate::documents::{Documents, WriteFault};
 use crate::opening::open_documents;
 use crate::querying::reply_to_query;
 use crate::reply::Reply;
@@ -26,7 +30,7 @@ use ax_base::Steps;
 use ax_disk::Disk;
 use ax_lines::{Body, Line, Refusal};
 use ax_store::{ReadAhead, StoreFault};
-use ax_tree::Tree;
+use ax_tree::Text;
 use std::alloc::Global;
 use std::sync::ledger::Ledger;
 
@@ -59,7 +63,8 @@ impl Engine {
     /// before, and from then on the documents that reads gave. The errors are those of the store:
     /// `Disk` only where a call on the disk failed, `Damaged` and `Newer` only where the store is
     /// outside the format at that offset, or of that later version, and it is as it was; `Memory`. Over
-    /// an honest disk only a store with contents is opened.
+    /// an honest disk only a store with contents is opened, and a damaged root or a later version is
+    /// refused as that unless the disk fails, whatever memory there is.
     pub fn open_engine<D: Disk>(alloc: Global, disk: &mut D) -> Result<Engine, StoreFault>
         ensures works { IfOk result (λ engine. Works (IsTrue (D.is_honest disk.old)) engine
             (D.history disk.new (D.attached disk.new))) }
@@ -77,8 +82,13 @@ impl Engine {
             → Keeps (D.history disk.old (D.attached disk.old)) (D.history disk.new (D.attached disk.new)) }
         ensures refused { IsTrue (D.is_honest disk.old) → IfErr result (λ fault. RefusesBy fault
             (D.history disk.old (D.attached disk.old)) (D.history disk.new (D.attached disk.new))) }
-        ensures cause { result ≡ Err StoreFault.Disk → Rose (D.faults disk.old) (D.faults disk.new) }
-        ensures never_falls { D.faults disk.old ≤ D.faults disk.new }
+        ensures damaged_root { IsTrue (D.is_honest disk.old) → (at : ℕ)
+            → IsDamaged newest (D.history disk.old (D.attached disk.old)).reads Root at
+            → IsAnswerUnlessDisk (StoreFault.Damaged (extent_number Root) at) result }
+        ensures newer { IsTrue (D.is_honest disk.old) → (version : ℕ)
+            → IsNewer newest version (D.history disk.old (D.attached disk.old)).reads
+            → IsAnswerUnlessDisk (StoreFault.Newer version) result }
+        ensures cause { HasDiskCause result (D.faults disk.old) (D.faults disk.new) }
         ensures attached { D.attached disk.new ≡ D.attached disk.old }
         ensures honest { D.is_honest disk.new ≡ D.is_honest disk.old }
     {
@@ -99,17 +109,19 @@ impl Engine {
     }
 
     /// Makes the step of a line, durable where the disk is honest, and answers with its reply; or is
-    /// refused for want of memory, with no change. A creation where the container is full is refused as
-    /// full, and never for want of memory. After a fault every line is answered by it.
+    /// refused for want of memory, with no change. What the container refuses (an id that is held, or is
+    /// not; no room for a document) is answered as that, and never for want of memory. After a fault every
+    /// line is answered by it.
     ///
-    /// `Disk` where a call on the disk failed. `Damaged` where the text of a document is none that a
+    /// `Disk` where a call on the disk failed, and nowhere else does the disk count a fault. `Damaged` where the text of a document is none that a
     /// document can have, over an honest disk with the place at which its part stands; only a query
     /// answers it, and it leaves the disk's lists as they were. A query without WHERE and LIMIT answers no
     /// rows over such a text, where it reads it whole.
     ///
     /// Whatever the store holds, a query is answered rows only where it has no refusal of its own (of its text
-    /// or its ORDER BY), and is refused by that one alone, or for want of memory; an upsert is answered `Ok`,
-    /// or refused as full or for want of memory.
+    /// or its ORDER BY), and is refused by that one alone, or for want of memory; a write is answered `Ok`,
+    /// or by a refusal of its own line, or for want of memory; a read by a document, as absent, or for want of
+    /// memory.
     pub fn apply<D: Disk, L: Ledger>(
         &mut self,
         disk: &mut D,
@@ -122,8 +134,8 @@ impl Engine {
             → HoldsOver self.old (D.history disk.old (D.attached disk.old)) before
             → Applies (IsTrue (D.is_honest disk.old)) before line result self.new
             (D.history disk.old (D.attached disk.old)) (D.history disk.new (D.attached disk.new)) }
-        ensures full { (before : Container) → Holds self.old before → FindsFull before line
-            → result ≡ Ok (Reply.Refused Refusal.Full) }
+        ensures refused { (before : Container) → (why : WriteRefusal) → Holds self.old before
+            → made_of line before ≡ Err why → result ≡ Ok (Reply.Refused (write_refusal why)) }
         ensures may_reply { IfOk result (λ reply. MayReply line reply) }
         ensures met { IsTrue (D.is_honest disk.old) → self.old.fault ≡ None
             → IfErr result (λ fault. Meets fault (D.history disk.new (D.attached disk.new)).reads) }
@@ -140,7 +152,7 @@ impl Engine {
         ensures again { (fault : Fault) → self.old.fault ≡ Some fault
             → (result ≡ Err fault) × (self.new ≡ self.old) × (disk.new ≡ disk.old) × (steps.new ≡ steps.old) }
 
-        ensures cause { self.old.fault ≡ None → result ≡ Err Fault.Disk → Rose (D.faults disk.old) (D.faults disk.new) }
+        ensures counted { self.old.fault ≡ None → CountsAnswer result (D.faults disk.old) (D.faults disk.new) }
         ensures never_falls { D.faults disk.old ≤ D.faults disk.new }
         ensures attached { D.attached disk.new ≡ D.attached disk.old }
         ensures honest { D.is_honest disk.new ≡ D.is_honest disk.old }
@@ -152,13 +164,13 @@ impl Engine {
             return Err(fault);
         }
         let answered = answer(&mut self.documents, disk, &line, steps);
-        self.fault = fault_of(&answered);
+        self.fault = kept_fault(&answered);
         answered
     }
 }
 
 /// The fault that an answer is.
-fn fault_of(answered: &Result<Reply, Fault>) -> Option<Fault>
+fn kept_fault(answered: &Result<Reply, Fault>) -> Option<Fault>
     ensures fault { IfErr answered.now (λ fault. result ≡ Some fault) }
     ensures none { OnOk answered.now (result ≡ None) }
 {
@@ -182,8 +194,8 @@ fn answer<D: Disk, L: Ledger>(
         → (before : Container) → DocumentsHold documents.old before
         → Tells (IsTrue (D.is_honest disk.old)) before line.now result documents.new
         (D.history disk.old (D.attached disk.old)) (D.history disk.new (D.attached disk.new)) }
-    ensures full { (before : Container) → DocumentsHold documents.old before → FindsFull before line.now
-        → result ≡ Ok (Reply.Refused Refusal.Full) }
+    ensures refused { (before : Container) → (why : WriteRefusal) → DocumentsHold documents.old before
+        → made_of line.now before ≡ Err why → result ≡ Ok (Reply.Refused (write_refusal why)) }
     ensures may_reply { IfOk result (λ reply. MayReply line.now reply) }
     ensures lists { IsTrue (D.is_honest disk.old)
         → LeavesLists line.now (D.history disk.old (D.attached disk.old)) (D.history disk.new (D.attached disk.new)) }
@@ -192,12 +204,11 @@ fn answer<D: Disk, L: Ledger>(
         → IfErr result (λ fault. Meets fault (D.history disk.new (D.attached disk.new)).reads) }
     ensures passes_over_none { IsTrue (D.is_honest disk.old)
         → IfOk result (λ reply. PassesOverNone line.now reply (D.history disk.new (D.attached disk.new)).reads) }
-    ensures works { OnOk result (DocumentsWork (IsTrue (D.is_honest disk.old)) documents.new
-        (D.history disk.new (D.attached disk.new))) }
+    ensures works { OnOk result (DocumentsWork (IsTrue (D.is_honest disk.old)) documents.new (D.history disk.new (D.attached disk.new))) }
     ensures readable { IsTrue (D.is_honest disk.old)
         → Rests (D.history disk.old (D.attached disk.old)) SaysReadable
         → Stays (D.history disk.old (D.attached disk.old)) (D.history disk.new (D.attached disk.new)) SaysReadable }
-    ensures cause { result ≡ Err Fault.Disk → Rose (D.faults disk.old) (D.faults disk.new) }
+    ensures counted { CountsAnswer result (D.faults disk.old) (D.faults disk.new) }
     ensures never_falls { D.faults disk.old ≤ D.faults disk.new }
     ensures attached { D.attached disk.new ≡ D.attached disk.old }
     ensures honest { D.is_honest disk.new ≡ D.is_honest disk.old }
@@ -206,44 +217,122 @@ fn answer<D: Disk, L: Ledger>(
     ensures steps { steps.old ≤ steps.new }
 {
     match line {
-        Line::Upsert(tree) => upsert(documents, disk, tree),
+        Line::Create(_) => write(documents, disk, line),
+        Line::Upsert(_) => write(documents, disk, line),
+        Line::Replace(_) => write(documents, disk, line),
+        Line::Delete(_) => write(documents, disk, line),
+        Line::Read(id) => read(documents, disk, id, steps),
         Line::Query(body) => query(documents, disk, body, steps),
     }
 }
 
-fn upsert<D: Disk>(documents: &mut Documents, disk: &mut D, tree: &Tree) -> Result<Reply, Fault>
-    requires storable { IsStorable tree.now }
+/// The reply to a write.
+fn write<D: Disk>(documents: &mut Documents, disk: &mut D, line: &Line) -> Result<Reply, Fault>
+    requires writes { IsWrite line.now }
+    requires asked { IsAsked line.now }
     requires works { DocumentsWork (IsTrue (D.is_honest disk.old)) documents.old (D.history disk.old (D.attached disk.old)) }
     ensures tells { (before : Container) → DocumentsHold documents.old before
-        → Tells (IsTrue (D.is_honest disk.old)) before (line.Upsert tree.now) result documents.new
+        → Tells (IsTrue (D.is_honest disk.old)) before line.now result documents.new
         (D.history disk.old (D.attached disk.old)) (D.history disk.new (D.attached disk.new)) }
-    ensures full { (before : Container) → DocumentsHold documents.old before → FindsFull before (line.Upsert tree.now)
-        → result ≡ Ok (Reply.Refused Refusal.Full) }
-    ensures may_reply { IfOk result (λ reply. MayReply (line.Upsert tree.now) reply) }
+    ensures refused { (before : Container) → (why : WriteRefusal) → DocumentsHold documents.old before
+        → made_of line.now before ≡ Err why → result ≡ Ok (Reply.Refused (write_refusal why)) }
+    ensures may_reply { IfOk result (λ reply. MayReply line.now reply) }
     ensures only { IfErr result (λ fault. fault ≡ Fault.Disk) }
-    ensures works { OnOk result (DocumentsWork (IsTrue (D.is_honest disk.old)) documents.new
-        (D.history disk.new (D.attached disk.new))) }
+    ensures works { OnOk result (DocumentsWork (IsTrue (D.is_honest disk.old)) documents.new (D.history disk.new (D.attached disk.new))) }
     ensures readable { IsTrue (D.is_honest disk.old)
         → Rests (D.history disk.old (D.attached disk.old)) SaysReadable
         → Stays (D.history disk.old (D.attached disk.old)) (D.history disk.new (D.attached disk.new)) SaysReadable }
-    ensures cause { result ≡ Err Fault.Disk → Rose (D.faults disk.old) (D.faults disk.new) }
+    ensures counted { CountsAnswer result (D.faults disk.old) (D.faults disk.new) }
     ensures never_falls { D.faults disk.old ≤ D.faults disk.new }
     ensures attached { D.attached disk.new ≡ D.attached disk.old }
     ensures honest { D.is_honest disk.new ≡ D.is_honest disk.old }
 {
-    let upserted = documents.upsert(disk, tree);
-    answer_of_upsert(upserted)
+    let made = make(documents, disk, line);
+    answer_of_write(made)
 }
 
-/// What an upsert came to, as the answer to its line.
-fn answer_of_upsert(upserted: Result<(), UpsertFault>) -> Result<Reply, Fault>
-    ensures { result ≡ upsert_answer upserted }
+/// Makes a write.
+fn make<D: Disk>(documents: &mut Documents, disk: &mut D, line: &Line) -> Result<(), WriteFault>
+    requires writes { IsWrite line.now }
+    requires asked { IsAsked line.now }
+    requires works { DocumentsWork (IsTrue (D.is_honest disk.old)) documents.old (D.history disk.old (D.attached disk.old)) }
+    ensures tells { (before : Container) → DocumentsHold documents.old before
+        → TellsWrite (IsTrue (D.is_honest disk.old)) before (made_of line.now before) result documents.new
+        (D.history disk.old (D.attached disk.old)) (D.history disk.new (D.attached disk.new)) }
+    ensures refused { (before : Container) → (why : WriteRefusal) → DocumentsHold documents.old before
+        → made_of line.now before ≡ Err why → result ≡ Err (fault_of why) }
+    ensures only { IfErr result (MayFail line.now) }
+    ensures leaves { WriteLeaves (D.is_honest disk.old) result documents.new
+        (D.history disk.old (D.attached disk.old)) (D.history disk.new (D.attached disk.new))
+        (D.faults disk.old) (D.faults disk.new) }
+    ensures attached { D.attached disk.new ≡ D.attached disk.old }
+    ensures honest { D.is_honest disk.new ≡ D.is_honest disk.old }
 {
-    match upserted {
+    match line {
+        Line::Create(tree) => documents.create(disk, tree),
+        Line::Upsert(tree) => documents.upsert(disk, tree),
+        Line::Replace(tree) => documents.replace(disk, tree),
+        Line::Delete(id) => documents.delete(disk, id),
+        Line::Read(_) => unreachable!(),
+        Line::Query(_) => unreachable!(),
+    }
+}
+
+/// What a write came to, as the answer to its line.
+fn answer_of_write(made: Result<(), WriteFault>) -> Result<Reply, Fault>
+    ensures { result ≡ write_answer made }
+{
+    match made {
         Ok(()) => Ok(Reply::Ok),
-        Err(UpsertFault::Full) => Ok(Reply::Refused(Refusal::Full)),
-        Err(UpsertFault::Memory) => Ok(Reply::Refused(Refusal::Memory)),
-        Err(UpsertFault::Disk) => Err(Fault::Disk),
+        Err(WriteFault::Conflict) => Ok(Reply::Refused(Refusal::Conflict)),
+        Err(WriteFault::Absent) => Ok(Reply::Refused(Refusal::Absent)),
+        Err(WriteFault::Full) => Ok(Reply::Refused(Refusal::Full)),
+        Err(WriteFault::Memory) => Ok(Reply::Refused(Refusal::Memory)),
+        Err(WriteFault::Disk) => Err(Fault::Disk),
+    }
+}
+
+/// The document of an id, which changes nothing. Its text is passed on as it is stored.
+fn read<D: Disk, L: Ledger>(
+    documents: &mut Documents,
+    disk: &mut D,
+    id: &Text,
+    steps: &mut Steps<L>,
+) -> Result<Reply, Fault>
+    requires works { DocumentsWork (IsTrue (D.is_honest disk.old)) documents.old (D.history disk.old (D.attached disk.old)) }
+    ensures tells { IsTrue (D.is_honest disk.old)
+        → (before : Container) → DocumentsHold documents.old before
+        → Tells (IsTrue (D.is_honest disk.old)) before (line.Read id.now) result documents.new
+        (D.history disk.old (D.attached disk.old)) (D.history disk.new (D.attached disk.new)) }
+    ensures refused { (before : Container) → (why : WriteRefusal) → DocumentsHold documents.old before
+        → made_of (line.Read id.now) before ≡ Err why → result ≡ Ok (Reply.Refused (write_refusal why)) }
+    ensures may_reply { IfOk result FitsRead }
+    ensures only { IfErr result (λ fault. fault ≡ Fault.Disk) }
+    ensures lists { IsTrue (D.is_honest disk.old) → Idles (D.history disk.old (D.attached disk.old)) (D.history disk.new (D.attached disk.new)) }
+    ensures works { OnOk result (DocumentsWork (IsTrue (D.is_honest disk.old)) documents.new (D.history disk.new (D.attached disk.new))) }
+    ensures readable { IsTrue (D.is_honest disk.old)
+        → Rests (D.history disk.old (D.attached disk.old)) SaysReadable
+        → Stays (D.history disk.old (D.attached disk.old)) (D.history disk.new (D.attached disk.new)) SaysReadable }
+    ensures counted { CountsAnswer result (D.faults disk.old) (D.faults disk.new) }
+    ensures never_falls { D.faults disk.old ≤ D.faults disk.new }
+    ensures attached { D.attached disk.new ≡ D.attached disk.old }
+    ensures honest { D.is_honest disk.new ≡ D.is_honest disk.old }
+    ensures bound { (before : Container) → DocumentsHold documents.old before
+        → steps.new ≤ steps.old + most_steps_of before (Ok (line.Read id.now)) }
+    ensures steps { steps.old ≤ steps.new }
+{
+    let Some(number) = documents.number(id.as_str()) else {
+        return Ok(Reply::Refused(Refusal::Absent));
+    };
+    let alloc = documents.alloc;
+    match documents.store.fetch_text(alloc, disk, number, steps) {
+        Ok(Some(text)) => Ok(Reply::Doc(text)),
+        // No allocation: an id stands under the number of a document that is held.
+        Ok(None) => Ok(Reply::Refused(Refusal::Memory)),
+        Err(StoreFault::Memory) => Ok(Reply::Refused(Refusal::Memory)),
+        Err(StoreFault::Disk) => Err(Fault::Disk),
+        Err(StoreFault::Damaged { .. }) => unreachable!(),
+        Err(StoreFault::Newer { .. }) => unreachable!(),
     }
 }
 
@@ -272,7 +361,7 @@ fn query<D: Disk, L: Ledger>(
     ensures readable { IsTrue (D.is_honest disk.old)
         → Rests (D.history disk.old (D.attached disk.old)) SaysReadable
         → Stays (D.history disk.old (D.attached disk.old)) (D.history disk.new (D.attached disk.new)) SaysReadable }
-    ensures cause { result ≡ Err Fault.Disk → Rose (D.faults disk.old) (D.faults disk.new) }
+    ensures counted { CountsAnswer result (D.faults disk.old) (D.faults disk.new) }
     ensures never_falls { D.faults disk.old ≤ D.faults disk.new }
     ensures attached { D.attached disk.new ≡ D.attached disk.old }
     ensures honest { D.is_honest disk.new ≡ D.is_honest disk.old }

@@ -21,8 +21,9 @@ mod reading;
 mod reply;
 mod rows;
 mod shown_documents;
+mod writes;
 
-pub use documents::{Documents, UpsertFault};
+pub use documents::{Documents, WriteFault};
 pub use engine::{Engine, Fault};
 pub use reply::Reply;
 pub use rows::Rows;

@@ -1,16 +1,18 @@
 //! Opening a store, and finding under which number each id stands.
 
-ghost use Rattle.std.specs.Prelude.{◌≡◌, ◌⊎◌, ◌≤◌, ℕ, List, Err, IsTrue, IfOk, IfErr, IfSome, OnOk, Some, None, cond, false};
+ghost use Rattle.std.specs.Prelude.{◌≡◌, ◌⊎◌, ℕ, List, IsTrue, IfOk, IfErr, IfSome, OnOk, Some, None, cond, false};
 ghost use Rattle.std.specs.FinMap as map;
 ghost use Rattle.std.specs.Str.{bytes_eq};
-ghost use Rattle.ax_faults.specs.Faults.{Rose};
-ghost use Rattle.ax_cache.specs.Held.{held};
+ghost use Rattle.ax_cache.specs.PageLaws.{no_pages};
 ghost use Rattle.ax_disk.specs.model.Stays.{Rests, SinceBarrier};
-ghost use Rattle.ax_area.specs.Image.{IsFresh};
+ghost use Rattle.ax_area.specs.Image.{IsDamaged, IsFresh, IsNewer};
 ghost use Rattle.ax_container.specs.Container.{Container};
 ghost use Rattle.ax_log.specs.Opening.{Keeps};
-ghost use Rattle.ax_image.specs.Readable.{SaysReadable};
+ghost use Rattle.ax_image.specs.Readable.{SaysReadable, newest};
+ghost use Rattle.ax_pages.specs.Area.{extent_number};
+ghost use Rattle.ax_disk.specs.declared.extent.Extent.TheVariants.{Root};
 ghost use Rattle.ax_image.specs.Documents.{ContentsHold};
+ghost use Rattle.ax_store.specs.Faults.{HasDiskCause};
 ghost use Rattle.ax_store.specs.Store.{Agrees, store_failed, store_contents};
 ghost use Rattle.ax_tree.specs.declared.tree.Tree.{Tree as TreeOf};
 ghost use Rattle.ax_tree.specs.CanonicalText.{canonical_text};
@@ -18,18 +20,17 @@ ghost use Rattle.ax_tree.specs.Document.{document_id};
 ghost use Rattle.ax_ids.specs.Ids.{number_under};
 ghost use Rattle.ax_text.specs.Reading.{reading, Stands};
 ghost use Rattle.ax_engine.specs.Documents.{DocumentsHold, DocumentsWork, number_in};
-ghost use Rattle.ax_engine.specs.Opening.{Numbers, RefusesBy};
+ghost use Rattle.ax_engine.specs.Opening.{IsAnswerUnlessDisk, Numbers, RefusesBy};
 ghost use Rattle.ax_engine.specs.Scans.{IsReady, Scans};
 ghost use Rattle.ax_engine.specs.StoreSays.{text_of};
 ghost use Rattle.ax_engine.specs.Stores.{IsImageOf, IsStore, IsWithin};
 
 use crate::documents::Documents;
 use crate::reading::{next_held, read_document};
-use ax_cache::LruPages;
 use ax_disk::Disk;
 use ax_ids::{Ids, Memory};
 use ax_skim::find_id;
-use ax_store::{ReadAhead, Store, StoreFault};
+use ax_store::{LruPages, NoPages, ReadAhead, Store, StoreFault};
 use ax_text::{TextFault, TreeReader};
 use ax_tree::id_of;
 use std::alloc::Global;
@@ -58,15 +59,18 @@ pub(crate) fn open_documents<D: Disk>(alloc: Global, disk: &mut D) -> Result<Doc
         → Keeps (D.history disk.old (D.attached disk.old)) (D.history disk.new (D.attached disk.new)) }
     ensures refused { IsTrue (D.is_honest disk.old) → IfErr result (λ fault. RefusesBy fault
         (D.history disk.old (D.attached disk.old)) (D.history disk.new (D.attached disk.new))) }
-    ensures cause { result ≡ Err StoreFault.Disk → Rose (D.faults disk.old) (D.faults disk.new) }
-    ensures never_falls { D.faults disk.old ≤ D.faults disk.new }
+    ensures damaged_root { IsTrue (D.is_honest disk.old) → (at : ℕ)
+        → IsDamaged newest (D.history disk.old (D.attached disk.old)).reads Root at
+        → IsAnswerUnlessDisk (StoreFault.Damaged (extent_number Root) at) result }
+    ensures newer { IsTrue (D.is_honest disk.old) → (version : ℕ)
+        → IsNewer newest version (D.history disk.old (D.attached disk.old)).reads
+        → IsAnswerUnlessDisk (StoreFault.Newer version) result }
+    ensures cause { HasDiskCause result (D.faults disk.old) (D.faults disk.new) }
     ensures attached { D.attached disk.new ≡ D.attached disk.old }
     ensures honest { D.is_honest disk.new ≡ D.is_honest disk.old }
 {
-    let Ok(cache) = LruPages::make(alloc, CACHED_PARTS) else {
-        return Err(StoreFault::Memory);
-    };
-    match Store::open_store(alloc, disk, cache) {
+    // The cache takes its memory when the store is open, so that no want of it hides why a store is refused.
+    match Store::open_store(alloc, disk, NoPages) {
         Ok(store) => number_all(alloc, disk, store),
         Err(fault) => Err(fault),
     }
@@ -76,17 +80,20 @@ pub(crate) fn open_documents<D: Disk>(alloc: Global, disk: &mut D) -> Result<Doc
 fn number_all<D: Disk>(
     alloc: Global,
     disk: &mut D,
-    store: Store<LruPages>,
+    store: Store<NoPages>,
 ) -> Result<Documents, StoreFault>
     requires works { store_failed store ≡ false }
-    requires agrees { IsTrue (D.is_honest disk.old) → Agrees held store (D.history disk.old (D.attached disk.old)) }
+    requires agrees { IsTrue (D.is_honest disk.old) → Agrees (λ _. no_pages) store (D.history disk.old (D.attached disk.old)) }
     ensures numbers { Numbers (D.is_honest disk.old) result store
         (D.history disk.old (D.attached disk.old)) (D.history disk.new (D.attached disk.new))
         (D.faults disk.old) (D.faults disk.new) }
     ensures attached { D.attached disk.new ≡ D.attached disk.old }
     ensures honest { D.is_honest disk.new ≡ D.is_honest disk.old }
 {
-    let mut store = store;
+    let Ok(cache) = LruPages::make(alloc, CACHED_PARTS) else {
+        return Err(StoreFault::Memory);
+    };
+    let mut store = store.with_cache(cache);
     let mut numbers = Ids::new(alloc);
     let mut ahead = ReadAhead::new(alloc);
     match number_documents(alloc, &mut store, disk, &mut ahead, &mut numbers) {

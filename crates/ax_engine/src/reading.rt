@@ -11,10 +11,8 @@ ghost use Rattle.ax_engine.specs.Scans.{IsReady, Scans};
 
 use ax_answer_text::TextFault;
 use ax_base::Steps;
-use ax_cache::LruPages;
 use ax_disk::Disk;
-use ax_pages::Page;
-use ax_store::{ReadAhead, Store, StoreFault};
+use ax_store::{LruPages, Page, ReadAhead, Store, StoreFault};
 use std::sync::ledger::Ledger;
 
 /// The least number above another that is held. `None` exactly where there is none.

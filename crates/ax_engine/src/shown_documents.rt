@@ -15,10 +15,9 @@ ghost use Rattle.ax_tree.specs.declared.tree.Tree as trees;
 
 use crate::reading::read_document;
 use crate::rows::Rows;
-use ax_cache::LruPages;
 use ax_disk::Disk;
 use ax_mean::{Expr, KeyedRow, Pick, Query, Shared, Tree, Value};
-use ax_store::{ReadAhead, Store, StoreFault};
+use ax_store::{LruPages, ReadAhead, Store, StoreFault};
 use ax_tree::Memory;
 use std::alloc::Global;
 

@@ -20,6 +20,3 @@ pub use out_of_memory::Memory;
 pub use part::{MOST_PAYLOAD, Part, PartHead, part_head, split_part};
 pub use parts_text::PartsText;
 pub use root_slot::{RootSlot, read_slot, write_slot};
-
-#[cfg(test)]
-mod tests;

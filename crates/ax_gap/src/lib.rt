@@ -22,6 +22,3 @@ pub use cursor::{GapCursor, read_gaps};
 pub use gaps::put_gaps;
 pub use out_of_memory::Memory;
 pub use sets::{is_rising, join, meet, without};
-
-#[cfg(test)]
-mod tests;

@@ -1,5 +1,5 @@
--- What stands under an id after a number was put under one.
-use Rattle.std.proofs.Common.{◌≡◌, ℕ, Bool, true, false, cond, List, ◌++◌, take, drop, Some, Ordering, refl, ap, subst, ◌∙◌, sym, ⊎_elim, string_bytes}
+-- What stands under an id after a change under one: a number put there, or taken away.
+use Rattle.std.proofs.Common.{◌≡◌, ℕ, Bool, true, false, cond, List, ◌++◌, take, drop, Option, Ordering, refl, ap, subst, ◌∙◌, sym, ⊎_elim, string_bytes}
 use Rattle.std.specs.BTreeMap.{BTreeMap, Updates, get, get_by_text, is_at}
 use Rattle.std.specs.Ordering.{is_eq, nat_cmp, ordering_then}
 use Rattle.std.specs.Prelude.{String}
@@ -116,52 +116,52 @@ long_is false true number chunks h = absurd cc
 long_is false false number chunks h = (refl, refl)
 
 -- a change that is seen at lists of bytes, and the others have no number before it or after
-changed : (old new : Ids) (id : List ℕ) (number : ℕ) → are_bytes id ≡ true
+changed : (old new : Ids) (id : List ℕ) (value : Option ℕ) → are_bytes id ≡ true
     → ((other : List ℕ) → are_bytes other ≡ true
-    → number_among new other ≡ cond (bytes_eq id other) (Some number) (number_among old other))
-    → (other : List ℕ) → number_under new other ≡ cond (bytes_eq id other) (Some number) (number_under old other)
+    → number_among new other ≡ cond (bytes_eq id other) value (number_among old other))
+    → (other : List ℕ) → number_under new other ≡ cond (bytes_eq id other) value (number_under old other)
 unfolding number_under
-changed old new id number bytes among other =
+changed old new id value bytes among other =
     ⊎_elim
     (λ (are : are_bytes other ≡ true). rw (are) (among other are))
     (λ (are_not : are_bytes other ≡ false). rw (are_not, differs are_bytes id other bytes are_not) refl)
     (cases_Bool (are_bytes other))
 
 -- what stands under an id of bytes after a change in the map of short ids
-short_put_at : (old : Ids) (short : BTreeMap ℕ ℕ) (id : List ℕ) (number : ℕ)
-    → are_bytes id ≡ true → is_short id ≡ true → Updates nat_cmp old.short short (as_number id) (Some number)
+short_put_at : (old : Ids) (short : BTreeMap ℕ ℕ) (id : List ℕ) (value : Option ℕ)
+    → are_bytes id ≡ true → is_short id ≡ true → Updates nat_cmp old.short short (as_number id) value
     → (other : List ℕ) → are_bytes other ≡ true → number_among (record old { short = short }) other
-    ≡ cond (bytes_eq id other) (Some number) (number_among old other)
-short_put_at old short id number bytes few updates other are =
+    ≡ cond (bytes_eq id other) value (number_among old other)
+short_put_at old short id value bytes few updates other are =
     ⊎_elim
     (λ (fit : is_short other ≡ true). rw (fit) (updates.0 (as_number other)
-    ∙ ap (λ b. cond b (Some number) (get nat_cmp old.short (as_number other))) (numbers_tell id other bytes are)))
+    ∙ ap (λ b. cond b value (get nat_cmp old.short (as_number other))) (numbers_tell id other bytes are)))
     (λ (more : is_short other ≡ false). rw (more, differs is_short id other few more) refl)
     (cases_Bool (is_short other))
 
 -- in that of ids in three chunks
-medium_put_at : (old : Ids) (medium : BTreeMap Chunks ℕ) (id : List ℕ) (number : ℕ)
+medium_put_at : (old : Ids) (medium : BTreeMap Chunks ℕ) (id : List ℕ) (value : Option ℕ)
     → are_bytes id ≡ true → is_short id ≡ false → fits_chunks id ≡ true
-    → Updates chunks_cmp old.medium medium (chunks_of id) (Some number)
+    → Updates chunks_cmp old.medium medium (chunks_of id) value
     → (other : List ℕ) → are_bytes other ≡ true → number_among (record old { medium = medium }) other
-    ≡ cond (bytes_eq id other) (Some number) (number_among old other)
-medium_put_at old medium id number bytes more fits updates other are =
+    ≡ cond (bytes_eq id other) value (number_among old other)
+medium_put_at old medium id value bytes more fits updates other are =
     ⊎_elim
     (λ (few : is_short other ≡ true). rw (few, differs_too is_short id other more few) refl)
     (λ (not_few : is_short other ≡ false). ⊎_elim
     (λ (fit : fits_chunks other ≡ true). rw (not_few, fit) (updates.0 (chunks_of other)
-    ∙ ap (λ b. cond b (Some number) (get chunks_cmp old.medium (chunks_of other))) (chunks_tell id other bytes are)))
+    ∙ ap (λ b. cond b value (get chunks_cmp old.medium (chunks_of other))) (chunks_tell id other bytes are)))
     (λ (many : fits_chunks other ≡ false). rw (not_few, many, differs fits_chunks id other fits many) refl)
     (cases_Bool (fits_chunks other)))
     (cases_Bool (is_short other))
 
 -- and in that of long ones
-long_put_at : (old : Ids) (long : BTreeMap (String Global) ℕ) (id : List ℕ) (number : ℕ)
+long_put_at : (old : Ids) (long : BTreeMap (String Global) ℕ) (id : List ℕ) (value : Option ℕ)
     → is_short id ≡ false → fits_chunks id ≡ false
-    → ((other : List ℕ) → get_by_text long other ≡ cond (bytes_eq id other) (Some number) (get_by_text old.long other))
+    → ((other : List ℕ) → get_by_text long other ≡ cond (bytes_eq id other) value (get_by_text old.long other))
     → (other : List ℕ) → number_among (record old { long = long }) other
-    ≡ cond (bytes_eq id other) (Some number) (number_among old other)
-long_put_at old long id number more many updates other =
+    ≡ cond (bytes_eq id other) value (number_among old other)
+long_put_at old long id value more many updates other =
     ⊎_elim
     (λ (few : is_short other ≡ true). rw (few, differs_too is_short id other more few) refl)
     (λ (not_few : is_short other ≡ false). ⊎_elim
@@ -170,40 +170,51 @@ long_put_at old long id number more many updates other =
     (cases_Bool (fits_chunks other)))
     (cases_Bool (is_short other))
 
-pub short_put : (old : Ids) (short : BTreeMap ℕ ℕ) (key : ℕ) (bytes id : List ℕ) (number : ℕ)
+-- the same by the key that the code has made of the id
+pub short_put : (old : Ids) (short : BTreeMap ℕ ℕ) (key : ℕ) (bytes id : List ℕ) (value : Option ℕ)
     → bytes ≡ id → are_bytes bytes ≡ true → IdKey.Short key ≡ key_of bytes
-    → Updates nat_cmp old.short short key (Some number)
+    → Updates nat_cmp old.short short key value
     → (other : List ℕ) → number_under (record old { short = short }) other
-    ≡ cond (bytes_eq id other) (Some number) (number_under old other)
-short_put old short key bytes id number same known named updates =
+    ≡ cond (bytes_eq id other) value (number_under old other)
+short_put old short key bytes id value same known named updates =
     let found = short_is (is_short bytes) (fits_chunks bytes) key (as_number bytes) (chunks_of bytes) named in
     let own : key ≡ as_number id = found.1 ∙ ap as_number same in
     let are : are_bytes id ≡ true = sym (ap are_bytes same) ∙ known in
-    changed old (record old { short = short }) id number are
-    (short_put_at old short id number are (sym (ap is_short same) ∙ found.0)
-    (subst (λ (k : ℕ). Updates nat_cmp old.short short k (Some number)) own updates))
+    changed old (record old { short = short }) id value are
+    (short_put_at old short id value are (sym (ap is_short same) ∙ found.0)
+    (subst (λ (k : ℕ). Updates nat_cmp old.short short k value) own updates))
 
-pub medium_put : (old : Ids) (medium : BTreeMap Chunks ℕ) (key : Chunks) (bytes id : List ℕ) (number : ℕ)
+pub medium_put : (old : Ids) (medium : BTreeMap Chunks ℕ) (key : Chunks) (bytes id : List ℕ) (value : Option ℕ)
     → bytes ≡ id → are_bytes bytes ≡ true → IdKey.Medium key ≡ key_of bytes
-    → Updates chunks_cmp old.medium medium key (Some number)
+    → Updates chunks_cmp old.medium medium key value
     → (other : List ℕ) → number_under (record old { medium = medium }) other
-    ≡ cond (bytes_eq id other) (Some number) (number_under old other)
-medium_put old medium key bytes id number same known named updates =
+    ≡ cond (bytes_eq id other) value (number_under old other)
+medium_put old medium key bytes id value same known named updates =
     let found = medium_is (is_short bytes) (fits_chunks bytes) (as_number bytes) key (chunks_of bytes) named in
     let own : key ≡ chunks_of id = found.2 ∙ ap chunks_of same in
     let are : are_bytes id ≡ true = sym (ap are_bytes same) ∙ known in
-    changed old (record old { medium = medium }) id number are
-    (medium_put_at old medium id number are (sym (ap is_short same) ∙ found.0) (sym (ap fits_chunks same) ∙ found.1)
-    (subst (λ (k : Chunks). Updates chunks_cmp old.medium medium k (Some number)) own updates))
+    changed old (record old { medium = medium }) id value are
+    (medium_put_at old medium id value are (sym (ap is_short same) ∙ found.0) (sym (ap fits_chunks same) ∙ found.1)
+    (subst (λ (k : Chunks). Updates chunks_cmp old.medium medium k value) own updates))
 
-pub long_put : (old : Ids) (long : BTreeMap (String Global) ℕ) (text : String Global) (bytes id : List ℕ) (number : ℕ)
-    → bytes ≡ id → are_bytes bytes ≡ true → IdKey.Long ≡ key_of bytes → string_bytes text ≡ id
-    → Updates string_cmp old.long long text (Some number)
+-- a long id is kept as a text, and the change is told of texts
+pub long_changed : (old : Ids) (long : BTreeMap (String Global) ℕ) (bytes id : List ℕ) (value : Option ℕ)
+    → bytes ≡ id → are_bytes bytes ≡ true → IdKey.Long ≡ key_of bytes
+    → ((other : List ℕ) → get_by_text long other ≡ cond (bytes_eq id other) value (get_by_text old.long other))
     → (other : List ℕ) → number_under (record old { long = long }) other
-    ≡ cond (bytes_eq id other) (Some number) (number_under old other)
-long_put old long text bytes id number same known named spelled updates =
+    ≡ cond (bytes_eq id other) value (number_under old other)
+long_changed old long bytes id value same known named updates =
     let found = long_is (is_short bytes) (fits_chunks bytes) (as_number bytes) (chunks_of bytes) named in
-    changed old (record old { long = long }) id number (sym (ap are_bytes same) ∙ known)
-    (λ other _. long_put_at old long id number (sym (ap is_short same) ∙ found.0) (sym (ap fits_chunks same) ∙ found.1)
-    (λ other. btree_map_updates_text (string_bytes text) old.long long (Some number) updates other
-    ∙ ap (λ k. cond (bytes_eq k other) (Some number) (get_by_text old.long other)) spelled) other)
+    changed old (record old { long = long }) id value (sym (ap are_bytes same) ∙ known)
+    (λ other _. long_put_at old long id value (sym (ap is_short same) ∙ found.0) (sym (ap fits_chunks same) ∙ found.1)
+    updates other)
+
+pub long_put : (old : Ids) (long : BTreeMap (String Global) ℕ) (text : String Global) (bytes id : List ℕ) (value : Option ℕ)
+    → bytes ≡ id → are_bytes bytes ≡ true → IdKey.Long ≡ key_of bytes → string_bytes text ≡ id
+    → Updates string_cmp old.long long text value
+    → (other : List ℕ) → number_under (record old { long = long }) other
+    ≡ cond (bytes_eq id other) value (number_under old other)
+long_put old long text bytes id value same known named spelled updates =
+    long_changed old long bytes id value same known named
+    (λ other. btree_map_updates_text (string_bytes text) old.long long value updates other
+    ∙ ap (λ k. cond (bytes_eq k other) value (get_by_text old.long other)) spelled)

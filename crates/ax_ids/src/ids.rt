@@ -9,7 +9,7 @@ use crate::out_of_memory::Memory;
 use std::alloc::Global;
 use std::collections::BTreeMap;
 
-/// Ids, each with the number that was put last under it.
+/// Ids, each with the number that was put last under it and not taken away.
 #[derive(Drop)]
 pub struct Ids {
     short: BTreeMap<u128, u32>,
@@ -55,5 +55,18 @@ impl Ids {
             IdKey::Long => self.long.insert(String::from_str(alloc, id)?, number)?,
         };
         Ok(())
+    }
+
+    /// Takes away the number under an id, if there is one. It takes no memory.
+    #[tactic(auto, using(crate::proofs::Putting::short_put, crate::proofs::Putting::medium_put, crate::proofs::Removing::long_removed), unfolding(crate::specs::Ids::number_under))]
+    pub fn remove(&mut self, id: &str)
+        ensures { (other : List ℕ) → number_under self.new other
+            ≡ cond (bytes_eq id.now other) None (number_under self.old other) }
+    {
+        match IdKey::of(id.as_bytes()) {
+            IdKey::Short(bytes) => self.short.remove(&bytes),
+            IdKey::Medium(chunks) => self.medium.remove(&chunks),
+            IdKey::Long => self.long.remove(id),
+        };
     }
 }

@@ -7,7 +7,8 @@
 //! crate stands on `std` alone.
 //!
 //! Its one contract: an id stands under the number that was put last under just its bytes, and under
-//! none before that (`number_under` of `specs/Ids.antt`). A look-up takes no memory.
+//! none before that and after that number was taken away (`number_under` of `specs/Ids.antt`). A
+//! look-up takes no memory, and neither does taking a number away.
 #![tactic(auto)]
 
 mod id_key;

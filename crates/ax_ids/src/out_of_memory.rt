@@ -4,7 +4,7 @@ use std::alloc::{AllocError, AllocFailed};
 use std::error::Error;
 use std::fmt;
 
-/// There was no memory for the result.
+/// Out of memory: the one answer that no contract ties to a cause.
 #[derive(Debug, Clone, Copy, PartialEq, Eq)]
 pub struct Memory;
 

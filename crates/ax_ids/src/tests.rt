@@ -52,3 +52,44 @@ fn each_id_has_the_number_that_was_put_last(rt: HostRuntime) -> Result<(), Fail>
     assert_eq!(rt; ids.get("a\0"), Some(3));
     Ok(())
 }
+
+// Short, medium and long ids, each beside one that begins alike, and ids that are not there.
+#[test]
+fn a_number_is_taken_away_and_its_neighbours_stay(rt: HostRuntime) -> Result<(), Fail> {
+    let alloc = rt.alloc();
+    let pairs: [(&str, &str); 5] = [
+        ("a", "a\0"),
+        ("", "\0"),
+        ("abcdefghijklmno", "abcdefghijklmno\0"),
+        (
+            "1f0e5f0a-8d3e-4c2b-9a61-0c5d7e8f9a1b",
+            "1f0e5f0a-8d3e-4c2b-9a61-0c5d7e8f9a1c",
+        ),
+        (
+            "1f0e5f0a-8d3e-4c2b-9a61-0c5d7e8f9a1b/1f0e5f0a-8d3e",
+            "1f0e5f0a-8d3e-4c2b-9a61-0c5d7e8f9a1b/1f0e5f0a-8d3f",
+        ),
+    ];
+    let mut ids = Ids::new(alloc);
+    for (gone, stays) in pairs {
+        ids.insert(alloc, stays, 2)?;
+        ids.remove(gone);
+        assert_eq!(rt; ids.get(gone), None, "{gone:?}");
+        assert_eq!(rt; ids.get(stays), Some(2), "{stays:?}");
+    }
+    for (gone, _) in pairs {
+        ids.insert(alloc, gone, 1)?;
+    }
+    for (gone, _) in pairs {
+        assert_eq!(rt; ids.get(gone), Some(1), "{gone:?}");
+        ids.remove(gone);
+        assert_eq!(rt; ids.get(gone), None, "{gone:?}");
+    }
+    for (gone, stays) in pairs {
+        assert_eq!(rt; ids.get(gone), None, "{gone:?}");
+        assert_eq!(rt; ids.get(stays), Some(2), "{stays:?}");
+    }
+    ids.insert(alloc, "a", 3)?;
+    assert_eq!(rt; ids.get("a"), Some(3));
+    Ok(())
+}

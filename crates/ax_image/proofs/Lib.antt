@@ -1,7 +1,7 @@
 pub mod KeptApart
 pub mod Shown
 pub mod Under
-pub mod Upserting
+pub mod Writing
 pub mod OneContainer
-pub mod ReadableUpserts
+pub mod ReadableWrites
 pub mod InGrammar

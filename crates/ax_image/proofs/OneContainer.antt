@@ -26,8 +26,8 @@ one_entry : (text : List ℕ) (number : ℕ) (document : Stored) (a b : Entry) �
 one_entry text number document a b sa sb ua ub ha hb =
     let numbers : a.number ≡ b.number = sym sa.number_is ∙ sb.number_is in
     let texts : canonical_text a.tree ≡ canonical_text b.tree = sym sa.text_is ∙ sb.text_is in
-    let trees : a.tree ≡ b.tree = one_text a.tree b.tree (numbers_fit-well_formed a.tree ha.well_formed)
-    (numbers_fit-well_formed b.tree hb.well_formed) texts in
+    let trees : a.tree ≡ b.tree = one_text a.tree b.tree (numbers_fit-well_formed a.tree ha.storable.well_formed)
+    (numbers_fit-well_formed b.tree hb.storable.well_formed) texts in
     let ids : a.id ≡ b.id = same_some a.id b.id (sym ha.own_id ∙ ap document_id trees ∙ hb.own_id) in
     let policies : a.indexed_by ≡ b.indexed_by = same_policy text a.indexed_by b.indexed_by ua ub in
     λ i. record { number = numbers i; id = ids i; tree = trees i; indexed_by = policies i }

@@ -1,20 +1,23 @@
 -- Documents that show entries: what a document put in place makes of them.
-use Rattle.std.proofs.Common.{◌≡◌, ℕ, suc, ◌<◌, true, false, List, [], ◌∷◌, ◌++◌, length, map, find, Some, is_some, refl, sym, ap, subst, ◌∙◌, arith}
-use Rattle.std.specs.Prelude.{if◌then◌else◌}
-use Rattle.std.specs.List.{list_any}
+use Rattle.std.proofs.Common.{◌≡◌, ℕ, suc, ◌<◌, Bool, true, false, cond, List, [], ◌∷◌, ◌++◌, length, map, find, Some, is_some, option_map}
+use Rattle.std.proofs.Common.{Ordering, Less, Option, None, is_eq, refl, sym, ap, subst, ◌∙◌, arith, nat_eq}
+use Rattle.std.proofs.lemmas.Bool.{eq-eqb, eqb-true, false_from_ne_true}
+use Rattle.std.specs.Prelude.{if◌then◌else◌, not}
+use Rattle.std.specs.List.{list_any, filter}
 use Rattle.std.specs.Option.{unwrap_or}
 use Rattle.std.specs.Ordering.{nat_cmp, eq_by_cmp}
-use Rattle.std.specs.Cmp.{nat_cmp_is}
+use Rattle.std.specs.Cmp.{eq_by_cmp_equiv, nat_cmp_is, nat_cmp_total}
 use Rattle.std.specs.declared.cmp.Ordering.TheVariants.{Equal, Greater}
 use Rattle.std.specs.FinMap.{put}
 use Rattle.std.specs.FinMap as finite
 use Rattle.ax_pages.proofs.LastPart.{same_number}
-use Rattle.std.specs.FinMap.Entries.{by_order}
+use Rattle.std.specs.FinMap.Entries.{by_order, find-where_key, is_sorted-where_key, same_entries}
 use Rattle.ax_tree.specs.declared.tree.Tree.{Tree}
 use Rattle.ax_tree.specs.CanonicalText.{canonical_text}
 use Rattle.ax_policy.specs.declared.policy.Policy.{Policy}
-use Rattle.ax_container.specs.Container.{Entry, has_id, NumbersRise, IdsAreDistinct}
+use Rattle.ax_container.specs.Container.{Entry, has_id, entry_at, NumbersRise, IdsAreDistinct}
 use Rattle.ax_container.specs.Writes.{with_tree}
+use Rattle.ax_container.proofs.ByNumber.{other_than}
 use Rattle.ax_container.proofs.Ids.{same_from_eq}
 use Rattle.ax_container.proofs.Soundness.{the_entry, or_none}
 use Rattle.ax_container.proofs.Upserts.{with_tree-own, with_tree-other}
@@ -134,3 +137,79 @@ found_page (p ∷ ps) (e ∷ es) id found shown is =
         | false ↦ found_page ps es id found shown.1 same
       ]
     ] is
+
+-- ---- pages by the numbers of entries
+
+equal : (o : Ordering) → is_eq o ≡ true → o ≡ Equal
+equal Less h = absurd (cc)
+equal Equal h = refl
+equal Greater h = absurd (cc)
+
+eq_is : (a b : ℕ) → eq_by_cmp nat_cmp a b ≡ nat_eq b a
+eq_is a b = by_test (nat_eq b a) refl
+  where
+    by_test : (t : Bool) → nat_eq b a ≡ t → eq_by_cmp nat_cmp a b ≡ t
+    by_test true e = ap is_eq (sym (nat_cmp_is a b Equal (sym (eqb-true b a e))))
+    by_test false e =
+        false_from_ne_true (eq_by_cmp nat_cmp a b)
+        (λ h. let same : nat_eq b a ≡ true = eq-eqb b a (sym (finite.nat_cmp-IsAntisymmetric a b (equal (nat_cmp a b) h))) in absurd (cc))
+
+-- whether a page is of the number is whether its entry is
+pub same_test : (number : ℕ) (p : ℕ × Stored) (e : Entry) → ShowsEntry p.0 p.1 e
+    → eq_by_cmp nat_cmp number p.0 ≡ nat_eq e.number number
+same_test number p e shown = eq_is number p.0 ∙ ap (λ k. nat_eq k number) shown.number_is
+
+-- the page of the number of an entry has the text of its tree
+pub text_there : (pages : List (ℕ × Stored)) (entries : List Entry) (number : ℕ) (found : Entry) → ShowEntries pages entries
+    → entry_at number entries ≡ Some found
+    → option_map (λ (document : Stored). document.text) (finite.find nat_cmp number pages) ≡ Some (canonical_text found.tree)
+text_there [] [] number found shown is = absurd cc
+text_there [] (e ∷ es) number found shown is = absurd shown
+text_there (p ∷ ps) [] number found shown is = absurd shown
+text_there (p ∷ ps) (e ∷ es) number found shown is =
+    ap (λ b. option_map (λ (document : Stored). document.text) (cond b (Some p.1) (finite.find nat_cmp number ps)))
+    (same_test number p e shown.0)
+    ∙ elim (nat_eq e.number number) as (λ b. cond b (Some e) (entry_at number es) ≡ Some found
+    → option_map (λ (document : Stored). document.text) (cond b (Some p.1) (finite.find nat_cmp number ps)) ≡ Some (canonical_text found.tree)) [
+      | true ↦ λ at. ap Some (shown.0.text_is ∙ ap (λ (x : Entry). canonical_text x.tree) (same_some e found at))
+      | false ↦ λ at. text_there ps es number found shown.1 at
+    ] is
+
+-- ---- a page taken away
+
+-- the pages of other numbers
+abbrev pub documents_without : ℕ → List (ℕ × Stored) → List (ℕ × Stored)
+documents_without number pages = filter (λ page. not (eq_by_cmp nat_cmp number page.0)) pages
+
+turned : {A : Type 0} (b : Bool) (x : Option A) → cond b None x ≡ cond (not b) x None
+turned true x = refl
+turned false x = refl
+
+pub entries_without : (m : finite.FinMap nat_cmp Stored) (number : ℕ)
+    → finite.entries (finite.remove m number) ≡ documents_without number (finite.entries m)
+entries_without m number =
+    let keeps : ℕ → Bool = λ x. not (eq_by_cmp nat_cmp number x) in
+    same_entries nat_cmp nat_cmp_total finite.nat_cmp-IsAntisymmetric (finite.entries (finite.remove m number))
+    (documents_without number (finite.entries m)) (finite.entries_sorted (finite.remove m number))
+    (is_sorted-where_key nat_cmp keeps (finite.entries m) (finite.entries_sorted m))
+    (λ q.
+    sym (finite.get-entries (finite.remove m number) q) ∙ finite.get-remove nat_cmp_total m number q
+    ∙ ap (λ b. cond b None (finite.get m q)) ((eq_by_cmp_equiv nat_cmp_total).symm q number)
+    ∙ turned (eq_by_cmp nat_cmp number q) (finite.get m q)
+    ∙ ap (λ x. cond (not (eq_by_cmp nat_cmp number q)) x None) (finite.get-entries m q)
+    ∙ sym (find-where_key nat_cmp keeps q (λ x e. ap keeps (sym (finite.nat_cmp-IsAntisymmetric q x e))) (finite.entries m)))
+
+pub shown_without : (number : ℕ) (pages : List (ℕ × Stored)) (entries : List Entry) → ShowEntries pages entries
+    → ShowEntries (documents_without number pages) (filter (other_than number) entries)
+shown_without number [] [] shown = tt
+shown_without number [] (e ∷ es) shown = absurd shown
+shown_without number (p ∷ ps) [] shown = absurd shown
+shown_without number (p ∷ ps) (e ∷ es) shown =
+    let rest : ShowEntries (documents_without number ps) (filter (other_than number) es) = shown_without number ps es shown.1 in
+    let P : Bool → Bool → Type 0 = λ a b. ShowEntries (cond (not a) (p ∷ documents_without number ps) (documents_without number ps))
+    (cond (not b) (e ∷ filter (other_than number) es) (filter (other_than number) es)) in
+    subst (λ a. P a (nat_eq e.number number)) (sym (same_test number p e shown.0))
+    (elim (nat_eq e.number number) as (λ b. P b b) [
+      | true ↦ rest
+      | false ↦ (shown.0, rest)
+    ])

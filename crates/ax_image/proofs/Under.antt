@@ -1,19 +1,20 @@
 -- Documents under the policies of entries: what a document put in place makes of them.
-use Rattle.std.proofs.Common.{◌≡◌, ℕ, ◌<◌, true, false, List, [], ◌∷◌, ◌++◌, map, find, Some, refl, sym, ap, subst, ◌∙◌, arith}
-use Rattle.std.specs.Prelude.{if◌then◌else◌}
-use Rattle.std.specs.List.{list_any}
+use Rattle.std.proofs.Common.{◌≡◌, ℕ, ◌<◌, Bool, true, false, cond, List, [], ◌∷◌, ◌++◌, map, find, Some, refl, sym, ap, subst, ◌∙◌, arith, nat_eq}
+use Rattle.std.specs.Prelude.{if◌then◌else◌, not}
+use Rattle.std.specs.List.{list_any, filter}
 use Rattle.std.specs.Ordering.{nat_cmp}
 use Rattle.std.specs.FinMap.{put}
 use Rattle.ax_tree.specs.declared.tree.Tree.{Tree}
 use Rattle.ax_policy.specs.declared.policy.Policy.{Policy}
 use Rattle.ax_container.specs.Container.{Entry, has_id, NumbersRise, IdsAreDistinct}
 use Rattle.ax_container.specs.Writes.{with_tree}
+use Rattle.ax_container.proofs.ByNumber.{other_than}
 use Rattle.ax_container.proofs.Ids.{same_from_eq}
 use Rattle.ax_container.proofs.Upserts.{with_tree-own, with_tree-other}
 use Rattle.ax_area.specs.Contents.{Stored}
 use Rattle.ax_image_grammar.specs.Payloads.{IsTextOf}
 use Rattle.ax_image.specs.StandsFor.{AreUnder, ShowEntries}
-use Rattle.ax_image.proofs.Shown.{after_greater, at_equal, found_above, rises_to, same_some, unchanged}
+use Rattle.ax_image.proofs.Shown.{after_greater, at_equal, documents_without, found_above, rises_to, same_some, same_test, unchanged}
 
 module _ (texts : ℕ → List ℕ) where
   pub under_behind : (pages : List (ℕ × Stored)) (entries : List Entry) (before next : ℕ) (document : Stored) (new : Entry)
@@ -67,3 +68,21 @@ module _ (texts : ℕ → List ℕ) where
         | false ↦ λ other at. under_later p ps e es next id tree policy document found rise.1 shown under other at
             (under_over ps es e.number next id tree policy document is found rise.1 distinct.1 shown.1 under.1 at)
       ] refl same
+
+  -- one that is gone leaves the others
+  pub under_without : (number : ℕ) (pages : List (ℕ × Stored)) (entries : List Entry) → ShowEntries pages entries
+      → AreUnder texts pages entries
+      → AreUnder texts (documents_without number pages) (filter (other_than number) entries)
+  under_without number [] [] shown under = tt
+  under_without number [] (e ∷ es) shown under = absurd shown
+  under_without number (p ∷ ps) [] shown under = absurd shown
+  under_without number (p ∷ ps) (e ∷ es) shown under =
+      let rest : AreUnder texts (documents_without number ps) (filter (other_than number) es) =
+      under_without number ps es shown.1 under.1 in
+      let P : Bool → Bool → Type 0 = λ a b. AreUnder texts (cond (not a) (p ∷ documents_without number ps) (documents_without number ps))
+      (cond (not b) (e ∷ filter (other_than number) es) (filter (other_than number) es)) in
+      subst (λ a. P a (nat_eq e.number number)) (sym (same_test number p e shown.0))
+      (elim (nat_eq e.number number) as (λ b. P b b) [
+        | true ↦ rest
+        | false ↦ (under.0, rest)
+      ])

@@ -1,4 +1,4 @@
 pub mod Documents
 pub mod Readable
 pub mod StandsFor
-pub mod UpsertChanges
+pub mod WriteChanges

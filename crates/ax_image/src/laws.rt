@@ -1,23 +1,22 @@
 //! Laws of what images stand for, each the contract of a function that does nothing.
 
-ghost use Rattle.std.specs.Prelude.{◌≡◌, ◌≤◌, List, ℕ, false, Some, Ok};
+ghost use Rattle.std.specs.Prelude.{◌≡◌, List, ℕ, false, Some};
 ghost use Rattle.ax_disk.specs.declared.extent.Extent.{Extent};
 ghost use Rattle.ax_disk.specs.model.Image.{Image};
 ghost use Rattle.ax_tree.specs.declared.tree.Tree.{Tree};
 ghost use Rattle.ax_tree.specs.Document.{document_id};
-ghost use Rattle.ax_tree.specs.Nesting.{nesting};
-ghost use Rattle.ax_tree.specs.WellFormed.{IsWellFormed};
-ghost use Rattle.ax_container.specs.Container.{Container, fresh};
-ghost use Rattle.ax_container.specs.Writes.{upserted};
-ghost use Rattle.ax_area.specs.Contents.{Contents, after_changes};
+ghost use Rattle.ax_container.specs.Container.{Container, Entry, contains, entry_of, fresh};
+ghost use Rattle.ax_container.specs.Writes.{created, deleted, is_full, replaced};
+ghost use Rattle.ax_area.specs.Contents.{Contents};
 ghost use Rattle.ax_area.specs.Image.{IsFresh};
 ghost use Rattle.ax_area.specs.Told.{Told};
+ghost use Rattle.ax_lines.specs.Asked.{IsStorable};
 ghost use Rattle.ax_image_grammar.specs.Grammar.{IsGrammatical, IsOutside};
 ghost use Rattle.ax_image_grammar.specs.Rows.{text_row, policy_row, delta_row, superseded_row};
-ghost use Rattle.ax_image.specs.Documents.{ContentsHold, HasDocuments};
+ghost use Rattle.ax_image.specs.Documents.{ContentsHold, HasDocuments, LeadsTo};
 ghost use Rattle.ax_image.specs.Readable.{newest, SaysReadable};
 ghost use Rattle.ax_image.specs.StandsFor.{StandsFor};
-ghost use Rattle.ax_image.specs.UpsertChanges.{upsert_changes};
+ghost use Rattle.ax_image.specs.WriteChanges.{creating_changes, deleting_changes, replacing_changes};
 
 /// An image stands for one container at most.
 pub fn one_container()
@@ -61,13 +60,20 @@ pub fn worked_images_stand_for_nothing()
     ensures superseded { (container : Container) → StandsFor superseded_row container → ⊥ }
 {}
 
-/// The changes of an upsert lead from contents that hold a container, and say no version, to contents that hold the
-/// upserted one.
-pub fn an_upsert_is_written_by_its_changes()
-    ensures { (contents : Contents) (before after : Container) (tree : Tree) (id : List ℕ)
+/// The changes of a creation, a replacement and a deletion lead from contents that hold a container to contents that
+/// hold what the write makes of it. A document is written where nothing says a version.
+pub fn a_write_is_written_by_its_changes()
+    ensures creation { (contents : Contents) (before : Container) (tree : Tree) (id : List ℕ)
         → contents.versioned ≡ false → ContentsHold contents before
-        → document_id tree ≡ Some id → IsWellFormed tree → nesting tree ≤ 127
-        → upserted id tree before ≡ Ok after
-        → (new : Contents) × (after_changes (upsert_changes id tree contents.policy_now before) contents ≡ Some new)
-        × ContentsHold new after }
+        → document_id tree ≡ Some id → IsStorable tree
+        → contains id before ≡ false → is_full before ≡ false
+        → LeadsTo contents (creating_changes before.next_number contents.policy_now tree) (created id tree before) }
+    ensures replacement { (contents : Contents) (before : Container) (tree : Tree) (id : List ℕ) (found : Entry)
+        → contents.versioned ≡ false → ContentsHold contents before
+        → document_id tree ≡ Some id → IsStorable tree
+        → entry_of id before ≡ Some found
+        → LeadsTo contents (replacing_changes found.number contents.policy_now tree) (replaced id tree before) }
+    ensures deletion { (contents : Contents) (before : Container) (id : List ℕ) (found : Entry)
+        → ContentsHold contents before → entry_of id before ≡ Some found
+        → LeadsTo contents (deleting_changes found.number) (deleted id before) }
 {}

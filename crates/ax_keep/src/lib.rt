@@ -10,8 +10,6 @@
 mod exchange;
 mod netting;
 mod owned;
-#[cfg(test)]
-mod tests;
 
 pub use ax_delta::Change;
 pub use ax_mean::Memory;

@@ -26,6 +26,3 @@ pub use cursor::PairCursor;
 pub use leaf::{Leaf, check};
 pub use out_of_memory::Memory;
 pub use writing::{encode, is_in_order};
-
-#[cfg(test)]
-mod tests;

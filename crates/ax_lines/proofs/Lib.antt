@@ -1,5 +1,6 @@
 mod FineBodies
 mod FineTrees
+mod Ids
 mod LastCounts
 mod Newlines
 mod Short

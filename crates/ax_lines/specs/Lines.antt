@@ -4,13 +4,15 @@
 use Rattle.std.specs.Prelude.{ℕ, ◌-◌, List, [], ◌∷◌, length, take, drop, slice_index, not, ◌==◌}
 use Rattle.std.specs.Prelude.{nat_lt, if◌then◌else◌, Option, Some, None, is_some, Result}
 use Rattle.std.specs.Prelude.{Ok, Err, codes}
-use Rattle.std.specs.Str.{bytes_eq}
+use Rattle.std.specs.Str.{bytes_eq, is_utf8}
 use Rattle.ax_tree.specs.declared.tree.Tree.{Tree}
 use Rattle.ax_tree.specs.CanonicalText.{canonical_text}
 use Rattle.ax_tree.specs.Nesting.{nesting}
-use Rattle.ax_tree.specs.Document.{document_id}
+use Rattle.ax_tree.specs.Document.{document_id, is_id}
 use Rattle.ax_text.specs.Reading.{Reading, Stands, NotJson, NotWhole, reading}
 use Rattle.ax_lines.specs.declared.body.Body.{Body}
+use Rattle.ax_lines.specs.declared.document_form.DocumentForm.{DocumentForm}
+use Rattle.ax_lines.specs.declared.document_form.DocumentForm.TheVariants as document
 use Rattle.ax_lines.specs.declared.line.Line.{Line}
 use Rattle.ax_lines.specs.declared.line.Line.TheVariants as line
 use Rattle.ax_lines.specs.declared.refusal.Refusal.{Refusal}
@@ -31,7 +33,11 @@ without_return bytes = if slice_index bytes (length bytes - 1) == carriage_retur
 
 -- a form, with its argument
 pub data Form : Type 0 where
-  Upsert : List ℕ → Form
+  -- of a document
+  Document : DocumentForm → List ℕ → Form
+  -- of an id
+  Delete : List ℕ → Form
+  Read : List ℕ → Form
   Query : List ℕ → Form
 
 -- what follows this word and its space at the beginning of a line
@@ -46,9 +52,13 @@ in_form form None other = other
 
 abbrev pub form_of : List ℕ → Option Form
 form_of command =
-    in_form Upsert (argument (codes "UPSERT ") command)
+    in_form (Document document.Create) (argument (codes "CREATE ") command)
+    (in_form (Document document.Upsert) (argument (codes "UPSERT ") command)
+    (in_form (Document document.Replace) (argument (codes "REPLACE ") command)
+    (in_form Delete (argument (codes "DELETE ") command)
+    (in_form Read (argument (codes "READ ") command)
     (in_form Query (argument (codes "QUERY ") command)
-    None)
+    None)))))
 
 -- ---- the causes of refusal of each form, in their order
 
@@ -68,13 +78,20 @@ deepest = 100
 abbrev pub most_bytes : ℕ
 most_bytes = 60000
 
-abbrev pub upsert_causes : Tree → List Cause
-upsert_causes tree =
+-- of a line whose argument is a document
+abbrev pub document_causes : Tree → List Cause
+document_causes tree =
     record { applies = not (is_some (document_id tree)); refusal = refusal.Id } ∷
     record { applies = nat_lt deepest (nesting tree); refusal = refusal.Large } ∷
     record { applies = not (has_short_names tree); refusal = refusal.Large } ∷
     record { applies = nat_lt most_bytes (length (canonical_text tree)); refusal = refusal.Large } ∷
     []
+
+-- of a line whose argument is an id
+abbrev pub id_causes : List ℕ → List Cause
+id_causes id =
+    record { applies = not (is_utf8 id); refusal = refusal.Id } ∷
+    record { applies = not (is_id id); refusal = refusal.Id } ∷ []
 
 abbrev pub query_causes : Tree → List Cause
 query_causes tree = record { applies = nat_lt deepest (nesting tree); refusal = refusal.Large } ∷ []
@@ -92,9 +109,17 @@ with_tree_of (Stands tree) ask = ask tree
 with_tree_of NotJson ask = Err refusal.Json
 with_tree_of NotWhole ask = Err refusal.Number
 
+-- the line of that form with that document
+abbrev pub line_with : DocumentForm → Tree → Line
+line_with document.Create tree = line.Create tree
+line_with document.Upsert tree = line.Upsert tree
+line_with document.Replace tree = line.Replace tree
+
 abbrev pub line_in : Form → Result Line Refusal
-line_in (Upsert text) = with_tree_of (reading text)
-    (λ tree. unless (upsert_causes tree) (Ok (line.Upsert tree)))
+line_in (Document form text) = with_tree_of (reading text)
+    (λ tree. unless (document_causes tree) (Ok (line_with form tree)))
+line_in (Delete id) = unless (id_causes id) (Ok (line.Delete id))
+line_in (Read id) = unless (id_causes id) (Ok (line.Read id))
 line_in (Query text) = with_tree_of (reading text)
     (λ tree. unless (query_causes tree) (query_from (body_of tree)))
 

@@ -2,7 +2,7 @@
 use Rattle.std.specs.Prelude.{ℕ, List, codes}
 use Rattle.ax_lines.specs.declared.refusal.Refusal.{Refusal}
 use Rattle.ax_lines.specs.declared.refusal.Refusal.TheVariants.{Line, Command, Json, Number, Id}
-use Rattle.ax_lines.specs.declared.refusal.Refusal.TheVariants.{Large, Memory, Query, Order, Full}
+use Rattle.ax_lines.specs.declared.refusal.Refusal.TheVariants.{Large, Conflict, Absent, Memory, Query, Order, Full}
 
 abbrev pub number_of : Refusal → ℕ
 number_of Line = 1
@@ -11,6 +11,8 @@ number_of Json = 3
 number_of Number = 4
 number_of Id = 5
 number_of Large = 6
+number_of Conflict = 7
+number_of Absent = 8
 number_of Memory = 9
 number_of Query = 10
 number_of Order = 11
@@ -23,6 +25,8 @@ word_of Json = codes "json"
 word_of Number = codes "number"
 word_of Id = codes "id"
 word_of Large = codes "large"
+word_of Conflict = codes "conflict"
+word_of Absent = codes "absent"
 word_of Memory = codes "memory"
 word_of Query = codes "query"
 word_of Order = codes "order"

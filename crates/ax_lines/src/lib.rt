@@ -7,6 +7,7 @@
 #![tactic(auto)]
 
 mod body;
+mod document_form;
 pub mod laws;
 mod line;
 mod parameters;
@@ -17,6 +18,7 @@ mod script_lines;
 mod short_names;
 
 pub use body::Body;
+pub use document_form::DocumentForm;
 pub use line::{Line, LineFault};
 pub use read::read_line;
 pub use refusal::Refusal;

@@ -1,12 +1,20 @@
 use crate::body::Body;
 use crate::refusal::Refusal;
-use ax_tree::{Memory, Tree};
+use ax_tree::{Memory, Text, Tree};
 
 /// What a line asks for.
 #[derive(Debug, Drop)]
 pub enum Line {
+    /// `CREATE json`: the document is created.
+    Create(Tree),
     /// `UPSERT json`: the document replaces that of its id, or is created.
     Upsert(Tree),
+    /// `REPLACE json`: the document replaces that of its id.
+    Replace(Tree),
+    /// `DELETE id`: the document of the id is deleted.
+    Delete(Text),
+    /// `READ id`: the document of the id.
+    Read(Text),
     /// `QUERY body`: the rows that the query gives.
     Query(Body),
 }

@@ -1,21 +1,24 @@
 ghost use Rattle.std.specs.Prelude.{◌≡◌, length, nat_lt, Ok, Result, IfOk, IfErr, option_map};
+ghost use Rattle.ax_lines.specs.declared.line.Line.{Line as LineOf};
 ghost use Rattle.ax_tree.specs.declared.tree.Tree.{Tree as TreeOf};
 ghost use Rattle.ax_tree.specs.Nesting.{nesting as nesting_of};
 ghost use Rattle.ax_tree.specs.WellFormed.{IsWellFormed};
 ghost use Rattle.ax_text.specs.Reading.{reading, Stands};
 ghost use Rattle.ax_lines.specs.Answers.{Answers, IsRefusedBy};
-ghost use Rattle.ax_lines.specs.Asked.{IsAsked};
+ghost use Rattle.ax_lines.specs.Asked.{IsAsked, IsIdText, IsStorable};
 ghost use Rattle.ax_lines.specs.Bodies.{body_of};
 ghost use Rattle.ax_lines.specs.Causes.{unless};
 ghost use Rattle.ax_lines.specs.Lines as spec;
 
+use crate::document_form::DocumentForm;
 use crate::line::{Line, LineFault};
 use crate::read_body::body_from;
 use crate::refusal::Refusal;
 use crate::short_names::has_short_names;
 use ax_text::{TextFault, nesting, read_tree};
-use ax_tree::{Tree, id_of, write_tree};
+use ax_tree::{Text, Tree, id_of, may_be_id, write_tree};
 use std::alloc::Global;
+use std::str;
 
 /// The most bytes that a line has, with a carriage return at its end.
 const MOST_LINE_BYTES: usize = 262_144;
@@ -30,7 +33,7 @@ const MOST_BYTES: usize = 60_000;
 /// carriage return at its end is dropped.
 pub fn read_line(alloc: Global, line: &[u8]) -> Result<Line, LineFault>
     ensures answers { Answers result (spec.line_of line.now) }
-    // A document that is asked for can be stored, and a body answered.
+    // A document that is asked for can be stored, an id is one, and a body can be answered.
     ensures asked { IfOk result IsAsked }
 {
     if is_too_long(line) {
@@ -50,8 +53,20 @@ fn command_line(alloc: Global, command: &[u8]) -> Result<Line, LineFault>
     ensures answers { Answers result (spec.of_form (spec.form_of command.now)) }
     ensures asked { IfOk result IsAsked }
 {
+    if let Some(json) = argument(command, b"CREATE ") {
+        return document_line(alloc, DocumentForm::Create, json);
+    }
     if let Some(json) = argument(command, b"UPSERT ") {
-        return upsert_line(alloc, json);
+        return document_line(alloc, DocumentForm::Upsert, json);
+    }
+    if let Some(json) = argument(command, b"REPLACE ") {
+        return document_line(alloc, DocumentForm::Replace, json);
+    }
+    if let Some(id) = argument(command, b"DELETE ") {
+        return delete_line(alloc, id);
+    }
+    if let Some(id) = argument(command, b"READ ") {
+        return read_by_id_line(alloc, id);
     }
     if let Some(body) = argument(command, b"QUERY ") {
         return query_line(alloc, body);
@@ -74,12 +89,49 @@ fn argument<'a>(command: &'a [u8], word: &[u8]) -> Option<&'a [u8]>
     command.strip_prefix(word)
 }
 
-fn upsert_line(alloc: Global, json: &[u8]) -> Result<Line, LineFault>
-    ensures answers { Answers result (spec.line_in (spec.Upsert json.now)) }
+fn document_line(alloc: Global, form: DocumentForm, json: &[u8]) -> Result<Line, LineFault>
+    ensures answers { Answers result (spec.line_in (spec.Document form json.now)) }
     ensures asked { IfOk result IsAsked }
 {
     let tree = tree_of(alloc, json)?;
-    upsert(alloc, tree)
+    document(alloc, form, tree)
+}
+
+fn delete_line(alloc: Global, id: &[u8]) -> Result<Line, LineFault>
+    ensures answers { Answers result (spec.line_in (spec.Delete id.now)) }
+    ensures asked { IfOk result IsAsked }
+{
+    let id = id_from(alloc, id)?;
+    Ok(Line::Delete(id))
+}
+
+fn read_by_id_line(alloc: Global, id: &[u8]) -> Result<Line, LineFault>
+    ensures answers { Answers result (spec.line_in (spec.Read id.now)) }
+    ensures asked { IfOk result IsAsked }
+{
+    let id = id_from(alloc, id)?;
+    Ok(Line::Read(id))
+}
+
+/// The id that an argument is.
+fn id_from(alloc: Global, id: &[u8]) -> Result<Text, LineFault>
+    ensures id { IfOk result (λ text. text ≡ id.now) }
+    ensures allowed { IfOk result IsIdText }
+    ensures answered { IfOk result (λ text. (answer : Result LineOf Refusal)
+        → unless (spec.id_causes id.now) answer ≡ answer) }
+    ensures refused { IfErr result (λ fault. (answer : Result LineOf Refusal)
+        → IsRefusedBy fault (unless (spec.id_causes id.now) answer)) }
+{
+    let Ok(text) = str::from_utf8(id) else {
+        return Err(LineFault::Refused(Refusal::Id));
+    };
+    if !may_be_id(text) {
+        return Err(LineFault::Refused(Refusal::Id));
+    }
+    match String::from_str(alloc, text) {
+        Ok(text) => Ok(Text::from_string(text)),
+        Err(_) => Err(LineFault::Memory),
+    }
 }
 
 fn query_line(alloc: Global, body: &[u8]) -> Result<Line, LineFault>
@@ -106,27 +158,42 @@ fn tree_of(alloc: Global, json: &[u8]) -> Result<Tree, LineFault>
     }
 }
 
-fn upsert(alloc: Global, tree: Tree) -> Result<Line, LineFault>
+fn document(alloc: Global, form: DocumentForm, tree: Tree) -> Result<Line, LineFault>
     requires { IsWellFormed tree }
-    ensures answers { Answers result (unless (spec.upsert_causes tree) (Ok (Line.Upsert tree))) }
+    ensures answers { Answers result (unless (spec.document_causes tree) (Ok (spec.line_with form tree))) }
     ensures asked { IfOk result IsAsked }
 {
-    if id_of(&tree).is_none() {
+    match storable(alloc, &tree) {
+        Ok(()) => Ok(form.line(tree)),
+        Err(fault) => Err(fault),
+    }
+}
+
+/// Whether a store can hold the document, or the refusal of one that it can't.
+fn storable(alloc: Global, tree: &Tree) -> Result<(), LineFault>
+    requires { IsWellFormed tree.now }
+    ensures storable { IfOk result (λ _. IsStorable tree.now) }
+    ensures answered { IfOk result (λ _. (answer : Result LineOf Refusal)
+        → unless (spec.document_causes tree.now) answer ≡ answer) }
+    ensures refused { IfErr result (λ fault. (answer : Result LineOf Refusal)
+        → IsRefusedBy fault (unless (spec.document_causes tree.now) answer)) }
+{
+    if id_of(tree).is_none() {
         return Err(LineFault::Refused(Refusal::Id));
     }
-    if is_too_deep(&tree) {
+    if is_too_deep(tree) {
         return Err(LineFault::Refused(Refusal::Large));
     }
-    if !has_short_names(&tree) {
+    if !has_short_names(tree) {
         return Err(LineFault::Refused(Refusal::Large));
     }
-    let Ok(text) = write_tree(alloc, &tree) else {
+    let Ok(text) = write_tree(alloc, tree) else {
         return Err(LineFault::Memory);
     };
     if text.len() > MOST_BYTES {
         return Err(LineFault::Refused(Refusal::Large));
     }
-    Ok(Line::Upsert(tree))
+    Ok(())
 }
 
 fn query(alloc: Global, tree: Tree) -> Result<Line, LineFault>

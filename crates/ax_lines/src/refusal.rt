@@ -13,12 +13,18 @@ pub enum Refusal {
     /// `err 4 number`: the argument holds a number that is not written as a whole one (`1.5`, but
     /// also `1.0`, `1e2` and `-0`), or is not of 64 bits.
     Number,
-    /// `err 5 id`: the argument of an UPSERT is no map, or has no text member `id` that may be an
-    /// id.
+    /// `err 5 id`: the argument of a CREATE, UPSERT or REPLACE is no map, or has no text member `id`
+    /// that may be an id; that of a DELETE or READ is not UTF-8, or may be no id.
     Id,
-    /// `err 6 large`: the argument nests deeper than 100; or, for UPSERT, a member name has more
-    /// than 255 bytes, or the canonical text more than 60,000.
+    /// `err 6 large`: the argument nests deeper than 100; or, for CREATE, UPSERT and REPLACE, a member
+    /// name has more than 255 bytes, or the canonical text more than 60,000.
     Large,
+    /// `err 7 conflict`: a CREATE is of an id that is held. No line is refused so before it meets the
+    /// store.
+    Conflict,
+    /// `err 8 absent`: a REPLACE, DELETE or READ is of an id that is not held. No line is refused so
+    /// before it meets the store.
+    Absent,
     /// `err 9 memory`: out of memory.
     Memory,
     /// `err 10 query`: the argument of a QUERY is no query body, or the canonical text of its
@@ -48,6 +54,8 @@ impl Refusal {
             Refusal::Number => 4,
             Refusal::Id => 5,
             Refusal::Large => 6,
+            Refusal::Conflict => 7,
+            Refusal::Absent => 8,
             Refusal::Memory => 9,
             Refusal::Query => 10,
             Refusal::Order => 11,
@@ -66,6 +74,8 @@ impl Refusal {
             Refusal::Number => "number",
             Refusal::Id => "id",
             Refusal::Large => "large",
+            Refusal::Conflict => "conflict",
+            Refusal::Absent => "absent",
             Refusal::Memory => "memory",
             Refusal::Query => "query",
             Refusal::Order => "order",

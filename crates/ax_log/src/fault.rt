@@ -17,6 +17,6 @@ pub enum LogFault {
         /// That version.
         version: u16,
     },
-    /// Memory ran out. Nothing was changed.
+    /// Out of memory. Nothing was changed.
     Memory,
 }

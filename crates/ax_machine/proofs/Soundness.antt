@@ -1,30 +1,44 @@
--- A step keeps what holds of every container: only an upsert changes it, and only of a document that
--- a text stands for.
-use Rattle.std.proofs.Common.{◌≡◌, ℕ, List, [], ◌∷◌, Bool, true, false, cond, Option, Some}
+-- A step keeps what holds of every container: only a write changes it, and only by a document that a store can
+-- hold.
+use Rattle.std.proofs.Common.{◌≡◌, ◌≤◌, ℕ, List, [], ◌∷◌, Bool, true, false, cond, Option, Some}
 use Rattle.std.proofs.Common.{None, Result, Ok, Err, IfOk, refl, sym, ap, ◌∙◌}
+use Rattle.std.specs.Prelude.{is_some, length, nat_lt, not}
+use Rattle.std.proofs.lemmas.Bool.{ltb-false}
 use Rattle.ax_tree.specs.declared.tree.Tree.{Tree}
-use Rattle.ax_tree.specs.Document.{document_id}
+use Rattle.ax_tree.specs.CanonicalText.{canonical_text}
+use Rattle.ax_tree.specs.Document.{IsDocument, document_id}
+use Rattle.ax_tree.specs.Nesting.{nesting}
 use Rattle.ax_text.specs.Reading.{Reading, Stands, NotJson, NotWhole, reading}
 use Rattle.ax_text.proofs.ReadTrees.{IsStanding, stands}
-use Rattle.ax_container.specs.Container.{Container, IsStored, IsSound}
-use Rattle.ax_container.specs.Writes.{WriteRefusal, upserted}
-use Rattle.ax_container.proofs.Soundness.{the_entry}
+use Rattle.ax_container.specs.Container.{Container, IsSound}
+use Rattle.ax_container.specs.Writes.{WriteRefusal, inserted, exchanged, removed, upserted}
+use Rattle.ax_container.proofs.Soundness.{MayBe}
 use Rattle.ax_container.proofs.Upserts.{upsert_keeps_soundness}
+use Rattle.ax_container.proofs.Refusing.{insertion_keeps_soundness, exchange_keeps_soundness, removal_keeps_soundness}
+use Rattle.ax_lines.specs.Asked.{IsStorable}
 use Rattle.ax_lines.specs.declared.body.Body.{Body}
+use Rattle.ax_lines.specs.declared.document_form.DocumentForm.{DocumentForm}
+use Rattle.ax_lines.specs.declared.document_form.DocumentForm.TheVariants as document
 use Rattle.ax_lines.specs.declared.line.Line.{Line}
 use Rattle.ax_lines.specs.declared.line.Line.TheVariants as line
 use Rattle.ax_lines.specs.declared.refusal.Refusal.{Refusal}
+use Rattle.ax_lines.specs.declared.refusal.Refusal.TheVariants as refusal
 use Rattle.ax_lines.specs.Bodies.{body_of}
 use Rattle.ax_lines.specs.Causes.{Cause, unless}
-use Rattle.ax_lines.specs.Lines.{Form, Upsert, Query, form_of, without_return, with_tree_of}
-use Rattle.ax_lines.specs.Lines.{line_causes, upsert_causes, query_causes, query_from, of_form}
+use Rattle.ax_lines.specs.Lines.{Form, Document, Delete, Read, Query, form_of, without_return, with_tree_of, deepest, most_bytes}
+use Rattle.ax_lines.specs.Lines.{line_causes, document_causes, id_causes, query_causes, query_from, line_with, of_form}
 use Rattle.ax_lines.specs.Lines.{line_of}
-use Rattle.ax_machine.specs.Step.{written, upsert_by, served, step}
+use Rattle.ax_lines.specs.ShortNames.{has_short_names}
+use Rattle.ax_machine.specs.Step.{written, write_by, served, step}
 use Rattle.ax_machine.specs.Run.{Exchange, Outcome, Served, OutOfMemory, after_line, after}
 
--- the tree of an upsert is one that a text can stand for
+-- the document of a line is one that a store can hold
 abbrev AsksForRead : Line → Type 0
-AsksForRead (line.Upsert tree) = IsStanding tree
+AsksForRead (line.Create tree) = IsStorable tree
+AsksForRead (line.Upsert tree) = IsStorable tree
+AsksForRead (line.Replace tree) = IsStorable tree
+AsksForRead (line.Delete id) = Unit {0}
+AsksForRead (line.Read id) = Unit {0}
 AsksForRead (line.Query body) = Unit {0}
 
 -- ---- what a line asks for
@@ -54,12 +68,63 @@ with_tree_holds bytes (Stands tree) ask is asks = asks tree (stands bytes tree i
 with_tree_holds bytes NotJson ask is asks = tt
 with_tree_holds bytes NotWhole ask is asks = tt
 
+with_form : (form : DocumentForm) (tree : Tree) → IsStorable tree → AsksForRead (line_with form tree)
+with_form document.Create tree allowed = allowed
+with_form document.Upsert tree allowed = allowed
+with_form document.Replace tree allowed = allowed
+
+document_asks : (form : DocumentForm) (tree : Tree) → IsStanding tree
+    → IfOk (unless (document_causes tree) (Ok (line_with form tree))) AsksForRead
+document_asks form tree good = by_id (is_some (document_id tree)) refl
+  where
+    size : ℕ
+    size = length (canonical_text tree)
+
+    answer : Result Line Refusal
+    answer = Ok (line_with form tree)
+
+    by_size : (long : Bool) → nat_lt most_bytes size ≡ long → IsDocument tree → nesting tree ≤ deepest
+        → has_short_names tree ≡ true → IfOk (cond long (Err refusal.Large) answer) AsksForRead
+    by_size true is document shallow named = tt
+    by_size false is document shallow named = with_form form tree (record {
+      document = document;
+      well_formed = good.formed;
+      shallow = shallow;
+      named = named;
+      small = ltb-false most_bytes size is;
+    })
+
+    unless_long : Result Line Refusal
+    unless_long = cond (nat_lt most_bytes size) (Err refusal.Large) answer
+
+    by_names : (short : Bool) → has_short_names tree ≡ short → IsDocument tree → nesting tree ≤ deepest
+        → IfOk (cond (not short) (Err refusal.Large) unless_long) AsksForRead
+    by_names true is document shallow = by_size (nat_lt most_bytes size) refl document shallow is
+    by_names false is document shallow = tt
+
+    unless_named : Result Line Refusal
+    unless_named = cond (not (has_short_names tree)) (Err refusal.Large) unless_long
+
+    by_depth : (deep : Bool) → nat_lt deepest (nesting tree) ≡ deep → IsDocument tree
+        → IfOk (cond deep (Err refusal.Large) unless_named) AsksForRead
+    by_depth true is document = tt
+    by_depth false is document =
+        by_names (has_short_names tree) refl document (ltb-false deepest (nesting tree) is)
+
+    by_id : (there : Bool) → is_some (document_id tree) ≡ there
+        → IfOk (cond (not there) (Err refusal.Id) (cond (nat_lt deepest (nesting tree)) (Err refusal.Large) unless_named))
+        AsksForRead
+    by_id true is = by_depth (nat_lt deepest (nesting tree)) refl is
+    by_id false is = tt
+
 form_asks : (form : Option Form) → IfOk (of_form form) AsksForRead
 form_asks None = tt
-form_asks (Some (Upsert text)) =
+form_asks (Some (Document form text)) =
     with_tree_holds text (reading text)
-    (λ tree. unless (upsert_causes tree) (Ok (line.Upsert tree))) refl
-    (λ tree good. unless_holds AsksForRead (upsert_causes tree) (Ok (line.Upsert tree)) good)
+    (λ tree. unless (document_causes tree) (Ok (line_with form tree))) refl
+    (λ tree good. document_asks form tree good)
+form_asks (Some (Delete id)) = unless_holds AsksForRead (id_causes id) (Ok (line.Delete id)) tt
+form_asks (Some (Read id)) = unless_holds AsksForRead (id_causes id) (Ok (line.Read id)) tt
 form_asks (Some (Query text)) =
     with_tree_holds text (reading text)
     (λ tree. unless (query_causes tree) (query_from (body_of tree))) refl
@@ -79,28 +144,39 @@ written_sound : (before : Container) (made : Result Container WriteRefusal)
 written_sound before (Ok now) keeps sound = keeps now refl
 written_sound before (Err why) keeps sound = sound
 
-upsert_sound : (before : Container) (tree : Tree) (id : Option (List ℕ)) → document_id tree ≡ id
-    → IsStanding tree
-    → IsSound before → IsSound (upsert_by id tree before).0
-upsert_sound before tree None doc good sound = sound
-upsert_sound before tree (Some id) doc good sound =
-    written_sound before (upserted id tree before)
-    (λ now made. upsert_keeps_soundness before now id tree
-    (λ number own same. stored number own same) sound made) sound
-  where
-    stored : (number : ℕ) (own : List ℕ) → own ≡ id
-        → IsStored (the_entry number own tree before.policy)
-    stored number own same = record {
-      own_id = doc
-          ∙ ap Some (sym same);
-      well_formed = good.formed;
-      shallow = good.shallow;
-    }
+-- the document of a line, under its id
+may_be : (before : Container) (id : List ℕ) (tree : Tree) → document_id tree ≡ Some id → IsStorable tree
+    → MayBe id tree before.policy
+may_be before id tree doc storable = λ number own same. record {
+  own_id = doc ∙ ap Some (sym same);
+  storable = storable;
+}
+
+-- a write that keeps a container sound, of a document of that id
+abbrev Keeps : (List ℕ → Tree → Container → Result Container WriteRefusal) → Type 0
+Keeps write = (before after : Container) (id : List ℕ) (tree : Tree) → MayBe id tree before.policy
+    → IsSound before → write id tree before ≡ Ok after → IsSound after
+
+write_sound : (write : List ℕ → Tree → Container → Result Container WriteRefusal) → Keeps write
+    → (before : Container) (tree : Tree) (id : Option (List ℕ)) → document_id tree ≡ id
+    → IsStorable tree
+    → IsSound before → IsSound (write_by write id tree before).0
+write_sound write keeps before tree None doc good sound = sound
+write_sound write keeps before tree (Some id) doc good sound =
+    written_sound before (write id tree before)
+    (λ now made. keeps before now id tree (may_be before id tree doc good) sound made) sound
 
 served_sound : (before : Container) (asked : Result Line Refusal) → IfOk asked AsksForRead
     → IsSound before → IsSound (served before asked).0
+served_sound before (Ok (line.Create tree)) good sound =
+    write_sound inserted insertion_keeps_soundness before tree (document_id tree) refl good sound
 served_sound before (Ok (line.Upsert tree)) good sound =
-    upsert_sound before tree (document_id tree) refl good sound
+    write_sound upserted upsert_keeps_soundness before tree (document_id tree) refl good sound
+served_sound before (Ok (line.Replace tree)) good sound =
+    write_sound exchanged exchange_keeps_soundness before tree (document_id tree) refl good sound
+served_sound before (Ok (line.Delete id)) good sound =
+    written_sound before (removed id before) (λ now made. removal_keeps_soundness before now id sound made) sound
+served_sound before (Ok (line.Read id)) good sound = sound
 served_sound before (Ok (line.Query body)) good sound = sound
 served_sound before (Err why) good sound = sound
 

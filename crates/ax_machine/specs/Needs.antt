@@ -1,5 +1,5 @@
 -- How many steps of work a line may count: each document that it needs may be fetched once and, by a
--- query, evaluated once. A refused line needs none.
+-- query, evaluated once. A creation and a refused line need none.
 use Rattle.std.specs.Prelude.{ℕ, ◌+◌, ◌*◌, List, [], ◌∷◌, length, Option, Some, None, Result, Ok, Err, if◌then◌else◌}
 use Rattle.ax_tree.specs.Document.{document_id}
 use Rattle.ax_container.specs.Container.{Container, contains}
@@ -11,10 +11,10 @@ use Rattle.ax_grammar.specs.Query.{query_in}
 use Rattle.ax_machine.specs.Querying.{rows_or_refusal}
 use Rattle.ax_machine.specs.Run.{Exchange, after_line}
 
--- a write needs the document that it replaces
-abbrev pub write_need : Option (List ℕ) → Container → ℕ
-write_need None container = 0
-write_need (Some id) container = if contains id container then 1 else 0
+-- a replacement, a deletion and a read need the document of their id, where it is held
+abbrev pub held_need : Option (List ℕ) → Container → ℕ
+held_need None container = 0
+held_need (Some id) container = if contains id container then 1 else 0
 
 -- a query that is answered needs all documents
 abbrev pub query_need : Result (List (List ℕ)) Refusal → Container → ℕ
@@ -22,7 +22,11 @@ query_need (Ok rows) container = length container.entries
 query_need (Err why) container = 0
 
 abbrev pub most_steps_of : Container → Result Line Refusal → ℕ
-most_steps_of container (Ok (line.Upsert tree)) = write_need (document_id tree) container
+most_steps_of container (Ok (line.Create tree)) = 0
+most_steps_of container (Ok (line.Upsert tree)) = held_need (document_id tree) container
+most_steps_of container (Ok (line.Replace tree)) = held_need (document_id tree) container
+most_steps_of container (Ok (line.Delete id)) = held_need (Some id) container
+most_steps_of container (Ok (line.Read id)) = held_need (Some id) container
 most_steps_of container (Ok (line.Query body)) =
     2 * query_need (rows_or_refusal (query_in body.params body.text) container) container
 most_steps_of container (Err why) = 0

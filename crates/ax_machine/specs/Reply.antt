@@ -1,4 +1,4 @@
--- What a line is answered: that a write was made, rows with what ends them, or a refusal.
+-- What a line is answered: that a write was made, a document, rows with what ends them, or a refusal.
 use Rattle.std.specs.Prelude.{ℕ, List}
 use Rattle.ax_lines.specs.declared.refusal.Refusal.{Refusal}
 use Rattle.ax_lines.specs.declared.refusal.Refusal.TheVariants as refusal
@@ -10,6 +10,8 @@ pub data RowsEnd : Type 0 where
 
 pub data Reply : Type 0 where
   Ok : Reply
+  -- the canonical text of a document
+  Doc : List ℕ → Reply
   -- the canonical texts of rows
   Rows : List (List ℕ) → RowsEnd → Reply
   Refused : Refusal → Reply

@@ -6,6 +6,9 @@ use Rattle.ax_lines.specs.Refusals.{number_of, word_of}
 use Rattle.ax_lines.specs.ScriptLines.{with_newline}
 use Rattle.ax_machine.specs.Reply as reply
 
+abbrev pub doc_text : List ℕ → List ℕ
+doc_text text = with_newline (codes "doc " ++ text)
+
 abbrev pub row_text : List ℕ → List ℕ
 row_text row = with_newline (codes "row " ++ row)
 
@@ -21,5 +24,6 @@ refusal_text why = with_newline
 
 abbrev pub reply_text : reply.Reply → List ℕ
 reply_text reply.Ok = with_newline (codes "ok")
+reply_text (reply.Doc text) = doc_text text
 reply_text (reply.Rows rows ending) = flat_map row_text rows ++ end_text ending (length rows)
 reply_text (reply.Refused why) = refusal_text why

@@ -37,8 +37,10 @@ pub fn a_run_keeps_soundness()
         → IsSound (after before run) }
 {}
 
-/// A query changes nothing, whatever it is answered.
-pub fn a_query_changes_nothing()
-    ensures { (before : Container) (line : List ℕ) (body : Body)
+/// A query and a read change nothing, whatever they are answered.
+pub fn a_look_changes_nothing()
+    ensures query { (before : Container) (line : List ℕ) (body : Body)
         → line_of line ≡ Ok (line_form.Query body) → (step before line).0 ≡ before }
+    ensures read { (before : Container) (line id : List ℕ)
+        → line_of line ≡ Ok (line_form.Read id) → (step before line).0 ≡ before }
 {}

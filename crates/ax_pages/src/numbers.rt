@@ -1,5 +1,6 @@
-//! The numbers of the format: its versions, and the kinds of parts. They stand here once, for the code and the
-//! definitions of all crates.
+//! The numbers of the format: its versions and the kinds of parts, which stand here once, for the code and the
+//! definitions of all crates; and the limits of a store, once for the code of the crates above. Definitions have these
+//! in their own words.
 
 /// The newest version, which is the one that is written. An image of a later one is newer than this program.
 pub const NEWEST_VERSION: u16 = 1;
@@ -39,3 +40,12 @@ pub const LONG_DOCUMENT: u8 = 9;
 
 /// A piece of a long document's text.
 pub const PIECE: u8 = 10;
+
+/// The most documents that a store holds.
+pub const MOST_DOCUMENTS: usize = 1_048_576;
+
+/// The greatest next number: no document takes it.
+pub const LAST_NUMBER: u32 = 4_294_967_295;
+
+/// The greatest number of a policy that a part gives. The number of the default policy is 0.
+pub const LAST_POLICY: u32 = 8;

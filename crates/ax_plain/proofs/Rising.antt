@@ -1,4 +1,4 @@
--- The numbers of the documents rise, whatever upsert is made, and so stand in strict order.
+-- The numbers of the documents rise, whatever write is made, and so stand in strict order.
 use Rattle.std.proofs.Common.{◌≡◌, ℕ, ◌+◌, ◌<◌, ◌≤◌, List, [], ◌∷◌, ◌++◌, map, true, false, cond, refl, sym, subst, arith}
 use Rattle.std.specs.Cmp.{nat_cmp_is}
 use Rattle.std.specs.List.{AllByRecursion}

@@ -1,7 +1,7 @@
 ghost use Rattle.std.specs.Prelude.{◌≡◌, ◌==◌, IfOk};
 ghost use Rattle.std.specs.Str.{bytes_eq};
 ghost use Rattle.ax_container.specs.Container.{has_id};
-ghost use Rattle.ax_container.specs.Writes.{with_tree};
+ghost use Rattle.ax_container.specs.Writes.{rewritten, with_tree};
 ghost use Rattle.ax_policy.specs.Default.{default_policy};
 
 use crate::out_of_memory::Memory;
@@ -65,7 +65,24 @@ impl PlainDocument {
     pub fn with_tree(&self, alloc: Global, id: &Text, tree: &Tree) -> Result<PlainDocument, Memory>
         ensures { IfOk result (λ after. after ≡ with_tree id.now tree.now default_policy self.now) }
     {
-        let tree = if self.has_id(id) { tree } else { &self.tree };
+        if self.has_id(id) {
+            self.rewritten(alloc, tree)
+        } else {
+            self.copy(alloc)
+        }
+    }
+
+    /// The same document.
+    pub fn copy(&self, alloc: Global) -> Result<PlainDocument, Memory>
+        ensures { IfOk result (λ copy. copy ≡ self.now) }
+    {
+        self.rewritten(alloc, &self.tree)
+    }
+
+    /// The document with the tree.
+    fn rewritten(&self, alloc: Global, tree: &Tree) -> Result<PlainDocument, Memory>
+        ensures { IfOk result (λ after. after ≡ rewritten tree.now default_policy self.now) }
+    {
         Ok(PlainDocument {
             number: self.number,
             id: self.id.copy(alloc)?,

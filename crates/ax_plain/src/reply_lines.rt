@@ -1,7 +1,7 @@
 ghost use Rattle.std.specs.Prelude.{◌≡◌, ◌++◌, map, IfOk, OnOk};
 ghost use Rattle.ax_tree.specs.CanonicalText.{canonical_text};
 ghost use Rattle.ax_machine.specs.Reply as reply;
-ghost use Rattle.ax_machine.specs.ReplyTexts.{reply_text, row_text, end_text, refusal_text};
+ghost use Rattle.ax_machine.specs.ReplyTexts.{doc_text, reply_text, row_text, end_text, refusal_text};
 
 use crate::out_of_memory::Memory;
 use ax_lines::Refusal;
@@ -14,6 +14,18 @@ pub fn ok_line(alloc: Global) -> Result<Vec<u8>, Memory>
     ensures { IfOk result (λ text. text.items ≡ reply_text reply.Ok) }
 {
     Ok(Vec::from_slice(alloc, b"ok\n")?)
+}
+
+/// The reply to a read of a document.
+pub fn doc_line(alloc: Global, tree: &Tree) -> Result<Vec<u8>, Memory>
+    ensures { IfOk result (λ text. text.items ≡ doc_text (canonical_text tree.now)) }
+{
+    let document = write_tree(alloc, tree)?;
+    let mut text = Vec::new(alloc);
+    text.extend_from_slice(b"doc ")?;
+    text.extend_from_slice(document.as_slice())?;
+    text.extend_from_slice(b"\n")?;
+    Ok(text)
 }
 
 /// The reply to a query that answers these rows: a line for each, and a last line with their count.

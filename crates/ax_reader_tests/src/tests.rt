@@ -2,6 +2,7 @@ mod excerpts;
 mod large;
 mod named;
 mod random;
+mod texts;
 
 use ax_excerpt::{Excerpt, has_plain_names};
 use ax_excerpt_text::read_excerpt;

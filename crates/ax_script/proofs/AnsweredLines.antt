@@ -41,7 +41,11 @@ refused_may meant why is =
 
 -- memory may run out at any line
 pub memory_may : (meant : Result Line Refusal) → MayAnswer meant (given.Refused refusal.Memory)
+memory_may (Ok (line.Create tree)) = inr (inr refl)
 memory_may (Ok (line.Upsert tree)) = inr refl
+memory_may (Ok (line.Replace tree)) = inr refl
+memory_may (Ok (line.Delete id)) = inr refl
+memory_may (Ok (line.Read id)) = inr refl
 memory_may (Ok (line.Query body)) = inr refl
 memory_may (Err why) = inr refl
 

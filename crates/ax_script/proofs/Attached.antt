@@ -1,5 +1,5 @@
 -- A store that is attached by its name, and then opened.
-use Rattle.std.proofs.Common.{◌≡◌, ◌⊎◌, ℕ, List, sym, subst, ap, ◌∙◌}
+use Rattle.std.proofs.Common.{◌≡◌, ◌⊎◌, inl, inr, ℕ, List, Result, Ok, Err, sym, subst, ap, ◌∙◌}
 use Rattle.ax_disk.specs.model.Image.{Image}
 use Rattle.ax_disk.specs.model.Pending.{Unsynced, MayLeave}
 use Rattle.ax_disk.specs.model.Moments.{History, Progresses}
@@ -14,8 +14,11 @@ use Rattle.ax_store.specs.declared.fault.StoreFault.TheVariants as fault
 use Rattle.ax_container.specs.Container.{Container}
 use Rattle.ax_image.specs.Readable.{newest}
 use Rattle.ax_image.specs.StandsFor.{StandsFor}
-use Rattle.ax_engine.specs.Opening.{IsDamagedIn, RefusesBy}
+use Rattle.ax_engine.specs.Opening.{IsAnswerUnlessDisk, IsDamagedIn, RefusesBy}
 use Rattle.ax_engine.specs.Stores.{IsStore, IsImageOf, IsWithin}
+use Rattle.ax_script.specs.Opening.{IsEndUnlessDisk}
+use Rattle.ax_script.specs.declared.status.Status.{Status}
+use Rattle.ax_script.specs.declared.status.Status.TheVariants as status
 
 -- ---- a barrier, behind a call that changes nothing
 
@@ -64,7 +67,11 @@ module _ (old mid new : List ℕ → History) (name there now : List ℕ) (is : 
     reads = subst (λ (image : Image). StandsFor image before) (sym reads_are) store.reads;
   }
 
-  -- and so is what it says
+  -- and so is its image
+  pub image_there : (P : Image → Type 0) → P (old name).reads → P (mid there).reads
+  image_there P has = subst P (sym reads_are) has
+
+  -- and what it says
   pub within_named : IsWithin (mid there).reads → IsWithin (old name).reads
   within_named within = subst IsWithin reads_are within
 
@@ -88,3 +95,40 @@ module _ (old mid new : List ℕ → History) (name there now : List ℕ) (is : 
   )
   refuses_named fault.Disk refused = tt
   refuses_named fault.Memory refused = tt
+
+-- ---- why the store was refused
+
+-- the status of a store's fault
+abbrev pub status_of : StoreFault → Status
+status_of fault.Disk = status.DiskFault
+status_of (fault.Damaged extent at) = status.Damaged extent at
+status_of (fault.Newer version) = status.Newer version
+status_of fault.Memory = status.Memory
+
+abbrev ended_by : {T : Type 0} → Result T StoreFault → Status
+ended_by (Ok opened) = status.Done
+ended_by (Err why) = status_of why
+
+abbrev fault_or : {T : Type 0} → StoreFault → Result T StoreFault → StoreFault
+fault_or none (Ok opened) = none
+fault_or none (Err why) = why
+
+one_fault : {T : Type 0} (found why : StoreFault) → ◌≡◌ {A = Result T StoreFault} (Err found) (Err why) → found ≡ why
+one_fault found why is = ap (fault_or why) is
+
+-- it is told as what it is
+pub told_refused : {T : Type 0} (why found : StoreFault) → IsAnswerUnlessDisk {T = T} why (Err found)
+    → IsEndUnlessDisk (status_of why) (status_of found)
+told_refused why found (inl is) = inl (ap ended_by is)
+told_refused why found (inr is) = inr (ap ended_by is)
+
+-- another answer is none for it
+pub other_refused : {T : Type 0} (why found given : StoreFault) → found ≡ given → (given ≡ why → ⊥)
+    → (given ≡ fault.Disk → ⊥) → IsAnswerUnlessDisk {T = T} why (Err found) → ⊥
+other_refused why found given same other no_disk (inl is) = other (sym same ∙ one_fault found why is)
+other_refused why found given same other no_disk (inr is) = no_disk (sym same ∙ one_fault found fault.Disk is)
+
+-- and such a store was not opened
+pub not_opened : {T : Type 0} (opened : T) (why : StoreFault) → IsAnswerUnlessDisk {T = T} why (Ok opened) → ⊥
+not_opened opened why (inl is) = cc
+not_opened opened why (inr is) = cc

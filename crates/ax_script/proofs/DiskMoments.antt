@@ -82,6 +82,7 @@ some_bytes xs ys some = omega (arith, length-append xs ys)
 
 reply_some : (r : reply.Reply) → 0 < length (reply_text r)
 reply_some reply.Ok = some_bytes (codes "ok") (10 ∷ []) (omega arith)
+reply_some (reply.Doc text) = some_bytes (codes "doc " ++ text) (10 ∷ []) (omega arith)
 reply_some (reply.Rows rows reply.End) =
     some_bytes (flat_map row_text rows) (end_text reply.End (length rows))
     (some_bytes (codes "end " ++ decimal (length rows)) (10 ∷ []) (omega arith))

@@ -120,6 +120,25 @@ module _ (honest : Type 0) where
     bounded = omega arith;
   }
 
+  -- no memory was left for what the run needs before it takes a line
+  pub ends_without_memory : (before : Container) (at : Streams) (entry : History)
+      → (honest → Rests entry (IsImageOf before)) → Ends honest before status.Memory at at entry entry
+  ends_without_memory before at entry rests = record {
+    script = record {
+      taken = [];
+      lines = [];
+      last = [];
+      run = [];
+      text = [];
+      moves = record { consumed = Consumes-nil at.remaining; appended = Appends-nil at.written };
+      split = AreLines-none [] refl;
+      is_text = inl (BeginsToAnswer-all before [] [] [] (Answers-nil before));
+      long = not_long status.Memory [] (omega arith) (λ e. cc);
+      bounded = omega arith;
+    };
+    disk = breaks_off_behind honest before before [] [] entry entry refl (passes_nothing honest before entry rests);
+  }
+
   module _ (before : Container) (old new : Streams) (entry here : History) (now : Container)
       (pending : List ℕ) (count : ℕ)
       (p : Progress honest before old new entry here now pending count) where

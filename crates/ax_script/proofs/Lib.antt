@@ -2,6 +2,7 @@ mod AnsweredLines
 mod Answering
 mod Attached
 mod Counting
+mod DiskCounts
 mod DiskMoments
 mod Endings
 mod OnDisk

@@ -1,5 +1,5 @@
 -- What a run left on its disk, by the way in which it ended.
-use Rattle.std.proofs.Common.{◌≡◌, ◌⊎◌, inl, inr, ⊎_elim, ℕ, ◌≤◌, Bool, IsTrue, List, [], ◌∷◌, length, refl, sym}
+use Rattle.std.proofs.Common.{◌≡◌, ◌⊎◌, inl, inr, ⊎_elim, ℕ, Bool, IsTrue, List, [], ◌∷◌, length, refl, sym}
 use Rattle.std.proofs.Common.{subst, ap, arith}
 use Rattle.ax_disk.specs.model.Image.{Image}
 use Rattle.ax_disk.specs.model.Pending.{MayLeave}
@@ -9,7 +9,6 @@ use Rattle.ax_disk.specs.laws.MomentLaws.{progress_within, elapses_start, progre
 use Rattle.ax_disk.specs.laws.StageLaws.{barrier_progress}
 use Rattle.ax_disk.specs.laws.StaysLaws.{idles_start, rests_weaken}
 use Rattle.ax_store.proofs.StoreLemmas.{barrier_weaken}
-use Rattle.ax_faults.specs.Faults.{Rose}
 use Rattle.ax_container.specs.Container.{Container}
 use Rattle.ax_image.specs.StandsFor.{StandsFor}
 use Rattle.ax_machine.specs.Run.{Exchange, after_lines}
@@ -109,10 +108,6 @@ on_disk_named honest before ended old new entry mid exit name there now is still
     (of_name (λ x y. Ends honest before ended old new x y) mid exit name there now is still ends)
 
 -- ---- the statuses of a run whose disk, source and sink did not fail
-
--- a count that rose later has risen since
-pub rose_since : (first before now : ℕ) → first ≤ before → Rose before now → Rose first now
-rose_since first before now le rose = omega (arith, le, rose)
 
 -- a status of serving gives no cause in the store but a document whose text is none
 pub serving_refuses : (honest : Bool) (ended : Status) (old new : History) → IsWithin old.reads → EndsServing honest ended new → IsTrue honest

@@ -5,8 +5,9 @@ use Rattle.std.specs.Prelude.{◌≢◌, IfErr, IsTrue}
 use Rattle.ax_disk.specs.model.Moments.{History}
 use Rattle.ax_disk.specs.model.Stays.{Turns}
 use Rattle.ax_container.specs.Container.{Container}
-use Rattle.ax_container.specs.Writes.{WriteRefusal, upserted}
+use Rattle.ax_container.specs.Writes.{WriteRefusal, exchanged, inserted, removed, upserted}
 use Rattle.ax_tree.specs.Document.{document_id}
+use Rattle.ax_tree.specs.declared.tree.Tree.{Tree}
 use Rattle.ax_lines.specs.declared.line.Line.{Line}
 use Rattle.ax_lines.specs.declared.line.Line.TheVariants as line
 use Rattle.ax_lines.specs.declared.refusal.Refusal.{Refusal}
@@ -24,7 +25,7 @@ use Rattle.ax_machine.specs.Needs.{most_steps}
 use Rattle.ax_machine.specs.Reply as reply
 use Rattle.ax_machine.specs.ReplyTexts.{end_text, reply_text}
 use Rattle.ax_machine.specs.Run.{Outcome, Served, OutOfMemory, after_line, reply_to}
-use Rattle.ax_machine.specs.Step.{served, step, upsert_by, written}
+use Rattle.ax_machine.specs.Step.{served, step, write_by, written}
 use Rattle.ax_script.specs.declared.status.Status.{Status}
 use Rattle.ax_script.specs.declared.status.Status.TheVariants as status
 use Rattle.ax_script.specs.Progress.{Serves, BeginsToServe, BreaksOffWith, IsLineFault, StopsBy, outlets}
@@ -39,14 +40,19 @@ unwritten : (before : Container) (end : Result Container WriteRefusal) → (writ
 unwritten before (Ok after) not = absurd (not refl)
 unwritten before (Err why) not = refl
 
+unwritten_by : (write : List ℕ → Tree → Container → Result Container WriteRefusal) (id : Option (List ℕ))
+    (tree : Tree) (before : Container) → (write_by write id tree before).1 ≢ reply.Ok
+    → (write_by write id tree before).0 ≡ before
+unwritten_by write (Some id) tree before not = unwritten before (write id tree before) not
+unwritten_by write None tree before not = refl
+
 unserved : (before : Container) (meant : Result Line Refusal) → (served before meant).1 ≢ reply.Ok
     → (served before meant).0 ≡ before
-unserved before (Ok (line.Upsert tree)) not = by_id (document_id tree) not
-  where
-    by_id : (id : Option (List ℕ)) → (upsert_by id tree before).1 ≢ reply.Ok
-        → (upsert_by id tree before).0 ≡ before
-    by_id (Some id) not = unwritten before (upserted id tree before) not
-    by_id None not = refl
+unserved before (Ok (line.Create tree)) not = unwritten_by inserted (document_id tree) tree before not
+unserved before (Ok (line.Upsert tree)) not = unwritten_by upserted (document_id tree) tree before not
+unserved before (Ok (line.Replace tree)) not = unwritten_by exchanged (document_id tree) tree before not
+unserved before (Ok (line.Delete id)) not = unwritten before (removed id before) not
+unserved before (Ok (line.Read id)) not = refl
 unserved before (Ok (line.Query body)) not = refl
 unserved before (Err why) not = refl
 
@@ -58,6 +64,7 @@ unchanged before line OutOfMemory not = refl
 -- it is not the reply to a write that was made
 not_ok : (made : Reply) (meant : reply.Reply) → IsReply made meant → made ≢ given.Ok → meant ≢ reply.Ok
 not_ok given.Ok meant is not = absurd (not refl)
+not_ok (given.Doc text) meant is not = λ same. cc
 not_ok (given.Rows rows) meant is not = λ same. cc
 not_ok (given.Refused why) meant is not = λ same. cc
 
@@ -66,6 +73,7 @@ not_ok (given.Refused why) meant is not = λ same. cc
 -- the text of a reply is that of the one which it is
 text_meant : (made : Reply) (meant : reply.Reply) → IsReply made meant → text_of_reply made ≡ reply_text meant
 text_meant given.Ok meant is = sym (ap reply_text is)
+text_meant (given.Doc text) meant is = sym (ap reply_text is)
 text_meant (given.Rows rows) meant is =
     (λ i. is.1.lines i ++ end_text reply.End (is.1.count i)) ∙ sym (ap reply_text is.2)
 text_meant (given.Refused why) meant is = sym (ap reply_text is)

@@ -1,5 +1,5 @@
 -- What a status tells of the store: why it was refused, or that it had contents when it was opened.
-use Rattle.std.specs.Prelude.{◌⊎◌}
+use Rattle.std.specs.Prelude.{◌≡◌, ◌⊎◌, Result, Ok, Err}
 use Rattle.ax_area.specs.Image.{IsNewer}
 use Rattle.ax_disk.specs.model.Moments.{History}
 use Rattle.ax_engine.specs.Damage.{IsMetOutside}
@@ -25,6 +25,15 @@ Refuses (status.Damaged extent at) old new =
     ⊎ (IsWithin old.reads × IsMetOutside new.reads extent at)
 Refuses (status.Newer version) old new = IsNewer newest version old.reads × Keeps old new
 Refuses other old new = Unit {0}
+
+-- a run ends so, but that the disk may fail
+abbrev pub IsEndUnlessDisk : Status → Status → Type 0
+IsEndUnlessDisk why ended = (ended ≡ why) ⊎ (ended ≡ status.DiskFault)
+
+-- opening ends a run so, but that the disk may fail
+abbrev pub EndsOpening : {T : Type 0} → Status → Result T Status → Type 0
+EndsOpening why (Ok opened) = ⊥
+EndsOpening why (Err ended) = IsEndUnlessDisk why ended
 
 -- the status tells that the store was opened and served
 abbrev pub TellsServed : Status → Type 0

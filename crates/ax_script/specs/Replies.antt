@@ -20,15 +20,16 @@ use Rattle.ax_lines.specs.declared.refusal.Refusal.{Refusal}
 use Rattle.ax_lines.specs.declared.refusal.Refusal.TheVariants as refusal
 use Rattle.ax_tree.specs.declared.out_of_memory.Memory.{Memory}
 use Rattle.ax_machine.specs.Reply as reply
-use Rattle.ax_machine.specs.ReplyTexts.{end_text, refusal_text, reply_text}
+use Rattle.ax_machine.specs.ReplyTexts.{doc_text, end_text, refusal_text, reply_text}
 use Rattle.ax_machine.specs.Run.{Outcome, after_line, reply_to}
 use Rattle.ax_machine.specs.Step.{step}
 use Rattle.ax_script.specs.declared.status.Status.{Status}
 use Rattle.ax_script.specs.declared.status.Status.TheVariants as status
 
--- the text of a reply: of rows their lines, and behind these how many there are
+-- the text of a reply: of a document its line; of rows their lines, and behind these how many there are
 abbrev pub text_of_reply : Reply → List ℕ
 text_of_reply given.Ok = reply_text reply.Ok
+text_of_reply (given.Doc text) = doc_text text.items
 text_of_reply (given.Rows rows) = rows.lines.items ++ end_text reply.End rows.count
 text_of_reply (given.Refused why) = refusal_text why
 

@@ -1,5 +1,6 @@
--- The exit code of each status, and its text on standard error.
-use Rattle.std.specs.Prelude.{ℕ, List, [], ◌++◌, codes, decimal}
+-- The exit code of each status, its text on standard error, and what the disk counts where it is the status.
+use Rattle.std.specs.Prelude.{◌≡◌, ℕ, List, [], ◌++◌, codes, decimal, Result, Ok, Err}
+use Rattle.ax_faults.specs.Faults.{Rose}
 use Rattle.ax_script.specs.declared.status.Status.{Status}
 use Rattle.ax_script.specs.declared.status.Status.TheVariants.{Done, Words, DiskFault, ReadFault}
 use Rattle.ax_script.specs.declared.status.Status.TheVariants.{WriteFault, Damaged, Newer, Memory}
@@ -26,3 +27,13 @@ text_of (Damaged extent at) = codes "damaged " ++ decimal extent ++ codes " " ++
 text_of (Newer version) = codes "newer " ++ decimal version
 text_of Memory = codes "memory"
 text_of Long = codes "long"
+
+-- the disk's count of faults rises where a run ends since the disk failed, and nowhere else
+abbrev pub CountsDisk : Status → ℕ → ℕ → Type 0
+CountsDisk DiskFault earlier later = Rose earlier later
+CountsDisk other earlier later = later ≡ earlier
+
+-- the same of a call that may end the run
+abbrev pub CallCountsDisk : {T : Type 0} → Result T Status → ℕ → ℕ → Type 0
+CallCountsDisk (Ok value) earlier later = later ≡ earlier
+CallCountsDisk (Err status) earlier later = CountsDisk status earlier later

@@ -6,7 +6,9 @@
 //! and `ax_disk` for the outside. Its one contract stands on `run`: what was written is the text of a run of the lines
 //! that were read, no more steps of work were counted than these lines may count, at each moment a
 //! crash leaves the documents after a prefix of these lines, at the end one with every acknowledged
-//! line, and each status has its cause.
+//! line, and each status has its cause: the disk counts a fault in a run that ends by `DiskFault` and in no
+//! other, and a store that is of a later version, or whose root is damaged, is told as that, whatever memory
+//! there is.
 #![tactic(auto)]
 
 mod command_line;

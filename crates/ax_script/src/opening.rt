@@ -1,13 +1,17 @@
 //! Opening the store of a name.
 
-ghost use Rattle.std.specs.Prelude.{◌≡◌, ◌≤◌, Err, None, IsTrue, IfOk, IfErr, OnOk};
-ghost use Rattle.ax_faults.specs.Faults.{Rose};
+ghost use Rattle.std.specs.Prelude.{◌≡◌, ◌≤◌, ℕ, None, IsTrue, IfOk, IfErr, OnOk};
+ghost use Rattle.ax_area.specs.Image.{IsDamaged, IsNewer};
+ghost use Rattle.ax_disk.specs.declared.extent.Extent.TheVariants.{Root};
 ghost use Rattle.ax_disk.specs.model.Stays.{SinceBarrier};
 ghost use Rattle.ax_container.specs.Container.{Container};
 ghost use Rattle.ax_engine.specs.Engine.{HoldsOver, Works};
 ghost use Rattle.ax_engine.specs.Stores.{IsImageOf, IsStore, IsWithin};
-ghost use Rattle.ax_script.specs.Opening.{RefusesOpening};
+ghost use Rattle.ax_image.specs.Readable.{newest};
+ghost use Rattle.ax_pages.specs.Area.{extent_number};
+ghost use Rattle.ax_script.specs.Opening.{EndsOpening, RefusesOpening};
 ghost use Rattle.ax_script.specs.Progress.{EndsEarly};
+ghost use Rattle.ax_script.specs.Statuses.{CallCountsDisk};
 
 use crate::status::Status;
 use ax_disk::Disk;
@@ -15,7 +19,8 @@ use ax_engine::Engine;
 use ax_store::StoreFault;
 use std::alloc::Global;
 
-/// Attaches the store of a name, and opens it.
+/// Attaches the store of a name, and opens it. Over an honest disk a store with a damaged root or of a later
+/// version is refused as that unless the disk fails, whatever memory there is.
 pub(crate) fn open_named<D: Disk>(alloc: Global, disk: &mut D, name: &str) -> Result<Engine, Status>
     ensures works { IfOk result (λ engine. Works (IsTrue (D.is_honest disk.old)) engine
         (D.history disk.new (D.attached disk.new))) }
@@ -32,7 +37,13 @@ pub(crate) fn open_named<D: Disk>(alloc: Global, disk: &mut D, name: &str) -> Re
     ensures tells { IsTrue (D.is_honest disk.old) → IfErr result (λ status. RefusesOpening status
         (D.history disk.old (D.store_named name.now)) (D.history disk.new (D.store_named name.now))) }
     ensures only { IfErr result EndsEarly }
-    ensures cause { result ≡ Err Status.DiskFault → Rose (D.faults disk.old) (D.faults disk.new) }
+    ensures damaged_root { IsTrue (D.is_honest disk.old) → (at : ℕ)
+        → IsDamaged newest (D.history disk.old (D.store_named name.now)).reads Root at
+        → EndsOpening (Status.Damaged (extent_number Root) at) result }
+    ensures newer { IsTrue (D.is_honest disk.old) → (version : ℕ)
+        → IsNewer newest version (D.history disk.old (D.store_named name.now)).reads
+        → EndsOpening (Status.Newer version) result }
+    ensures disk_counted { CallCountsDisk result (D.faults disk.old) (D.faults disk.new) }
     ensures never_falls { D.faults disk.old ≤ D.faults disk.new }
     ensures honest { D.is_honest disk.new ≡ D.is_honest disk.old }
 {

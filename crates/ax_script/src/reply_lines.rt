@@ -2,7 +2,7 @@
 
 ghost use Rattle.std.specs.Prelude.{◌≡◌, ◌++◌, IfOk, OnOk};
 ghost use Rattle.ax_machine.specs.Reply as reply;
-ghost use Rattle.ax_machine.specs.ReplyTexts.{reply_text, end_text, refusal_text};
+ghost use Rattle.ax_machine.specs.ReplyTexts.{doc_text, end_text, refusal_text, reply_text};
 
 use ax_engine::Rows;
 use ax_lines::Refusal;
@@ -22,6 +22,17 @@ pub fn ok_line() -> &'static [u8]
     ensures { result.now ≡ reply_text reply.Ok }
 {
     b"ok\n"
+}
+
+/// The reply to a read of the document with this text.
+pub fn doc_line(alloc: Global, document: &[u8]) -> Result<Vec<u8>, Memory>
+    ensures { IfOk result (λ text. text.items ≡ doc_text document.now) }
+{
+    let mut line = Vec::with_capacity(alloc, document.len().saturating_add(5))?;
+    line.extend_from_slice(b"doc ")?;
+    line.extend_from_slice(document)?;
+    line.extend_from_slice(b"\n")?;
+    Ok(line)
 }
 
 /// The reply to a query with these rows: a line for each, and a last line with their count.

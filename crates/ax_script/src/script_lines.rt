@@ -7,6 +7,7 @@ ghost use Rattle.ax_engine.specs.declared.engine.Fault.{Fault};
 ghost use Rattle.ax_script.specs.Progress.{outlets, Serves, BeginsToServe, ServesLines, BeginsLines, ServesLast, BeginsLast, Ends, BreaksOffWith, EndsServing, IsOfServing, StopsBy};
 ghost use Rattle.ax_script.specs.Answered.{AnswersLast, AnswersLine, AnswersLines, TellsAnswered};
 ghost use Rattle.ax_script.specs.Replies.{fault_status};
+ghost use Rattle.ax_script.specs.Statuses.{CallCountsDisk, CountsDisk};
 ghost use Rattle.ax_lines.specs.ScriptLines.{IsOneLine};
 
 use crate::serving::serve_line;
@@ -41,7 +42,7 @@ pub fn serve_source<D: Disk, S: Source, K: Sink, L: Ledger>(
         (record { remaining = S.rest source.old; written = K.written sink.old; steps = steps.old })
         (record { remaining = S.rest source.new; written = K.written sink.new; steps = steps.new })
         (D.history disk.old (D.attached disk.old)) (D.history disk.new (D.attached disk.new)) }
-    ensures disk_fault { result ≡ Status.DiskFault → Rose (D.faults disk.old) (D.faults disk.new) }
+    ensures disk_counted { CountsDisk result (D.faults disk.old) (D.faults disk.new) }
     ensures read_fault { result ≡ Status.ReadFault
         → Rose (S.faults source.old) (S.faults source.new) }
     ensures write_fault { result ≡ Status.WriteFault
@@ -119,7 +120,7 @@ fn serve_piece<D: Disk, K: Sink, L: Ledger>(
     ensures sound { IsTrue (D.is_honest disk.old) → (before : Container) → HoldsOver engine.old (D.history disk.old (D.attached disk.old)) before → IfErr result BreaksOffWith }
     ensures only { IfErr result (λ status. StopsBy (D.is_honest disk.old) status
         (D.history disk.new (D.attached disk.new))) }
-    ensures disk_cause { result ≡ Err Status.DiskFault → Rose (D.faults disk.old) (D.faults disk.new) }
+    ensures disk_counted { CallCountsDisk result (D.faults disk.old) (D.faults disk.new) }
     ensures sink_cause { result ≡ Err Status.WriteFault → Rose (K.faults sink.old) (K.faults sink.new) }
     ensures disk_faults { D.faults disk.old ≤ D.faults disk.new }
     ensures sink_faults { K.faults sink.old ≤ K.faults sink.new }
@@ -177,7 +178,7 @@ fn serve_head<D: Disk, K: Sink, L: Ledger>(
     ensures sound { IsTrue (D.is_honest disk.old) → (before : Container) → HoldsOver engine.old (D.history disk.old (D.attached disk.old)) before → IfErr result BreaksOffWith }
     ensures only { IfErr result (λ status. StopsBy (D.is_honest disk.old) status
         (D.history disk.new (D.attached disk.new))) }
-    ensures disk_cause { result ≡ Err Status.DiskFault → Rose (D.faults disk.old) (D.faults disk.new) }
+    ensures disk_counted { CallCountsDisk result (D.faults disk.old) (D.faults disk.new) }
     ensures sink_cause { result ≡ Err Status.WriteFault → Rose (K.faults sink.old) (K.faults sink.new) }
     ensures disk_faults { D.faults disk.old ≤ D.faults disk.new }
     ensures sink_faults { K.faults sink.old ≤ K.faults sink.new }
@@ -224,7 +225,7 @@ fn serve_last<D: Disk, K: Sink, L: Ledger>(
         (D.history disk.new (D.attached disk.new)) }
     ensures answered { result ≡ Status.Done → AnswersLast pending.now (K.written sink.old) (K.written sink.new) }
     ensures kept { (fault : Fault) → engine.new.fault ≡ Some fault → result ≡ fault_status fault }
-    ensures disk_cause { result ≡ Status.DiskFault → Rose (D.faults disk.old) (D.faults disk.new) }
+    ensures disk_counted { CountsDisk result (D.faults disk.old) (D.faults disk.new) }
     ensures sink_cause { result ≡ Status.WriteFault → Rose (K.faults sink.old) (K.faults sink.new) }
     ensures disk_faults { D.faults disk.old ≤ D.faults disk.new }
     ensures sink_faults { K.faults sink.old ≤ K.faults sink.new }

@@ -1,11 +1,18 @@
-ghost use Rattle.std.specs.Prelude.{◌≡◌, ◌≢◌, ◌↔◌, ◌≤◌, ◌⊎◌, IsTrue, true, false};
+ghost use Rattle.std.specs.Prelude.{◌≡◌, ◌≢◌, ◌↔◌, ◌≤◌, ◌⊎◌, ℕ, None, IsTrue, true, false};
+ghost use Rattle.ax_area.specs.Image.{IsDamaged, IsNewer};
+ghost use Rattle.ax_disk.specs.declared.extent.Extent.TheVariants.{Root};
 ghost use Rattle.ax_faults.specs.Faults.{Rose};
 ghost use Rattle.ax_container.specs.Container.{Container};
 ghost use Rattle.ax_script.specs.CommandLine.{is_run as is_run_lem, store_word};
+ghost use Rattle.ax_engine.specs.Engine.{HoldsOver, Works};
 ghost use Rattle.ax_engine.specs.Stores.{IsStore, IsWithin};
+ghost use Rattle.ax_image.specs.Readable.{newest};
+ghost use Rattle.ax_pages.specs.Area.{extent_number};
 ghost use Rattle.ax_script.specs.Answered.{TellsAnswered};
 ghost use Rattle.ax_script.specs.DiskScript.{RunsOnDisk};
-ghost use Rattle.ax_script.specs.Opening.{Refuses, TellsServed};
+ghost use Rattle.ax_script.specs.Opening.{IsEndUnlessDisk, Refuses, TellsServed};
+ghost use Rattle.ax_script.specs.Progress.{Ends, EndsServing, IsOfServing};
+ghost use Rattle.ax_script.specs.Statuses.{CountsDisk};
 
 use crate::command_line::{is_run, store_name};
 use crate::opening::open_named;
@@ -13,6 +20,7 @@ use crate::script_lines::serve_source;
 use crate::status::Status;
 use ax_base::{Sink, Source, Steps};
 use ax_disk::Disk;
+use ax_engine::Engine;
 use std::alloc::Global;
 use std::sync::ledger::Ledger;
 
@@ -24,17 +32,18 @@ const PIECE: usize = 65_536;
 /// line after the program's name.
 ///
 /// The statuses and their causes: `Words` exactly where the words are not `run STORE`, and then
-/// nothing is touched; `DiskFault`, `ReadFault` and `WriteFault` only where a call on the disk, the
-/// source or the sink failed in this run; over an honest disk `Damaged` and `Newer` only where the
-/// store is outside the format at that offset, or of that later version, and it is as it was, or where
-/// a store that was opened has at that place, as the run has left it, the part of a document whose text
-/// is none; `Done`, `ReadFault`, `WriteFault` and `Long` only where the store had contents; where
-/// it also stands for a container, `Long` exactly where more than 2^40 bytes were taken, and
-/// without a failed call only `Done`, `Memory` or `Long`. `Memory` comes where memory ran out
-/// outside the serving of a line; at `Done` all input was read and served. Over any store, also one whose
-/// documents are those of no container, `Done` comes only where each line that was taken has a reply that it
-/// may have, so that none which met damage was passed over, and `Long` only where more than 2^40 bytes were
-/// taken.
+/// nothing is touched; `DiskFault` exactly where the disk counted a fault in this run, and `ReadFault` and
+/// `WriteFault` only where a call on the source or the sink failed in it. Over an honest disk, but that it
+/// may fail, `Newer` exactly where the store is of that later version, and `Damaged` with its place where
+/// the root is damaged, whatever memory there is; the store is then as it was. Else `Damaged` only where the
+/// store is outside the format at that offset, and it is as it was, or where a store that was opened has at
+/// that place, as the run has left it, the part of a document whose text is none; `Done`, `ReadFault`,
+/// `WriteFault` and `Long` only where the store had contents; where it also stands for a container, `Long`
+/// exactly where more than 2^40 bytes were taken, and without a failed call only `Done`, `Memory` or `Long`.
+/// `Memory` comes where memory ran out outside the serving of a line; at `Done` all input was read and
+/// served. Over any store, also one whose documents are those of no container, `Done` comes only where each
+/// line that was taken has a reply that it may have, so that none which met damage was passed over, and
+/// `Long` only where more than 2^40 bytes were taken.
 pub fn run<D: Disk, S: Source, K: Sink, L: Ledger>(
     alloc: Global,
     words: &[String],
@@ -63,8 +72,9 @@ pub fn run<D: Disk, S: Source, K: Sink, L: Ledger>(
         (record { remaining = S.rest source.old; written = K.written sink.old; steps = steps.old })
         (record { remaining = S.rest source.new; written = K.written sink.new; steps = steps.new }) }
 
-    // Each status has its cause.
+    // Each status has its cause, and the disk counts a fault only where that is the status.
     ensures disk_fault { result ≡ Status.DiskFault → Rose (D.faults disk.old) (D.faults disk.new) }
+    ensures disk_uncounted { result ≢ Status.DiskFault → D.faults disk.new ≡ D.faults disk.old }
     ensures read_fault { result ≡ Status.ReadFault
         → Rose (S.faults source.old) (S.faults source.new) }
     ensures write_fault { result ≡ Status.WriteFault
@@ -72,6 +82,14 @@ pub fn run<D: Disk, S: Source, K: Sink, L: Ledger>(
     ensures refused { IsTrue (D.is_honest disk.old) → Refuses result
         (D.history disk.old (D.store_named (store_word words.now)))
         (D.history disk.new (D.store_named (store_word words.now))) }
+
+    // A damaged root and a later version are told unless the disk fails, whatever memory there is.
+    ensures damaged_root { is_run_lem words.now ≡ true → IsTrue (D.is_honest disk.old) → (at : ℕ)
+        → IsDamaged newest (D.history disk.old (D.store_named (store_word words.now))).reads Root at
+        → IsEndUnlessDisk (Status.Damaged (extent_number Root) at) result }
+    ensures newer { is_run_lem words.now ≡ true → IsTrue (D.is_honest disk.old) → (version : ℕ)
+        → IsNewer newest version (D.history disk.old (D.store_named (store_word words.now))).reads
+        → IsEndUnlessDisk (Status.Newer version) result }
 
     // And a store that has no contents, since it is damaged or of a later version, is not served.
     ensures within { IsTrue (D.is_honest disk.old) → TellsServed result
@@ -116,13 +134,19 @@ fn serve<D: Disk, S: Source, K: Sink, L: Ledger>(
     ensures answered { TellsAnswered result
         (record { remaining = S.rest source.old; written = K.written sink.old; steps = steps.old })
         (record { remaining = S.rest source.new; written = K.written sink.new; steps = steps.new }) }
-    ensures disk_fault { result ≡ Status.DiskFault → Rose (D.faults disk.old) (D.faults disk.new) }
+    ensures disk_counted { CountsDisk result (D.faults disk.old) (D.faults disk.new) }
     ensures read_fault { result ≡ Status.ReadFault
         → Rose (S.faults source.old) (S.faults source.new) }
     ensures write_fault { result ≡ Status.WriteFault
         → Rose (K.faults sink.old) (K.faults sink.new) }
     ensures refused { IsTrue (D.is_honest disk.old) → Refuses result
         (D.history disk.old (D.store_named (store_word words.now))) (D.history disk.new (D.store_named (store_word words.now))) }
+    ensures damaged_root { IsTrue (D.is_honest disk.old) → (at : ℕ)
+        → IsDamaged newest (D.history disk.old (D.store_named (store_word words.now))).reads Root at
+        → IsEndUnlessDisk (Status.Damaged (extent_number Root) at) result }
+    ensures newer { IsTrue (D.is_honest disk.old) → (version : ℕ)
+        → IsNewer newest version (D.history disk.old (D.store_named (store_word words.now))).reads
+        → IsEndUnlessDisk (Status.Newer version) result }
     ensures within { IsTrue (D.is_honest disk.old) → TellsServed result
         → IsWithin (D.history disk.old (D.store_named (store_word words.now))).reads }
     ensures disk_faults { D.faults disk.old ≤ D.faults disk.new }
@@ -138,21 +162,56 @@ fn serve<D: Disk, S: Source, K: Sink, L: Ledger>(
     ensures steps { steps.old ≤ steps.new }
     ensures not_words { result ≢ Status.Words }
 {
+    match open_named(alloc, disk, store_name(words)) {
+        Ok(mut engine) => serve_opened(alloc, &mut engine, disk, source, sink, steps),
+        Err(status) => status,
+    }
+}
+
+/// Serves the source over an open store, piece by piece. The buffer for the pieces is taken here, behind the
+/// opening, so that no want of memory hides why a store is refused.
+fn serve_opened<D: Disk, S: Source, K: Sink, L: Ledger>(
+    alloc: Global,
+    engine: &mut Engine,
+    disk: &mut D,
+    source: &mut S,
+    sink: &mut K,
+    steps: &mut Steps<L>,
+) -> Status
+    requires works { Works (IsTrue (D.is_honest disk.old)) engine.old (D.history disk.old (D.attached disk.old)) }
+    requires unfaulted { engine.old.fault ≡ None }
+    ensures script { IsTrue (D.is_honest disk.old) → (before : Container) → HoldsOver engine.old (D.history disk.old (D.attached disk.old)) before
+        → Ends (IsTrue (D.is_honest disk.old)) before result
+        (record { remaining = S.rest source.old; written = K.written sink.old; steps = steps.old })
+        (record { remaining = S.rest source.new; written = K.written sink.new; steps = steps.new })
+        (D.history disk.old (D.attached disk.old)) (D.history disk.new (D.attached disk.new)) }
+    ensures disk_counted { CountsDisk result (D.faults disk.old) (D.faults disk.new) }
+    ensures read_fault { result ≡ Status.ReadFault
+        → Rose (S.faults source.old) (S.faults source.new) }
+    ensures write_fault { result ≡ Status.WriteFault
+        → Rose (K.faults sink.old) (K.faults sink.new) }
+    ensures disk_faults { D.faults disk.old ≤ D.faults disk.new }
+    ensures source_faults { S.faults source.old ≤ S.faults source.new }
+    ensures sink_faults { K.faults sink.old ≤ K.faults sink.new }
+    ensures attached { D.attached disk.new ≡ D.attached disk.old }
+    ensures honest { D.is_honest disk.new ≡ D.is_honest disk.old }
+    ensures steps { steps.old ≤ steps.new }
+    ensures sound { IsTrue (D.is_honest disk.old) → (before : Container) → HoldsOver engine.old (D.history disk.old (D.attached disk.old)) before → IsOfServing result }
+    ensures of_serving { EndsServing (D.is_honest disk.old) result (D.history disk.new (D.attached disk.new)) }
+    ensures answered { TellsAnswered result
+        (record { remaining = S.rest source.old; written = K.written sink.old; steps = steps.old })
+        (record { remaining = S.rest source.new; written = K.written sink.new; steps = steps.new }) }
+{
     let Ok(mut buffer) = vec![in alloc; 0u8; PIECE] else {
         return Status::Memory;
     };
-    match open_named(alloc, disk, store_name(words)) {
-        Ok(mut engine) => {
-            serve_source(
-                alloc,
-                &mut engine,
-                disk,
-                source,
-                sink,
-                steps,
-                buffer.as_mut_slice(),
-            )
-        }
-        Err(status) => status,
-    }
+    serve_source(
+        alloc,
+        engine,
+        disk,
+        source,
+        sink,
+        steps,
+        buffer.as_mut_slice(),
+    )
 }

@@ -3,15 +3,16 @@ ghost use Rattle.std.specs.Io.KnownBytes.{Appends};
 ghost use Rattle.ax_base.specs.Appends.{AppendsPrefix};
 ghost use Rattle.ax_faults.specs.Faults.{Rose};
 ghost use Rattle.ax_container.specs.Container.{Container};
-ghost use Rattle.ax_engine.specs.Engine.{Holds, HoldsOver, Works};
+ghost use Rattle.ax_engine.specs.Engine.{CountsAnswer, Holds, HoldsOver, Works};
 ghost use Rattle.ax_machine.specs.Needs.{most_steps};
 ghost use Rattle.ax_engine.specs.Damage.{Meets};
 ghost use Rattle.ax_lines.specs.Lines.{line_of};
 ghost use Rattle.ax_script.specs.Answered.{AnswersLine};
 ghost use Rattle.ax_script.specs.Progress.{outlets, Serves, BeginsToServe, BreaksOffWith, IsLineFault, StopsBy};
+ghost use Rattle.ax_script.specs.Statuses.{CallCountsDisk};
 ghost use Rattle.ax_script.specs.Replies.{IsTextOf, MayAnswer, TellsLine, WritesPart, WritesWhole, fault_status, text_or_memory};
 
-use crate::reply_lines::{ok_line, out_of_memory_line, refusal_line, rows_text};
+use crate::reply_lines::{doc_line, ok_line, out_of_memory_line, refusal_line, rows_text};
 use crate::status::Status;
 use ax_base::{Failed, Sink, Steps, write_all};
 use ax_disk::Disk;
@@ -22,10 +23,12 @@ use std::alloc::Global;
 use std::sync::ledger::Ledger;
 
 /// Serves one line, which comes without its newline: makes its change, durable where the disk is
-/// honest, and then writes its reply. Out of memory is a reply of its own, which needs none. The
-/// errors are `DiskFault`, `WriteFault` and `Damaged`: the sink was given some prefix of the reply. A disk
-/// fault comes only where a call on the disk failed in this call, or in an earlier one of this engine, and
-/// a write fault only where one on the sink failed in this call. Over an honest disk damage comes only
+/// honest, or reads what it asks for, and then writes its reply. Out of memory is a reply of its own, which
+/// needs none, also where it comes while the text of a document or of rows is made; nothing of that text was
+/// written then. The errors are `DiskFault`, `WriteFault` and `Damaged`: the sink was given some prefix of the
+/// reply. A disk fault comes where a call on the disk failed in this call, or in an earlier one of this engine,
+/// and a line served by an engine without a fault counts a fault of the disk nowhere else. A write fault comes
+/// only where one on the sink failed in this call. Over an honest disk damage comes only
 /// where the text of a document is none that a document can have, with the place of its part, and so
 /// never over documents that are those of a container. A fault that the engine has afterwards is the error.
 /// What is written at `Ok` is a reply that the line may have, whatever the documents are.
@@ -52,7 +55,7 @@ pub fn serve_line<D: Disk, K: Sink, L: Ledger>(
     ensures only { IfErr result IsLineFault }
     ensures stops { engine.old.fault ≡ None → IfErr result (λ status. StopsBy (D.is_honest disk.old) status
         (D.history disk.new (D.attached disk.new))) }
-    ensures disk_cause { engine.old.fault ≡ None → result ≡ Err Status.DiskFault → Rose (D.faults disk.old) (D.faults disk.new) }
+    ensures disk_counted { engine.old.fault ≡ None → CallCountsDisk result (D.faults disk.old) (D.faults disk.new) }
     ensures sink_cause { result ≡ Err Status.WriteFault → Rose (K.faults sink.old) (K.faults sink.new) }
     ensures unfaulted { OnOk result (engine.new.fault ≡ engine.old.fault) }
     ensures disk_faults { D.faults disk.old ≤ D.faults disk.new }
@@ -92,7 +95,7 @@ fn answer<D: Disk, L: Ledger>(
     ensures may_answer { IfOk result (λ reply. MayAnswer (line_of line.now) reply) }
     ensures met { IsTrue (D.is_honest disk.old) → engine.old.fault ≡ None
         → IfErr result (λ fault. Meets fault (D.history disk.new (D.attached disk.new)).reads) }
-    ensures cause { engine.old.fault ≡ None → result ≡ Err Fault.Disk → Rose (D.faults disk.old) (D.faults disk.new) }
+    ensures counted { engine.old.fault ≡ None → CountsAnswer result (D.faults disk.old) (D.faults disk.new) }
     ensures unfaulted { OnOk result (engine.new.fault ≡ engine.old.fault) }
     ensures never_falls { D.faults disk.old ≤ D.faults disk.new }
     ensures attached { D.attached disk.new ≡ D.attached disk.old }
@@ -127,7 +130,7 @@ fn answer_line<D: Disk, L: Ledger>(
     ensures may_answer { IfOk result (λ reply. MayAnswer (line_of line.now) reply) }
     ensures met { IsTrue (D.is_honest disk.old) → engine.old.fault ≡ None
         → IfErr result (λ fault. Meets fault (D.history disk.new (D.attached disk.new)).reads) }
-    ensures cause { engine.old.fault ≡ None → result ≡ Err Fault.Disk → Rose (D.faults disk.old) (D.faults disk.new) }
+    ensures counted { engine.old.fault ≡ None → CountsAnswer result (D.faults disk.old) (D.faults disk.new) }
     ensures unfaulted { OnOk result (engine.new.fault ≡ engine.old.fault) }
     ensures never_falls { D.faults disk.old ≤ D.faults disk.new }
     ensures attached { D.attached disk.new ≡ D.attached disk.old }
@@ -179,6 +182,7 @@ fn write_reply<K: Sink>(alloc: Global, sink: &mut K, reply: Reply) -> Result<(),
 {
     match reply {
         Reply::Ok => write_text(sink, ok_line()),
+        Reply::Doc(text) => write_made(sink, doc_line(alloc, text.as_slice())),
         Reply::Rows(rows) => write_made(sink, rows_text(alloc, rows)),
         Reply::Refused(refusal) => write_made(sink, refusal_line(alloc, refusal)),
     }

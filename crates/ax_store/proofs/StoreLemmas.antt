@@ -1,5 +1,6 @@
 -- The store and its log: agreement, and what it says of images.
 use Rattle.std.proofs.Common.{◌≡◌, ℕ, zero, suc, ⊎_elim, ◌≤◌, List, sym, subst, inl, inr}
+use Rattle.std.specs.FinMap as map
 use Rattle.ax_disk.specs.model.Image.{Image}
 use Rattle.ax_disk.specs.model.Pending.{MayLeave}
 use Rattle.ax_disk.specs.model.Moments.{History}
@@ -17,7 +18,8 @@ use Rattle.ax_log.specs.AgreementLaws.{agrees_idles, agrees_rests}
 use Rattle.ax_store.specs.Cached.{HoldsParts}
 use Rattle.ax_store.specs.declared.store.Store.{Store}
 use Rattle.ax_store.specs.Loading.{nothing_kept, TakesOn}
-use Rattle.ax_store.specs.Store.{Agrees, SameButRoom, SameButSlots, SaysOf, store_contents}
+use Rattle.ax_store.specs.Store.{Agrees, SameButCache, SameButRoom, SameButSlots, SaysOf, store_contents}
+use Rattle.ax_store.proofs.CacheLemmas.{none_held}
 use Rattle.ax_store.proofs.FramesSay.{says_by, taken_tell}
 use Rattle.ax_store.proofs.LoadLemmas.{last_same}
 
@@ -73,6 +75,17 @@ agrees_same pages old new history same agrees = record {
   frames = agrees.frames;
   logged = subst (λ l. log.Agrees l agrees.frames history) (sym same.logged) agrees.logged;
   takes = last_same agrees.frames 0 nothing_kept old.pages new.pages agrees.takes same.contents same.offsets;
+}
+
+-- and over another cache, which holds nothing yet
+pub agrees_recached : {C E : Type 0} (pages : C → CachedPages) (others : E → CachedPages) (old : Store C) (new : Store E)
+    (history : History) → SameButCache old new → others new.cache ≡ map.empty
+    → Agrees pages old history → Agrees others new history
+agrees_recached pages others old new history same empty agrees = record {
+  caches = none_held (others new.cache) (log_area new.log) (log_generation new.log) (frames_bytes agrees.frames) empty;
+  frames = agrees.frames;
+  logged = subst (λ l. log.Agrees l agrees.frames history) (sym same.logged) agrees.logged;
+  takes = subst (TakesOn agrees.frames 0 nothing_kept) (sym same.pages) agrees.takes;
 }
 
 -- and where nothing of it changed but its slots

@@ -93,6 +93,13 @@ pub record SameButReads {C : Type 0} (old new : Store C) : Type 0 where
   pub logged : new.log ≡ old.log
   pub pages : new.pages ≡ old.pages
 
+-- the same over another cache
+pub record SameButCache {C E : Type 0} (old : Store C) (new : Store E) : Type 0 where
+  pub logged : new.log ≡ old.log
+  pub pages : new.pages ≡ old.pages
+  pub failed : store_failed new ≡ store_failed old
+  pub slots : store_slots new ≡ store_slots old
+
 -- The image says these contents, whatever it tells.
 abbrev pub Has : Contents → Image → Type 0
 Has contents image =

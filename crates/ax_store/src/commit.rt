@@ -1,6 +1,6 @@
 //! Committing a batch.
 
-ghost use Rattle.std.specs.Prelude.{◌≡◌, ◌≢◌, ◌≤◌, ◌<◌, [], ◌∷◌, ◌++◌, ℕ, List, Some, Err, true, false, length, IsTrue, IfErr, OnOk, OnErr};
+ghost use Rattle.std.specs.Prelude.{◌≡◌, ◌≢◌, ◌≤◌, ◌<◌, ◌∷◌, ◌++◌, ℕ, List, Some, Err, true, false, length, IsTrue, IfErr, OnOk, OnErr};
 ghost use Rattle.ax_disk.specs.model.Calls.{Idles};
 ghost use Rattle.ax_disk.specs.model.Stays.{Rests, Turns};
 ghost use Rattle.ax_area.specs.Changes.{Change};
@@ -16,14 +16,12 @@ ghost use Rattle.ax_store.specs.Store.{Agrees, SameButRoom, SaysMore, store_cont
 
 use crate::batch::Batch;
 use crate::fault::StoreFault;
+use crate::load::FRAME_HEAD_BYTES;
 use crate::out_of_memory::Memory;
 use crate::put_changes::put_changes;
 use crate::store::Store;
 use ax_cache::PageCache;
 use ax_disk::Disk;
-
-/// How many bytes stand before what a frame spans.
-const HEAD_BYTES: u64 = 9;
 
 impl<C> Store<C> {
     /// Makes room for a batch of so many parts. `Memory` where there is none; the store is then as
@@ -102,7 +100,7 @@ impl<C: PageCache> Store<C> {
         if self.failed {
             return Err(StoreFault::Disk);
         }
-        let at = self.log.end() + HEAD_BYTES;
+        let at = self.log.end() + FRAME_HEAD_BYTES;
         let Ok(()) = self.log.commit(disk, &batch.frame) else {
             self.failed = true;
             return Err(StoreFault::Disk);

@@ -24,7 +24,7 @@ pub enum StoreFault {
         /// That version.
         version: u16,
     },
-    /// Memory ran out.
+    /// Out of memory.
     Memory,
 }
 

@@ -4,6 +4,9 @@ ghost use Rattle.std.specs.Prelude.{◌≡◌, ◌≤◌, length, slice_index};
 
 use ax_shown::Shown;
 
+/// How many bytes stand in front of the payload of a part: its kind, its key and its length.
+pub(crate) const PART_HEAD_BYTES: u64 = 9;
+
 /// A part that counts: where it stands. Its payload is on the disk, and only contracts see it.
 #[derive(Drop)]
 pub(crate) struct KeptPart {

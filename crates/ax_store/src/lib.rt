@@ -49,6 +49,9 @@ mod term_row;
 mod together;
 mod window;
 
+pub use ax_cache::{LruPages, NoPages};
+pub use ax_frame::Part;
+pub use ax_pages::Page;
 pub use batch::Batch;
 pub use fault::StoreFault;
 pub use out_of_memory::Memory;

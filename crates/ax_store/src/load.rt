@@ -18,8 +18,8 @@ use ax_frame::{FrameHead, frame_head};
 use ax_log::Log;
 use std::alloc::Global;
 
-/// How many bytes stand before what a frame spans: its gate and its length.
-const HEAD_BYTES: u64 = 9;
+/// How many bytes stand in front of the parts of a frame: its gate and its length.
+pub(crate) const FRAME_HEAD_BYTES: u64 = 9;
 
 /// The most bytes that a part has, with its head.
 const MOST_PART: u64 = 65_545;
@@ -82,8 +82,8 @@ fn load_frame<D: Disk>(
         Ok(len) => len,
         Err(fault) => return Err(fault),
     };
-    match take_span(alloc, disk, log, window, pages, at + HEAD_BYTES, len) {
-        Ok(()) => Ok(at + HEAD_BYTES + len),
+    match take_span(alloc, disk, log, window, pages, at + FRAME_HEAD_BYTES, len) {
+        Ok(()) => Ok(at + FRAME_HEAD_BYTES + len),
         Err(fault) => Err(fault),
     }
 }
@@ -194,16 +194,16 @@ fn read_len<D: Disk>(
     ensures honest { D.is_honest disk.new ≡ D.is_honest disk.old }
 {
     let left = log.end() - at;
-    if left < HEAD_BYTES {
+    if left < FRAME_HEAD_BYTES {
         return Err(damaged(log.area(), at));
     }
-    match window.reach(disk, log, at, HEAD_BYTES) {
+    match window.reach(disk, log, at, FRAME_HEAD_BYTES) {
         Ok(()) => {}
         Err(fault) => return Err(fault),
     }
     match frame_head(&window.head_at(at)) {
         FrameHead::Frame { len } => {
-            if len > left - HEAD_BYTES {
+            if len > left - FRAME_HEAD_BYTES {
                 return Err(damaged(log.area(), at));
             }
             Ok(len)

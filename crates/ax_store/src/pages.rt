@@ -5,7 +5,7 @@ ghost use Rattle.ax_store.specs.Listed.{IsNextAfter};
 ghost use Rattle.std.specs.FinMap as map;
 ghost use Rattle.std.specs.Option.{option_to_list};
 ghost use Rattle.ax_pages.specs.Contents.{next_number, policy_now, is_given, next_in, now_in, parts_of};
-ghost use Rattle.ax_pages.specs.AfterPart.{low_at_front, after_kind, is_meta, is_document, is_gone, has_room};
+ghost use Rattle.ax_pages.specs.AfterPart.{low_at_front, after_kind, is_meta, is_document, has_room};
 ghost use Rattle.ax_store.specs.Rows.{payload_kept, offset_kept};
 ghost use Rattle.ax_store.specs.NewParts.{new_payload, new_low};
 ghost use Rattle.ax_store.specs.TermRows.{base_payload, base_offset};
@@ -19,15 +19,10 @@ use crate::new_part::NewPart;
 use crate::out_of_memory::Memory;
 use crate::term_pages::TermPages;
 use crate::together::{Stretch, WINDOW_BYTES};
+use ax_pages::numbers::{LAST_POLICY, MOST_DOCUMENTS};
 use ax_pages::{Kind, Page};
 use std::alloc::Global;
 use std::marker::Model;
-
-/// The greatest number of a policy.
-const LAST_POLICY: u32 = 8;
-
-/// The most documents that are held.
-const MOST_DOCUMENTS: usize = 1_048_576;
 
 /// The two numbers that a part of the meta has.
 #[derive(Clone, Copy, Debug, PartialEq, Eq)]

@@ -1,18 +1,16 @@
 //! The parts of a batch that was committed are put into the pages. It takes no memory.
 
 ghost use Rattle.std.specs.Prelude.{◌≡◌, ℕ, ◌+◌, ◌<◌, ◌≤◌, ◌^◌, vec_len, length, Some};
-ghost use Rattle.ax_frame.specs.Part.{parts_bytes, part_bytes};
+ghost use Rattle.ax_frame.specs.Part.{parts_bytes};
 ghost use Rattle.ax_pages.specs.AfterPart.{after_part, kind_of};
 ghost use Rattle.ax_store.specs.Change.{change_value, changes_value};
 ghost use Rattle.ax_store.specs.Kept.{offsets_after, deltas_by_kind, room_of};
 ghost use Rattle.ax_store.specs.Putting.{AreWithin, IsWithin, CanTake, Puts};
 
 use crate::change::Change;
+use crate::kept_part::PART_HEAD_BYTES;
 use crate::pages::Pages;
 use ax_pages::kind_of_number;
-
-/// How many bytes stand before a part's payload.
-const HEAD_BYTES: u64 = 9;
 
 /// Puts parts that are within the format, the first of which stands at an offset of the area.
 pub(crate) fn put_changes(pages: &mut Pages, changes: Vec<Change>, at: u64)
@@ -24,7 +22,7 @@ pub(crate) fn put_changes(pages: &mut Pages, changes: Vec<Change>, at: u64)
 {
     let mut here = at;
     for change in changes {
-        let len = HEAD_BYTES + u64::from(change.new.part.len);
+        let len = PART_HEAD_BYTES + u64::from(change.new.part.len);
         put_change(pages, change, here);
         here += len;
     }

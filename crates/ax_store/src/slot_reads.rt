@@ -17,7 +17,7 @@ ghost use Rattle.ax_store.specs.Store.{AgreesUnlessFailed, store_contents, store
 
 use crate::cached::read_bytes;
 use crate::fault::StoreFault;
-use crate::kept_part::KeptPart;
+use crate::kept_part::{KeptPart, PART_HEAD_BYTES};
 use crate::store::{Store, StoreFrames, StoreSlot};
 use ax_base::Steps;
 use ax_cache::PageCache;
@@ -27,9 +27,6 @@ use ax_pages::Page;
 use ax_pool::Pool;
 use std::alloc::{AllocError, Global};
 use std::sync::ledger::Ledger;
-
-/// How many bytes stand before a part's payload.
-const HEAD_BYTES: u64 = 9;
 
 impl<C: PageCache> Store<C> {
     /// Reads a part of a page into the front of a slot, and answers how many bytes it has. For a
@@ -127,7 +124,7 @@ impl<C: PageCache> Store<C> {
         let Some(part) = self.pages.part(page, i) else {
             unreachable!()
         };
-        let (from, len) = (part.at.saturating_add(HEAD_BYTES), part.len as usize);
+        let (from, len) = (part.at.saturating_add(PART_HEAD_BYTES), part.len as usize);
         let Ok(()) = load(
             &mut self.pool,
             &self.log,
@@ -223,8 +220,8 @@ impl<C: PageCache> Store<C> {
 
     /// The text of a document, as a vector of the caller's own. `None` exactly where the number is not
     /// held. It counts one step. `Disk` where a read failed or the store has failed before; `Memory`
-    /// where there is no room for the text. It serves a caller that has no slot and no `ReadAhead`; of
-    /// this repository the tests of this crate alone call it, since queries read texts by `read_ahead`.
+    /// where there is no room for the text. It serves a caller that has no slot and no `ReadAhead`,
+    /// as one that wants a single document; queries read texts by `read_ahead`.
     pub fn fetch_text<D: Disk, L: Ledger>(
         &mut self,
         alloc: Global,
@@ -275,7 +272,7 @@ pub(crate) fn text_place(part: &KeptPart) -> (u64, usize)
 {
     // The number of the policy stands in front of the text.
     let skip = part.len.min(1);
-    let from = part.at.saturating_add(HEAD_BYTES + u64::from(skip));
+    let from = part.at.saturating_add(PART_HEAD_BYTES + u64::from(skip));
     (from, (part.len - skip) as usize)
 }
 

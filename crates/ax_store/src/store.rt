@@ -1,6 +1,10 @@
 //! The store: what its pages have, over the log, with slots and a cache.
 
+ghost use Rattle.std.specs.Prelude.{◌≡◌};
+ghost use Rattle.ax_store.specs.Store.{SameButCache};
+
 use crate::pages::Pages;
+use ax_cache::PageCache;
 use ax_log::Log;
 use ax_pool::{Pool, Slot};
 
@@ -23,4 +27,27 @@ pub struct Store<C> {
     // It is asked for a part before the disk is.
     pub(crate) cache: C,
     pub(crate) failed: bool,
+}
+
+impl<C: PageCache + Drop> Store<C> {
+    /// The store over another cache. So a store can be opened before its cache takes memory.
+    pub fn with_cache<E: PageCache>(self, cache: E) -> Store<E>
+        ensures same { SameButCache self result }
+        ensures cache { result.cache ≡ cache }
+    {
+        let Store {
+            log,
+            pages,
+            pool,
+            failed,
+            ..
+        } = self;
+        Store {
+            log,
+            pages,
+            pool,
+            cache,
+            failed,
+        }
+    }
 }

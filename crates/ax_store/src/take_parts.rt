@@ -20,7 +20,7 @@ pub(crate) enum TakeFault {
         /// The offset.
         at: u64,
     },
-    /// Memory ran out.
+    /// Out of memory.
     Memory,
 }
 

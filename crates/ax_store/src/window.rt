@@ -8,12 +8,10 @@ ghost use Rattle.ax_log.specs.Agreement.{Agrees};
 ghost use Rattle.ax_store.specs.Faults.{HasDiskCause};
 
 use crate::fault::StoreFault;
+use crate::together::WINDOW_BYTES;
 use ax_disk::Disk;
 use ax_log::Log;
 use std::alloc::Global;
-
-/// How many bytes a window shows where so many are left.
-const WINDOW_BYTES: u64 = 262_144;
 
 /// Bytes of a log's frames, from an offset on.
 #[derive(Drop)]

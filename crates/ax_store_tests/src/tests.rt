@@ -5,6 +5,7 @@ ghost use Rattle.std.specs.FinMap as map;
 ghost use Rattle.ax_frame.specs.Part.{part_value};
 ghost use Rattle.ax_store.specs.Store.{Agrees, AgreesUnlessFailed};
 
+mod disk;
 mod many_parts;
 mod opening;
 mod reading_ahead;

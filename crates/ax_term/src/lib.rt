@@ -13,8 +13,6 @@ mod range;
 mod room;
 mod term_value;
 mod terms;
-#[cfg(test)]
-mod tests;
 
 pub use ax_mean::{Memory, Order, Path, Step};
 pub use pieces::{append_name, append_step, append_value};

@@ -16,8 +16,6 @@ mod plain;
 mod term_count;
 mod term_value;
 mod terms;
-#[cfg(test)]
-mod tests;
 
 pub use ax_mean::Memory;
 pub use ax_term::Bytes;

@@ -13,6 +13,3 @@ mod tree_nesting;
 pub use read::{TreeReader, read_tree};
 pub use text_fault::TextFault;
 pub use tree_nesting::nesting;
-
-#[cfg(test)]
-mod tests;

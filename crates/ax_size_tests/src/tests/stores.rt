@@ -20,19 +20,19 @@ fn replies(
     }
 }
 
-// A document has 60,000 bytes at most, so two of them fill more than one window over the log. The
+// A document has 60,000 bytes at most, as these have, so two of them fill more than one window over the log. The
 // second line has more bytes than are read at once.
 #[test]
 fn a_log_above_64_kib_is_opened(rt: HostRuntime) -> Result<(), Fail> {
     let alloc = rt.alloc();
-    let one = built(alloc, "{\"id\":\"a\",\"v\":\"", "x", 59_000, "\"}")?;
-    let two = built(alloc, "{\"id\":\"b\",\"v\":\"", "y", 59_000, "\"}")?;
+    let one = built(alloc, "{\"id\":\"a\",\"v\":\"", "x", 59_983, "\"}")?;
+    let two = built(alloc, "{\"id\":\"b\",\"v\":\"", "y", 59_983, "\"}")?;
     let spaces = built(alloc, "", " ", 100_000, "")?;
-    let writes = format!(in alloc; "UPSERT {one}\nUPSERT {spaces}{two}\n")?;
+    let writes = format!(in alloc; "CREATE {one}\nUPSERT {spaces}{two}\nREPLACE {two}\n")?;
     let mut disk = fresh_disk(alloc)?;
-    assert!(rt; replies(alloc, &mut disk, writes.as_bytes(), b"ok\nok\n")?);
-    let query = b"QUERY {\"query\":\"SELECT * FROM c\"}";
-    let rows = format!(in alloc; "row {one}\nrow {two}\nend 2\n")?;
+    assert!(rt; replies(alloc, &mut disk, writes.as_bytes(), b"ok\nok\nok\n")?);
+    let query = b"READ b\nQUERY {\"query\":\"SELECT * FROM c\"}";
+    let rows = format!(in alloc; "doc {two}\nrow {one}\nrow {two}\nend 2\n")?;
     assert!(rt; replies(alloc, &mut disk, query, rows.as_bytes())?);
     Ok(())
 }

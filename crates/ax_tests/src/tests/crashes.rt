@@ -18,10 +18,15 @@ const LEAST_CALLS: u64 = 80;
 
 const QUERY: &[u8] = b"QUERY {\"query\":\"SELECT * FROM c\"}";
 
-/// The line of a number: seven ids, so that documents are created and replaced.
+/// The line of a number: seven ids, so that documents are created, replaced and deleted.
 fn line_of(alloc: Global, number: usize) -> Result<String, AllocError> {
     let id = number % 7;
-    format!(in alloc; "UPSERT {{\"id\":\"d{id}\",\"n\":{number}}}")
+    match number {
+        0..=2 => format!(in alloc; "CREATE {{\"id\":\"d{id}\",\"n\":{number}}}"),
+        8 => format!(in alloc; "REPLACE {{\"id\":\"d{id}\",\"n\":{number}}}"),
+        9 => format!(in alloc; "DELETE d2"),
+        _ => format!(in alloc; "UPSERT {{\"id\":\"d{id}\",\"n\":{number}}}"),
+    }
 }
 
 fn add_line(alloc: Global, script: &mut Vec<u8>, number: usize) -> Result<(), Fail> {

@@ -83,6 +83,25 @@ fn images_are_judged(rt: HostRuntime) -> Result<(), Fail> {
     Ok(())
 }
 
+/// A document of id `a`, and a meta part whose next number is the last one.
+const HELD_AND_FULL: &[u8] =
+    b"\x01\x25\x00\x00\x00\x00\x00\x00\x00\x03\x01\x00\x00\x00\x0B\x00\x00\x00\x00{\"id\":\"a\"}\x01\x00\x00\x00\x00\x08\x00\x00\x00\xFF\xFF\xFF\xFF\x00\x00\x00\x00\x00";
+
+// Where nothing can be created, a creation of a held id is a conflict all the same, and what is held is written.
+#[test]
+fn a_full_store_is_written(rt: HostRuntime) -> Result<(), Fail> {
+    let alloc = rt.alloc();
+    let mut disk = disk_of(alloc, ROOT, HELD_AND_FULL)?;
+    let script =
+        b"CREATE {\"id\":\"a\"}\nCREATE {\"id\":\"b\"}\nREPLACE {\"id\":\"a\",\"n\":1}\nREAD a\nDELETE a\nUPSERT {\"id\":\"a\"}\n";
+    let (status, output) = output_over(alloc, &mut disk, script)?;
+    assert_eq!(rt; status, Status::Done);
+    let expected =
+        b"err 7 conflict\nerr 15 full\nok\ndoc {\"id\":\"a\",\"n\":1}\nok\nerr 15 full\n";
+    assert_eq!(rt; output.as_slice(), expected.as_slice());
+    Ok(())
+}
+
 /// A document whose text is none, at 9, and a meta part.
 const SPOILED: &[u8] =
     b"\x01\x25\x00\x00\x00\x00\x00\x00\x00\x03\x01\x00\x00\x00\x0B\x00\x00\x00\x00{\"id\":xyz}\x01\x00\x00\x00\x00\x08\x00\x00\x00\x02\x00\x00\x00\x00\x00\x00\x00\x00";
@@ -100,9 +119,9 @@ fn a_text_that_is_none_is_damage(rt: HostRuntime) -> Result<(), Fail> {
             b"ok\n".as_slice(),
         ),
         (
-            b"UPSERT {\"id\":\"b\"}\nFOO",
+            b"UPSERT {\"id\":\"b\"}\nREAD b\nFOO",
             Status::Done,
-            b"ok\nerr 2 command\n",
+            b"ok\ndoc {\"id\":\"b\"}\nerr 2 command\n",
         ),
     ] {
         let mut disk = disk_of(alloc, ROOT, SPOILED)?;

@@ -66,6 +66,37 @@ fn ids_are_counted_by_bytes(rt: HostRuntime) -> Result<(), Fail> {
     Ok(())
 }
 
+// So is the id that is the argument of a line.
+#[test]
+fn ids_of_reads_and_deletions_are_counted_by_bytes(rt: HostRuntime) -> Result<(), Fail> {
+    const TABLE: [(&str, usize, bool); 4] = [
+        ("a", 255, true),
+        ("a", 256, false),
+        ("é", 127, true),
+        ("é", 128, false),
+    ];
+    let alloc = rt.alloc();
+    for (letter, count, is_id) in TABLE {
+        let line = built(alloc, "READ ", letter, count, "")?;
+        let expected = if is_id { "id to read" } else { "id" };
+        assert_eq!(rt;
+            word_of(alloc, line.as_bytes()),
+            expected,
+            "{count} {letter}"
+        );
+        let line = built(alloc, "DELETE ", letter, count, "")?;
+        let expected = if is_id { "id to delete" } else { "id" };
+        assert_eq!(rt;
+            word_of(alloc, line.as_bytes()),
+            expected,
+            "{count} {letter}"
+        );
+    }
+    assert_eq!(rt; word_of(alloc, b"READ a\x1F"), "id");
+    assert_eq!(rt; word_of(alloc, b"DELETE \xFF"), "id");
+    Ok(())
+}
+
 #[test]
 fn names_at_any_depth_have_255_bytes_at_most(rt: HostRuntime) -> Result<(), Fail> {
     let alloc = rt.alloc();

@@ -4,7 +4,11 @@ use std::alloc::Global;
 /// What a line is, in one word: `document`, `body` or the word of its refusal.
 pub fn word_of(alloc: Global, line: &[u8]) -> &'static str {
     match read_line(alloc, line) {
+        Ok(Line::Create(_)) => "document",
         Ok(Line::Upsert(_)) => "document",
+        Ok(Line::Replace(_)) => "document",
+        Ok(Line::Delete(_)) => "id to delete",
+        Ok(Line::Read(_)) => "id to read",
         Ok(Line::Query(_)) => "body",
         Err(LineFault::Refused(refusal)) => refusal.word(),
         Err(LineFault::Memory) => "out of memory",
@@ -14,14 +18,20 @@ pub fn word_of(alloc: Global, line: &[u8]) -> &'static str {
 // The words by hand, from the forms of a line.
 #[test]
 fn forms_are_told_apart(rt: HostRuntime) {
-    const TABLE: [(&str, &str); 12] = [
+    const TABLE: [(&str, &str); 18] = [
         ("UPSERT {\"id\":\"a\"}", "document"),
         ("UPSERT {\"id\":\"a\"}\r", "document"),
         ("UPSERT  {\"id\":\"a\"}", "document"),
         ("UPSERT ", "json"),
         ("UPSERT", "command"),
         ("upsert {\"id\":\"a\"}", "command"),
-        ("READ a", "command"),
+        ("CREATE {\"id\":\"a\"}", "document"),
+        ("REPLACE {\"id\":\"a\"}", "document"),
+        ("READ a", "id to read"),
+        ("READ \u{80}", "id to read"),
+        ("READ", "command"),
+        ("DELETE  a\r", "id to delete"),
+        ("DELETE ", "id"),
         ("", "command"),
         ("\r", "command"),
         ("QUERY {\"query\":\"\"}", "body"),
@@ -64,6 +74,8 @@ fn refusals_have_numbers_and_words(rt: HostRuntime) {
         (Refusal::Number, 4, "number"),
         (Refusal::Id, 5, "id"),
         (Refusal::Large, 6, "large"),
+        (Refusal::Conflict, 7, "conflict"),
+        (Refusal::Absent, 8, "absent"),
         (Refusal::Memory, 9, "memory"),
         (Refusal::Query, 10, "query"),
         (Refusal::Order, 11, "order"),

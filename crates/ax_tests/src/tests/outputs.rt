@@ -3,7 +3,7 @@ use ax_script::Status;
 use std::test::Fail;
 
 // The outputs by hand, from the meaning of each line.
-const ROWS: [(&str, &str); 12] = [
+const ROWS: [(&str, &str); 20] = [
     ("", ""),
     ("UPSERT {\"id\":\"a\"}", "ok\n"),
     ("UPSERT {\"id\":\"a\"}\r\n", "ok\n"),
@@ -15,7 +15,7 @@ const ROWS: [(&str, &str); 12] = [
     ),
     (
         "READ a\nUPSERT {\nUPSERT {\"id\":\"a\",\"n\":1.5}\nUPSERT 5\nQUERY {\"query\":\"SELECT\"}\n",
-        "err 2 command\nerr 3 json\nerr 4 number\nerr 5 id\nerr 10 query\n",
+        "err 8 absent\nerr 3 json\nerr 4 number\nerr 5 id\nerr 10 query\n",
     ),
     (
         "UPSERT {\"id\":\"a\",\"n\":1.5}\nUPSERT {\"id\":\"b\",\"n\":9223372036854775807}\nUPSERT {\"id\":\"c\",\"n\":9223372036854775808}\n",
@@ -36,6 +36,38 @@ const ROWS: [(&str, &str); 12] = [
     (
         "QUERY {\"query\":\"SELECT * FROM c\"}\nFOO",
         "end 0\nerr 2 command\n",
+    ),
+    (
+        "CREATE {\"id\":\"a\",\"n\":1}\nCREATE {\"id\":\"a\",\"n\":2}\nREAD a\n",
+        "ok\nerr 7 conflict\ndoc {\"id\":\"a\",\"n\":1}\n",
+    ),
+    (
+        "CREATE {\"id\":\"a\"}\nUPSERT {\"id\":\"a\",\"n\":1}\nDELETE a\nDELETE a\nREAD a\n",
+        "ok\nok\nok\nerr 8 absent\nerr 8 absent\n",
+    ),
+    (
+        "UPSERT {\"id\":\"a\",\"n\":1,\"n\":2}\nREAD a\n",
+        "ok\ndoc {\"id\":\"a\",\"n\":2}\n",
+    ),
+    (
+        "CREATE {\"id\":\"\u{e9}\"}\nREAD \u{e9}\nREAD \nREAD  a\nDELETE a\u{7f}\n",
+        "ok\ndoc {\"id\":\"\u{e9}\"}\nerr 5 id\nerr 8 absent\nerr 5 id\n",
+    ),
+    (
+        "REPLACE {\"id\":\"a\"}\nCREATE {\"id\":\"a\"}\nCREATE {\"id\":\"b\"}\nREPLACE {\"id\":\"a\",\"n\":1}\nQUERY {\"query\":\"SELECT * FROM c\"}\n",
+        "err 8 absent\nok\nok\nok\nrow {\"id\":\"a\",\"n\":1}\nrow {\"id\":\"b\"}\nend 2\n",
+    ),
+    (
+        "CREATE {\"id\":\"a\",\"n\":1}\nCREATE {\"id\":\"b\",\"n\":1}\nDELETE a\nCREATE {\"id\":\"a\",\"n\":1}\nQUERY {\"query\":\"SELECT VALUE c.id FROM c WHERE c.n = 1\"}\n",
+        "ok\nok\nok\nok\nrow \"b\"\nrow \"a\"\nend 2\n",
+    ),
+    (
+        "CREATE {\nCREATE 5\nCREATE {\"id\":\"\"}\nREPLACE {\"id\":1}\nREPLACE \nCREATE\nread a\n",
+        "err 3 json\nerr 5 id\nerr 5 id\nerr 5 id\nerr 3 json\nerr 2 command\nerr 2 command\n",
+    ),
+    (
+        "CREATE {\"id\":\"a\"}\nDELETE a\r\nDELETE a\nUPSERT {\"id\":\"a\"}\nDELETE a",
+        "ok\nok\nerr 8 absent\nok\nok\n",
     ),
 ];
 

@@ -9,11 +9,11 @@ use std::test::Fail;
 #[test]
 fn the_plain_machine_answers(rt: HostRuntime) -> Result<(), Fail> {
     const ALL: &str = "QUERY {\"query\":\"SELECT * FROM c\"}";
-    const TABLE: [(&str, &str); 13] = [
+    const TABLE: [(&str, &str); 20] = [
         (ALL, "end 0\n"),
         ("UPSERT {\"id\":\"a\",\"b\":1}", "ok\n"),
         ("UPSERT {\"id\":\"b\"}", "ok\n"),
-        ("READ a", "err 2 command\n"),
+        ("READ a", "doc {\"b\":1,\"id\":\"a\"}\n"),
         ("UPSERT {\"id\":\"a\",\"a\":2}", "ok\n"),
         (
             ALL,
@@ -41,6 +41,16 @@ fn the_plain_machine_answers(rt: HostRuntime) -> Result<(), Fail> {
             "err 10 query\n",
         ),
         ("UPSERT {}", "err 5 id\n"),
+        ("CREATE {\"id\":\"a\"}", "err 7 conflict\n"),
+        ("CREATE {\"id\":\"c\"}", "ok\n"),
+        ("REPLACE {\"id\":\"d\"}", "err 8 absent\n"),
+        ("REPLACE {\"id\":\"c\",\"n\":7}", "ok\n"),
+        ("DELETE b", "ok\n"),
+        ("READ b", "err 8 absent\n"),
+        (
+            ALL,
+            "row {\"a\":2,\"id\":\"a\"}\nrow {\"id\":\"c\",\"n\":7}\nend 2\n",
+        ),
     ];
     let alloc = rt.alloc();
     let mut machine = PlainMachine::new(alloc);
@@ -141,7 +151,7 @@ fn query_line(alloc: Global, draws: &mut Draws) -> Result<String, AllocError> {
 fn mixed_line(alloc: Global, draws: &mut Draws) -> Result<String, AllocError> {
     let id = draws.below(31);
     let number = draws.below(1000);
-    match draws.below(8) {
+    match draws.below(11) {
         0 => format!(in alloc; "UPSERT {{\"id\":\"d{id}\",\"n\":{id}.5}}"),
         1 => format!(in alloc;
             "UPSERT {{\"n\":{number},\"id\":\"d{id}\",\"tags\":[\"x\",{{}},{id}]}}\r"
@@ -149,6 +159,9 @@ fn mixed_line(alloc: Global, draws: &mut Draws) -> Result<String, AllocError> {
         2 => format!(in alloc; "UPSERT {{\"id\":\"d{id}\",\"n\":\"{number}\",\"tags\":[]}}"),
         3 => format!(in alloc; "UPSERT {{\"id\":\"d{id}\",\"n\":{number}}}"),
         4 => format!(in alloc; "READ d{id}"),
+        5 => format!(in alloc; "CREATE {{\"id\":\"d{id}\",\"n\":{number}}}"),
+        6 => format!(in alloc; "REPLACE {{\"id\":\"d{id}\",\"tags\":[{number}]}}"),
+        7 => format!(in alloc; "DELETE d{id}"),
         _ => query_line(alloc, draws),
     }
 }

@@ -1,5 +1,5 @@
 -- What reading answered, as the answer to the line.
-use Rattle.std.proofs.Common.{subst, sym, ◌∙◌}
+use Rattle.std.proofs.Common.{subst, sym}
 use Rattle.std.specs.Prelude.{IfErr, IfOk, IsTrue, OnOk, Result}
 use Rattle.ax_cache.specs.Held.{held}
 use Rattle.ax_lines.specs.declared.line.Line.TheVariants as line
@@ -11,11 +11,11 @@ use Rattle.ax_image.specs.Readable.{SaysReadable, newest}
 use Rattle.ax_engine.specs.Damage.{Meets, PassesOverNone}
 use Rattle.ax_store.specs.Store.{store_contents}
 use Rattle.ax_engine.specs.Documents.{DocumentsWork}
-use Rattle.ax_engine.specs.Engine.{Tells}
+use Rattle.ax_engine.specs.Engine.{CountsAnswer, Tells}
 use Rattle.ax_engine.specs.Replies.{MayReply}
 use Rattle.ax_engine.specs.declared.engine.Fault.{Fault}
 use Rattle.ax_engine.specs.declared.reply.Reply.{Reply}
-use Rattle.ax_engine.proofs.Applying.{lists_read, may_read, met_read, never_falls_read, of_reading, passes_read, rose_read, tells_read, works_read}
+use Rattle.ax_engine.proofs.Applying.{counted_read, lists_read, may_read, met_read, never_falls_read, of_reading, passes_read, tells_read, works_read}
 use Rattle.ax_engine.proofs.engine.query.Goals as goal
 
 pub reply_to_query-read-requires : goal.reply_to_query-read-requires
@@ -85,10 +85,12 @@ returns-clause-works g c =
     subst P (sym c.answer_of_read.ensures)
     (works_read _ c.args.documents.now _ _ _ _ _ _ c.reply_to_query-read.result c.reply_to_query-read.ensures.scans)
 
-pub returns-clause-cause : goal.returns-clause-cause
-returns-clause-cause g c = λ is.
-    rose_read _ c.args.documents.now _ _ _ _ _ _ c.reply_to_query-read.result c.reply_to_query-read.ensures.scans
-    (sym c.answer_of_read.ensures ∙ is)
+pub returns-clause-counted : goal.returns-clause-counted
+returns-clause-counted g c =
+    let P : Result Reply Fault → Type 0 = λ answer. CountsAnswer answer (g.D.Disk.faults c.args.disk.now)
+    (g.D.Disk.faults c.reply_to_query-read.new.disk) in
+    subst P (sym c.answer_of_read.ensures)
+    (counted_read _ c.args.documents.now _ _ _ _ _ _ c.reply_to_query-read.result c.reply_to_query-read.ensures.scans)
 
 pub returns-clause-never_falls : goal.returns-clause-never_falls
 returns-clause-never_falls g c =

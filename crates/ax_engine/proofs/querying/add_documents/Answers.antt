@@ -7,8 +7,8 @@ use Rattle.ax_answer_text.specs.Parts.{AreReadWholeFor}
 use Rattle.ax_answer_text.specs.TextAnswers.{Answers}
 use Rattle.ax_store.specs.Store.{store_contents}
 use Rattle.ax_engine.proofs.Damaging.{all_trees, no_trees, one_tree_more}
-use Rattle.ax_engine.proofs.InOrder.{above, pairs, next_entry, next_same, stored_here, text_here, taken_on}
-use Rattle.ax_engine.proofs.InOrder.{one_less, at_the_end, at_the_start, none_same, text_same}
+use Rattle.ax_engine.proofs.InOrder.{within_text, above, pairs, next_entry, next_same, stored_here, text_here, taken_on}
+use Rattle.ax_engine.proofs.InOrder.{within_text, one_less, at_the_end, at_the_start, none_same, text_same}
 use Rattle.ax_engine.proofs.Scanning.{fails_on, nothing_scanned, ready_now, scanned_on}
 use Rattle.ax_engine.proofs.querying.add_documents.Goals as goal
 
@@ -43,7 +43,7 @@ texts-preserved g c =
             c.in-Ok.ensures.added (subst IsTrue (sym inv.honest) honest) next.entry.tree
                 (text_same c.args.store.now c.texts.store c.in-Some.next _ inv.scans.same
                 (text_here contents container hold c.texts.number c.in-Some.next next))
-                (stored.well_formed, stored.shallow) query before.0 before.2,
+                (stored.storable.well_formed, within_text stored.storable.shallow) query before.0 before.2,
           );
       asked = λ query asked. c.in-Ok.ensures.asked query (inv.asked query asked);
       met = λ honest query asked each.

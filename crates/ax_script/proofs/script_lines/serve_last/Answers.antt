@@ -1,5 +1,5 @@
 -- A last piece that is not empty is a line.
-use Rattle.std.proofs.Common.{◌≡◌, List, [], ℕ, length, refl, IsTrue, ◌∙◌, sym, subst}
+use Rattle.std.proofs.Common.{◌≡◌, List, [], ℕ, length, inr, refl, IsTrue, ◌∙◌, sym, subst}
 use Rattle.ax_script.specs.Progress.{ServesLast, outlets}
 use Rattle.ax_script.proofs.AnsweredLines.{last_answered, no_last}
 use Rattle.ax_script.proofs.ServedLines.{serves_last, serves_no_last, begins_last}
@@ -33,3 +33,6 @@ pub returns-then-is_empty-clause-answered : goal.returns-then-is_empty-clause-an
 returns-then-is_empty-clause-answered g c = λ _.
     no_last c.args.pending.now _
     (empty_list c.args.pending.now (length c.args.pending.now) refl (sym c.if-is_empty.true ∙ c.is_empty.ensures))
+
+pub returns-in-Err-clause-sound : goal.returns-in-Err-clause-sound
+returns-in-Err-clause-sound g c = λ honest before holds. inr (c.in-Err.ensures.sound honest before holds)

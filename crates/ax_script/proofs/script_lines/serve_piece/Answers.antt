@@ -24,7 +24,7 @@ lines-init g c = record {
   line = c.requires.line;
   works = c.requires.works;
   unfaulted = c.requires.unfaulted;
-  disk_faults = omega arith;
+  uncounted = refl;
   sink_faults = omega arith;
   steps = omega arith;
   attached = refl;
@@ -67,7 +67,7 @@ lines-preserved g c = record {
       (g.D.Disk.history c.serve_head.new.disk (g.D.Disk.attached c.serve_head.new.disk)))
       (sym c.in_default-serve_head.ensures.honest) c.in_default-serve_head.ensures.works;
   unfaulted = c.in_default-serve_head.ensures.unfaulted;
-  disk_faults = omega (arith, c.lines.invariant.disk_faults, c.in_default-serve_head.ensures.disk_faults);
+  uncounted = c.in_default-serve_head.ensures.disk_counted ∙ c.lines.invariant.uncounted;
   sink_faults = omega (arith, c.lines.invariant.sink_faults, c.in_default-serve_head.ensures.sink_faults);
   steps = omega (arith, c.lines.invariant.steps, c.in_default-serve_head.ensures.steps);
   attached = c.in_default-serve_head.ensures.attached ∙ c.lines.invariant.attached;

@@ -24,7 +24,7 @@ invariant-lines g l = record {
   works : Works (IsTrue (g.D.Disk.is_honest l.disk)) l.engine
       (g.D.Disk.history l.disk (g.D.Disk.attached l.disk));
   unfaulted : l.engine.fault ≡ None;
-  disk_faults : g.D.Disk.faults l.fn.disk ≤ g.D.Disk.faults l.disk;
+  uncounted : g.D.Disk.faults l.disk ≡ g.D.Disk.faults l.fn.disk;
   sink_faults : g.K.Sink.faults l.fn.sink ≤ g.K.Sink.faults l.sink;
   steps : l.fn.steps ≤ l.steps;
   attached : g.D.Disk.attached l.disk ≡ g.D.Disk.attached l.fn.disk;

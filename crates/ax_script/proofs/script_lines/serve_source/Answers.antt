@@ -33,7 +33,7 @@ pieces-init g c =
       works = c.requires.works;
       unfaulted = c.requires.unfaulted;
       within = omega arith;
-      disk_faults = omega arith;
+      uncounted = refl;
       source_faults = omega arith;
       sink_faults = omega arith;
       steps = omega arith;
@@ -131,8 +131,7 @@ pieces-preserved g c = record {
       (sym c.in_default-served.ensures.honest) c.in_default-served.ensures.works;
   unfaulted = c.in_default-served.ensures.unfaulted;
   within = c.if-taken-gt-MOST_INPUT.false;
-  disk_faults =
-      omega (arith, c.pieces.invariant.disk_faults, c.serve_piece-served.ensures.disk_faults);
+  uncounted = c.in_default-served.ensures.disk_counted ∙ c.pieces.invariant.uncounted;
   source_faults =
       omega (arith, c.pieces.invariant.source_faults, c.read_some.ensures.cause.never_falls);
   sink_faults =

@@ -27,7 +27,7 @@ invariant-pieces g l = record {
       (g.D.Disk.history l.disk (g.D.Disk.attached l.disk));
   unfaulted : l.engine.fault ≡ None;
   within : l.taken ≤ most_input;
-  disk_faults : g.D.Disk.faults l.fn.disk ≤ g.D.Disk.faults l.disk;
+  uncounted : g.D.Disk.faults l.disk ≡ g.D.Disk.faults l.fn.disk;
   source_faults : g.S.Source.faults l.fn.source ≤ g.S.Source.faults l.source;
   sink_faults : g.K.Sink.faults l.fn.sink ≤ g.K.Sink.faults l.sink;
   steps : l.fn.steps ≤ l.steps;

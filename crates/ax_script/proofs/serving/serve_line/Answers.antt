@@ -1,5 +1,6 @@
 -- The line was answered, and its reply was written, or a prefix of it.
 use Rattle.ax_script.proofs.AnsweredLines.{line_answered}
+use Rattle.ax_script.proofs.DiskCounts.{line_counted}
 use Rattle.ax_script.proofs.Replying.{whole_of, part_of, sound_of, stops_of}
 use Rattle.ax_script.proofs.serving.serve_line.Goals as goal
 
@@ -35,3 +36,8 @@ pub returns-clause-answered : goal.returns-clause-answered
 returns-clause-answered g c =
     line_answered c.args.line.now c.write_answer.result c.answer-answered.result _ _ c.answer-answered.ensures.may_answer
     c.write_answer.ensures.whole
+
+pub returns-clause-disk_counted : goal.returns-clause-disk_counted
+returns-clause-disk_counted g c = λ unfaulted.
+    line_counted c.write_answer.result c.answer-answered.result _ _ c.write_answer.ensures.disk_cause
+    (λ why is. (c.write_answer.ensures.fault why is).0) (c.answer-answered.ensures.counted unfaulted)

@@ -1,5 +1,5 @@
 -- The store has a head of the documents that it holds.
-use Rattle.std.proofs.Common.{◌≡◌, true, List, ℕ, Option, Some, None, refl, sym, ◌∙◌}
+use Rattle.std.proofs.Common.{◌≡◌, true, Option, Some, None, refl, sym, ◌∙◌}
 use Rattle.std.specs.Prelude.{is_some}
 use Rattle.std.specs.Option.{option_map}
 use Rattle.ax_engine.proofs.documents.Documents.is_held.Goals as goal

@@ -1,0 +1,4 @@
+mod delta;
+mod frame;
+mod gap;
+mod leaf;

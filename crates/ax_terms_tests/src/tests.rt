@@ -1,0 +1,3 @@
+mod keep;
+mod term;
+mod terms;
