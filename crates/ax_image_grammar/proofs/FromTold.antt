@@ -11,13 +11,14 @@ use Rattle.std.proofs.lemmas.List.Elements.{Contains-append_right}
 use Rattle.std.proofs.lemmas.Option.{slice_get-map}
 use Rattle.ax_pages.specs.Contents.{TermPage, no_term_page, term_page, term_parts}
 use Rattle.ax_pages.specs.AfterPart.{with_base, with_delta}
+use Rattle.ax_pages.proofs.TermLists.{base_place}
 use Rattle.ax_area.specs.declared.kind.Kind.{Kind}
 use Rattle.ax_area.specs.Kinds.{kind_in}
 use Rattle.ax_area.specs.declared.kind.Kind.TheVariants as kind
 use Rattle.ax_area.specs.Items.{Item, item_parts, item_bytes}
 use Rattle.ax_area.specs.Changes.{Change, Written, change_by}
 use Rattle.ax_area.specs.Changes as change
-use Rattle.ax_area.specs.Contents.{Contents, Stored, stored, no_contents, with_change}
+use Rattle.ax_area.specs.Contents.{Contents, Stored, stored, no_contents, is_allowed, with_change}
 use Rattle.ax_area.specs.Contents.{after_changes}
 use Rattle.ax_area.specs.Places.{Place, PagePlaces, no_places, places_from, with_places}
 use Rattle.ax_area.specs.Places.{places_after}
@@ -27,7 +28,8 @@ use Rattle.ax_area.proofs.KeptSo.{made}
 use Rattle.ax_area.proofs.Standing.{all_joined, kind_number, single_alone}
 use Rattle.ax_image_grammar.specs.Met.{is_base_at}
 use Rattle.ax_image_grammar.proofs.Matched.{AreMatched, none_matched, one_matched, less_matched}
-use Rattle.ax_image_grammar.proofs.Matched.{zip_joined, zip_set, zip_get, zip_put}
+use Rattle.ax_image_grammar.proofs.Matched.{zip_joined, AllNumbered, numbered_set, numbered_get}
+use Rattle.ax_image_grammar.proofs.Matched.{numbered_put}
 
 -- ---- what was told
 
@@ -44,7 +46,7 @@ each_told version at (t ∷ told) are = (
   each_told version (at + length (item_bytes t.item)) told are.1,
 )
 
-each_told_on : (version : ℕ) (frames : List (List ℕ)) (at : ℕ) (told : List Told)
+pub each_told_on : (version : ℕ) (frames : List (List ℕ)) (at : ℕ) (told : List Told)
     → TellOn version frames at told → AllByRecursion (λ (t : Told). IsTold version t.at t) told
 each_told_on version [] at told tell =
     subst (AllByRecursion (λ (t : Told). IsTold version t.at t)) (sym tell) tt
@@ -174,10 +176,10 @@ parts_long page =
 
 -- ---- what is held, with its places
 
--- the change says this part
-abbrev pub IsSaid : Bool → List ℕ → Change → Type 0
-IsSaid true payload c = (page : ℕ) × (c ≡ change.Base page payload)
-IsSaid false payload c = (page : ℕ) × (c ≡ change.Delta page payload)
+-- the change says this part of a page
+abbrev pub IsSaid : ℕ → Bool → List ℕ → Change → Type 0
+IsSaid page true payload c = c ≡ change.Base page payload
+IsSaid page false payload c = c ≡ change.Delta page payload
 
 pub record IsDocumentFrom (P : Told → Type 0) (number : ℕ) (document : Stored)
     (at : List Place) : Type 0 where
@@ -195,68 +197,70 @@ pub record IsPolicyFrom (P : Told → Type 0) (number : ℕ) (text : List ℕ)
   pub said : one.change ≡ change.Policy number text
   pub stand : at ≡ places_from one.at (item_parts one.item)
 
-pub record IsPartFrom (P : Told → Type 0) (place : Place) (held : PagePart) : Type 0 where
+pub record IsPartFrom (P : Told → Type 0) (page : ℕ) (place : Place)
+    (held : PagePart) : Type 0 where
   pub one : Told
   pub so : P one
-  pub said : IsSaid held.base held.payload one.change
+  pub said : IsSaid page held.base held.payload one.change
   pub place_is : place.at ≡ one.at
 
-abbrev pub ArePartsFrom : (Told → Type 0) → List Place → TermPage → Type 0
-ArePartsFrom P at page = AllZip (IsPartFrom P) at (page_parts page)
+abbrev pub ArePartsFrom : (Told → Type 0) → ℕ → List Place → TermPage → Type 0
+ArePartsFrom P number at page = AllZip (IsPartFrom P number) at (page_parts page)
 
 pub record AreFrom (P : Told → Type 0) (contents : Contents) (places : PagePlaces) : Type 0 where
   pub documents : AreMatched (IsDocumentFrom P) contents.documents places.documents
   pub policies : AreMatched (IsPolicyFrom P) contents.policies places.policies
-  pub terms : AllZip (ArePartsFrom P) places.terms contents.terms
+  pub terms : AllNumbered (ArePartsFrom P) 0 places.terms contents.terms
 
 module _ (P : Told → Type 0) (alone : (t : Told) → P t → IsAlone t.change t.item) where
   -- the one part of an item that says a base or a delta
-  one_part : (t : Told) (base : Bool) (payload : List ℕ) → P t → IsSaid base payload t.change
-      → t.item.pieces ≡ []
-      → AllZip (IsPartFrom P) (places_from t.at (item_parts t.item)) (part base payload ∷ [])
-  one_part t base payload so said none =
-      subst (λ pieces. AllZip (IsPartFrom P) (places_from t.at (t.item.first ∷ pieces))
+  one_part : (t : Told) (page : ℕ) (base : Bool) (payload : List ℕ) → P t
+      → IsSaid page base payload t.change → t.item.pieces ≡ []
+      → AllZip (IsPartFrom P page) (places_from t.at (item_parts t.item)) (part base payload ∷ [])
+  one_part t page base payload so said none =
+      subst (λ pieces. AllZip (IsPartFrom P page) (places_from t.at (t.item.first ∷ pieces))
       (part base payload ∷ [])) (sym none)
       (record { one = t; so = so; said = said; place_is = refl }, tt)
 
   one_more : (t : Told) (c : Change) (before : Contents) (places : PagePlaces) → P t → t.change ≡ c
-      → AreFrom P before places
+      → is_allowed c before ≡ true → AreFrom P before places
       → AreFrom P (with_change c before)
       (with_places c (places_from t.at (item_parts t.item)) places)
-  one_more t (change.Meta numbers) before places so e from = record {
+  one_more t (change.Meta numbers) before places so e allowed from = record {
     documents = from.documents;
     policies = from.policies;
     terms = from.terms;
   }
-  one_more t (change.Policy number text) before places so e from = record {
+  one_more t (change.Policy number text) before places so e allowed from = record {
     documents = from.documents;
     policies = one_matched (IsPolicyFrom P) before.policies places.policies number from.policies
         text (places_from t.at (item_parts t.item))
         (record { one = t; so = so; said = e; stand = refl });
     terms = from.terms;
   }
-  one_more t (change.Document number written) before places so e from = record {
+  one_more t (change.Document number written) before places so e allowed from = record {
     documents = one_matched (IsDocumentFrom P) before.documents places.documents number
         from.documents (stored number written) (places_from t.at (item_parts t.item))
         (record { one = t; so = so; written = written; said = e; is = refl; stand = refl });
     policies = from.policies;
     terms = from.terms;
   }
-  one_more t (change.Gone number) before places so e from = record {
+  one_more t (change.Gone number) before places so e allowed from = record {
     documents = less_matched (IsDocumentFrom P) before.documents places.documents number
         from.documents;
     policies = from.policies;
     terms = from.terms;
   }
-  one_more t (change.Base page payload) before places so e from = record {
+  one_more t (change.Base page payload) before places so e allowed from = record {
     documents = from.documents;
     policies = from.policies;
-    terms = zip_put (ArePartsFrom P) places.terms before.terms page
+    terms = numbered_put (ArePartsFrom P) places.terms before.terms page
         (places_from t.at (item_parts t.item)) (with_base payload) from.terms
-        (one_part t true payload so (page, e)
+        (base_place page payload before.terms allowed)
+        (one_part t page true payload so e
         (subst (λ c. IsAlone c t.item) e (alone t so)));
   }
-  one_more t (change.Delta page payload) before places so e from =
+  one_more t (change.Delta page payload) before places so e allowed from =
       let old : TermPage = term_page page before.terms in
       let at : List Place = get_or places.terms page [] in
       let new : List Place = places_from t.at (item_parts t.item) in
@@ -265,16 +269,19 @@ module _ (P : Told → Type 0) (alone : (t : Told) → P t → IsAlone t.change 
       (part false payload ∷ [])
       ∙ ap (λ more. map (part true) (option_to_list old.base) ++ more)
       (sym (map-append (part false) old.deltas (payload ∷ []))) in
+      let number : page ≡ 0 + page = omega arith in
+      let more : AllZip (IsPartFrom P page) (at ++ new) (page_parts (with_delta payload old)) =
+      subst (λ held. AllZip (IsPartFrom P page) (at ++ new) held) same
+      (zip_joined (IsPartFrom P page) at (page_parts old) new (part false payload ∷ [])
+      (subst (λ n. ArePartsFrom P n at old) (sym number)
+      (numbered_get (ArePartsFrom P) 0 places.terms before.terms page [] no_term_page from.terms tt))
+      (one_part t page false payload so e (subst (λ c. IsAlone c t.item) e (alone t so)))) in
       record {
         documents = from.documents;
         policies = from.policies;
-        terms = zip_set (ArePartsFrom P) places.terms before.terms page (at ++ new)
+        terms = numbered_set (ArePartsFrom P) 0 places.terms before.terms page (at ++ new)
             (with_delta payload old) from.terms
-            (subst (λ held. AllZip (IsPartFrom P) (at ++ new) held) same
-            (zip_joined (IsPartFrom P) at (page_parts old) new (part false payload ∷ [])
-            (zip_get (ArePartsFrom P) places.terms before.terms page [] no_term_page from.terms tt)
-            (one_part t false payload so (page, e)
-            (subst (λ c. IsAlone c t.item) e (alone t so)))));
+            (subst (λ n. ArePartsFrom P n (at ++ new) (with_delta payload old)) number more);
       }
 
   nothing_from : AreFrom P no_contents no_places
@@ -296,7 +303,7 @@ module _ (P : Told → Type 0) (alone : (t : Told) → P t → IsAlone t.change 
       with_places t.change (places_from t.at (item_parts t.item)) places in
       all_from told step.between after new step.others all.1
       (subst (λ c. AreFrom P c new) (sym is.is)
-      (one_more t t.change before places all.0 refl from))
+      (one_more t t.change before places all.0 refl is.allowed from))
 
 pub held_from : (version : ℕ) (frames : List (List ℕ)) (told : List Told) (contents : Contents)
     → TellOn version frames 0 told → Lead told no_contents contents

@@ -11,3 +11,4 @@ pub mod Matched
 pub mod FromTold
 pub mod Once
 pub mod MetThere
+pub mod OneThere

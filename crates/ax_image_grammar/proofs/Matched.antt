@@ -1,12 +1,13 @@
 -- What is held and where it stands, side by side: two maps with the same numbers, two lists as long.
-use Rattle.std.proofs.Common.{◌≡◌, ℕ, zero, suc, nat_lt, Bool, true, false, List, [], ◌∷◌, ◌++◌}
+use Rattle.std.proofs.Common.{◌≡◌, ℕ, zero, suc, ◌+◌, ◌<◌, nat_lt, arith, Bool, true, false, ◌⊎◌}
+use Rattle.std.proofs.Common.{List, [], ◌∷◌, ◌++◌}
 use Rattle.std.proofs.Common.{length, Option, get_or, slice_get, slice_set, refl, sym, ap, subst}
 use Rattle.std.proofs.Common.{⊎_elim, ◌∙◌}
 use Rattle.std.specs.Prelude.{Some, None, if◌then◌else◌}
 use Rattle.std.specs.List.{AllZip}
 use Rattle.std.specs.Ordering.{nat_cmp}
 use Rattle.std.specs.FinMap as map
-use Rattle.std.proofs.lemmas.Bool.{cases_eq}
+use Rattle.std.proofs.lemmas.Bool.{cases_eq, false≢true, lt-ltb}
 use Rattle.ax_pages.proofs.LastPart.{get_inserted, get_not_inserted, get_removed, get_not_removed}
 use Rattle.ax_area.proofs.OneTelling.{same_some, some_or_none}
 
@@ -95,22 +96,6 @@ module _ {X Y : Type 0} (R : X → Y → Type 0) where
   zip_joined (x ∷ xs) [] us vs all others = absurd all
   zip_joined (x ∷ xs) (y ∷ ys) us vs all others = (all.0, zip_joined xs ys us vs all.1 others)
 
-  pub zip_set : (xs : List X) (ys : List Y) (k : ℕ) (x : X) (y : Y) → AllZip R xs ys → R x y
-      → AllZip R (slice_set xs k x) (slice_set ys k y)
-  zip_set [] [] k x y all one = tt
-  zip_set [] (w ∷ ys) k x y all one = absurd all
-  zip_set (z ∷ xs) [] k x y all one = absurd all
-  zip_set (z ∷ xs) (w ∷ ys) zero x y all one = (one, all.1)
-  zip_set (z ∷ xs) (w ∷ ys) (suc k) x y all one = (all.0, zip_set xs ys k x y all.1 one)
-
-  pub zip_get : (xs : List X) (ys : List Y) (k : ℕ) (x : X) (y : Y) → AllZip R xs ys → R x y
-      → R (get_or xs k x) (get_or ys k y)
-  zip_get [] [] k x y all one = one
-  zip_get [] (w ∷ ys) k x y all one = absurd all
-  zip_get (z ∷ xs) [] k x y all one = absurd all
-  zip_get (z ∷ xs) (w ∷ ys) zero x y all one = all.0
-  zip_get (z ∷ xs) (w ∷ ys) (suc k) x y all one = zip_get xs ys k x y all.1 one
-
   pub zip_left : (xs : List X) (ys : List Y) (k : ℕ) (y : Y) → AllZip R xs ys
       → slice_get ys k ≡ Some y → (x : X) × (slice_get xs k ≡ Some x) × R x y
   zip_left [] [] k y all e = absurd (some_or_none y e)
@@ -119,16 +104,84 @@ module _ {X Y : Type 0} (R : X → Y → Type 0) where
   zip_left (x ∷ xs) (w ∷ ys) zero y all e = (x, refl, subst (λ v. R x v) (same_some w y e) all.0)
   zip_left (x ∷ xs) (w ∷ ys) (suc k) y all e = zip_left xs ys k y all.1 e
 
+-- ---- lists by number
+
+-- the lists are as long, and what has one number goes together, from this number on
+abbrev pub AllNumbered : {X Y : Type 0} → (ℕ → X → Y → Type 0) → ℕ → List X → List Y → Type 0
+AllNumbered R n [] [] = Unit {0}
+AllNumbered R n [] (y ∷ ys) = ⊥
+AllNumbered R n (x ∷ xs) [] = ⊥
+AllNumbered R n (x ∷ xs) (y ∷ ys) = R n x y × AllNumbered R (n + 1) xs ys
+
+module _ {X Y : Type 0} (R : ℕ → X → Y → Type 0) where
+  pub numbered_long : (n : ℕ) (xs : List X) (ys : List Y) → AllNumbered R n xs ys
+      → length xs ≡ length ys
+  numbered_long n [] [] all = refl
+  numbered_long n [] (y ∷ ys) all = absurd all
+  numbered_long n (x ∷ xs) [] all = absurd all
+  numbered_long n (x ∷ xs) (y ∷ ys) all = ap suc (numbered_long (n + 1) xs ys all.1)
+
+  pub numbered_set : (n : ℕ) (xs : List X) (ys : List Y) (k : ℕ) (x : X) (y : Y)
+      → AllNumbered R n xs ys → R (n + k) x y
+      → AllNumbered R n (slice_set xs k x) (slice_set ys k y)
+  numbered_set n [] [] k x y all one = tt
+  numbered_set n [] (w ∷ ys) k x y all one = absurd all
+  numbered_set n (z ∷ xs) [] k x y all one = absurd all
+  numbered_set n (z ∷ xs) (w ∷ ys) zero x y all one =
+      let e : n + 0 ≡ n = omega arith in
+      (subst (λ m. R m x y) e one, all.1)
+  numbered_set n (z ∷ xs) (w ∷ ys) (suc k) x y all one =
+      let e : n + suc k ≡ n + 1 + k = omega arith in
+      (all.0, numbered_set (n + 1) xs ys k x y all.1 (subst (λ m. R m x y) e one))
+
+  pub numbered_get : (n : ℕ) (xs : List X) (ys : List Y) (k : ℕ) (x : X) (y : Y)
+      → AllNumbered R n xs ys → R (n + k) x y → R (n + k) (get_or xs k x) (get_or ys k y)
+  numbered_get n [] [] k x y all one = one
+  numbered_get n [] (w ∷ ys) k x y all one = absurd all
+  numbered_get n (z ∷ xs) [] k x y all one = absurd all
+  numbered_get n (z ∷ xs) (w ∷ ys) zero x y all one =
+      let e : n ≡ n + 0 = omega arith in
+      subst (λ m. R m z w) e all.0
+  numbered_get n (z ∷ xs) (w ∷ ys) (suc k) x y all one =
+      let e : n + suc k ≡ n + 1 + k = omega arith in
+      subst (λ m. R m (get_or xs k x) (get_or ys k y)) (sym e)
+      (numbered_get (n + 1) xs ys k x y all.1 (subst (λ m. R m x y) e one))
+
+  numbered_push : (n : ℕ) (xs : List X) (ys : List Y) (x : X) (y : Y) → AllNumbered R n xs ys
+      → R (n + length xs) x y → AllNumbered R n (xs ++ x ∷ []) (ys ++ y ∷ [])
+  numbered_push n [] [] x y all one =
+      let e : n + 0 ≡ n = omega arith in
+      (subst (λ m. R m x y) e one, tt)
+  numbered_push n [] (w ∷ ys) x y all one = absurd all
+  numbered_push n (z ∷ xs) [] x y all one = absurd all
+  numbered_push n (z ∷ xs) (w ∷ ys) x y all one =
+      let e : n + length (z ∷ xs) ≡ n + 1 + length xs = omega arith in
+      (all.0, numbered_push (n + 1) xs ys x y all.1 (subst (λ m. R m x y) e one))
+
   -- one put in the place of another, or behind the last
-  pub zip_put : (xs : List X) (ys : List Y) (k : ℕ) (x : X) (y : Y) → AllZip R xs ys → R x y
-      → AllZip R (if nat_lt k (length xs) then slice_set xs k x else xs ++ x ∷ [])
+  pub numbered_put : (xs : List X) (ys : List Y) (k : ℕ) (x : X) (y : Y) → AllNumbered R 0 xs ys
+      → (k < length ys) ⊎ (k ≡ length ys) → R k x y
+      → AllNumbered R 0 (if nat_lt k (length xs) then slice_set xs k x else xs ++ x ∷ [])
       (if nat_lt k (length ys) then slice_set ys k y else ys ++ y ∷ [])
-  zip_put xs ys k x y all one =
-      subst (λ c. AllZip R (if nat_lt k (length xs) then slice_set xs k x else xs ++ x ∷ [])
-      (if c then slice_set ys k y else ys ++ y ∷ [])) (ap (nat_lt k) (zip_long xs ys all))
-      (by_test (nat_lt k (length xs)))
+  numbered_put xs ys k x y all place one =
+      subst (λ c. AllNumbered R 0 (if nat_lt k (length xs) then slice_set xs k x else xs ++ x ∷ [])
+      (if c then slice_set ys k y else ys ++ y ∷ [])) (ap (nat_lt k) long)
+      (by_test (nat_lt k (length xs)) refl)
     where
-      by_test : (b : Bool) → AllZip R (if b then slice_set xs k x else xs ++ x ∷ [])
+      long : length xs ≡ length ys
+      long = numbered_long 0 xs ys all
+
+      at_end : nat_lt k (length xs) ≡ false → k ≡ 0 + length xs
+      at_end e =
+          ⊎_elim
+          (λ (h : k < length ys).
+          absurd (false≢true (sym e ∙ lt-ltb k (length xs) (omega (arith, h, long)))))
+          (λ (same : k ≡ length ys). omega (arith, same, long)) place
+
+      by_test : (b : Bool) → nat_lt k (length xs) ≡ b
+          → AllNumbered R 0 (if b then slice_set xs k x else xs ++ x ∷ [])
           (if b then slice_set ys k y else ys ++ y ∷ [])
-      by_test true = zip_set xs ys k x y all one
-      by_test false = zip_joined xs ys (x ∷ []) (y ∷ []) all (one, tt)
+      by_test true e =
+          let same : k ≡ 0 + k = omega arith in
+          numbered_set 0 xs ys k x y all (subst (λ m. R m x y) same one)
+      by_test false e = numbered_push 0 xs ys x y all (subst (λ m. R m x y) (at_end e) one)

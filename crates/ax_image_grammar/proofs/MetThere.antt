@@ -1,6 +1,6 @@
 -- All that is held stands at a place of its own, and is met there where it is outside its grammar.
 use Rattle.std.proofs.Common.{◌≡◌, ℕ, ◌↔◌, Bool, true, false, List, [], ◌∷◌, length, slice_get}
-use Rattle.std.proofs.Common.{get_or, arith, inl, inr, sym, ap, subst, ◌∙◌}
+use Rattle.std.proofs.Common.{◌+◌, get_or, arith, inl, inr, refl, sym, ap, subst, ◌∙◌}
 use Rattle.std.specs.Prelude.{Some}
 use Rattle.std.specs.List.{Contains}
 use Rattle.std.specs.FinMap as map
@@ -22,7 +22,8 @@ use Rattle.ax_image_grammar.specs.Grammar.{IsGrammatical, IsUnreadable, IsOutsid
 use Rattle.ax_image_grammar.specs.Met.{BeginAt, IsDocumentMet, IsPolicyMet, IsPartMet, IsMet}
 use Rattle.ax_image_grammar.specs.Met.{is_base_at, IsPayload, IsPartAt, HasPart, HasPartAt}
 use Rattle.ax_image_grammar.specs.Met.{IsMetAt, IsTakenMetAt, HasNoTable}
-use Rattle.ax_image_grammar.proofs.Matched.{right_of, left_of, zip_long, zip_get, zip_left}
+use Rattle.ax_image_grammar.proofs.Matched.{right_of, left_of, zip_long, zip_left, numbered_long}
+use Rattle.ax_image_grammar.proofs.Matched.{numbered_get}
 use Rattle.ax_image_grammar.proofs.FromTold.{IsOneTold, IsAlone, is_alone, page_parts, part_at}
 use Rattle.ax_image_grammar.proofs.FromTold.{parts_long, IsSaid, IsDocumentFrom, IsPolicyFrom}
 use Rattle.ax_image_grammar.proofs.FromTold.{IsPartFrom, ArePartsFrom, AreFrom, held_from}
@@ -30,7 +31,7 @@ use Rattle.ax_image_grammar.proofs.Once.{told_once, tells_rise}
 use Rattle.ax_image_grammar.proofs.NotBoth.{not_in_and_outside}
 
 -- the offset of the first
-abbrev front_at : List Place → ℕ
+abbrev pub front_at : List Place → ℕ
 front_at [] = 0
 front_at (front ∷ pieces) = front.at
 
@@ -144,18 +145,22 @@ module _ (version : ℕ) (frames : List (List ℕ)) (told : List Told) (contents
   -- ---- term pages
 
   pub as_many_pages : length (places_after told no_places).terms ≡ length contents.terms
-  as_many_pages = zip_long (ArePartsFrom (IsOneTold version told))
+  as_many_pages = numbered_long (ArePartsFrom (IsOneTold version told)) 0
       (places_after told no_places).terms contents.terms from.terms
 
-  parts_from : (page : ℕ) → ArePartsFrom (IsOneTold version told)
+  parts_from : (page : ℕ) → ArePartsFrom (IsOneTold version told) page
       (get_or (places_after told no_places).terms page []) (term_page page contents.terms)
-  parts_from page = zip_get (ArePartsFrom (IsOneTold version told))
-      (places_after told no_places).terms contents.terms page [] no_term_page from.terms tt
+  parts_from page =
+      let number : 0 + page ≡ page = omega arith in
+      subst (λ n. ArePartsFrom (IsOneTold version told) n
+      (get_or (places_after told no_places).terms page []) (term_page page contents.terms)) number
+      (numbered_get (ArePartsFrom (IsOneTold version told)) 0 (places_after told no_places).terms
+      contents.terms page [] no_term_page from.terms tt)
 
   pub as_many_parts : (page : ℕ) → length (get_or (places_after told no_places).terms page [])
       ≡ length (term_parts (term_page page contents.terms))
   as_many_parts page =
-      zip_long (IsPartFrom (IsOneTold version told))
+      zip_long (IsPartFrom (IsOneTold version told) page)
       (get_or (places_after told no_places).terms page [])
       (page_parts (term_page page contents.terms)) (parts_from page)
       ∙ parts_long (term_page page contents.terms)
@@ -164,12 +169,12 @@ module _ (version : ℕ) (frames : List (List ℕ)) (told : List Told) (contents
       → slice_get (term_parts (term_page page contents.terms)) position ≡ Some payload
       → (place : Place)
       × (slice_get (get_or (places_after told no_places).terms page []) position ≡ Some place)
-      × IsPartFrom (IsOneTold version told) place (record {
+      × IsPartFrom (IsOneTold version told) page place (record {
         base = is_base_at (term_page page contents.terms) position;
         payload = payload;
       })
   part_from page position payload held =
-      zip_left (IsPartFrom (IsOneTold version told))
+      zip_left (IsPartFrom (IsOneTold version told) page)
       (get_or (places_after told no_places).terms page [])
       (page_parts (term_page page contents.terms)) position
       (record {
@@ -223,6 +228,38 @@ module _ (version : ℕ) (frames : List (List ℕ)) (told : List Told) (contents
       ∙ ap (λ (p : Place). p.at) (same_some is.0 there.place (sym is.1 ∙ there.stands))
       ∙ there.place_is
 
+  -- the part that stands at a place was told there
+  pub record IsPartFromPlace (page position at : ℕ) : Type 0 where
+    pub payload : List ℕ
+    pub held : slice_get (term_parts (term_page page contents.terms)) position ≡ Some payload
+    pub base : Bool
+    pub base_is : base ≡ is_base_at (term_page page contents.terms) position
+    pub one : Told
+    pub so : IsOneTold version told one
+    pub place : one.at ≡ at
+    pub said : IsSaid page base payload one.change
+
+  pub part_from_place : (page position at : ℕ) → IsPartAt page position told at
+      → IsPartFromPlace page position at
+  part_from_place page position at there =
+      let parts : List (List ℕ) = term_parts (term_page page contents.terms) in
+      let payload : List ℕ = get_or parts position [] in
+      let within = slice_get_within (get_or (places_after told no_places).terms page []) position
+      there.place there.stands in
+      let held : slice_get parts position ≡ Some payload = slice_get-get_or parts position []
+      (omega (arith, within, as_many_parts page)) in
+      let is = part_from page position payload held in
+      record {
+        payload = payload;
+        held = held;
+        base = is_base_at (term_page page contents.terms) position;
+        base_is = refl;
+        one = is.2.one;
+        so = is.2.so;
+        place = part_there page position at payload held there;
+        said = is.2.said;
+      }
+
   module _ (newest : ℕ) where
     -- at this offset something was told that cannot be read
     record IsToldThere (at : ℕ) : Type 0 where
@@ -231,10 +268,10 @@ module _ (version : ℕ) (frames : List (List ℕ)) (told : List Told) (contents
       place : one.at ≡ at
       bad : IsReadable newest one.change → ⊥
 
-    read_part : (base : Bool) (payload : List ℕ) (c : Change) → IsSaid base payload c
-        → IsReadable newest c → IsPayload base payload
-    read_part true payload c said good = subst (IsReadable newest) said.1 good
-    read_part false payload c said good = subst (IsReadable newest) said.1 good
+    read_part : (page : ℕ) (base : Bool) (payload : List ℕ) (c : Change)
+        → IsSaid page base payload c → IsReadable newest c → IsPayload base payload
+    read_part page true payload c said good = subst (IsReadable newest) said good
+    read_part page false payload c said good = subst (IsReadable newest) said good
 
     told_there : (at : ℕ) → IsMet newest told contents at → IsToldThere at
     told_there at (inl (number, met)) =
@@ -262,16 +299,17 @@ module _ (version : ℕ) (frames : List (List ℕ)) (told : List Told) (contents
           one = is.2.one;
           so = is.2.so;
           place = part_there page position at met.payload met.held met.there;
-          bad = λ good. met.bad (read_part (is_base_at (term_page page contents.terms) position)
-              met.payload is.2.one.change is.2.said good);
+          bad = λ good. met.bad (read_part page
+              (is_base_at (term_page page contents.terms) position) met.payload
+              is.2.one.change is.2.said good);
         }
 
     -- ---- and what was told there is met, where it counts
 
-    not_read : (base : Bool) (payload : List ℕ) (c : Change) → IsSaid base payload c
-        → IsPayload base payload → IsReadable newest c
-    not_read true payload c said good = subst (IsReadable newest) (sym said.1) good
-    not_read false payload c said good = subst (IsReadable newest) (sym said.1) good
+    part_read : (page : ℕ) (base : Bool) (payload : List ℕ) (c : Change)
+        → IsSaid page base payload c → IsPayload base payload → IsReadable newest c
+    part_read page true payload c said good = subst (IsReadable newest) (sym said) good
+    part_read page false payload c said good = subst (IsReadable newest) (sym said) good
 
     module _ (one : Told) (is_in : Contains told one) (bad : IsReadable newest one.change → ⊥)
         (at : ℕ) (place : one.at ≡ at) where
@@ -318,24 +356,17 @@ module _ (version : ℕ) (frames : List (List ℕ)) (told : List Told) (contents
             },
           ))
       there_met (inr (inr (page, position, there))) =
-          let parts : List (List ℕ) = term_parts (term_page page contents.terms) in
-          let payload : List ℕ = get_or parts position [] in
-          let within = slice_get_within (get_or (places_after told no_places).terms page [])
-          position there.place there.stands in
-          let held : slice_get parts position ≡ Some payload = slice_get-get_or parts position []
-          (omega (arith, within, as_many_parts page)) in
-          let is = part_from page position payload held in
+          let is = part_from_place page position at there in
           inr (inr (
             page,
             position,
             record {
-              payload = payload;
-              held = held;
+              payload = is.payload;
+              held = is.held;
               there = there;
-              bad = λ good. no_other is.2.one is.2.so.is_in
-                  (part_there page position at payload held there)
-                  (not_read (is_base_at (term_page page contents.terms) position) payload
-                  is.2.one.change is.2.said good);
+              bad = λ good. no_other is.one is.so.is_in is.place
+                  (part_read page is.base is.payload is.one.change is.said
+                  (subst (λ base. IsPayload base is.payload) (sym is.base_is) good));
             },
           ))
 

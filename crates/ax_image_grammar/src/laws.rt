@@ -21,7 +21,7 @@ ghost use Rattle.ax_area.specs.Told.{Told, TellOn, Lead};
 ghost use Rattle.ax_area.specs.Writing.{written_bytes, told_from};
 ghost use Rattle.ax_image_grammar.specs.Container.{Container, fresh};
 ghost use Rattle.ax_image_grammar.specs.Grammar.{AreReadable, IsGrammatical, IsOutside, IsUnreadable};
-ghost use Rattle.ax_image_grammar.specs.Met.{IsDocumentMet, IsPolicyMet, IsPartMet, is_base_at, IsPayload};
+ghost use Rattle.ax_image_grammar.specs.Met.{BeginAt, IsPartAt, IsDocumentMet, IsPolicyMet, IsPartMet, is_base_at, IsPayload};
 ghost use Rattle.ax_image_grammar.specs.Met.{IsMetAt, HasPartAt, IsTakenMetAt, HasNoTable};
 ghost use Rattle.ax_image_grammar.specs.Payloads.{IsDocumentText, IsPolicyText};
 ghost use Rattle.ax_image_grammar.specs.Rows.{text_row, policy_row, delta_row, superseded_row};
@@ -114,6 +114,39 @@ pub fn what_is_held_is_met_at_its_place()
         → (place : Place) × (slice_get (slice_index_or (places_after told no_places).terms page []) position ≡ Some place)
         × ((at : ℕ) → IsPartMet page position told contents at
         ↔ (at ≡ place.at) × (IsPayload (is_base_at (term_page page contents.terms) position) payload → ⊥)) }
+{}
+
+/// At a place one thing begins at most: of all parts that count, the first ones of documents, those of policies and those of
+/// term pages, no two stand at one offset. So a place tells what is met there.
+pub fn one_thing_begins_at_a_place()
+    ensures documents { (version : ℕ) (frames : List (List ℕ)) (told : List Told) (contents : Contents)
+        → TellOn version frames 0 told → Lead told no_contents contents
+        → (n m at : ℕ) → BeginAt (map.get (places_after told no_places).documents n) at
+        → BeginAt (map.get (places_after told no_places).documents m) at → n ≡ m }
+    ensures policies { (version : ℕ) (frames : List (List ℕ)) (told : List Told) (contents : Contents)
+        → TellOn version frames 0 told → Lead told no_contents contents
+        → (n m at : ℕ) → BeginAt (map.get (places_after told no_places).policies n) at
+        → BeginAt (map.get (places_after told no_places).policies m) at → n ≡ m }
+    ensures pages { (version : ℕ) (frames : List (List ℕ)) (told : List Told) (contents : Contents)
+        → TellOn version frames 0 told → Lead told no_contents contents
+        → (p q j k at : ℕ) → IsPartAt p j told at
+        → IsPartAt q k told at → p ≡ q }
+    ensures positions { (version : ℕ) (frames : List (List ℕ)) (told : List Told) (contents : Contents)
+        → TellOn version frames 0 told → Lead told no_contents contents
+        → (p q j k at : ℕ) → IsPartAt p j told at
+        → IsPartAt q k told at → j ≡ k }
+    ensures document_not_policy { (version : ℕ) (frames : List (List ℕ)) (told : List Told) (contents : Contents)
+        → TellOn version frames 0 told → Lead told no_contents contents
+        → (n m at : ℕ) → BeginAt (map.get (places_after told no_places).documents n) at
+        → BeginAt (map.get (places_after told no_places).policies m) at → ⊥ }
+    ensures document_not_part { (version : ℕ) (frames : List (List ℕ)) (told : List Told) (contents : Contents)
+        → TellOn version frames 0 told → Lead told no_contents contents
+        → (n p k at : ℕ) → BeginAt (map.get (places_after told no_places).documents n) at
+        → IsPartAt p k told at → ⊥ }
+    ensures policy_not_part { (version : ℕ) (frames : List (List ℕ)) (told : List Told) (contents : Contents)
+        → TellOn version frames 0 told → Lead told no_contents contents
+        → (n p k at : ℕ) → BeginAt (map.get (places_after told no_places).policies n) at
+        → IsPartAt p k told at → ⊥ }
 {}
 
 /// Over an image in the grammar nothing is met anywhere, and the table of policies can be made.
