@@ -12,3 +12,4 @@ pub mod FromTold
 pub mod Once
 pub mod MetThere
 pub mod OneThere
+pub mod RowsMet

@@ -9,12 +9,10 @@ use Rattle.ax_disk.specs.declared.extent.Extent.{Extent}
 use Rattle.ax_disk.specs.model.Image.{Image}
 use Rattle.ax_pages.specs.Contents.{no_term_page, term_page, term_parts}
 use Rattle.ax_area.specs.Changes.{Change}
-use Rattle.ax_area.specs.Changes as change
 use Rattle.ax_area.specs.Contents.{Contents, Stored, no_contents}
-use Rattle.ax_area.specs.Items.{Item, item_parts}
+use Rattle.ax_area.specs.Items.{item_parts}
 use Rattle.ax_area.specs.Places.{Place, no_places, places_from, places_after}
 use Rattle.ax_area.specs.Told.{Told, TellOn, Lead}
-use Rattle.ax_area.specs.Image.{IsLiveWith}
 use Rattle.ax_area.proofs.OneTelling.{same_some}
 use Rattle.ax_area.proofs.OneOutcome.{one_told}
 use Rattle.ax_image_grammar.specs.Payloads.{IsReadable, IsDocumentText, IsPolicyText}

@@ -59,10 +59,18 @@ pub told_once : (at : ℕ) (told : List Told) (s t : Told) → Rise at told → 
 told_once at [] s t rise (k, within, is) other same = absurd (omega arith)
 told_once at (u ∷ told) s t rise (zero, within, is) (zero, there, too) same = sym is ∙ too
 told_once at (u ∷ told) s t rise (zero, within, is) (suc k, there, too) same =
-    absurd (omega (arith, same, ap (λ (v : Told). v.at) is,
-    none_before (u.at + 1) told t rise.1 (k, omega arith, too)))
+    absurd (omega (
+      arith,
+      same,
+      ap (λ (v : Told). v.at) is,
+      none_before (u.at + 1) told t rise.1 (k, omega arith, too),
+    ))
 told_once at (u ∷ told) s t rise (suc j, within, is) (zero, there, too) same =
-    absurd (omega (arith, same, ap (λ (v : Told). v.at) too,
-    none_before (u.at + 1) told s rise.1 (j, omega arith, is)))
+    absurd (omega (
+      arith,
+      same,
+      ap (λ (v : Told). v.at) too,
+      none_before (u.at + 1) told s rise.1 (j, omega arith, is),
+    ))
 told_once at (u ∷ told) s t rise (suc j, within, is) (suc k, there, too) same =
     told_once (u.at + 1) told s t rise.1 (j, omega arith, is) (k, omega arith, too) same

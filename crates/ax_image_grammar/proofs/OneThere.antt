@@ -8,7 +8,7 @@ use Rattle.std.specs.FinMap as map
 use Rattle.ax_area.specs.Changes.{Change, Written}
 use Rattle.ax_area.specs.Changes as change
 use Rattle.ax_area.specs.Contents.{Contents, no_contents}
-use Rattle.ax_area.specs.Items.{Item, item_parts}
+use Rattle.ax_area.specs.Items.{item_parts}
 use Rattle.ax_area.specs.Places.{Place, PagePlaces, no_places, places_from, with_places}
 use Rattle.ax_area.specs.Places.{places_after}
 use Rattle.ax_area.specs.Told.{Told, TellOn, Lead}
@@ -58,11 +58,19 @@ one_position : (low high : ℕ) (ps : List Place) (j k : ℕ) (p q : Place) → 
 one_position low high [] j k p q rises e f same = absurd (some_or_none p e)
 one_position low high (r ∷ ps) zero zero p q rises e f same = refl
 one_position low high (r ∷ ps) zero (suc k) p q rises e f same =
-    absurd (omega (arith, same, ap (λ (s : Place). s.at) (same_some r p e),
-    low_at (r.at + 1) high ps k q rises.1.1 f))
+    absurd (omega (
+      arith,
+      same,
+      ap (λ (s : Place). s.at) (same_some r p e),
+      low_at (r.at + 1) high ps k q rises.1.1 f,
+    ))
 one_position low high (r ∷ ps) (suc j) zero p q rises e f same =
-    absurd (omega (arith, same, ap (λ (s : Place). s.at) (same_some r q f),
-    low_at (r.at + 1) high ps j p rises.1.1 e))
+    absurd (omega (
+      arith,
+      same,
+      ap (λ (s : Place). s.at) (same_some r q f),
+      low_at (r.at + 1) high ps j p rises.1.1 e,
+    ))
 one_position low high (r ∷ ps) (suc j) (suc k) p q rises e f same =
     ap suc (one_position (r.at + 1) high ps j k p q rises.1.1 e f same)
 

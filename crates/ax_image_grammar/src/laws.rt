@@ -193,3 +193,14 @@ pub fn worked_images()
     ensures delta { IsOutside 1 A 9 delta_row }
     ensures superseded { IsOutside 1 A 9 superseded_row }
 {}
+
+/// What is met in images worked out by hand. The policy is met at its place, and the table of policies does not need it; so
+/// is the delta. Of what was superseded nothing is met: not the text of the document that is gone, nor the delta whose
+/// place a base took, though the image is outside the grammar there.
+pub fn what_is_met_in_worked_images()
+    ensures policy { IsMetAt 1 A 9 policy_row }
+    ensures not_taken { (area : Extent) (at : ℕ) → IsTakenMetAt 1 area at policy_row → ⊥ }
+    ensures delta { IsMetAt 1 A 9 delta_row }
+    ensures text { (area : Extent) (at : ℕ) → IsMetAt 1 area at text_row → ⊥ }
+    ensures superseded { (area : Extent) → IsMetAt 1 area 9 superseded_row → ⊥ }
+{}
