@@ -51,10 +51,10 @@ pub not_stored : (text : List ℕ) (given : Tree) (fault : LineFault) (why : Ref
     → fault ≡ Refused why → (tree : Tree) → IsStoredText text tree → ⊥
 not_stored text given fault why fine spelled refused is tree stored =
     let same : given ≡ tree = one_text given tree (numbers_fit-well_formed given fine) (numbers_fit-well_formed tree stored.storable.well_formed)
-        (sym spelled ∙ stored.spelled) in
+    (sym spelled ∙ stored.spelled) in
     let answer : Result Line Refusal = Ok (line.Upsert tree) in
     let told : unless (document_causes given) answer ≡ Err why =
-        subst (λ (f : LineFault). IsRefusedBy f (unless (document_causes given) answer)) is (refused answer) in
+    subst (λ (f : LineFault). IsRefusedBy f (unless (document_causes given) answer)) is (refused answer) in
     let kept : unless (document_causes given) answer ≡ answer =
-        subst (λ (t : Tree). unless (document_causes t) answer ≡ answer) (sym same) (passes tree answer stored.storable) in
+    subst (λ (t : Tree). unless (document_causes t) answer ≡ answer) (sym same) (passes tree answer stored.storable) in
     cc (kept, told)
