@@ -258,7 +258,11 @@ fn answer<D: Disk, C: PageCache, L: Ledger>(
 }
 
 /// The reply to a write.
-fn write<D: Disk, C: PageCache>(documents: &mut Documents<C>, disk: &mut D, line: &Line) -> Result<Reply, Fault>
+fn write<D: Disk, C: PageCache>(
+    documents: &mut Documents<C>,
+    disk: &mut D,
+    line: &Line,
+) -> Result<Reply, Fault>
     requires writes { IsWrite line.now }
     requires asked { IsAsked line.now }
     requires works { DocumentsWork C.pages (IsTrue (D.is_honest disk.old)) documents.old (D.history disk.old (D.attached disk.old)) }
@@ -283,7 +287,11 @@ fn write<D: Disk, C: PageCache>(documents: &mut Documents<C>, disk: &mut D, line
 }
 
 /// Makes a write.
-fn make<D: Disk, C: PageCache>(documents: &mut Documents<C>, disk: &mut D, line: &Line) -> Result<(), WriteFault>
+fn make<D: Disk, C: PageCache>(
+    documents: &mut Documents<C>,
+    disk: &mut D,
+    line: &Line,
+) -> Result<(), WriteFault>
     requires writes { IsWrite line.now }
     requires asked { IsAsked line.now }
     requires works { DocumentsWork C.pages (IsTrue (D.is_honest disk.old)) documents.old (D.history disk.old (D.attached disk.old)) }

@@ -39,7 +39,10 @@ use std::str;
 
 /// Opens the store attached, over no cache: the texts are read ahead. Each document's id is looked for in its
 /// text; a text that is no document's is under any id or none.
-pub(crate) fn open_documents<D: Disk>(alloc: Global, disk: &mut D) -> Result<Documents<NoPages>, StoreFault>
+pub(crate) fn open_documents<D: Disk>(
+    alloc: Global,
+    disk: &mut D,
+) -> Result<Documents<NoPages>, StoreFault>
     ensures works { IfOk result (λ documents. DocumentsWork (λ _. no_pages) (IsTrue (D.is_honest disk.old)) documents
         (D.history disk.new (D.attached disk.new))) }
     ensures holds { IsTrue (D.is_honest disk.old) → (before : Container)
