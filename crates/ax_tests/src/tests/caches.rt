@@ -15,45 +15,55 @@ use std::marker::Brand;
 use std::sync::ledger::{Blank, Ledger};
 use std::test::Fail;
 
-const LINES: [&str; 18] = [
-    "CREATE {\"id\":\"a\",\"n\":1}",
-    "CREATE {\"id\":\"b\",\"n\":2}",
-    "UPSERT {\"id\":\"c\",\"n\":3}",
-    "READ a",
-    "READ b",
-    "READ a",
-    "UPSERT {\"id\":\"a\",\"n\":4}",
-    "READ a",
-    "REPLACE {\"id\":\"b\",\"n\":5}",
-    "READ b",
-    "READ c",
-    "DELETE c",
-    "READ c",
-    "CREATE {\"id\":\"c\",\"n\":6}",
-    "READ c",
-    "QUERY {\"query\":\"SELECT VALUE c.n FROM c\"}",
-    "READ b",
-    "QUERY {\"query\":\"SELECT * FROM c WHERE c.n > 4\"}",
+/// Lines, and their replies by hand, from the meaning of each.
+const SCRIPT: [(&str, &str); 18] = [
+    ("CREATE {\"id\":\"a\",\"n\":1}", "ok\n"),
+    ("CREATE {\"id\":\"b\",\"n\":2}", "ok\n"),
+    ("UPSERT {\"id\":\"c\",\"n\":3}", "ok\n"),
+    ("READ a", "doc {\"id\":\"a\",\"n\":1}\n"),
+    ("READ b", "doc {\"id\":\"b\",\"n\":2}\n"),
+    ("READ a", "doc {\"id\":\"a\",\"n\":1}\n"),
+    ("UPSERT {\"id\":\"a\",\"n\":4}", "ok\n"),
+    ("READ a", "doc {\"id\":\"a\",\"n\":4}\n"),
+    ("REPLACE {\"id\":\"b\",\"n\":5}", "ok\n"),
+    ("READ b", "doc {\"id\":\"b\",\"n\":5}\n"),
+    ("READ c", "doc {\"id\":\"c\",\"n\":3}\n"),
+    ("DELETE c", "ok\n"),
+    ("READ c", "err 8 absent\n"),
+    ("CREATE {\"id\":\"c\",\"n\":6}", "ok\n"),
+    ("READ c", "doc {\"id\":\"c\",\"n\":6}\n"),
+    (
+        "QUERY {\"query\":\"SELECT VALUE c.n FROM c\"}",
+        "row 4\nrow 5\nrow 6\nend 3\n",
+    ),
+    ("READ b", "doc {\"id\":\"b\",\"n\":5}\n"),
+    (
+        "QUERY {\"query\":\"SELECT * FROM c WHERE c.n > 4\"}",
+        "row {\"id\":\"b\",\"n\":5}\nrow {\"id\":\"c\",\"n\":6}\nend 2\n",
+    ),
 ];
-
-/// The replies by hand, from the meaning of each line.
-const OUTPUT: &str =
-    "ok\nok\nok\ndoc {\"id\":\"a\",\"n\":1}\ndoc {\"id\":\"b\",\"n\":2}\ndoc {\"id\":\"a\",\"n\":1}\nok\ndoc {\"id\":\"a\",\"n\":4}\nok\ndoc {\"id\":\"b\",\"n\":5}\ndoc {\"id\":\"c\",\"n\":3}\nok\nerr 8 absent\nok\ndoc {\"id\":\"c\",\"n\":6}\nrow 4\nrow 5\nrow 6\nend 3\ndoc {\"id\":\"b\",\"n\":5}\nrow {\"id\":\"b\",\"n\":5}\nrow {\"id\":\"c\",\"n\":6}\nend 2\n";
 
 const STORED: &[u8] = b"UPSERT {\"id\":\"a\",\"n\":1}\nUPSERT {\"id\":\"b\",\"n\":2}\n";
 
-/// Serves lines, one after another.
+fn replies(alloc: Global) -> Result<Vec<u8>, Fail> {
+    let mut text = Vec::new(alloc);
+    for (_, reply) in SCRIPT {
+        text.extend_from_slice(reply.as_bytes())?;
+    }
+    Ok(text)
+}
+
+/// Serves the lines, one after another.
 fn serve_lines<C: PageCache, L: Ledger>(
     alloc: Global,
     engine: &mut Engine<C>,
     disk: &mut MemDisk,
-    lines: &[&str],
     sink: &mut MemSink,
     steps: &mut Steps<L>,
 ) -> Result<(), Status>
     requires { Works C.pages (IsTrue true) engine.old (disk_history disk.old) }
 {
-    for line in lines {
+    'lines: for (line, _) in SCRIPT {
         serve_line(alloc, engine, disk, line.as_bytes(), sink, steps)?;
     }
     Ok(())
@@ -75,7 +85,7 @@ fn answers_by<C: PageCache + Drop, L: Ledger>(
     let mut steps = Steps::<L>::begin(blank);
     let opened = Engine::open_engine(alloc, &mut disk)?;
     let mut engine = opened.with_cache(cache);
-    serve_lines(alloc, &mut engine, &mut disk, &LINES, &mut sink, &mut steps)?;
+    serve_lines(alloc, &mut engine, &mut disk, &mut sink, &mut steps)?;
     Ok(Vec::from_slice(alloc, sink.bytes())?)
 }
 
@@ -138,15 +148,13 @@ fn reads<C: PageCache + Drop>(alloc: Global, cache: C, line: &str) -> Result<(u6
 #[test]
 fn each_cache_answers_alike(rt: HostRuntime) -> Result<(), Fail> {
     let alloc = rt.alloc();
-    assert_eq!(rt; answers(alloc, NoPages)?.as_slice(), OUTPUT.as_bytes());
-    assert_eq!(rt;
-        answers(alloc, LruPages::make(alloc, 1)?)?.as_slice(),
-        OUTPUT.as_bytes()
-    );
-    assert_eq!(rt;
-        answers(alloc, LruPages::make(alloc, 256)?)?.as_slice(),
-        OUTPUT.as_bytes()
-    );
+    let expected = replies(alloc)?;
+    let uncached = answers(alloc, NoPages)?;
+    assert_eq!(rt; uncached.as_slice(), expected.as_slice());
+    let small = answers(alloc, LruPages::make(alloc, 1)?)?;
+    assert_eq!(rt; small.as_slice(), expected.as_slice());
+    let large = answers(alloc, LruPages::make(alloc, 256)?)?;
+    assert_eq!(rt; large.as_slice(), expected.as_slice());
     Ok(())
 }
 

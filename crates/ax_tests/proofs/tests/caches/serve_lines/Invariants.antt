@@ -4,5 +4,5 @@ use Rattle.ax_disk.specs.mem_disk.MemDisk.{disk_history}
 use Rattle.ax_engine.specs.Engine.{Works}
 use Rattle.ax_tests.proofs.tests.caches.serve_lines.Given as goal
 
-abbrev pub invariant-loop-line : goal.invariant-loop-line
-invariant-loop-line g l = Works g.C.PageCache.pages (IsTrue true) l.engine (disk_history l.disk)
+abbrev pub invariant-lines : goal.invariant-lines
+invariant-lines g l = Works g.C.PageCache.pages (IsTrue true) l.engine (disk_history l.disk)
