@@ -8,7 +8,7 @@ pub mod Opened
 mod OwnRefusals
 mod Placing
 mod QueryTexts
-mod Recaching
+pub mod Recaching
 mod RowLines
 mod Saying
 mod Scanning

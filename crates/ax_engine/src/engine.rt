@@ -1,10 +1,9 @@
 //! An engine over an open store.
 
-ghost use Rattle.std.specs.Prelude.{◌≡◌, ◌≤◌, ◌+◌, ℕ, Bool, Ok, Err, Some, None, IsTrue, IfOk, IfErr, OnOk};
+ghost use Rattle.std.specs.Prelude.{◌≡◌, ◌≤◌, ◌+◌, ℕ, Ok, Err, Some, None, IsTrue, IfOk, IfErr, OnOk};
 ghost use Rattle.std.specs.FinMap as map;
 ghost use Rattle.ax_cache.specs.PageLaws.{no_pages};
 ghost use Rattle.ax_disk.specs.model.Calls.{Idles};
-ghost use Rattle.ax_disk.specs.model.Moments.{History};
 ghost use Rattle.ax_disk.specs.model.Stays.{Rests, SinceBarrier, Stays};
 ghost use Rattle.ax_area.specs.Image.{IsDamaged, IsFresh, IsNewer};
 ghost use Rattle.ax_pages.specs.Area.{extent_number};
@@ -108,18 +107,14 @@ impl Engine<NoPages> {
 
 impl<C: PageCache + Drop> Engine<C> {
     /// The engine over another cache, which holds nothing yet. So an engine can be opened before its cache takes
-    /// memory, and no want of that hides why a store is refused. Documents and fault are as they were: whatever
-    /// container they are those of, and however they agree with a disk, they are and do so still.
+    /// memory, and no want of that hides why a store is refused. Documents and fault are as they were. That it works
+    /// over each history over which it did is the law `works_still` of `proofs/Recaching.antt`.
     pub fn with_cache<E: PageCache>(self, cache: E) -> Engine<E>
         requires empty { E.pages cache ≡ map.empty }
         ensures documents { SameDocuments self.documents result.documents }
         ensures fault { result.fault ≡ self.fault }
         ensures cache { result.documents.store.cache ≡ cache }
         ensures holds { (container : Container) → Holds self container → Holds result container }
-        ensures holds_over { (history : History) → (container : Container)
-            → HoldsOver self history container → HoldsOver result history container }
-        ensures works { (honest : Bool) → (history : History)
-            → Works C.pages (IsTrue honest) self history → Works E.pages (IsTrue honest) result history }
     {
         let Engine { documents, fault } = self;
         Engine {
