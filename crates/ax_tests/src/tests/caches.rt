@@ -1,5 +1,5 @@
 //! Whatever cache an engine has, lines are answered alike; and what a cache holds is not read again.
-ghost use Rattle.std.specs.Prelude.{◌≡◌, ◌<◌, true, IsTrue};
+ghost use Rattle.std.specs.Prelude.{◌≡◌, ◌<◌, true, IfOk, IsTrue};
 ghost use Rattle.std.specs.FinMap as map;
 ghost use Rattle.ax_disk.specs.mem_disk.MemDisk.{disk_history};
 ghost use Rattle.ax_engine.specs.Engine.{Works};
@@ -53,6 +53,19 @@ fn replies(alloc: Global) -> Result<Vec<u8>, Fail> {
     Ok(text)
 }
 
+/// The engine with this cache over the store of a disk.
+fn engine_over<C: PageCache + Drop>(
+    alloc: Global,
+    disk: &mut MemDisk,
+    cache: C,
+) -> Result<Engine<C>, Fail>
+    requires { C.pages cache ≡ map.empty }
+    ensures { IfOk result (λ engine. Works C.pages (IsTrue true) engine (disk_history disk.new)) }
+{
+    let opened = Engine::open_engine(alloc, disk)?;
+    Ok(opened.with_cache(cache))
+}
+
 /// Serves the lines, one after another.
 fn serve_lines<C: PageCache, L: Ledger>(
     alloc: Global,
@@ -83,8 +96,7 @@ fn answers_by<C: PageCache + Drop, L: Ledger>(
     let mut disk = fresh_disk(alloc)?;
     let mut sink = MemSink::make(alloc, ROOM, Vec::new(alloc))?;
     let mut steps = Steps::<L>::begin(blank);
-    let opened = Engine::open_engine(alloc, &mut disk)?;
-    let mut engine = opened.with_cache(cache);
+    let mut engine = engine_over(alloc, &mut disk, cache)?;
     serve_lines(alloc, &mut engine, &mut disk, &mut sink, &mut steps)?;
     Ok(Vec::from_slice(alloc, sink.bytes())?)
 }
@@ -110,8 +122,7 @@ fn reads_by<C: PageCache + Drop, L: Ledger>(
 {
     let mut sink = MemSink::make(alloc, ROOM, Vec::new(alloc))?;
     let mut steps = Steps::<L>::begin(blank);
-    let opened = Engine::open_engine(alloc, disk)?;
-    let mut engine = opened.with_cache(cache);
+    let mut engine = engine_over(alloc, disk, cache)?;
     let before = disk.reads();
     serve_line(
         alloc,
