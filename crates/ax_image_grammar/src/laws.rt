@@ -93,3 +93,8 @@ pub fn worked_images()
     ensures delta { IsOutside 1 A 9 delta_row }
     ensures superseded { IsOutside 1 A 9 superseded_row }
 {}
+
+/// The text of a policy is in its normal form: `{}` is read as a policy, and is none that a store may hold.
+pub fn a_policy_text_is_normal()
+    ensures { IsPolicyText (0x7B ∷ 0x7D ∷ []) → ⊥ }
+{}
