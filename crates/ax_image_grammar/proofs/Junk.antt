@@ -2,6 +2,7 @@
 use Rattle.std.proofs.Common.{◌≡◌, ℕ, ◌<◌, arith, List, [], ◌∷◌, ◌++◌, length, Option, refl}
 use Rattle.std.proofs.Common.{sym, ap, subst, ◌∙◌, rules, get_or}
 use Rattle.std.specs.Prelude.{Some, None, IsSome, codes, if◌then◌else◌, option_and_then}
+use Rattle.json.specs.Print.{escape_byte}
 use Rattle.ax_gap.specs.Reading.{first_varint}
 use Rattle.ax_gap.specs.Varint.{varint}
 use Rattle.ax_gap.proofs.VarintLaws.{varint-small, first_varint_again, same_number}
@@ -16,6 +17,7 @@ use Rattle.ax_tree.specs.CanonicalText.{canonical_text, text_level}
 use Rattle.ax_tree.specs.Document.{member_level, text_value, is_id, IsDocument}
 use Rattle.ax_delta.specs.Payload.{delta, list_after}
 use Rattle.ax_policy.specs.Normal.{normal_text}
+use Rattle.ax_policy.specs.declared.policy.Policy.{Policy}
 use Rattle.ax_image_grammar.specs.Payloads.{IsPolicyText, IsDocumentText, IsDeltaPayload}
 use Rattle.ax_image_grammar.specs.Rows.{junk}
 
@@ -67,15 +69,15 @@ pub no_policy : IsPolicyText junk → ⊥
 no_policy is =
     other_first (normal_text is.policy) (map_text _) (sym is.is.spelled)
 
--- {} as a text: it is read as a policy, and is the normal text of none
-plain_text : (members : List (Member Tree)) (second : Member Tree) (first : Member Tree)
-    → get_or (canonical_text (trees.Object (first ∷ second ∷ members))) 1 0 ≡ 34
-plain_text members second first = search (rules, tree.the_lemmas)
+-- a text whose first member has another name than that of each normal text
+third_byte : (policy : Policy) → get_or (normal_text policy) 2 0 ≡ 97
+unfolding escape_byte
+third_byte policy = search (rules, tree.the_lemmas)
 
-pub no_plain_policy : IsPolicyText (123 ∷ 125 ∷ []) → ⊥
+pub no_plain_policy : IsPolicyText (codes "{\"indexingMode\":\"none\"}") → ⊥
 no_plain_policy is =
-    let same : 34 ≡ 125 =
-    sym (plain_text _ _ _) ∙ ap (λ (bytes : List ℕ). get_or bytes 1 0) (sym is.is.spelled) in
+    let same : 97 ≡ 105 =
+    sym (third_byte is.policy) ∙ ap (λ (bytes : List ℕ). get_or bytes 2 0) (sym is.is.spelled) in
     omega (arith, same)
 
 -- ---- a delta of no term

@@ -1,8 +1,7 @@
--- What is met later than opening, with its place. Of what an image has, three things are told apart,
--- each with its place: what opening must see (`IsDamaged`), what the table of policies needs
--- (`HasNoTable`), and what is met later, when a text or a page is read (`IsMetAt`). The place is the
--- offset of a part that counts: of a document its first one. From the store's own file format
--- (docs/FORMAT.md, "Parts"); no other document has it.
+-- What is met in what an image holds, beyond what opening must see (`IsDamaged`), with its place: a text or a
+-- payload that is held and outside its grammar (`IsMetAt`), when it is read; and of these the texts that the table
+-- of policies needs, with what else leaves no table (`HasNoTable`). The place is the offset of a part that counts:
+-- of a document its first one. From the store's own file format (docs/FORMAT.md, "Parts"); no other document has it.
 use Rattle.std.specs.Prelude.{◌≡◌, ◌⊎◌, ℕ, ◌==◌, ◌&&◌, Bool, true, false, List, [], ◌∷◌}
 use Rattle.std.specs.Prelude.{Option, Some, is_some, slice_get, slice_index_or}
 use Rattle.std.specs.FinMap as map

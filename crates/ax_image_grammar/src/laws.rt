@@ -1,6 +1,6 @@
 //! Laws of what images stand for, each the contract of a function that does nothing.
 
-ghost use Rattle.std.specs.Prelude.{◌≡◌, ◌↔◌, ℕ, ◌+◌, List, [], ◌∷◌, ◌++◌, length, slice_get, slice_index_or, Some, false};
+ghost use Rattle.std.specs.Prelude.{◌≡◌, ◌↔◌, ℕ, ◌+◌, List, [], ◌∷◌, ◌++◌, length, codes, slice_get, slice_index_or, Some, false};
 ghost use Rattle.std.specs.List.{AllByRecursion};
 ghost use Rattle.std.specs.FinMap as map;
 ghost use Rattle.ax_disk.specs.declared.extent.Extent.{Extent};
@@ -22,11 +22,11 @@ ghost use Rattle.ax_area.specs.Writing.{written_bytes, told_from};
 ghost use Rattle.ax_image_grammar.specs.Container.{Container, fresh};
 ghost use Rattle.ax_image_grammar.specs.Grammar.{AreReadable, IsGrammatical, IsOutside, IsUnreadable};
 ghost use Rattle.ax_image_grammar.specs.Met.{BeginAt, IsPartAt, IsDocumentMet, IsPolicyMet, IsPartMet, is_base_at, IsPayload};
-ghost use Rattle.ax_image_grammar.specs.Met.{IsMetAt, HasPartAt, IsTakenMetAt, HasNoTable};
+ghost use Rattle.ax_image_grammar.specs.Met.{IsMetAt, HasPartAt, IsTakenMet, IsTakenMetAt, HasNoTable};
 ghost use Rattle.ax_image_grammar.specs.Payloads.{IsDocumentText, IsPolicyText};
 ghost use Rattle.ax_image_grammar.specs.Rows.{text_row, policy_row, delta_row, superseded_row};
 ghost use Rattle.ax_image_grammar.specs.StandsFor.{StandsFor};
-ghost use Rattle.ax_image_grammar.specs.Table.{AreApart};
+ghost use Rattle.ax_image_grammar.specs.Table.{AreApart, IsTaken};
 ghost use Rattle.ax_image_grammar.specs.Writes.{MayCommit, KeepsTo};
 
 /// An image in the grammar is outside it nowhere: where it stands for something, no answer can be that it is damaged.
@@ -96,6 +96,11 @@ pub fn what_is_held_is_met_at_its_place()
         → (number : ℕ) (text : List ℕ) → map.get contents.policies number ≡ Some text
         → (front : Place) × (map.get (places_after told no_places).policies number ≡ Some (front ∷ []))
         × ((at : ℕ) → IsPolicyMet number told contents at ↔ (at ≡ front.at) × (IsPolicyText text → ⊥)) }
+    ensures taken { (version : ℕ) (frames : List (List ℕ)) (told : List Told) (contents : Contents)
+        → TellOn version frames 0 told → Lead told no_contents contents
+        → (number : ℕ) (text : List ℕ) → IsTaken number contents → map.get contents.policies number ≡ Some text
+        → (front : Place) × (map.get (places_after told no_places).policies number ≡ Some (front ∷ []))
+        × ((at : ℕ) → IsTakenMet number told contents at ↔ (at ≡ front.at) × (IsPolicyText text → ⊥)) }
     ensures only_policies { (version : ℕ) (frames : List (List ℕ)) (told : List Told) (contents : Contents)
         → TellOn version frames 0 told → Lead told no_contents contents
         → (number : ℕ) (places : List Place) → map.get (places_after told no_places).policies number ≡ Some places
@@ -194,9 +199,10 @@ pub fn worked_images()
     ensures superseded { IsOutside 1 A 9 superseded_row }
 {}
 
-/// The text of a policy is in its normal form: `{}` is read as a policy, and is none that a store may hold.
+/// The text of a policy is in its normal form: `{"indexingMode":"none"}`, by which a policy may be given, is none that a
+/// store may hold.
 pub fn a_policy_text_is_normal()
-    ensures { IsPolicyText (0x7B ∷ 0x7D ∷ []) → ⊥ }
+    ensures { IsPolicyText (codes "{\"indexingMode\":\"none\"}") → ⊥ }
 {}
 
 /// What is met in images worked out by hand. The policy is met at its place, and the table of policies does not need it; so

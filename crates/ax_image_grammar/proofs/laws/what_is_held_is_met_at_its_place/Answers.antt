@@ -22,3 +22,14 @@ returns-clause-lengths c = as_many_parts
 
 pub returns-clause-parts : goal.returns-clause-parts
 returns-clause-parts c = parts_met
+
+pub returns-clause-taken : goal.returns-clause-taken
+returns-clause-taken c = λ version frames told contents tell lead number text taken held.
+    let at_place = policies_met version frames told contents tell lead number text held in (
+      at_place.0,
+      at_place.1,
+      λ at. (
+        λ met. (at_place.2 at).0 met.met,
+        λ there. record { taken = taken; met = (at_place.2 at).1 there },
+      ),
+    )
