@@ -1,6 +1,6 @@
 -- The lines of rows.
-use Rattle.std.proofs.Common.{◌≡◌, ℕ, ◌+◌, ◌<◌, List, ◌∷◌, ◌++◌, map, drop, length, get_or, sym, ap, ◌∙◌, append_assoc}
-use Rattle.std.proofs.lemmas.List.{drop_more}
+use Rattle.std.proofs.Common.{◌≡◌, ℕ, ◌+◌, ◌<◌, ◌≤◌, List, ◌∷◌, ◌++◌, map, drop, length, get_or, sym, ap, ◌∙◌, append_assoc, append-nil}
+use Rattle.std.proofs.lemmas.List.{drop_all, drop_more}
 use Rattle.std.specs.List.{flat_map}
 use Rattle.ax_mean.specs.declared.query.KeyedRow.{KeyedRow}
 use Rattle.ax_machine.specs.ReplyTexts.{row_text}
@@ -30,4 +30,13 @@ line_added entries rows i row lines more low is added whole =
     ap (λ l. l ++ lines_of_documents entries (drop (i + 1) rows)) added
     ∙ append_assoc lines (row_text (canonical_text (tree_numbered row.number entries))) (lines_of_documents entries (drop (i + 1) rows))
     ∙ ap (λ rs. lines ++ lines_of_documents entries rs) (sym (next rows i row low is))
+    ∙ whole
+
+-- no row is left
+pub lines_ended : (entries : List (ℕ × Tree)) (rows : List KeyedRow) (i : ℕ) (lines : List ℕ) → length rows ≤ i
+    → lines ++ lines_of_documents entries (drop i rows) ≡ lines_of_documents entries rows
+    → lines ≡ lines_of_documents entries rows
+lines_ended entries rows i lines end whole =
+    sym (append-nil lines)
+    ∙ ap (λ rs. lines ++ lines_of_documents entries rs) (sym (drop_all i rows end))
     ∙ whole

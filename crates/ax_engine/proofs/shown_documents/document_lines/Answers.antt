@@ -1,11 +1,11 @@
 -- A row more.
-use Rattle.std.proofs.Common.{sym, subst, ◌∙◌}
+use Rattle.std.proofs.Common.{sym, subst, ◌∙◌, arith}
 use Rattle.std.specs.Prelude.{IsTrue}
 use Rattle.ax_image.specs.Documents.{ContentsHold}
 use Rattle.ax_store.specs.Kept.{Kept}
 use Rattle.ax_engine.specs.StoreSays.{kept_says}
 use Rattle.ax_engine.proofs.InOrder.{pairs}
-use Rattle.ax_engine.proofs.RowLines.{line_added}
+use Rattle.ax_engine.proofs.RowLines.{line_added, lines_ended}
 use Rattle.ax_engine.proofs.Scanning.{fails_on, ready_now, scanned_on}
 use Rattle.ax_engine.proofs.shown_documents.document_lines.Goals as goal
 
@@ -32,3 +32,8 @@ loop-row-preserved g c =
       attached = c.in-Ok.ensures.attached ∙ inv.attached;
       honest = c.in-Ok.ensures.honest ∙ inv.honest;
     }
+
+pub returns-clause-lines : goal.returns-clause-lines
+returns-clause-lines g c = λ honest container hold.
+    lines_ended (pairs container.entries) c.args.rows.now c.loop-row.row-index c.loop-row.lines.items
+    (omega (arith, c.loop-row-test.false)) (c.loop-row.invariant.lines honest container hold)
