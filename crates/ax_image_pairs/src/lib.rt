@@ -5,5 +5,8 @@
 //! hold, and on `ax_keep`, which says which pairs a document has. Its one contract: an image stands for one
 //! container at most, that of a fresh store for the container of no documents, and the changes of each write,
 //! with any that make the changes of the index for it, lead from what holds a container to what holds the
-//! container after the write.
+//! container after the write. The pairs of a number are those of its document, and the term of an id is with
+//! the number of the document of that id alone.
 #![tactic(auto)]
+
+pub mod laws;
