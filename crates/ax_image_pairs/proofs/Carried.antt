@@ -1,6 +1,6 @@
 -- The changes of a write of a document, and behind them those that make the changes of the index, lead from what holds a
 -- container with its index to what holds the container after the write, with its index.
-use Rattle.std.proofs.Common.{◌≡◌, ℕ, List, true, false, Some, None, sym, ap, ◌∙◌, ◌⊎◌, inl, inr, ⊎_elim, ◌++◌}
+use Rattle.std.proofs.Common.{◌≡◌, ℕ, List, true, false, Some, None, sym, ap, ◌∙◌, inl, inr, ⊎_elim, ◌++◌}
 use Rattle.std.specs.Prelude.{option_and_then}
 use Rattle.std.specs.List.{AllByRecursion}
 use Rattle.ax_tree.specs.declared.tree.Tree.{Tree}
