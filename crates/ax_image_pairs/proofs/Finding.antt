@@ -10,6 +10,7 @@ use Rattle.ax_policy.specs.declared.policy.Policy.{Policy}
 use Rattle.ax_term.specs.TermBytes.{term_bytes}
 use Rattle.ax_term.specs.Terms.{Term}
 use Rattle.ax_terms.specs.TermsOf.{HasTerm}
+use Rattle.ax_area.specs.Contents.{Contents}
 use Rattle.ax_pages.specs.Contents.{TermPage}
 use Rattle.ax_pairs.specs.Index.{IsIndex}
 use Rattle.ax_pairs.specs.PairSets.{PairSet}
@@ -20,7 +21,7 @@ use Rattle.ax_container.proofs.Ids.{bytes_eq-self, same_from_eq}
 use Rattle.ax_container.proofs.Writing.{entry_there}
 use Rattle.ax_keep.specs.Owned.{HasIndexTerm, Owns}
 use Rattle.ax_image_pairs.specs.Pairs.{HasPair, HasTermOf}
-use Rattle.ax_image_pairs.specs.Indexed.{HoldPairs}
+use Rattle.ax_image_pairs.specs.Indexed.{ContentsHoldAll, HoldPairs}
 use Rattle.ax_image_pairs.specs.Found.{HasNumber, id_pair, number_in}
 
 -- whatever set the pages hold has the pairs of the container
@@ -223,3 +224,9 @@ module _ (container : Container) (sound : IsSound container) (set : PairSet)
   pub number_found : (found : Option ℕ) → HasNumber set id found → found ≡ number_in id container
   number_found None none = none_found (entry_of id container) refl none
   number_found (Some n) there = sym ((number_exact n).0 there)
+
+-- the same of contents that hold the container
+pub number_by_contents : (contents : Contents) (container : Container) (set : PairSet) (id : List ℕ) (found : Option ℕ)
+    → ContentsHoldAll contents container → IsIndex contents.terms set → HasNumber set id found → found ≡ number_in id container
+number_by_contents contents container set id found hold is =
+    number_found container hold.documents.show.sound set (pairs_held contents.terms container set hold.pairs is) id found
