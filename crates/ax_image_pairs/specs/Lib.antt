@@ -1,0 +1,4 @@
+pub mod Pairs
+pub mod Indexed
+pub mod Carrying
+pub mod Found
