@@ -1,0 +1,6 @@
+pub mod PartsSaid
+mod PagesAlone
+mod PutReadable
+pub mod Planned
+pub mod StayReadable
+pub mod Committing
