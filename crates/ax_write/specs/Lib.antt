@@ -1,2 +1,3 @@
 pub mod Committed
 pub mod Batches
+pub mod Held
