@@ -1,5 +1,6 @@
 -- Entries by their numbers: what each change of a container does to the entry of a number.
-use Rattle.std.proofs.Common.{◌≡◌, ℕ, ◌<◌, ◌≤◌, List, [], ◌∷◌, ◌++◌, map, Bool, true, false, cond, Option, Some, None, find, refl, sym, ap, ◌∙◌, subst, arith, nat_eq}
+use Rattle.std.proofs.Common.{◌≡◌, ℕ, ◌<◌, ◌≤◌, List, [], ◌∷◌, ◌++◌, map, Bool, true, false}
+use Rattle.std.proofs.Common.{cond, Option, Some, None, find, refl, sym, ap, ◌∙◌, subst, arith, nat_eq}
 use Rattle.std.proofs.lemmas.Bool.{eq-eqb, eqb-true, false_from_ne_true}
 use Rattle.std.specs.List.{list_any, AllByRecursion, filter}
 use Rattle.std.specs.Option.{unwrap_or}
@@ -51,7 +52,8 @@ numbered_behind [] before n new h = refl
 numbered_behind (e ∷ es) before n new h =
     let below : e.number < new.number = rises_to e.number new.number es h.1 in
     elim (nat_eq e.number n) as
-    (λ b. nat_eq e.number n ≡ b → cond b (Some e) (entry_at n (es ++ new ∷ [])) ≡ cond (nat_eq new.number n) (Some new) (cond b (Some e) (entry_at n es))) [
+    (λ b. nat_eq e.number n ≡ b
+    → cond b (Some e) (entry_at n (es ++ new ∷ [])) ≡ cond (nat_eq new.number n) (Some new) (cond b (Some e) (entry_at n es))) [
       | true ↦ λ same.
           let is : e.number ≡ n = eqb-true e.number n same in
           sym (ap (λ b. cond b (Some new) (Some e)) (above_apart new.number n (omega arith)))

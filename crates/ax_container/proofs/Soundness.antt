@@ -1,5 +1,6 @@
 -- Each change of a container keeps what holds of every container.
-use Rattle.std.proofs.Common.{◌≡◌, ℕ, zero, suc, ◌+◌, ◌<◌, ◌≤◌, List, [], ◌∷◌, ◌++◌, length, map, Bool, true, false, true≢false, cond, ◌||◌, refl, sym, ap, ◌∙◌, subst, arith, length-append}
+use Rattle.std.proofs.Common.{◌≡◌, ℕ, zero, suc, ◌+◌, ◌<◌, ◌≤◌, List, [], ◌∷◌, ◌++◌, length, map}
+use Rattle.std.proofs.Common.{Bool, true, false, true≢false, cond, ◌||◌, refl, sym, ap, ◌∙◌, subst, arith, length-append}
 use Rattle.std.proofs.lemmas.Bool.{leb-false}
 use Rattle.std.proofs.lemmas.List.{length-map}
 use Rattle.std.specs.List.{list_any, AllByRecursion, filter}
@@ -228,7 +229,8 @@ module _ (policy : Policy) where
   length_moved zero es = refl
   length_moved (suc n) [] = refl
   length_moved (suc n) (e ∷ es) =
-      elim (is_behind policy e) as (λ b. length (cond b (moved policy e ∷ moved_first n policy es) (e ∷ moved_first (suc n) policy es)) ≡ length (e ∷ es)) [
+      elim (is_behind policy e) as
+      (λ b. length (cond b (moved policy e ∷ moved_first n policy es) (e ∷ moved_first (suc n) policy es)) ≡ length (e ∷ es)) [
         | true ↦ ap suc (length_moved n es)
         | false ↦ ap suc (length_moved (suc n) es)
       ]

@@ -4,7 +4,8 @@ use Rattle.std.proofs.lemmas.Bool.{eq-eqb, eqb-true}
 use Rattle.ax_tree.specs.declared.tree.Tree.{Tree}
 use Rattle.ax_container.specs.Container.{Entry, Container, entry_at, entry_of, IsSound}
 use Rattle.ax_container.specs.Writes.{rewritten, replaced, new_entry, created, deleted}
-use Rattle.ax_container.proofs.ByNumber.{AreById, by_number, found_by_number, given, given_here, given_other, numbered_behind, replaced_by_number, deleted_by_number, without_number}
+use Rattle.ax_container.proofs.ByNumber.{AreById, by_number, found_by_number, given, given_here}
+use Rattle.ax_container.proofs.ByNumber.{given_other, numbered_behind, replaced_by_number, deleted_by_number, without_number}
 
 pub created_at : (c : Container) (tree : Tree) (id : List ℕ) (n : ℕ) → IsSound c
     → entry_at n (created id tree c).entries

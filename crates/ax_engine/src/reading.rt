@@ -62,8 +62,7 @@ pub(crate) fn fetch_document<D: Disk, L: Ledger>(
     ensures honest { D.is_honest disk.new ≡ D.is_honest disk.old }
     ensures ticked { steps.new ≡ steps.old + 1 }
 {
-    steps.tick();
-    read_document(store, disk, ahead, number)
+    store.fetch_ahead(disk, number, ahead, steps)
 }
 
 /// The fault of a text of a document that is held: where it is outside the format, the place of its

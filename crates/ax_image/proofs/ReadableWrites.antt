@@ -16,6 +16,7 @@ text_is tree storable = record {
   shallow = storable.shallow;
   named = storable.named;
   small = storable.small;
+  fits = storable.fits;
   spelled = refl;
 }
 

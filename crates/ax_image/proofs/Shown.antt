@@ -57,7 +57,8 @@ after_greater k document page pages lt =
 pub at_equal : (k : ℕ) (document : Stored) (page : ℕ × Stored) (pages : List (ℕ × Stored)) → k ≡ page.0
     → put nat_cmp k document (page ∷ pages) ≡ (page.0, document) ∷ pages
 at_equal k document page pages e =
-    ap (λ r. by_order r ((k, document) ∷ page ∷ pages) ((page.0, document) ∷ pages) (page ∷ put nat_cmp k document pages)) (sym (nat_cmp_is k page.0 Equal e))
+    ap (λ r. by_order r ((k, document) ∷ page ∷ pages) ((page.0, document) ∷ pages) (page ∷ put nat_cmp k document pages))
+    (sym (nat_cmp_is k page.0 Equal e))
 
 -- ---- a page put behind all others, and one put over the page of an entry
 

@@ -29,8 +29,8 @@ module _ (texts : ℕ → List ℕ) where
       subst (λ pages. AreUnder texts pages (e ∷ es ++ new ∷ [])) (sym (after_greater next document p ps below))
       (under.0, under_behind ps es e.number next document new rise.1 shown.1 under.1 is)
 
-  under_first : (p : ℕ × Stored) (ps : List (ℕ × Stored)) (e : Entry) (es : List Entry) (id : List ℕ) (tree : Tree) (policy : Policy) (document : Stored)
-      (is : IsTextOf (texts document.policy) policy) (found : Entry)
+  under_first : (p : ℕ × Stored) (ps : List (ℕ × Stored)) (e : Entry) (es : List Entry) (id : List ℕ) (tree : Tree)
+      (policy : Policy) (document : Stored) (is : IsTextOf (texts document.policy) policy) (found : Entry)
       → IdsAreDistinct (e ∷ es) → ShowEntries (p ∷ ps) (e ∷ es) → AreUnder texts (p ∷ ps) (e ∷ es)
       → has_id id e ≡ true → e ≡ found
       → AreUnder texts (put nat_cmp found.number document (p ∷ ps)) (map (with_tree id tree policy) (e ∷ es))
@@ -44,7 +44,8 @@ module _ (texts : ℕ → List ℕ) where
       )
 
   under_later : (p : ℕ × Stored) (ps : List (ℕ × Stored)) (e : Entry) (es : List Entry) (next : ℕ) (id : List ℕ) (tree : Tree)
-      (policy : Policy) (document : Stored) (found : Entry) → NumbersRise e.number es next → ShowEntries (p ∷ ps) (e ∷ es) → AreUnder texts (p ∷ ps) (e ∷ es)
+      (policy : Policy) (document : Stored) (found : Entry)
+      → NumbersRise e.number es next → ShowEntries (p ∷ ps) (e ∷ es) → AreUnder texts (p ∷ ps) (e ∷ es)
       → has_id id e ≡ false → find (has_id id) es ≡ Some found
       → AreUnder texts (put nat_cmp found.number document ps) (map (with_tree id tree policy) es)
       → AreUnder texts (put nat_cmp found.number document (p ∷ ps)) (map (with_tree id tree policy) (e ∷ es))

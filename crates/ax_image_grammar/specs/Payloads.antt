@@ -7,6 +7,7 @@ use Rattle.ax_tree.specs.CanonicalText.{canonical_text}
 use Rattle.ax_tree.specs.Document.{IsDocument}
 use Rattle.ax_tree.specs.Nesting.{nesting}
 use Rattle.ax_tree.specs.WellFormed.{IsWellFormed}
+use Rattle.ax_lines.specs.IndexLimits.{fits_within, most_term_bytes, most_terms}
 use Rattle.ax_lines.specs.Lines.{deepest, most_bytes}
 use Rattle.ax_lines.specs.ShortNames.{has_short_names}
 use Rattle.ax_policy.specs.declared.policy.Policy.{Policy}
@@ -36,6 +37,13 @@ pub record IsPolicyText (text : List ℕ) : Type 0 where
 abbrev pub most_text_bytes : ℕ → ℕ
 most_text_bytes newest = if nat_lt newest PIECES_SINCE then most_bytes else 2097152
 
+-- the most terms of a document for such a program, and the most bytes of them
+abbrev pub most_terms_of : ℕ → ℕ
+most_terms_of newest = if nat_lt newest PIECES_SINCE then most_terms else 65536
+
+abbrev pub most_term_bytes_of : ℕ → ℕ
+most_term_bytes_of newest = if nat_lt newest PIECES_SINCE then most_term_bytes else 4194304
+
 -- The text is the canonical text of a document within the limits of a program that knows versions
 -- up to this one, whatever the version of the area is.
 pub record IsDocumentText (newest : ℕ) (text : List ℕ) : Type 0 where
@@ -45,6 +53,7 @@ pub record IsDocumentText (newest : ℕ) (text : List ℕ) : Type 0 where
   pub shallow : nesting tree ≤ deepest
   pub named : has_short_names tree ≡ true
   pub small : length text ≤ most_text_bytes newest
+  pub fits : fits_within (most_terms_of newest) (most_term_bytes_of newest) tree ≡ true
   pub spelled : text ≡ canonical_text tree
 
 pub record IsBasePayload (payload : List ℕ) : Type 0 where

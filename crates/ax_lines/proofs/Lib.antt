@@ -1,5 +1,6 @@
 mod FineBodies
 mod FineTrees
+mod Fits
 mod Ids
 mod LastCounts
 mod Newlines

@@ -12,6 +12,7 @@ use Rattle.ax_tree.specs.Names.{names}
 use Rattle.ax_tree.specs.Nesting.{nesting}
 use Rattle.ax_tree.specs.WellFormed.{IsWellFormed}
 use Rattle.ax_lines.specs.Bodies.{is_parameter_name, most_params_bytes}
+use Rattle.ax_lines.specs.IndexLimits.{fits_index}
 use Rattle.ax_lines.specs.Lines.{deepest, most_bytes}
 use Rattle.ax_lines.specs.ShortNames.{has_short_names}
 use Rattle.ax_lines.specs.declared.body.Body.{Body}
@@ -26,6 +27,8 @@ pub record IsStorable (tree : Tree) : Type 0 where
   -- its member names are short
   pub named : has_short_names tree ≡ true
   pub small : length (canonical_text tree) ≤ most_bytes
+  -- its paths are short, and its terms few
+  pub fits : fits_index tree ≡ true
 
 -- the body can be answered: its text is UTF-8, and its parameters have names of parameters and are
 -- small

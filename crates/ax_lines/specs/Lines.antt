@@ -1,7 +1,8 @@
 -- What the bytes of a script line ask for, or the refusal of the line: a command word, one space, and
 -- the raw rest of the line as its argument, which may be empty. A carriage return at the end of the
 -- line is dropped, and only one. For each form a table of causes says when it is refused.
-use Rattle.std.specs.Prelude.{ℕ, ◌-◌, List, [], ◌∷◌, length, take, drop, slice_index, not, ◌==◌}
+use Rattle.std.specs.Prelude.{ℕ, ◌-◌, List, [], ◌∷◌, length, take, drop, slice_index, ◌==◌}
+use Rattle.std.specs.Prelude.{Bool, true, false, not, ◌||◌}
 use Rattle.std.specs.Prelude.{nat_lt, if◌then◌else◌, Option, Some, None, is_some, Result}
 use Rattle.std.specs.Prelude.{Ok, Err, codes}
 use Rattle.std.specs.Str.{bytes_eq, is_utf8}
@@ -19,6 +20,7 @@ use Rattle.ax_lines.specs.declared.refusal.Refusal.{Refusal}
 use Rattle.ax_lines.specs.declared.refusal.Refusal.TheVariants as refusal
 use Rattle.ax_lines.specs.Bodies.{body_of}
 use Rattle.ax_lines.specs.Causes.{Cause, unless}
+use Rattle.ax_lines.specs.IndexLimits.{fits_index}
 use Rattle.ax_lines.specs.ShortNames.{has_short_names}
 
 abbrev pub carriage_return : ℕ
@@ -85,6 +87,7 @@ document_causes tree =
     record { applies = nat_lt deepest (nesting tree); refusal = refusal.Large } ∷
     record { applies = not (has_short_names tree); refusal = refusal.Large } ∷
     record { applies = nat_lt most_bytes (length (canonical_text tree)); refusal = refusal.Large } ∷
+    record { applies = not (fits_index tree); refusal = refusal.Large } ∷
     []
 
 -- of a line whose argument is an id
@@ -129,3 +132,18 @@ of_form None = Err refusal.Command
 
 abbrev pub line_of : List ℕ → Result Line Refusal
 line_of bytes = unless (line_causes bytes) (of_form (form_of (without_return bytes)))
+
+-- ---- the lines that are judged without memory
+
+-- the form has a tree for its argument
+abbrev pub has_tree : Option Form → Bool
+has_tree (Some (Document form text)) = true
+has_tree (Some (Delete id)) = false
+has_tree (Some (Read id)) = false
+has_tree (Some (Query text)) = true
+has_tree None = false
+
+-- No tree has to be read to tell whether the line is refused: it is too long, or its form has none.
+abbrev pub is_judged_at_once : List ℕ → Bool
+is_judged_at_once bytes =
+    nat_lt most_line_bytes (length bytes) || not (has_tree (form_of (without_return bytes)))

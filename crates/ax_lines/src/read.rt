@@ -1,4 +1,5 @@
-ghost use Rattle.std.specs.Prelude.{◌≡◌, length, nat_lt, Ok, Result, IfOk, IfErr, option_map};
+ghost use Rattle.std.specs.Prelude.{◌≡◌, length, nat_lt, true, false, Ok, Err, Result, IfOk, IfErr, option_map};
+ghost use Rattle.ax_lines.specs.declared.refusal.Refusal.{Refusal as RefusalOf};
 ghost use Rattle.ax_lines.specs.declared.line.Line.{Line as LineOf};
 ghost use Rattle.ax_tree.specs.declared.tree.Tree.{Tree as TreeOf};
 ghost use Rattle.ax_tree.specs.Nesting.{nesting as nesting_of};
@@ -8,6 +9,7 @@ ghost use Rattle.ax_lines.specs.Answers.{Answers, IsRefusedBy};
 ghost use Rattle.ax_lines.specs.Asked.{IsAsked, IsIdText, IsStorable};
 ghost use Rattle.ax_lines.specs.Bodies.{body_of};
 ghost use Rattle.ax_lines.specs.Causes.{unless};
+ghost use Rattle.ax_lines.specs.IndexLimits.{fits_index};
 ghost use Rattle.ax_lines.specs.Lines as spec;
 
 use crate::document_form::DocumentForm;
@@ -15,8 +17,9 @@ use crate::line::{Line, LineFault};
 use crate::read_body::body_from;
 use crate::refusal::Refusal;
 use crate::short_names::has_short_names;
+use ax_terms::{TermCount, count_all};
 use ax_text::{TextFault, nesting, read_tree};
-use ax_tree::{Text, Tree, id_of, may_be_id, write_tree};
+use ax_tree::{Memory, Text, Tree, id_of, may_be_id, write_tree};
 use std::alloc::Global;
 use std::str;
 
@@ -29,12 +32,24 @@ const DEEPEST: u32 = 100;
 /// The most bytes that the canonical text of a document has.
 const MOST_BYTES: usize = 60_000;
 
+/// The most bytes that the encoded path of a leaf of a document has, its end with them.
+const MOST_PATH_BYTES: u64 = 1_024;
+
+/// The most terms that a document has where all its leaves are covered, each counted once.
+const MOST_TERMS: u64 = 4_096;
+
+/// The most bytes that all these terms have.
+const MOST_TERM_BYTES: u64 = 1_048_576;
+
 /// What a line asks for, or its first refusal. The line comes without its newline, and before a
 /// carriage return at its end is dropped.
 pub fn read_line(alloc: Global, line: &[u8]) -> Result<Line, LineFault>
     ensures answers { Answers result (spec.line_of line.now) }
     // A document that is asked for can be stored, an id is one, and a body can be answered.
     ensures asked { IfOk result IsAsked }
+    // A line that is too long, is none of the forms, or has no id where it wants one is refused whatever memory there is.
+    ensures at_once { spec.is_judged_at_once line.now ≡ true → (why : RefusalOf) → spec.line_of line.now ≡ Err why
+        → result ≡ Err (LineFault.Refused why) }
 {
     if is_too_long(line) {
         return Err(LineFault::Refused(Refusal::Line));
@@ -52,6 +67,8 @@ fn is_too_long(line: &[u8]) -> bool
 fn command_line(alloc: Global, command: &[u8]) -> Result<Line, LineFault>
     ensures answers { Answers result (spec.of_form (spec.form_of command.now)) }
     ensures asked { IfOk result IsAsked }
+    ensures at_once { spec.has_tree (spec.form_of command.now) ≡ false → (why : RefusalOf)
+        → spec.of_form (spec.form_of command.now) ≡ Err why → result ≡ Err (LineFault.Refused why) }
 {
     if let Some(json) = argument(command, b"CREATE ") {
         return document_line(alloc, DocumentForm::Create, json);
@@ -100,6 +117,7 @@ fn document_line(alloc: Global, form: DocumentForm, json: &[u8]) -> Result<Line,
 fn delete_line(alloc: Global, id: &[u8]) -> Result<Line, LineFault>
     ensures answers { Answers result (spec.line_in (spec.Delete id.now)) }
     ensures asked { IfOk result IsAsked }
+    ensures at_once { (why : RefusalOf) → spec.line_in (spec.Delete id.now) ≡ Err why → result ≡ Err (LineFault.Refused why) }
 {
     let id = id_from(alloc, id)?;
     Ok(Line::Delete(id))
@@ -108,6 +126,7 @@ fn delete_line(alloc: Global, id: &[u8]) -> Result<Line, LineFault>
 fn read_by_id_line(alloc: Global, id: &[u8]) -> Result<Line, LineFault>
     ensures answers { Answers result (spec.line_in (spec.Read id.now)) }
     ensures asked { IfOk result IsAsked }
+    ensures at_once { (why : RefusalOf) → spec.line_in (spec.Read id.now) ≡ Err why → result ≡ Err (LineFault.Refused why) }
 {
     let id = id_from(alloc, id)?;
     Ok(Line::Read(id))
@@ -121,6 +140,9 @@ fn id_from(alloc: Global, id: &[u8]) -> Result<Text, LineFault>
         → unless (spec.id_causes id.now) answer ≡ answer) }
     ensures refused { IfErr result (λ fault. (answer : Result LineOf Refusal)
         → IsRefusedBy fault (unless (spec.id_causes id.now) answer)) }
+    // Memory is wanted for an id alone.
+    ensures memory { result ≡ Err LineFault.Memory → (answer : Result LineOf Refusal)
+        → unless (spec.id_causes id.now) answer ≡ answer }
 {
     let Ok(text) = str::from_utf8(id) else {
         return Err(LineFault::Refused(Refusal::Id));
@@ -170,7 +192,7 @@ fn document(alloc: Global, form: DocumentForm, tree: Tree) -> Result<Line, LineF
 }
 
 /// Whether a store can hold the document, or the refusal of one that it can't.
-fn storable(alloc: Global, tree: &Tree) -> Result<(), LineFault>
+pub(crate) fn storable(alloc: Global, tree: &Tree) -> Result<(), LineFault>
     requires { IsWellFormed tree.now }
     ensures storable { IfOk result (λ _. IsStorable tree.now) }
     ensures answered { IfOk result (λ _. (answer : Result LineOf Refusal)
@@ -193,7 +215,20 @@ fn storable(alloc: Global, tree: &Tree) -> Result<(), LineFault>
     if text.len() > MOST_BYTES {
         return Err(LineFault::Refused(Refusal::Large));
     }
-    Ok(())
+    drop(text);
+    match has_room_in_index(alloc, tree) {
+        Ok(true) => Ok(()),
+        Ok(false) => Err(LineFault::Refused(Refusal::Large)),
+        Err(_) => Err(LineFault::Memory),
+    }
+}
+
+/// Whether the index can hold the document: its paths are short, and its terms few and small.
+fn has_room_in_index(alloc: Global, tree: &Tree) -> Result<bool, Memory>
+    ensures { IfOk result (λ fits. fits ≡ fits_index tree.now) }
+{
+    let TermCount { count, bytes, longest_path } = count_all(alloc, tree)?;
+    Ok(longest_path <= MOST_PATH_BYTES && count <= MOST_TERMS && bytes <= MOST_TERM_BYTES)
 }
 
 fn query(alloc: Global, tree: Tree) -> Result<Line, LineFault>

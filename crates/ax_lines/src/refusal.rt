@@ -17,7 +17,8 @@ pub enum Refusal {
     /// that may be an id; that of a DELETE or READ is not UTF-8, or may be no id.
     Id,
     /// `err 6 large`: the argument nests deeper than 100; or, for CREATE, UPSERT and REPLACE, a member
-    /// name has more than 255 bytes, or the canonical text more than 60,000.
+    /// name has more than 255 bytes, the canonical text more than 60,000, or the encoded path of a leaf
+    /// more than 1,024; or the document has more than 4,096 terms, or these more than 1,048,576 bytes.
     Large,
     /// `err 7 conflict`: a CREATE is of an id that is held. No line is refused so before it meets the
     /// store.

@@ -1,5 +1,5 @@
 -- What lines were answered, whatever the store holds: one, those of a piece, and all that a run took.
-use Rattle.std.proofs.Common.{◌≡◌, ◌==◌, ◌⊎◌, ◌+◌, ◌<◌, false, true≢false, inl, inr, ℕ, Bool, List, [], ◌∷◌, ◌++◌, length}
+use Rattle.std.proofs.Common.{◌≡◌, ◌==◌, ◌⊎◌, ◌+◌, ◌<◌, true, false, true≢false, inl, inr, ℕ, Bool, List, [], ◌∷◌, ◌++◌, length}
 use Rattle.std.proofs.Common.{Option, Result, Ok, Err, OnOk, refl, sym, ap, subst, ◌∙◌, append_assoc, append-nil, length-append, arith}
 use Rattle.std.specs.Prelude.{IfOk}
 use Rattle.std.specs.Io.KnownBytes.{Consumes, IsAtEnd, Keeps}
@@ -10,15 +10,17 @@ use Rattle.ax_engine.specs.declared.engine.Fault.{Fault}
 use Rattle.ax_engine.specs.declared.reply.Reply.{Reply}
 use Rattle.ax_engine.specs.declared.reply.Reply.TheVariants as given
 use Rattle.ax_lines.proofs.Splits.{AreLines-more, AreLines-none, AreLines-one, IsOneLine-append}
-use Rattle.ax_lines.specs.Lines.{line_of}
+use Rattle.ax_lines.specs.Lines.{is_judged_at_once, line_of}
 use Rattle.ax_lines.specs.ScriptLines.{IsOneLine, last_line, with_newline}
 use Rattle.ax_lines.specs.declared.line.Line.{Line}
 use Rattle.ax_lines.specs.declared.line.Line.TheVariants as line
+use Rattle.ax_lines.specs.declared.line.LineFault.{LineFault}
+use Rattle.ax_lines.specs.declared.line.LineFault.TheVariants as line_fault
 use Rattle.ax_lines.specs.declared.refusal.Refusal.{Refusal}
 use Rattle.ax_lines.specs.declared.refusal.Refusal.TheVariants as refusal
 use Rattle.ax_script.specs.Answered.{AnswersAll, AnswersLast, AnswersLine, AnswersLines, AnswersTaken, TellsAnswered}
 use Rattle.ax_script.specs.Progress.{EndsEarly, StopsBy}
-use Rattle.ax_script.specs.Replies.{AreTextsFor, IsTextFor, MayAnswer, WritesWhole}
+use Rattle.ax_script.specs.Replies.{AreTextsFor, IsTextFor, MayAnswer, MayAnswerTo, WritesWhole}
 use Rattle.ax_script.specs.Script.{most_input}
 use Rattle.ax_script.specs.Streams.{Streams}
 use Rattle.ax_script.specs.declared.status.Status.{Status}
@@ -29,28 +31,41 @@ use Rattle.ax_script.proofs.Outcomes.{OnOk-map}
 -- ---- the answer to a line
 
 -- a line that was read
-pub read_may : (meant : Result Line Refusal) (asked : Line) (result : Result Reply Fault) → meant ≡ Ok asked
-    → IfOk result (λ reply. MayReply asked reply) → IfOk result (λ reply. MayAnswer meant reply)
-read_may meant asked result is may =
-    subst (λ (m : Result Line Refusal). IfOk result (λ reply. MayAnswer m reply)) (sym is) may
+pub read_may : (bytes : List ℕ) (asked : Line) (result : Result Reply Fault) → line_of bytes ≡ Ok asked
+    → IfOk result (λ reply. MayReply asked reply) → IfOk result (λ reply. MayAnswer bytes reply)
+read_may bytes asked result is may =
+    subst (λ (m : Result Line Refusal). IfOk result (λ reply. MayAnswerTo (is_judged_at_once bytes) m reply)) (sym is) may
+
+refused_to : (at_once : Bool) (why : Refusal) → MayAnswerTo at_once (Err why) (given.Refused why)
+refused_to true why = refl
+refused_to false why = inl refl
 
 -- one that is refused
-pub refused_may : (meant : Result Line Refusal) (why : Refusal) → meant ≡ Err why → MayAnswer meant (given.Refused why)
-refused_may meant why is =
-    subst (λ (m : Result Line Refusal). MayAnswer m (given.Refused why)) (sym is) (inl refl)
+pub refused_may : (bytes : List ℕ) (why : Refusal) → line_of bytes ≡ Err why → MayAnswer bytes (given.Refused why)
+refused_may bytes why is =
+    subst (λ (m : Result Line Refusal). MayAnswerTo (is_judged_at_once bytes) m (given.Refused why)) (sym is)
+    (refused_to (is_judged_at_once bytes) why)
 
--- memory may run out at any line
-pub memory_may : (meant : Result Line Refusal) → MayAnswer meant (given.Refused refusal.Memory)
-memory_may (Ok (line.Create tree)) = inr (inr refl)
-memory_may (Ok (line.Upsert tree)) = inr refl
-memory_may (Ok (line.Replace tree)) = inr refl
-memory_may (Ok (line.Delete id)) = inr refl
-memory_may (Ok (line.Read id)) = inr refl
-memory_may (Ok (line.Query body)) = inr refl
-memory_may (Err why) = inr refl
+memory_to : (at_once : Bool) (meant : Result Line Refusal)
+    → (at_once ≡ true → (why : Refusal) → meant ≡ Err why → ⊥) → MayAnswerTo at_once meant (given.Refused refusal.Memory)
+memory_to at_once (Ok (line.Create tree)) none = inr (inr refl)
+memory_to at_once (Ok (line.Upsert tree)) none = inr refl
+memory_to at_once (Ok (line.Replace tree)) none = inr refl
+memory_to at_once (Ok (line.Delete id)) none = inr refl
+memory_to at_once (Ok (line.Read id)) none = inr refl
+memory_to at_once (Ok (line.Query body)) none = inr refl
+memory_to true (Err why) none = absurd (none refl why refl)
+memory_to false (Err why) none = inr refl
+
+-- memory may run out at any line that is not refused at once
+pub memory_may : (bytes : List ℕ) (read : Result Line LineFault) → read ≡ Err line_fault.Memory
+    → (is_judged_at_once bytes ≡ true → (why : Refusal) → line_of bytes ≡ Err why → read ≡ Err (line_fault.Refused why))
+    → MayAnswer bytes (given.Refused refusal.Memory)
+memory_may bytes read is told =
+    memory_to (is_judged_at_once bytes) (line_of bytes) (λ once why meant. cc (is, told once why meant))
 
 pub line_answered : (bytes : List ℕ) (result : Result (Unit {0}) Status) (answered : Result Reply Fault)
-    (old new : Option (List ℕ)) → IfOk answered (λ reply. MayAnswer (line_of bytes) reply)
+    (old new : Option (List ℕ)) → IfOk answered (λ reply. MayAnswer bytes reply)
     → OnOk result (WritesWhole answered old new) → OnOk result (AnswersLine bytes old new)
 line_answered bytes result (Ok made) old new may whole =
     OnOk-map result (λ added. (added.0, (made, may, added.1), added.2)) whole

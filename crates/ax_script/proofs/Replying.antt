@@ -29,7 +29,7 @@ use Rattle.ax_machine.specs.Step.{served, step, write_by, written}
 use Rattle.ax_script.specs.declared.status.Status.{Status}
 use Rattle.ax_script.specs.declared.status.Status.TheVariants as status
 use Rattle.ax_script.specs.Progress.{Serves, BeginsToServe, BreaksOffWith, IsLineFault, StopsBy, outlets}
-use Rattle.ax_script.specs.Replies.{IsTextOf, TellsLine, WritesPart, WritesWhole, text_of_reply}
+use Rattle.ax_script.specs.Replies.{IsMadeInMemory, IsTextOf, TellsLine, WritesPart, WritesWhole, text_of_reply}
 use Rattle.ax_script.proofs.Outcomes.{OnOk-map, OnErr-map}
 use Rattle.ax_script.proofs.Written.{serves_by, begins_by, begins_without}
 
@@ -61,12 +61,12 @@ unchanged : (before : Container) (line : List ℕ) (outcome : Outcome)
 unchanged before line Served not = unserved before (line_of line) not
 unchanged before line OutOfMemory not = refl
 
--- it is not the reply to a write that was made
-not_ok : (made : Reply) (meant : reply.Reply) → IsReply made meant → made ≢ given.Ok → meant ≢ reply.Ok
-not_ok given.Ok meant is not = absurd (not refl)
-not_ok (given.Doc text) meant is not = λ same. cc
-not_ok (given.Rows rows) meant is not = λ same. cc
-not_ok (given.Refused why) meant is not = λ same. cc
+-- a reply that is made in memory is not the one to a write that was made
+not_ok : (made : Reply) (meant : reply.Reply) → IsReply made meant → IsMadeInMemory made → meant ≢ reply.Ok
+not_ok given.Ok meant is in_memory = absurd in_memory
+not_ok (given.Doc text) meant is in_memory = λ same. cc
+not_ok (given.Rows rows) meant is in_memory = λ same. cc
+not_ok (given.Refused why) meant is in_memory = absurd in_memory
 
 -- ---- what is written for a line
 

@@ -1,5 +1,5 @@
 -- What is written for what an engine answers to a line.
-use Rattle.std.specs.Prelude.{◌≡◌, ◌≢◌, ◌⊎◌, ℕ, List, [], ◌∷◌, ◌++◌, Option, Result, Ok, Err}
+use Rattle.std.specs.Prelude.{◌≡◌, ◌⊎◌, ℕ, Bool, true, false, List, [], ◌∷◌, ◌++◌, Option, Result, Ok, Err}
 use Rattle.std.specs.Global.{Vec}
 use Rattle.std.specs.Io.KnownBytes.{Appends}
 use Rattle.ax_base.specs.Appends.{AppendsPrefix}
@@ -14,7 +14,7 @@ use Rattle.ax_engine.specs.declared.engine.Fault.{Fault}
 use Rattle.ax_engine.specs.declared.engine.Fault.TheVariants as fault
 use Rattle.ax_engine.specs.declared.reply.Reply.{Reply}
 use Rattle.ax_engine.specs.declared.reply.Reply.TheVariants as given
-use Rattle.ax_lines.specs.Lines.{line_of}
+use Rattle.ax_lines.specs.Lines.{is_judged_at_once, line_of}
 use Rattle.ax_lines.specs.declared.line.Line.{Line}
 use Rattle.ax_lines.specs.declared.refusal.Refusal.{Refusal}
 use Rattle.ax_lines.specs.declared.refusal.Refusal.TheVariants as refusal
@@ -33,11 +33,17 @@ text_of_reply (given.Doc text) = doc_text text.items
 text_of_reply (given.Rows rows) = rows.lines.items ++ end_text reply.End rows.count
 text_of_reply (given.Refused why) = refusal_text why
 
--- The text of the reply; of one by which nothing has changed also that of out of memory, where no
--- memory is left to write it.
+-- the text of the reply is made in memory: that of a document or of rows
+abbrev pub IsMadeInMemory : Reply → Type 0
+IsMadeInMemory given.Ok = ⊥
+IsMadeInMemory (given.Doc text) = Unit {0}
+IsMadeInMemory (given.Rows rows) = Unit {0}
+IsMadeInMemory (given.Refused why) = ⊥
+
+-- The text of the reply; of one that is made in memory also that of out of memory, where none is left for it.
 abbrev pub IsTextOf : Reply → List ℕ → Type 0
 IsTextOf made text =
-    (text ≡ text_of_reply made) ⊎ ((made ≢ given.Ok) × (text ≡ reply_text reply.out_of_memory))
+    (text ≡ text_of_reply made) ⊎ (IsMadeInMemory made × (text ≡ reply_text reply.out_of_memory))
 
 -- such a text was written whole; none is where the engine answers a fault
 abbrev pub WritesWhole : Result Reply Fault → Option (List ℕ) → Option (List ℕ) → Type 0
@@ -71,15 +77,20 @@ fault_status (fault.Damaged extent at) = status.Damaged extent at
 
 -- ---- what a line may be answered, whatever the store holds
 
--- What a line may be answered: one that was read what the engine may reply to it; one that is refused that
--- refusal, or that memory ran out.
-abbrev pub MayAnswer : Result Line Refusal → Reply → Type 0
-MayAnswer (Ok asked) made = MayReply asked made
-MayAnswer (Err why) made = (made ≡ given.Refused why) ⊎ (made ≡ given.Refused refusal.Memory)
+-- What a line of that meaning may be answered: one that was read what the engine may reply to it; one that is
+-- refused that refusal, or that memory ran out, unless it is judged at once.
+abbrev pub MayAnswerTo : Bool → Result Line Refusal → Reply → Type 0
+MayAnswerTo at_once (Ok asked) made = MayReply asked made
+MayAnswerTo true (Err why) made = made ≡ given.Refused why
+MayAnswerTo false (Err why) made = (made ≡ given.Refused why) ⊎ (made ≡ given.Refused refusal.Memory)
+
+-- what the bytes of a line may be answered
+abbrev pub MayAnswer : List ℕ → Reply → Type 0
+MayAnswer bytes made = MayAnswerTo (is_judged_at_once bytes) (line_of bytes) made
 
 -- the text is that of a reply which the bytes of a line may be answered
 abbrev pub IsTextFor : List ℕ → List ℕ → Type 0
-IsTextFor bytes text = (made : Reply) × MayAnswer (line_of bytes) made × IsTextOf made text
+IsTextFor bytes text = (made : Reply) × MayAnswer bytes made × IsTextOf made text
 
 -- the text has one such text for each of the lines, in their order, and no more
 abbrev pub AreTextsFor : List (List ℕ) → List ℕ → Type 0

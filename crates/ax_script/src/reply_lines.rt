@@ -52,12 +52,22 @@ fn push_end(alloc: Global, text: &mut Vec<u8>, count: usize) -> Result<(), Memor
     Ok(())
 }
 
-/// The reply to a line that is refused.
-pub fn refusal_line(alloc: Global, refusal: Refusal) -> Result<Vec<u8>, Memory>
-    ensures { IfOk result (λ text. text.items ≡ refusal_text refusal) }
+/// The reply to a line that is refused. It takes no memory.
+pub fn refusal_line(refusal: Refusal) -> &'static [u8]
+    ensures { result.now ≡ refusal_text refusal }
 {
-    let number = refusal.number();
-    let word = refusal.word();
-    let line = format!(in alloc; "err {number} {word}\n")?;
-    Ok(line.into_bytes())
+    match refusal {
+        Refusal::Line => b"err 1 line\n",
+        Refusal::Command => b"err 2 command\n",
+        Refusal::Json => b"err 3 json\n",
+        Refusal::Number => b"err 4 number\n",
+        Refusal::Id => b"err 5 id\n",
+        Refusal::Large => b"err 6 large\n",
+        Refusal::Conflict => b"err 7 conflict\n",
+        Refusal::Absent => b"err 8 absent\n",
+        Refusal::Memory => out_of_memory_line(),
+        Refusal::Query => b"err 10 query\n",
+        Refusal::Order => b"err 11 order\n",
+        Refusal::Full => b"err 15 full\n",
+    }
 }

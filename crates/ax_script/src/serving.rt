@@ -6,7 +6,6 @@ ghost use Rattle.ax_container.specs.Container.{Container};
 ghost use Rattle.ax_engine.specs.Engine.{CountsAnswer, Holds, HoldsOver, Works};
 ghost use Rattle.ax_machine.specs.Needs.{most_steps};
 ghost use Rattle.ax_engine.specs.Damage.{Meets};
-ghost use Rattle.ax_lines.specs.Lines.{line_of};
 ghost use Rattle.ax_script.specs.Answered.{AnswersLine};
 ghost use Rattle.ax_script.specs.Progress.{outlets, Serves, BeginsToServe, BreaksOffWith, IsLineFault, StopsBy};
 ghost use Rattle.ax_script.specs.Statuses.{CallCountsDisk};
@@ -31,7 +30,8 @@ use std::sync::ledger::Ledger;
 /// only where one on the sink failed in this call. Over an honest disk damage comes only
 /// where the text of a document is none that a document can have, with the place of its part, and so
 /// never over documents that are those of a container. A fault that the engine has afterwards is the error.
-/// What is written at `Ok` is a reply that the line may have, whatever the documents are.
+/// What is written at `Ok` is a reply that the line may have, whatever the documents are: that a line is
+/// refused is told as that, but where the tree of its argument wants memory.
 pub fn serve_line<D: Disk, K: Sink, L: Ledger>(
     alloc: Global,
     engine: &mut Engine,
@@ -92,7 +92,7 @@ fn answer<D: Disk, L: Ledger>(
         → TellsLine (IsTrue (D.is_honest disk.old)) before line.now result engine.new
         (D.history disk.old (D.attached disk.old)) (D.history disk.new (D.attached disk.new)) }
     ensures works { Works (IsTrue (D.is_honest disk.old)) engine.new (D.history disk.new (D.attached disk.new)) }
-    ensures may_answer { IfOk result (λ reply. MayAnswer (line_of line.now) reply) }
+    ensures may_answer { IfOk result (λ reply. MayAnswer line.now reply) }
     ensures met { IsTrue (D.is_honest disk.old) → engine.old.fault ≡ None
         → IfErr result (λ fault. Meets fault (D.history disk.new (D.attached disk.new)).reads) }
     ensures counted { engine.old.fault ≡ None → CountsAnswer result (D.faults disk.old) (D.faults disk.new) }
@@ -127,7 +127,7 @@ fn answer_line<D: Disk, L: Ledger>(
         → TellsLine (IsTrue (D.is_honest disk.old)) before line.now result engine.new
         (D.history disk.old (D.attached disk.old)) (D.history disk.new (D.attached disk.new)) }
     ensures works { Works (IsTrue (D.is_honest disk.old)) engine.new (D.history disk.new (D.attached disk.new)) }
-    ensures may_answer { IfOk result (λ reply. MayAnswer (line_of line.now) reply) }
+    ensures may_answer { IfOk result (λ reply. MayAnswer line.now reply) }
     ensures met { IsTrue (D.is_honest disk.old) → engine.old.fault ≡ None
         → IfErr result (λ fault. Meets fault (D.history disk.new (D.attached disk.new)).reads) }
     ensures counted { engine.old.fault ≡ None → CountsAnswer result (D.faults disk.old) (D.faults disk.new) }
@@ -169,8 +169,8 @@ fn write_answer<K: Sink>(
     }
 }
 
-/// Writes a reply. Where no memory is left for the text of one by which nothing has changed, that is
-/// what is written: out of memory.
+/// Writes a reply. Where no memory is left for the text of a document or of rows, that is what is
+/// written: out of memory. That a write was made or a line is refused takes none.
 fn write_reply<K: Sink>(alloc: Global, sink: &mut K, reply: Reply) -> Result<(), Status>
     ensures whole { OnOk result ((text : List ℕ) × IsTextOf reply text
         × Appends (K.written sink.old) (K.written sink.new) text) }
@@ -184,7 +184,7 @@ fn write_reply<K: Sink>(alloc: Global, sink: &mut K, reply: Reply) -> Result<(),
         Reply::Ok => write_text(sink, ok_line()),
         Reply::Doc(text) => write_made(sink, doc_line(alloc, text.as_slice())),
         Reply::Rows(rows) => write_made(sink, rows_text(alloc, rows)),
-        Reply::Refused(refusal) => write_made(sink, refusal_line(alloc, refusal)),
+        Reply::Refused(refusal) => write_text(sink, refusal_line(refusal)),
     }
 }
 

@@ -12,15 +12,18 @@ use crate::read_ahead::ReadAhead;
 use crate::slot_reads::text_place;
 use crate::store::Store;
 use crate::together::{Stretch, WINDOW_BYTES};
+use ax_base::Steps;
 use ax_cache::PageCache;
 use ax_disk::Disk;
+use std::sync::ledger::Ledger;
 
 impl<C: PageCache> Store<C> {
     /// Finds the text of a document, which `ahead` shows from then on, and answers whether the number
     /// is held. Where the texts of the next numbers lie together with it, and it lies together with the
     /// text that was asked for last, they come from one read of at most 256 KiB, at least half of
     /// which texts fill; else it is read alone. So a scan in the order of numbers reads the disk once
-    /// for many texts. The cache is not asked and not changed, and no step is counted.
+    /// for many texts. The cache is not asked and not changed. No step is counted: this is for opening, and
+    /// for texts that are read again to be printed.
     ///
     /// `Disk` where a read failed or the store has failed before. `Memory` where there is none for
     /// what is read; the text shown is then the one before.
@@ -67,6 +70,40 @@ impl<C: PageCache> Store<C> {
             return Err(StoreFault::Disk);
         };
         Ok(true)
+    }
+}
+
+impl<C: PageCache> Store<C> {
+    /// The same for who goes over the documents to evaluate them: it takes one step of work, whatever it
+    /// answers.
+    pub fn fetch_ahead<D: Disk, L: Ledger>(
+        &mut self,
+        disk: &mut D,
+        number: u32,
+        ahead: &mut ReadAhead,
+        steps: &mut Steps<L>,
+    ) -> Result<bool, StoreFault>
+        requires agrees { AgreesAheadUnlessFailed C.pages (D.is_honest disk.old) self.old ahead.old
+            (D.history disk.old (D.attached disk.old)) }
+        ensures text { IsTrue (D.is_honest disk.old)
+            → IfOk result (λ found. IsAhead (map.get (store_contents self.old).documents number) found (ahead_text ahead.new)) }
+        ensures found { IfOk result (λ found. found ≡ map.contains_key (store_contents self.old).documents number) }
+        ensures agrees { AgreesAheadUnlessFailed C.pages (D.is_honest disk.old) self.new ahead.new
+            (D.history disk.new (D.attached disk.new)) }
+        ensures reads { ReadsStore C.pages (D.is_honest disk.old) self.old self.new
+            (D.history disk.old (D.attached disk.old)) (D.history disk.new (D.attached disk.new))
+            (D.faults disk.old) (D.faults disk.new) }
+        ensures cache { self.new.cache ≡ self.old.cache }
+        ensures slots { store_slots self.new ≡ store_slots self.old }
+        ensures fails { FailsOrWantsMemory result (store_failed self.old) (store_failed self.new)
+            (D.faults disk.old) (D.faults disk.new) }
+        ensures kept { result ≡ Err StoreFault.Memory → ahead_text ahead.new ≡ ahead_text ahead.old }
+        ensures attached { D.attached disk.new ≡ D.attached disk.old }
+        ensures honest { D.is_honest disk.new ≡ D.is_honest disk.old }
+        ensures ticked { steps.new ≡ steps.old + 1 }
+    {
+        steps.tick();
+        self.read_ahead(disk, number, ahead)
     }
 }
 
