@@ -11,7 +11,7 @@ use Rattle.ax_area.specs.Image.{Says}
 use Rattle.ax_area.specs.Parts.{after_parts, changes_said}
 use Rattle.ax_area.specs.Told.{Told}
 use Rattle.ax_delta.specs.declared.change.Change.{Change as PairChange}
-use Rattle.ax_disk.specs.laws.StaysLaws.{idles_stay, rests_weaken, stays_join, stays_turn, turns_weaken}
+use Rattle.ax_disk.specs.laws.StaysLaws.{idles_stay, rests_weaken, stays_join, stays_start, stays_turn, turns_weaken}
 use Rattle.ax_disk.specs.model.Calls.{Idles}
 use Rattle.ax_disk.specs.model.Image.{Image}
 use Rattle.ax_disk.specs.model.Moments.{History}
@@ -24,6 +24,7 @@ use Rattle.ax_pairs.specs.Index.{IsIndex}
 use Rattle.ax_pairs.specs.PairSets.{PairSet}
 use Rattle.ax_store.specs.Store.{SaysMore}
 use Rattle.ax_write.specs.Committed.{LeadWith, SaysWith}
+use Rattle.ax_write.proofs.Calls.{on_ok}
 use Rattle.ax_write.proofs.Planned.{IsPlanned, planned_leads}
 use Rattle.ax_write.proofs.StayReadable.{readable_by}
 
@@ -40,10 +41,6 @@ says_all history version other told others contents may rests says =
     rests_weaken history (Says newest other others contents) (Says newest version told contents)
     (λ image is. subst (λ v. Says newest v told contents image) same_version (subst (λ t. Says newest other t contents image) same_told is))
     rests
-
-pub on_ok : {T E A B : Type 0} (result : Result T E) → (A → B) → OnOk result A → OnOk result B
-on_ok (Ok value) weaker is = weaker is
-on_ok (Err fault) weaker is = tt
 
 -- ---- the plan
 
@@ -114,3 +111,9 @@ pub unplanned : (start mid : History) (version : ℕ) (told : List Told) (before
     → Rests start (Says newest version told before) → Idles start mid → Turns start mid (Says newest version told before) Q
 unplanned start mid version told before Q rests idles =
     stays_turn start mid (Says newest version told before) Q (idles_stay start mid (Says newest version told before) rests idles)
+
+-- nothing was begun
+pub still_turns : (history : History) (version : ℕ) (told : List Told) (before : Contents) (Q : Image → Type 0)
+    → Rests history (Says newest version told before) → Turns history history (Says newest version told before) Q
+still_turns history version told before Q rests =
+    stays_turn history history (Says newest version told before) Q (stays_start history (Says newest version told before) rests)

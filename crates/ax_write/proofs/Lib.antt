@@ -1,3 +1,4 @@
+pub mod Calls
 pub mod PartsSaid
 mod PagesAlone
 mod PutReadable

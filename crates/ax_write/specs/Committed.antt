@@ -12,6 +12,8 @@ use Rattle.ax_frame.specs.Part.{PartValue}
 use Rattle.ax_image_pairs.specs.Carrying.{MakeChanges}
 use Rattle.ax_pages.specs.Contents.{TermPage}
 use Rattle.ax_store.specs.Store.{SaysMore}
+use Rattle.ax_store.specs.declared.fault.StoreFault.{StoreFault}
+use Rattle.ax_store.specs.declared.fault.StoreFault.TheVariants.{Disk, Damaged, Newer, Memory}
 
 -- the parts may follow the contents, and leave the term pages as they are
 pub record LeaveTerms (parts : List PartValue) (contents : Contents) : Type 0 where
@@ -34,3 +36,10 @@ pub record SaysWith (version : ℕ) (told : List Told) (pairs : List PairChange)
   pub new : Contents
   pub lead : LeadWith true pairs front old new
   pub says : SaysMore version told (front ++ lead.behind) new image
+
+-- the disk failed, or memory ran out
+abbrev pub IsBrief : StoreFault → Type 0
+IsBrief Disk = Unit {0}
+IsBrief (Damaged extent at) = ⊥
+IsBrief (Newer version) = ⊥
+IsBrief Memory = Unit {0}

@@ -23,7 +23,7 @@ ghost use Rattle.ax_store.specs.Batch.{AreAllowed, batch_parts};
 ghost use Rattle.ax_store.specs.Faults.{HasDiskCause};
 ghost use Rattle.ax_store.specs.Kept.{deltas_of};
 ghost use Rattle.ax_store.specs.Store.{AgreesUnlessFailed, SaysMore, store_area, store_contents, store_failed, store_room, store_slots, store_spare};
-ghost use Rattle.ax_write.specs.Committed.{LeadWith, LeaveTerms, SaysWith};
+ghost use Rattle.ax_write.specs.Committed.{IsBrief, LeadWith, LeaveTerms, SaysWith};
 
 use ax_cache::PageCache;
 use ax_disk::Disk;
@@ -123,7 +123,7 @@ fn seal_and_commit<D: Disk, C: PageCache>(
         → changes_said (batch_parts batch) ≡ Some changes
         → after_changes changes (store_contents store.old) ≡ Some new
         → OnOk result (Rests (D.history disk.new (D.attached disk.new)) (SaysMore version told changes new)) }
-    ensures damage { IfErr result (TellsPart store.old) }
+    ensures only { IfErr result IsBrief }
     ensures fails { FailsBy result (store_failed store.old) (store_failed store.new) }
     ensures agrees { AgreesUnlessFailed C.pages (D.is_honest disk.old) store.new (D.history disk.new (D.attached disk.new)) }
     ensures slots { store_slots store.new ≡ store_slots store.old }

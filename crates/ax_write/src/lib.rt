@@ -9,3 +9,4 @@
 
 mod batches;
 mod commit;
+mod held;
