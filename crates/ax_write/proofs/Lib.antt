@@ -5,3 +5,4 @@ mod PutReadable
 pub mod Planned
 pub mod StayReadable
 pub mod Committing
+pub mod Holding

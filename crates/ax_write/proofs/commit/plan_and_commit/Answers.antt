@@ -52,7 +52,7 @@ returns-in-Ok-clause-any_moment g c = λ honest works version told front says sa
     (c.plan_changes.ensures.reserves.lists honest) says
     (says_all _ version of.version told of.told before may of.says says)
     (c.seal_and_commit.ensures.any_moment (subst IsTrue (sym c.plan_changes.ensures.honest) honest)
-    (c.plan_changes.ensures.fails ∙ works) version told)
+    (c.in-Ok.ensures.fails ∙ works) version told)
 
 pub returns-in-Ok-clause-told : goal.returns-in-Ok-clause-told
 returns-in-Ok-clause-told g c = λ honest works version told front says said.
@@ -62,7 +62,7 @@ returns-in-Ok-clause-told g c = λ honest works version told front says said.
     (trusted_plan _ c.args.changes.now front _ before honest is) version told _ _ _
     (c.plan_changes.ensures.reserves.lists honest) says c.seal_and_commit.result
     (c.seal_and_commit.ensures.told (subst IsTrue (sym c.plan_changes.ensures.honest) honest)
-    (c.plan_changes.ensures.fails ∙ works) version told)
+    (c.in-Ok.ensures.fails ∙ works) version told)
 
 pub returns-in-Ok-clause-readable : goal.returns-in-Ok-clause-readable
 returns-in-Ok-clause-readable g c = λ honest works front set said readable index rests.
@@ -74,14 +74,14 @@ returns-in-Ok-clause-readable g c = λ honest works front set said readable inde
     (trusted_plan _ c.args.changes.now front _ before honest is) of.version of.told _ _ _
     (c.plan_changes.ensures.reserves.lists honest) (of.says.each _ may) of.says
     (c.seal_and_commit.ensures.any_moment (subst IsTrue (sym c.plan_changes.ensures.honest) honest)
-    (c.plan_changes.ensures.fails ∙ works) of.version of.told)
+    (c.in-Ok.ensures.fails ∙ works) of.version of.told)
     set index readable may rests
 
 pub returns-in-Ok-clause-damage : goal.returns-in-Ok-clause-damage
 returns-in-Ok-clause-damage g c = λ honest. told_briefly c.args.store.now c.seal_and_commit.result c.seal_and_commit.ensures.only
 
 pub returns-in-Ok-clause-fails : goal.returns-in-Ok-clause-fails
-returns-in-Ok-clause-fails g c = fails_then c.seal_and_commit.result _ _ _ c.plan_changes.ensures.fails c.seal_and_commit.ensures.fails
+returns-in-Ok-clause-fails g c = fails_then c.seal_and_commit.result _ _ _ c.in-Ok.ensures.fails c.seal_and_commit.ensures.fails
 
 pub returns-in-Ok-clause-agrees : goal.returns-in-Ok-clause-agrees
 returns-in-Ok-clause-agrees g c = λ honest.
@@ -95,8 +95,8 @@ returns-in-Ok-clause-area g c = c.seal_and_commit.ensures.area ∙ ap log_area c
 
 pub returns-in-Ok-clause-cause : goal.returns-in-Ok-clause-cause
 returns-in-Ok-clause-cause g c = λ works.
-    cause_then c.seal_and_commit.result _ _ _ (c.plan_changes.ensures.cause works).uncounted
-    (c.seal_and_commit.ensures.cause (c.plan_changes.ensures.fails ∙ works))
+    cause_then c.seal_and_commit.result _ _ _ (c.in-Ok.ensures.cause works).uncounted
+    (c.seal_and_commit.ensures.cause (c.in-Ok.ensures.fails ∙ works))
 
 pub returns-in-Err-clause-any_moment : goal.returns-in-Err-clause-any_moment
 returns-in-Err-clause-any_moment g c = λ honest works version told front says said.
