@@ -93,6 +93,9 @@ none_of : (found : Option Stored) (text : List ℕ) → Some text ≡ option_map
 none_of None text are none = absurd (some_or_none text (sym are))
 none_of (Some stored) text are none = subst IsOfNone (same_some text stored.text are) none
 
+abbrev fetched : {T : Type 0} → T → Result T StoreFault
+fetched value = Ok value
+
 module _ {C : Type 0} (old new : Store C) (same : SameButReads old new) (number : ℕ) (text : List ℕ) where
   by_fault : (fault : StoreFault) → Some text ≡ option_map (λ stored. stored.text) (map.get (store_contents old).documents number)
       → TellsRead new number text fault → TellsText old number fault
@@ -126,7 +129,7 @@ module _ {C : Type 0} (old new : Store C) (same : SameButReads old new) (number 
   fails_of (Err fault) failed_old failed_new still told = fails_with fault failed_old failed_new still told
 
   pub cause_of : {T : Type 0} (earlier : T) (result : Result (Option HeldDocument) StoreFault) (before now : ℕ)
-      → HasDiskCause (Ok {T = T} {E = StoreFault} earlier) before now → IfErr result (TellsRead new number text) → HasDiskCause result before now
+      → HasDiskCause (fetched earlier) before now → IfErr result (TellsRead new number text) → HasDiskCause result before now
   cause_of earlier (Ok found) before now cause told =
       record { never_falls = cause.never_falls; failed = λ failed. absurd failed; uncounted = cause.uncounted }
   cause_of earlier (Err Disk) before now cause told = absurd told
@@ -146,8 +149,8 @@ pub works_still : {T : Type 0} (value : T) (failed_old failed_new : Bool) (earli
 works_still value true failed_new earlier later fails = absurd (not_ok value Disk (fails.failed_before refl))
 works_still value false failed_new earlier later fails = fails.works
 
-pub fails_so : {T U : Type 0} (fault : StoreFault) (failed_old failed_new : Bool) (earlier later : ℕ)
-    → FailsOrWantsMemory {T = T} (Err fault) failed_old failed_new earlier later → FailsBy {T = U} (Err fault) failed_old failed_new
+pub fails_so : {T : Type 0} (fault : StoreFault) (failed_old failed_new : Bool) (earlier later : ℕ)
+    → FailsOrWantsMemory {T = T} (Err fault) failed_old failed_new earlier later → FailsWith fault failed_old failed_new
 fails_so Disk failed_old failed_new earlier later fails = fails.fails refl
 fails_so (Damaged extent at) failed_old failed_new earlier later fails = absurd (neither extent at fails.only)
   where
@@ -165,6 +168,6 @@ pub told_so : {C : Type 0} (store : Store C) (number : ℕ) (fault : StoreFault)
 told_so store number fault (inl disk) = subst (TellsText store number) (sym disk) tt
 told_so store number fault (inr memory) = subst (TellsText store number) (sym memory) tt
 
-pub cause_so : {T U : Type 0} (fault : StoreFault) (before now : ℕ) → HasDiskCause {T = T} (Err fault) before now
+pub cause_so : {T : Type 0} (U : Type 0) (fault : StoreFault) (before now : ℕ) → HasDiskCause {T = T} (Err fault) before now
     → HasDiskCause {T = U} (Err fault) before now
-cause_so fault before now cause = record { never_falls = cause.never_falls; failed = cause.failed; uncounted = cause.uncounted }
+cause_so U fault before now cause = record { never_falls = cause.never_falls; failed = cause.failed; uncounted = cause.uncounted }

@@ -8,9 +8,13 @@ use Rattle.ax_tree.specs.CanonicalText.{canonical_text}
 use Rattle.ax_pages.specs.Contents.{meta_bytes}
 use Rattle.ax_pages.specs.declared.numbers.TheConstants.{PLAIN_META, PLAIN_DOCUMENT, GONE}
 
+-- a document of that number, by what its part holds
+abbrev pub stored_part : ℕ → List ℕ → PartValue
+stored_part number payload = record { kind = PLAIN_DOCUMENT; key = number; payload = payload }
+
 -- the document of that number, under that policy
 abbrev pub document_part : ℕ → ℕ → Tree → PartValue
-document_part number policy tree = record { kind = PLAIN_DOCUMENT; key = number; payload = policy ∷ canonical_text tree }
+document_part number policy tree = stored_part number (policy ∷ canonical_text tree)
 
 -- the next number, and the number of the policy now
 abbrev pub meta_part : ℕ → ℕ → PartValue

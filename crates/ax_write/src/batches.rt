@@ -1,11 +1,11 @@
 //! The batches by which documents are written.
 
-ghost use Rattle.std.specs.Prelude.{◌≡◌, ◌<◌, ◌≤◌, ◌+◌, ◌^◌, ◌∷◌, length, IfOk};
+ghost use Rattle.std.specs.Prelude.{◌≡◌, ◌<◌, ◌≤◌, ◌+◌, ◌^◌, [], ◌∷◌, ◌++◌, length, IfOk, OnOk};
 ghost use Rattle.ax_tree.specs.CanonicalText.{canonical_text};
 ghost use Rattle.ax_lines.specs.Lines.{most_bytes};
 ghost use Rattle.ax_pages.specs.Contents.{meta_bytes};
 ghost use Rattle.ax_store.specs.Batch.{batch_parts};
-ghost use Rattle.ax_write.specs.Batches.{replacing_parts, creating_parts, deleting_parts};
+ghost use Rattle.ax_write.specs.Batches.{replacing_parts, creating_parts, deleting_parts, stored_part};
 
 use ax_pages::numbers::{GONE, PLAIN_DOCUMENT, PLAIN_META};
 use ax_store::{Batch, Memory, Part};
@@ -23,16 +23,8 @@ pub(crate) fn replacing(
     ensures { IfOk result (λ batch. batch_parts batch ≡ replacing_parts number policy tree.now) }
 {
     let payload = document_payload(alloc, policy, tree)?;
-    let payload = payload.as_slice();
     let mut batch = Batch::begin(alloc);
-    batch.add(
-        alloc,
-        Part {
-            kind: PLAIN_DOCUMENT,
-            key: number,
-            payload,
-        },
-    )?;
+    add_document(alloc, &mut batch, number, payload.as_slice())?;
     Ok(batch)
 }
 
@@ -43,7 +35,6 @@ pub(crate) fn creating(alloc: Global, number: u32, policy: u8, tree: &Tree) -> R
     ensures { IfOk result (λ batch. batch_parts batch ≡ creating_parts number policy tree.now) }
 {
     let payload = document_payload(alloc, policy, tree)?;
-    let payload = payload.as_slice();
     let meta = meta_payload(number + 1, policy);
     let mut batch = Batch::begin(alloc);
     batch.add(
@@ -54,14 +45,7 @@ pub(crate) fn creating(alloc: Global, number: u32, policy: u8, tree: &Tree) -> R
             payload: &meta,
         },
     )?;
-    batch.add(
-        alloc,
-        Part {
-            kind: PLAIN_DOCUMENT,
-            key: number,
-            payload,
-        },
-    )?;
+    add_document(alloc, &mut batch, number, payload.as_slice())?;
     Ok(batch)
 }
 
@@ -79,6 +63,22 @@ pub(crate) fn deleting(alloc: Global, number: u32) -> Result<Batch, Memory>
         },
     )?;
     Ok(batch)
+}
+
+/// Adds the part of a document.
+fn add_document(
+    alloc: Global,
+    batch: &mut Batch,
+    number: u32,
+    payload: &[u8],
+) -> Result<(), Memory>
+    requires { length payload.now ≤ 65536 }
+    ensures { OnOk result (batch_parts batch.new ≡ batch_parts batch.old ++ stored_part number payload.now ∷ []) }
+{
+    let kind = PLAIN_DOCUMENT;
+    let key = number;
+    let document = Part { kind, key, payload };
+    batch.add(alloc, document)
 }
 
 /// The number of the policy, and the canonical text.

@@ -1,12 +1,13 @@
 //! The document that is held under a number.
 
-ghost use Rattle.std.specs.Prelude.{◌≡◌, ◌+◌, IsTrue, IfOk, IfErr, IfSome, false};
+ghost use Rattle.std.specs.Prelude.{◌≡◌, ◌+◌, IsTrue, IfOk, IfErr, IfSome, Some, false};
 ghost use Rattle.std.specs.FinMap as map;
 ghost use Rattle.ax_index.specs.Damage.{FailsBy};
 ghost use Rattle.ax_lines.specs.Asked.{IsStorable};
+ghost use Rattle.ax_pages.specs.Area.{extent_number};
 ghost use Rattle.ax_store.specs.Faults.{HasDiskCause};
 ghost use Rattle.ax_store.specs.Reads.{ReadsStore};
-ghost use Rattle.ax_store.specs.Store.{AgreesUnlessFailed, store_contents, store_failed, store_slots};
+ghost use Rattle.ax_store.specs.Store.{AgreesUnlessFailed, store_area, store_contents, store_failed, store_offsets, store_slots};
 ghost use Rattle.ax_write.specs.Held.{HasPolicyOf, IsHeld, IsPlaced, IsRead, TellsRead, TellsText};
 
 use ax_base::Steps;
@@ -77,16 +78,30 @@ fn read_held<C>(
             policy: head.policy,
             tree,
         })),
-        Err(DocumentFault::Outside) => Err(damaged(store, number)),
-        Err(DocumentFault::Memory) => Err(StoreFault::Memory),
+        Err(fault) => Err(text_fault(store, number, fault)),
     }
 }
 
-/// The fault of a document that is held: the place of its part.
-fn damaged<C>(store: &Store<C>, number: u32) -> StoreFault
+/// The fault of a text of a document that is held: where it is that of none, the place of its part.
+fn text_fault<C>(store: &Store<C>, number: u32, fault: DocumentFault) -> StoreFault
     requires { IsTrue (map.contains_key (store_contents store.now).documents number) }
-    ensures { IsPlaced store.now number result }
+    ensures memory { fault ≡ DocumentFault.Memory → result ≡ StoreFault.Memory }
+    ensures outside { fault ≡ DocumentFault.Outside → IsPlaced store.now number result }
 {
-    let (extent, at) = store.place(Page::Document(number), 0);
-    StoreFault::Damaged { extent, at }
+    match fault {
+        DocumentFault::Memory => StoreFault::Memory,
+        DocumentFault::Outside => {
+            let (extent, at) = place_of(store, number);
+            StoreFault::Damaged { extent, at }
+        }
+    }
+}
+
+/// Where the part of a document that is held stands: the list as a number, and the offset in it.
+fn place_of<C>(store: &Store<C>, number: u32) -> (u8, u64)
+    requires { IsTrue (map.contains_key (store_contents store.now).documents number) }
+    ensures list { result.0 ≡ extent_number (store_area store.now) }
+    ensures offset { map.get (store_offsets store.now).documents number ≡ Some result.1 }
+{
+    store.place(Page::Document(number), 0)
 }
