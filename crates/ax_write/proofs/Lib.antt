@@ -6,3 +6,4 @@ pub mod Planned
 pub mod StayReadable
 pub mod Committing
 pub mod Holding
+pub mod Counting
