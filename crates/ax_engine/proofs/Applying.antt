@@ -5,7 +5,7 @@ use Rattle.std.proofs.lemmas.Bool.{false≢true}
 use Rattle.ax_area.specs.Contents.{Contents}
 use Rattle.ax_area.specs.Image.{Says}
 use Rattle.ax_area.specs.Told.{Told}
-use Rattle.ax_cache.specs.declared.lru_pages.LruPages.{LruPages}
+use Rattle.ax_cache.specs.Pages.{CachedPages}
 use Rattle.ax_disk.specs.model.Calls.{Idles}
 use Rattle.ax_disk.specs.model.Image.{Image}
 use Rattle.ax_disk.specs.model.Moments.{History}
@@ -23,7 +23,6 @@ use Rattle.std.specs.FinMap as map
 use Rattle.std.specs.declared.alloc.Global.{Global}
 use Rattle.std.specs.declared.vec.Vec.{Vec}
 use Rattle.ax_area.specs.Contents.{Stored}
-use Rattle.ax_cache.specs.Held.{held}
 use Rattle.ax_container.specs.Container.{Container, Entry, entry_at, entry_of}
 use Rattle.ax_container.proofs.Writing.{entry_there}
 use Rattle.ax_image.specs.Documents.{ContentsHold}
@@ -79,8 +78,8 @@ write_is (line.Delete id) before write asked = refl
 write_is (line.Read id) before write asked = absurd write
 write_is (line.Query body) before write asked = absurd write
 
-module _ (honest : Type 0) (before : Container) (asked : Line) (made : Result Container WriteRefusal)
-    (is : served before (Ok asked) ≡ written before made) (documents : Documents) (old new : History) where
+module _ {C : Type 0} (honest : Type 0) (before : Container) (asked : Line) (made : Result Container WriteRefusal)
+    (is : served before (Ok asked) ≡ written before made) (documents : Documents C) (old new : History) where
   -- the step ends so
   ends : (end : Result Container WriteRefusal) → made ≡ end → served before (Ok asked) ≡ written before end
   ends end same = is ∙ ap (written before) same
@@ -118,14 +117,15 @@ module _ (honest : Type 0) (before : Container) (asked : Line) (made : Result Co
       subst (λ (m : Container × reply.Reply). honest → Turns old new (Shows before) (Shows m.0))
       (sym (ends (Ok told.0) told.1)) told.2
 
-pub works_written : (honest : Type 0) (documents : Documents) (new : History) (result : Result (Unit {0}) WriteFault)
-    → WorksAfterWrite honest result documents new → OnOk (write_answer result) (DocumentsWork honest documents new)
-works_written honest documents new (Ok done) works = works
-works_written honest documents new (Err write.Conflict) works = works
-works_written honest documents new (Err write.Absent) works = works
-works_written honest documents new (Err write.Full) works = works
-works_written honest documents new (Err write.Memory) works = works
-works_written honest documents new (Err write.Disk) works = tt
+pub works_written : {C : Type 0} (pages : C → CachedPages) (honest : Type 0) (documents : Documents C) (new : History)
+    (result : Result (Unit {0}) WriteFault) → WorksAfterWrite pages honest result documents new
+    → OnOk (write_answer result) (DocumentsWork pages honest documents new)
+works_written pages honest documents new (Ok done) works = works
+works_written pages honest documents new (Err write.Conflict) works = works
+works_written pages honest documents new (Err write.Absent) works = works
+works_written pages honest documents new (Err write.Full) works = works
+works_written pages honest documents new (Err write.Memory) works = works
+works_written pages honest documents new (Err write.Disk) works = tt
 
 pub counted_written : (result : Result (Unit {0}) WriteFault) (l m : ℕ) → CountsWrite result l m
     → CountsAnswer (write_answer result) l m
@@ -208,20 +208,20 @@ read_found contents before id text number hold at found =
     let text_is : text ≡ canonical_text e.0.tree = cc in
     ap (λ entry. doc_reply (option_map (λ (e : Entry). e.tree) entry)) e.1 ∙ ap reply.Doc (sym text_is)
 
-module _ (honest : Bool) (documents : Documents) (store : Store LruPages) (old new : History) (l m : ℕ)
-    (reads : ReadsStore held honest documents.store store old new l m) where
-  abbrev looked : Documents
+module _ {C : Type 0} (pages : C → CachedPages) (honest : Bool) (documents : Documents C) (store : Store C)
+    (old new : History) (l m : ℕ) (reads : ReadsStore pages honest documents.store store old new l m) where
+  abbrev looked : Documents C
   looked = record documents { store = store }
 
-  pub works_then : store_failed store ≡ false → DocumentsWork (IsTrue honest) looked new
+  pub works_then : store_failed store ≡ false → DocumentsWork pages (IsTrue honest) looked new
   works_then works = record { unfailed = works; agrees = λ h. reads.agrees h works }
 
   pub readable_then : IsTrue honest → Rests old SaysReadable → Stays old new SaysReadable
   readable_then h rests = idles_stay old new SaysReadable rests (reads.lists h)
 
-  module _ (before : Container) (works : DocumentsWork (IsTrue honest) documents old) (holds : DocumentsHold documents before) where
+  module _ (before : Container) (works : DocumentsWork pages (IsTrue honest) documents old) (holds : DocumentsHold documents before) where
     turns_then : IsTrue honest → Turns old new (Shows before) (Shows before)
-    turns_then h = idled (IsTrue honest) documents old new before works holds (reads.lists h) h
+    turns_then h = idled pages (IsTrue honest) documents old new before works holds (reads.lists h) h
 
     pub tells_doc : (id : List ℕ) (text : Vec ℕ Global) → read_reply id before ≡ reply.Doc text.items
         → Tells (IsTrue honest) before (line.Read id) (Ok (given.Doc text)) looked old new
@@ -249,26 +249,26 @@ read_steps id before number steps now at is =
 -- ---- a query changes nothing
 
 -- what reading left, and answered
-module _ (honest : Bool) (documents : Documents) (store : Store LruPages)
+module _ {C : Type 0} (pages : C → CachedPages) (honest : Bool) (documents : Documents C) (store : Store C)
     (ahead : ReadAhead) (old new : History) (l m : ℕ) where
-  abbrev after : Documents
+  abbrev after : Documents C
   after = record documents { store = store }
 
-  works_scanned : Scanned honest documents.store store ahead old new l m → DocumentsWork (IsTrue honest) after new
+  works_scanned : Scanned pages honest documents.store store ahead old new l m → DocumentsWork pages (IsTrue honest) after new
   works_scanned scanned = record {
     unfailed = scanned.ready.works;
     agrees = λ h. (scanned.ready.agrees h).agrees;
   }
 
-  pub works_read : (read : Result Reply StoreFault) → Scans honest read documents.store store ahead old new l m
-      → OnOk (read_answer read) (DocumentsWork (IsTrue honest) after new)
+  pub works_read : (read : Result Reply StoreFault) → Scans pages honest read documents.store store ahead old new l m
+      → OnOk (read_answer read) (DocumentsWork pages (IsTrue honest) after new)
   works_read (Ok reply) scans = works_scanned scans
   works_read (Err store_fault.Disk) scans = tt
   works_read (Err (store_fault.Damaged extent at)) scans = tt
   works_read (Err (store_fault.Newer version)) scans = absurd scans
   works_read (Err store_fault.Memory) scans = works_scanned scans
 
-  pub lists_read : (read : Result Reply StoreFault) → Scans honest read documents.store store ahead old new l m
+  pub lists_read : (read : Result Reply StoreFault) → Scans pages honest read documents.store store ahead old new l m
       → IsTrue honest → Idles old new
   lists_read (Ok reply) scans h = scans.lists h
   lists_read (Err store_fault.Disk) scans h = scans.lists h
@@ -276,14 +276,14 @@ module _ (honest : Bool) (documents : Documents) (store : Store LruPages)
   lists_read (Err (store_fault.Newer version)) scans h = absurd scans
   lists_read (Err store_fault.Memory) scans h = scans.lists h
 
-  pub never_falls_read : (read : Result Reply StoreFault) → Scans honest read documents.store store ahead old new l m → l ≤ m
+  pub never_falls_read : (read : Result Reply StoreFault) → Scans pages honest read documents.store store ahead old new l m → l ≤ m
   never_falls_read (Ok reply) scans = omega (arith, scans.uncounted)
   never_falls_read (Err store_fault.Disk) scans = scans.never_falls
   never_falls_read (Err (store_fault.Damaged extent at)) scans = omega (arith, scans.0.uncounted)
   never_falls_read (Err (store_fault.Newer version)) scans = absurd scans
   never_falls_read (Err store_fault.Memory) scans = omega (arith, scans.uncounted)
 
-  pub counted_read : (read : Result Reply StoreFault) → Scans honest read documents.store store ahead old new l m
+  pub counted_read : (read : Result Reply StoreFault) → Scans pages honest read documents.store store ahead old new l m
       → CountsAnswer (read_answer read) l m
   counted_read (Ok reply) scans = scans.uncounted
   counted_read (Err store_fault.Disk) scans = scans.rose
@@ -291,34 +291,34 @@ module _ (honest : Bool) (documents : Documents) (store : Store LruPages)
   counted_read (Err (store_fault.Newer version)) scans = absurd scans
   counted_read (Err store_fault.Memory) scans = scans.uncounted
 
-  pub met_read : (read : Result Reply StoreFault) → Scans honest read documents.store store ahead old new l m
+  pub met_read : (read : Result Reply StoreFault) → Scans pages honest read documents.store store ahead old new l m
       → MayLeave new.unsynced new.reads → IsTrue honest
       → IfErr (read_answer read) (λ why. Meets why new.reads)
   met_read (Ok reply) scans may h = tt
   met_read (Err store_fault.Disk) scans may h = tt
   met_read (Err (store_fault.Damaged extent at)) scans may h =
-      met_outside store ahead new extent at (scans.0.ready.agrees h) may (scans.1 h)
+      met_outside pages store ahead new extent at (scans.0.ready.agrees h) may (scans.1 h)
   met_read (Err (store_fault.Newer version)) scans may h = absurd scans
   met_read (Err store_fault.Memory) scans may h = tt
 
-  module _ (before : Container) (body : Body) (works : DocumentsWork (IsTrue honest) documents old) (holds : DocumentsHold documents before) where
-    turns_scanned : Scanned honest documents.store store ahead old new l m
+  module _ (before : Container) (body : Body) (works : DocumentsWork pages (IsTrue honest) documents old) (holds : DocumentsHold documents before) where
+    turns_scanned : Scanned pages honest documents.store store ahead old new l m
         → IsTrue honest → Turns old new (Shows before) (Shows before)
-    turns_scanned scanned h = idled (IsTrue honest) documents old new before works holds (scanned.lists h) h
+    turns_scanned scanned h = idled pages (IsTrue honest) documents old new before works holds (scanned.lists h) h
 
-    stands_scanned : Scanned honest documents.store store ahead old new l m → DocumentsHold after before
+    stands_scanned : Scanned pages honest documents.store store ahead old new l m → DocumentsHold after before
     stands_scanned scanned = holds_read documents store before scanned.same holds
 
-    pub tells_read : (read : Result Reply StoreFault) → Scans honest read documents.store store ahead old new l m
+    pub tells_read : (read : Result Reply StoreFault) → Scans pages honest read documents.store store ahead old new l m
         → MayLeave new.unsynced new.reads → SaysReadable new.reads
         → IfOk read (λ reply. IsReply reply (query_reply body before)) → IsTrue honest
         → Tells (IsTrue honest) before (line.Query body) (read_answer read) after old new
     tells_read (Ok made) scans may readable is h = (Served, is, stands_scanned scans, turns_scanned scans)
     tells_read (Err store_fault.Disk) scans may readable is h =
-        λ _. idled (IsTrue honest) documents old new before works holds (scans.lists h) h
+        λ _. idled pages (IsTrue honest) documents old new before works holds (scans.lists h) h
     tells_read (Err (store_fault.Damaged extent at)) scans may readable is h =
         none_outside new.reads extent at readable
-        (met_outside store ahead new extent at (scans.0.ready.agrees h) may (scans.1 h))
+        (met_outside pages store ahead new extent at (scans.0.ready.agrees h) may (scans.1 h))
     tells_read (Err (store_fault.Newer version)) scans may readable is h = absurd scans
     tells_read (Err store_fault.Memory) scans may readable is h = (OutOfMemory, refl, stands_scanned scans, turns_scanned scans)
 
@@ -349,33 +349,33 @@ may_read body (Err (store_fault.Damaged extent at)) fits = tt
 may_read body (Err (store_fault.Newer version)) fits = inr refl
 may_read body (Err store_fault.Memory) fits = inr refl
 
-pub of_reading : (honest : Bool) (read : Result Reply StoreFault) (old new : Store LruPages) (ahead : ReadAhead)
-    (entry exit : History) (l m : ℕ) → Scans honest read old new ahead entry exit l m → IfErr read IsOfReading
-of_reading honest (Ok reply) old new ahead entry exit l m scans = tt
-of_reading honest (Err store_fault.Disk) old new ahead entry exit l m scans = tt
-of_reading honest (Err (store_fault.Damaged extent at)) old new ahead entry exit l m scans = tt
-of_reading honest (Err (store_fault.Newer version)) old new ahead entry exit l m scans = absurd scans
-of_reading honest (Err store_fault.Memory) old new ahead entry exit l m scans = tt
+pub of_reading : {C : Type 0} (pages : C → CachedPages) (honest : Bool) (read : Result Reply StoreFault) (old new : Store C) (ahead : ReadAhead)
+    (entry exit : History) (l m : ℕ) → Scans pages honest read old new ahead entry exit l m → IfErr read IsOfReading
+of_reading pages honest (Ok reply) old new ahead entry exit l m scans = tt
+of_reading pages honest (Err store_fault.Disk) old new ahead entry exit l m scans = tt
+of_reading pages honest (Err (store_fault.Damaged extent at)) old new ahead entry exit l m scans = tt
+of_reading pages honest (Err (store_fault.Newer version)) old new ahead entry exit l m scans = absurd scans
+of_reading pages honest (Err store_fault.Memory) old new ahead entry exit l m scans = tt
 
 -- ---- an engine
 
-pub rests_over : (honest : Type 0) (engine : Engine) (history : History) (before : Container)
-    → Works honest engine history → HoldsOver engine history before → honest → Rests history (IsImageOf before)
-rests_over honest engine history before works over h =
+pub rests_over : {C : Type 0} (pages : C → CachedPages) (honest : Type 0) (engine : Engine C) (history : History) (before : Container)
+    → Works pages honest engine history → HoldsOver engine history before → honest → Rests history (IsImageOf before)
+rests_over pages honest engine history before works over h =
     images_rest history before
-    (rests_of honest engine.documents history before (works.documents over.holds.unfaulted) over.holds.documents h)
+    (rests_of pages honest engine.documents history before (works.documents over.holds.unfaulted) over.holds.documents h)
     over.readable
 
 -- nothing has happened
-pub still_over : (honest : Type 0) (engine : Engine) (history : History) (before other : Container)
-    → Works honest engine history → HoldsOver engine history before
+pub still_over : {C : Type 0} (pages : C → CachedPages) (honest : Type 0) (engine : Engine C) (history : History) (before other : Container)
+    → Works pages honest engine history → HoldsOver engine history before
     → honest → Turns history history (IsImageOf before) (IsImageOf other)
-still_over honest engine history before other works over h =
+still_over pages honest engine history before other works over h =
     stays_turn history history (IsImageOf before) (IsImageOf other)
-    (stays_start history (IsImageOf before) (rests_over honest engine history before works over h))
+    (stays_start history (IsImageOf before) (rests_over pages honest engine history before works over h))
 
 -- the documents' answer as the engine's
-pub applies_told : (honest : Type 0) (before : Container) (asked : Line) (result : Result Reply Fault) (engine : Engine)
+pub applies_told : {C : Type 0} (honest : Type 0) (before : Container) (asked : Line) (result : Result Reply Fault) (engine : Engine C)
     (old new : History) → OnOk result (engine.fault ≡ None) → Tells honest before asked result engine.documents old new
     → Stays old new SaysReadable → Applies honest before asked result engine old new
 applies_told honest before asked (Ok reply) engine old new none told stays = (

@@ -1,6 +1,7 @@
 -- What a commit tells, as what a write does; and what a write leaves that changed nothing.
 use Rattle.std.proofs.Common.{◌≡◌, ℕ, Bool, List, Result, Ok, Err, sym, subst, arith}
 use Rattle.std.specs.Prelude.{IfErr, IsTrue}
+use Rattle.ax_cache.specs.Pages.{CachedPages}
 use Rattle.ax_container.specs.Container.{Container}
 use Rattle.ax_container.specs.Writes.{WriteRefusal}
 use Rattle.ax_disk.specs.laws.StaysLaws.{stays_start}
@@ -14,8 +15,8 @@ use Rattle.ax_engine.specs.declared.documents.WriteFault.{WriteFault}
 use Rattle.ax_engine.specs.declared.documents.WriteFault.TheVariants as fault
 
 -- a commit of what the write makes, over numbers that are those of the container after
-pub tells_committed : (honest : Type 0) (before after : Container) (made : Result Container WriteRefusal)
-    (result : Result (Unit {0}) WriteFault) (documents : Documents) (old new : History) → made ≡ Ok after
+pub tells_committed : {C : Type 0} (honest : Type 0) (before after : Container) (made : Result Container WriteRefusal)
+    (result : Result (Unit {0}) WriteFault) (documents : Documents C) (old new : History) → made ≡ Ok after
     → ((id : List ℕ) → number_under documents.numbers id ≡ number_in id after)
     → TellsCommit honest before after result documents old new
     → TellsWrite honest before made result documents old new
@@ -28,17 +29,17 @@ tells_committed honest before after made (Err fault.Memory) documents old new is
 tells_committed honest before after made (Err fault.Disk) documents old new is numbers told = (after, is, told)
 
 -- the same write by another name
-pub tells_as : (honest : Type 0) (before : Container) (made other : Result Container WriteRefusal)
-    (result : Result (Unit {0}) WriteFault) (documents : Documents) (old new : History) → other ≡ made
+pub tells_as : {C : Type 0} (honest : Type 0) (before : Container) (made other : Result Container WriteRefusal)
+    (result : Result (Unit {0}) WriteFault) (documents : Documents C) (old new : History) → other ≡ made
     → TellsWrite honest before made result documents old new → TellsWrite honest before other result documents old new
 tells_as honest before made other result documents old new is told =
     subst (λ (m : Result Container WriteRefusal). TellsWrite honest before m result documents old new) (sym is) told
 
 -- nothing has happened
-pub rests_left : (honest : Bool) (result : Result (Unit {0}) WriteFault) (documents : Documents) (history : History) (n : ℕ)
-    → WorksAfterWrite (IsTrue honest) result documents history → CountsWrite result n n
-    → WriteLeaves honest result documents history history n n
-rests_left honest result documents history n works counted = record {
+pub rests_left : {C : Type 0} (pages : C → CachedPages) (honest : Bool) (result : Result (Unit {0}) WriteFault) (documents : Documents C)
+    (history : History) (n : ℕ) → WorksAfterWrite pages (IsTrue honest) result documents history → CountsWrite result n n
+    → WriteLeaves pages honest result documents history history n n
+rests_left pages honest result documents history n works counted = record {
   works = works;
   readable = λ h rests. stays_start history SaysReadable rests;
   counted = counted;

@@ -16,8 +16,7 @@ use Rattle.ax_area.proofs.OneRoot.{counts_from}
 use Rattle.ax_area.specs.Contents.{Contents, Stored}
 use Rattle.ax_area.specs.Places.{no_places, places_after}
 use Rattle.ax_area.specs.Told.{changes_of}
-use Rattle.ax_cache.specs.Held.{held}
-use Rattle.ax_cache.specs.declared.lru_pages.LruPages.{LruPages}
+use Rattle.ax_cache.specs.Pages.{CachedPages}
 use Rattle.ax_disk.specs.model.Image.{Image}
 use Rattle.ax_disk.specs.model.Moments.{History}
 use Rattle.ax_disk.specs.model.Pending.{MayLeave}
@@ -101,19 +100,19 @@ outside_here pages number at text found is ahead none placed =
     }
 
 -- what the fault of a text leaves
-pub text_fails : (honest : Bool) (why : TextFault) (given : StoreFault) (old store : Store LruPages) (ahead : ReadAhead)
+pub text_fails : {C : Type 0} (pages : C → CachedPages) (honest : Bool) (why : TextFault) (given : StoreFault) (old store : Store C) (ahead : ReadAhead)
     (before after : History) (l m number : ℕ) (text : List ℕ) (found : Bool)
-    → Scanned honest old store ahead before after l m → IsTrue (finite.contains_key (store_contents store).documents number)
+    → Scanned pages honest old store ahead before after l m → IsTrue (finite.contains_key (store_contents store).documents number)
     → (IsTrue honest → IsAhead (finite.get (store_contents store).documents number) found text)
     → ((tree : Tree) → text ≡ canonical_text tree → IsReadable tree → why ≢ text_fault.Outside)
     → (why ≡ text_fault.Memory → given ≡ store_fault.Memory) → (why ≡ text_fault.Outside → IsPlaced store number given)
-    → ScanFails honest given old store ahead before after l m
-text_fails honest text_fault.Memory given old store ahead before after l m number text found scanned held shows inside memory outside =
-    subst (λ fault. ScanFails honest fault old store ahead before after l m) (sym (memory refl)) scanned
-text_fails honest text_fault.Outside given old store ahead before after l m number text found scanned held shows inside memory outside =
+    → ScanFails pages honest given old store ahead before after l m
+text_fails pages honest text_fault.Memory given old store ahead before after l m number text found scanned held shows inside memory outside =
+    subst (λ fault. ScanFails pages honest fault old store ahead before after l m) (sym (memory refl)) scanned
+text_fails pages honest text_fault.Outside given old store ahead before after l m number text found scanned held shows inside memory outside =
     by_fault given (outside refl)
   where
-    by_fault : (fault : StoreFault) → IsPlaced store number fault → ScanFails honest fault old store ahead before after l m
+    by_fault : (fault : StoreFault) → IsPlaced store number fault → ScanFails pages honest fault old store ahead before after l m
     by_fault store_fault.Disk placed = absurd placed
     by_fault (store_fault.Damaged extent at) placed = (
       scanned,
@@ -128,10 +127,10 @@ text_fails honest text_fault.Outside given old store ahead before after l m numb
 
 -- ---- on the disk
 
-pub met_outside : (store : Store LruPages) (ahead : ReadAhead) (history : History) (extent at : ℕ)
-    → AgreesAhead held store ahead history → MayLeave history.unsynced history.reads → IsOutsideAt store extent at
+pub met_outside : {C : Type 0} (pages : C → CachedPages) (store : Store C) (ahead : ReadAhead) (history : History) (extent at : ℕ)
+    → AgreesAhead pages store ahead history → MayLeave history.unsynced history.reads → IsOutsideAt store extent at
     → IsMetOutside history.reads extent at
-met_outside store ahead history extent at agrees may outside =
+met_outside pages store ahead history extent at agrees may outside =
     let logged = agrees.agrees.logged in
     let frames = agrees.agrees.frames in
     let takes = agrees.agrees.takes in

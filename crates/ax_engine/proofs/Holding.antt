@@ -23,8 +23,7 @@ use Rattle.ax_image.specs.Readable.{newest, SaysReadable}
 use Rattle.ax_image.specs.Documents.{ContentsHold, LeadsTo}
 use Rattle.ax_image.proofs.InGrammar.{stands}
 use Rattle.ax_image_grammar.specs.Payloads.{IsReadable}
-use Rattle.ax_cache.specs.Held.{held}
-use Rattle.ax_cache.specs.declared.lru_pages.LruPages.{LruPages}
+use Rattle.ax_cache.specs.Pages.{CachedPages}
 use Rattle.ax_store.specs.declared.store.Store.{Store}
 use Rattle.ax_store.specs.Kept.{Kept}
 use Rattle.ax_store.specs.Store.{SameButReads, SameButRoom, SaysMore, SaysOf, store_contents}
@@ -42,43 +41,43 @@ shows_by : (version : ℕ) (told : List Told) (contents : Contents) (container :
 shows_by version told contents container hold image says =
     record { version = version; told = told; contents = contents; says = says; hold = hold }
 
-module _ (honest : Type 0) where
+module _ {C : Type 0} (pages : C → CachedPages) (honest : Type 0) where
   -- what a crash now leaves stands for the container
-  pub rests_of : (documents : Documents) (history : History) (before : Container)
-      → DocumentsWork honest documents history → DocumentsHold documents before
+  pub rests_of : (documents : Documents C) (history : History) (before : Container)
+      → DocumentsWork pages honest documents history → DocumentsHold documents before
       → honest → Rests history (Shows before)
   rests_of documents history before works holds h =
-      let of = agrees_says held documents.store history (works.agrees h) in
+      let of = agrees_says pages documents.store history (works.agrees h) in
       rests_weaken history (Says newest of.version of.told (store_contents documents.store)) (Shows before)
       (shows_by of.version of.told (store_contents documents.store) before holds.hold) of.says
 
   -- nothing has happened
-  pub still : (documents : Documents) (history : History) (before other : Container)
-      → DocumentsWork honest documents history → DocumentsHold documents before
+  pub still : (documents : Documents C) (history : History) (before other : Container)
+      → DocumentsWork pages honest documents history → DocumentsHold documents before
       → honest → Turns history history (Shows before) (Shows other)
   still documents history before other works holds h =
       stays_turn history history (Shows before) (Shows other)
       (stays_start history (Shows before) (rests_of documents history before works holds h))
 
   -- no list has changed
-  pub idled : (documents : Documents) (old new : History) (before : Container)
-      → DocumentsWork honest documents old → DocumentsHold documents before → Idles old new
+  pub idled : (documents : Documents C) (old new : History) (before : Container)
+      → DocumentsWork pages honest documents old → DocumentsHold documents before → Idles old new
       → honest → Turns old new (Shows before) (Shows before)
   idled documents old new before works holds idles h =
       stays_turn old new (Shows before) (Shows before)
       (idles_stay old new (Shows before) (rests_of documents old before works holds h) idles)
 
   -- room was made
-  pub works_room : (documents : Documents) (store : Store LruPages) (history : History)
+  pub works_room : (documents : Documents C) (store : Store C) (history : History)
       → SameButRoom documents.store store
-      → DocumentsWork honest documents history → DocumentsWork honest (record documents { store = store }) history
+      → DocumentsWork pages honest documents history → DocumentsWork pages honest (record documents { store = store }) history
   works_room documents store history same works = record {
     unfailed = same.failed ∙ works.unfailed;
-    agrees = λ h. agrees_same held documents.store store history same (works.agrees h);
+    agrees = λ h. agrees_same pages documents.store store history same (works.agrees h);
   }
 
 -- calls came that read
-pub holds_read : (documents : Documents) (store : Store LruPages) (before : Container)
+pub holds_read : {C : Type 0} (documents : Documents C) (store : Store C) (before : Container)
     → SameButReads documents.store store
     → DocumentsHold documents before → DocumentsHold (record documents { store = store }) before
 holds_read documents store before same holds = record {
@@ -86,7 +85,7 @@ holds_read documents store before same holds = record {
   numbers = holds.numbers;
 }
 
-pub holds_room : (documents : Documents) (store : Store LruPages) (before : Container)
+pub holds_room : {C : Type 0} (documents : Documents C) (store : Store C) (before : Container)
     → SameButRoom documents.store store
     → DocumentsHold documents before → DocumentsHold (record documents { store = store }) before
 holds_room documents store before same holds = record {
@@ -95,7 +94,7 @@ holds_room documents store before same holds = record {
 }
 
 -- the contents and the numbers are as they were
-pub holds_same : (old new : Documents) (before : Container) → store_contents new.store ≡ store_contents old.store
+pub holds_same : {C : Type 0} (old new : Documents C) (before : Container) → store_contents new.store ≡ store_contents old.store
     → ((id : List ℕ) → number_under new.numbers id ≡ number_under old.numbers id)
     → DocumentsHold old before → DocumentsHold new before
 holds_same old new before contents numbers holds = record {
@@ -116,7 +115,7 @@ allowed_by contents new parts changes said leads =
     by_changes parts contents ∙ ap (option_and_then (λ these. after_changes these contents)) said ∙ leads
 
 -- what a store answers of a commit of parts: what images say before it, and how it turns them
-pub record Commits (store : Store LruPages) (parts : List PartValue) (old new : History) : Type 0 where
+pub record Commits {C : Type 0} (store : Store C) (parts : List PartValue) (old new : History) : Type 0 where
   pub says : SaysOf store old
   pub may : MayLeave old.unsynced old.reads
   pub turns : (version : ℕ) (told : List Told) (changes : List Change) (reached : Contents)
@@ -125,7 +124,7 @@ pub record Commits (store : Store LruPages) (parts : List PartValue) (old new : 
       → Turns old new (Says newest version told (store_contents store)) (SaysMore version told changes reached)
 
 -- parts that say these changes
-module _ (store : Store LruPages) (parts : List PartValue) (changes : List Change)
+module _ {C : Type 0} (store : Store C) (parts : List PartValue) (changes : List Change)
     (said : changes_said parts ≡ Some changes) where
   -- lead to contents that hold the container
   pub made_by : (after : Container) (leads : LeadsTo (store_contents store) changes after) (now : Contents)
@@ -162,12 +161,12 @@ module _ (store : Store LruPages) (parts : List PartValue) (changes : List Chang
         commits.may (commits.says.says.each old.reads commits.may) (turned_to reached lead)
 
 -- when room was made the contents are the same
-pub room_leads : {changes : List Change} {after : Container} → (old new : Store LruPages) → SameButRoom old new
+pub room_leads : {C : Type 0} {changes : List Change} {after : Container} → (old new : Store C) → SameButRoom old new
     → LeadsTo (store_contents old) changes after → LeadsTo (store_contents new) changes after
 room_leads {changes} {after} old new same leads =
     subst (λ parts. LeadsTo (risen parts) changes after) (sym same.contents) leads
 
-pub room_holds : {before : Container} → (old new : Store LruPages) → SameButRoom old new
+pub room_holds : {C : Type 0} {before : Container} → (old new : Store C) → SameButRoom old new
     → ContentsHold (store_contents old) before → ContentsHold (store_contents new) before
 room_holds {before} old new same hold = subst (λ parts. ContentsHold (risen parts) before) (sym same.contents) hold
 

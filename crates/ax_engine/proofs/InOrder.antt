@@ -19,7 +19,6 @@ use Rattle.ax_pages.proofs.LastPart.{same_number, other_number}
 use Rattle.ax_image.specs.Documents.{ContentsHold}
 use Rattle.ax_image.specs.StandsFor.{ShowEntries}
 use Rattle.ax_tree.specs.declared.tree.Tree.{Tree}
-use Rattle.ax_cache.specs.declared.lru_pages.LruPages.{LruPages}
 use Rattle.ax_store.specs.Kept.{Kept}
 use Rattle.ax_store.specs.Store.{SameButReads, store_contents}
 use Rattle.ax_store.specs.declared.store.Store.{Store}
@@ -301,17 +300,17 @@ module _ (contents : Contents) (container : Container)
 
 -- ---- over calls that read
 
-pub next_same : (old new : Store LruPages) (n k : ℕ) → SameButReads old new
+pub next_same : {C : Type 0} (old new : Store C) (n k : ℕ) → SameButReads old new
     → IsNextAfter (store_contents new).documents n k → IsNextAfter (store_contents old).documents n k
 next_same old new n k same next = subst (λ (kept : Kept). IsNextAfter (kept_says kept).documents n k) same.pages next
 
-pub none_same : (old new : Store LruPages) (n : ℕ) → SameButReads old new
+pub none_same : {C : Type 0} (old new : Store C) (n : ℕ) → SameButReads old new
     → ((b : ℕ) → n < b → finite.get (store_contents new).documents b ≡ None)
     → (b : ℕ) → n < b → finite.get (store_contents old).documents b ≡ None
 none_same old new n same none =
     subst (λ (kept : Kept). (b : ℕ) → n < b → finite.get (kept_says kept).documents b ≡ None) same.pages none
 
-pub text_same : (old new : Store LruPages) (k : ℕ) (text : List ℕ) → SameButReads old new
+pub text_same : {C : Type 0} (old new : Store C) (k : ℕ) (text : List ℕ) → SameButReads old new
     → text_of (finite.get (store_contents old).documents k) ≡ Some text
     → text_of (finite.get (store_contents new).documents k) ≡ Some text
 text_same old new k text same is =

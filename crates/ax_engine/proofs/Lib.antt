@@ -8,6 +8,7 @@ pub mod Opened
 mod OwnRefusals
 mod Placing
 mod QueryTexts
+pub mod Recaching
 mod RowLines
 mod Saying
 mod Scanning

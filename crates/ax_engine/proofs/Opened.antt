@@ -2,12 +2,11 @@
 use Rattle.std.proofs.Common.{◌≡◌, ◌⊎◌, inl, inr, ℕ, Bool, List, Result, Ok, Err, refl, sym, ap, subst, ◌∙◌, arith}
 use Rattle.std.specs.Prelude.{IfOk, IfErr, IsTrue, OnOk}
 use Rattle.ax_cache.specs.PageLaws.{no_pages}
-use Rattle.ax_cache.specs.declared.lru_pages.LruPages.{LruPages}
 use Rattle.ax_cache.specs.declared.no_pages.NoPages.{NoPages}
 use Rattle.ax_disk.specs.laws.MomentLaws.{progress_stays, progress_within}
 use Rattle.ax_disk.specs.laws.CallLaws.{idles_leave}
 use Rattle.ax_disk.specs.laws.StageLaws.{barrier_goes_on}
-use Rattle.ax_disk.specs.laws.StaysLaws.{idles_rest, idles_start, idles_stay, rests_weaken, stays_start}
+use Rattle.ax_disk.specs.laws.StaysLaws.{idles_rest, idles_stay, rests_weaken, stays_start}
 use Rattle.ax_disk.specs.model.Calls.{Idles}
 use Rattle.ax_disk.specs.model.Image.{Image}
 use Rattle.ax_disk.specs.model.Moments.{History}
@@ -27,7 +26,7 @@ use Rattle.ax_store.specs.declared.fault.StoreFault.{StoreFault}
 use Rattle.ax_store.specs.declared.fault.StoreFault.TheVariants as fault
 use Rattle.ax_store.specs.Faults.{HasDiskCause, IsRefused}
 use Rattle.ax_store.specs.Kept.{Kept}
-use Rattle.ax_store.specs.Store.{Has, IsOpened, SameButCache, TellsFault, store_contents}
+use Rattle.ax_store.specs.Store.{Has, IsOpened, TellsFault, store_contents}
 use Rattle.ax_store.proofs.StoreLemmas.{barrier_weaken}
 use Rattle.ax_container.specs.Container.{Container}
 use Rattle.ax_image.specs.Readable.{SaysReadable, newest}
@@ -127,7 +126,7 @@ module _ (old mid : History) where
         (store_contents store) documents.says opened.has.2)
         documents.hold
 
-    pub holds_opened : (honest : Bool) (result : Result Documents StoreFault) (new : History)
+    pub holds_opened : (honest : Bool) (result : Result (Documents NoPages) StoreFault) (new : History)
         → TellsNumbers honest result store new → IsTrue honest
         → IfOk result (λ documents. DocumentsHold documents before)
     holds_opened honest (Err why) new tells h = tt
@@ -138,19 +137,17 @@ module _ (old mid : History) where
 
 -- ---- what finding the numbers answers
 
--- a store over another cache, and then what was read of it
-module _ (honest : Bool) (first : Store NoPages) (store : Store LruPages) (same : SameButCache first store) where
-  pub numbers_made : (documents : Documents) (ahead : ReadAhead)
-      (before after : History) (l m : ℕ) → Scanned honest store documents.store ahead before after l m
+module _ (honest : Bool) (store : Store NoPages) where
+  pub numbers_made : (documents : Documents NoPages) (ahead : ReadAhead)
+      (before after : History) (l m : ℕ) → Scanned (λ _. no_pages) honest store documents.store ahead before after l m
       → (IsTrue honest → (container : Container) → ContentsHold (store_contents store) container
       → (id : List ℕ) → number_under documents.numbers id ≡ number_in id container)
-      → Numbers honest (Ok documents) first before after l m
+      → Numbers honest (Ok documents) store before after l m
   numbers_made documents ahead before after l m scanned numbers = record {
     tells = record {
-      pages = scanned.same.pages ∙ same.pages;
+      pages = scanned.same.pages;
       works = record { unfailed = scanned.ready.works; agrees = λ h. (scanned.ready.agrees h).agrees };
-      numbers = λ h container hold.
-          numbers h container (subst (λ (kept : Kept). ContentsHold (kept_says kept) container) (sym same.pages) hold);
+      numbers = numbers;
     };
     lists = scanned.lists;
     cause = record {
@@ -160,9 +157,9 @@ module _ (honest : Bool) (first : Store NoPages) (store : Store LruPages) (same 
     };
   }
 
-  pub numbers_failed : (why : StoreFault) (now : Store LruPages) (ahead : ReadAhead)
-      (before after : History) (l m : ℕ) → ScanFails honest why store now ahead before after l m
-      → (why ≡ fault.Disk) ⊎ (why ≡ fault.Memory) → Numbers honest (Err why) first before after l m
+  pub numbers_failed : (why : StoreFault) (now : Store NoPages) (ahead : ReadAhead)
+      (before after : History) (l m : ℕ) → ScanFails (λ _. no_pages) honest why store now ahead before after l m
+      → (why ≡ fault.Disk) ⊎ (why ≡ fault.Memory) → Numbers honest (Err why) store before after l m
   numbers_failed fault.Disk now ahead before after l m fails only = record {
     tells = tt;
     lists = fails.lists;
@@ -181,22 +178,13 @@ module _ (honest : Bool) (first : Store NoPages) (store : Store LruPages) (same 
     };
   }
 
--- there was no memory for the cache
-pub numbers_unmade : (honest : Bool) (store : Store NoPages) (history : History) (n : ℕ)
-    → Numbers honest (Err fault.Memory) store history history n n
-numbers_unmade honest store history n = record {
-  tells = tt;
-  lists = λ h. idles_start history;
-  cause = record { never_falls = omega arith; failed = λ is. absurd is; uncounted = refl };
-}
-
-pub works_numbered : (honest : Bool) (result : Result Documents StoreFault) (store : Store NoPages) (new : History)
-    → TellsNumbers honest result store new → IfOk result (λ documents. DocumentsWork (IsTrue honest) documents new)
+pub works_numbered : (honest : Bool) (result : Result (Documents NoPages) StoreFault) (store : Store NoPages) (new : History)
+    → TellsNumbers honest result store new → IfOk result (λ documents. DocumentsWork (λ _. no_pages) (IsTrue honest) documents new)
 works_numbered honest (Ok documents) store new tells = tells.works
 works_numbered honest (Err why) store new tells = tt
 
 -- only a read that failed and want of memory refuse no store
-pub refuses_none : (honest : Bool) (result : Result Documents StoreFault) (store : Store NoPages) (old new : History)
+pub refuses_none : (honest : Bool) (result : Result (Documents NoPages) StoreFault) (store : Store NoPages) (old new : History)
     → TellsNumbers honest result store new → IfErr result (λ why. RefusesBy why old new)
 refuses_none honest (Ok documents) store old new tells = tt
 refuses_none honest (Err fault.Disk) store old new tells = tt
@@ -205,7 +193,7 @@ refuses_none honest (Err (fault.Newer version)) store old new tells = absurd tel
 refuses_none honest (Err fault.Memory) store old new tells = tt
 
 -- a call that counted nothing, and then another: together they count what the second does
-pub cause_numbered : (result : Result Documents StoreFault) (first l m : ℕ) → l ≡ first
+pub cause_numbered : (result : Result (Documents NoPages) StoreFault) (first l m : ℕ) → l ≡ first
     → HasDiskCause result l m → HasDiskCause result first m
 cause_numbered result first l m same cause = subst (λ n. HasDiskCause result n m) same cause
 
@@ -230,12 +218,12 @@ pub passed_on : {S T : Type 0} (x why : StoreFault)
 passed_on {S = S} x why (inl is) = inl (ap Err (same_fault {T = S} x why is))
 passed_on {S = S} x why (inr is) = inr (ap Err (same_fault {T = S} x fault.Disk is))
 
-pub when_opened : {P : Type 0} → (result : Result Documents StoreFault) → P → OnOk result P
+pub when_opened : {P : Type 0} → (result : Result (Documents NoPages) StoreFault) → P → OnOk result P
 when_opened (Ok documents) p = p
 when_opened (Err why) p = tt
 
 -- what holds whatever was opened
-pub in_any : {P : Type 0} → (result : Result Documents StoreFault) → P → IfOk result (λ _. P)
+pub in_any : {P : Type 0} → (result : Result (Documents NoPages) StoreFault) → P → IfOk result (λ _. P)
 in_any (Ok documents) p = p
 in_any (Err why) p = tt
 

@@ -1,8 +1,7 @@
 -- Calls that read texts of documents, one after another.
 use Rattle.std.proofs.Common.{◌≡◌, ◌⊎◌, inl, inr, ℕ, Bool, false, Result, Ok, Err, OnOk, refl, sym, subst, ◌∙◌, arith}
 use Rattle.std.specs.Prelude.{IsTrue, IfErr}
-use Rattle.ax_cache.specs.Held.{held}
-use Rattle.ax_cache.specs.declared.lru_pages.LruPages.{LruPages}
+use Rattle.ax_cache.specs.Pages.{CachedPages}
 use Rattle.ax_disk.specs.laws.StaysLaws.{idles_start, idles_join}
 use Rattle.ax_disk.specs.model.Calls.{Idles}
 use Rattle.ax_disk.specs.model.Moments.{History}
@@ -16,15 +15,15 @@ use Rattle.ax_store.specs.declared.read_ahead.ReadAhead.{ReadAhead}
 use Rattle.ax_store.specs.declared.store.Store.{Store}
 use Rattle.ax_engine.specs.Scans.{IsReady, ScanFails, Scanned, Scans}
 
-unread : (store : Store LruPages) → SameButReads store store
+unread : {C : Type 0} (store : Store C) → SameButReads store store
 unread store = record { logged = refl; pages = refl }
 
-reads_on : (a b c : Store LruPages) → SameButReads a b → SameButReads b c → SameButReads a c
+reads_on : {C : Type 0} (a b c : Store C) → SameButReads a b → SameButReads b c → SameButReads a c
 reads_on a b c first second = record { logged = second.logged ∙ first.logged; pages = second.pages ∙ first.pages }
 
-pub nothing_scanned : (honest : Bool) (store : Store LruPages) (ahead : ReadAhead) (history : History) (faults : ℕ)
-    → IsReady honest store ahead history → Scanned honest store store ahead history history faults faults
-nothing_scanned honest store ahead history faults ready = record {
+pub nothing_scanned : {C : Type 0} (pages : C → CachedPages) (honest : Bool) (store : Store C) (ahead : ReadAhead) (history : History)
+    (faults : ℕ) → IsReady pages honest store ahead history → Scanned pages honest store store ahead history history faults faults
+nothing_scanned pages honest store ahead history faults ready = record {
   same = unread store;
   ready = ready;
   lists = λ _. idles_start history;
@@ -32,14 +31,14 @@ nothing_scanned honest store ahead history faults ready = record {
 }
 
 -- told of the same honesty
-pub ready_now : (now then : Bool) (store : Store LruPages) (ahead : ReadAhead) (history : History) → now ≡ then
-    → IsReady then store ahead history → IsReady now store ahead history
-ready_now now then store ahead history same ready =
-    subst (λ h. IsReady h store ahead history) (sym same) ready
+pub ready_now : {C : Type 0} (pages : C → CachedPages) (now then : Bool) (store : Store C) (ahead : ReadAhead) (history : History)
+    → now ≡ then → IsReady pages then store ahead history → IsReady pages now store ahead history
+ready_now pages now then store ahead history same ready =
+    subst (λ h. IsReady pages h store ahead history) (sym same) ready
 
-module _ (now then : Bool) (a b c : Store LruPages) (ahead later : ReadAhead) (x y z : History) (l m n : ℕ)
-    (same : now ≡ then) (first : Scanned then a b ahead x y l m) where
-  on : Scanned then b c later y z m n → Scanned then a c later x z l n
+module _ {C : Type 0} (pages : C → CachedPages) (now then : Bool) (a b c : Store C) (ahead later : ReadAhead) (x y z : History) (l m n : ℕ)
+    (same : now ≡ then) (first : Scanned pages then a b ahead x y l m) where
+  on : Scanned pages then b c later y z m n → Scanned pages then a c later x z l n
   on second = record {
     same = reads_on a b c first.same second.same;
     ready = second.ready;
@@ -47,7 +46,7 @@ module _ (now then : Bool) (a b c : Store LruPages) (ahead later : ReadAhead) (x
     uncounted = second.uncounted ∙ first.uncounted;
   }
 
-  fails : (why : StoreFault) → ScanFails then why b c later y z m n → ScanFails then why a c later x z l n
+  fails : (why : StoreFault) → ScanFails pages then why b c later y z m n → ScanFails pages then why a c later x z l n
   fails fault.Disk failed = record {
     same = reads_on a b c first.same failed.same;
     lists = λ h. idles_join x y z (first.lists h) (failed.lists h);
@@ -58,41 +57,41 @@ module _ (now then : Bool) (a b c : Store LruPages) (ahead later : ReadAhead) (x
   fails (fault.Newer version) failed = absurd failed
   fails fault.Memory failed = on failed
 
-  pub scanned_on : Scanned now b c later y z m n → Scanned then a c later x z l n
-  scanned_on second = on (subst (λ h. Scanned h b c later y z m n) same second)
+  pub scanned_on : Scanned pages now b c later y z m n → Scanned pages then a c later x z l n
+  scanned_on second = on (subst (λ h. Scanned pages h b c later y z m n) same second)
 
-  pub fails_on : (why : StoreFault) → ScanFails now why b c later y z m n → ScanFails then why a c later x z l n
-  fails_on why failed = fails why (subst (λ h. ScanFails h why b c later y z m n) same failed)
+  pub fails_on : (why : StoreFault) → ScanFails pages now why b c later y z m n → ScanFails pages then why a c later x z l n
+  fails_on why failed = fails why (subst (λ h. ScanFails pages h why b c later y z m n) same failed)
 
-  pub scans_on : {T : Type 0} → (result : Result T StoreFault) → Scans now result b c later y z m n
-      → Scans then result a c later x z l n
+  pub scans_on : {T : Type 0} → (result : Result T StoreFault) → Scans pages now result b c later y z m n
+      → Scans pages then result a c later x z l n
   scans_on (Ok value) second = scanned_on second
   scans_on (Err why) second = fails_on why second
 
 -- what the store's call answers
-pub scans_of : {T : Type 0} → (honest : Bool) (result : Result T StoreFault) (old new : Store LruPages) (ahead : ReadAhead)
-    (before after : History) (earlier later : ℕ) → store_failed old ≡ false → SameButReads old new
-    → AgreesAheadUnlessFailed held honest new ahead after → OnOk result (store_failed new ≡ false)
+pub scans_of : {T C : Type 0} (pages : C → CachedPages) (honest : Bool) (result : Result T StoreFault) (old new : Store C)
+    (ahead : ReadAhead) (before after : History) (earlier later : ℕ) → store_failed old ≡ false → SameButReads old new
+    → AgreesAheadUnlessFailed pages honest new ahead after → OnOk result (store_failed new ≡ false)
     → (result ≡ Err fault.Memory → store_failed new ≡ store_failed old)
     → IfErr result (λ why. (why ≡ fault.Disk) ⊎ (why ≡ fault.Memory)) → (IsTrue honest → Idles before after)
-    → (store_failed old ≡ false → HasDiskCause result earlier later) → Scans honest result old new ahead before after earlier later
-scans_of honest (Ok value) old new ahead before after earlier later works same agrees ok memory only lists cause = record {
+    → (store_failed old ≡ false → HasDiskCause result earlier later) → Scans pages honest result old new ahead before after earlier later
+scans_of pages honest (Ok value) old new ahead before after earlier later works same agrees ok memory only lists cause = record {
   same = same;
   ready = record { works = ok; agrees = λ h. agrees h ok };
   lists = lists;
   uncounted = (cause works).uncounted;
 }
-scans_of honest (Err fault.Disk) old new ahead before after earlier later works same agrees ok memory only lists cause = record {
+scans_of pages honest (Err fault.Disk) old new ahead before after earlier later works same agrees ok memory only lists cause = record {
   same = same;
   lists = lists;
   never_falls = (cause works).never_falls;
   rose = (cause works).failed tt;
 }
-scans_of honest (Err (fault.Damaged extent at)) old new ahead before after earlier later works same agrees ok memory (inl is) lists cause = absurd cc
-scans_of honest (Err (fault.Damaged extent at)) old new ahead before after earlier later works same agrees ok memory (inr is) lists cause = absurd cc
-scans_of honest (Err (fault.Newer version)) old new ahead before after earlier later works same agrees ok memory (inl is) lists cause = absurd cc
-scans_of honest (Err (fault.Newer version)) old new ahead before after earlier later works same agrees ok memory (inr is) lists cause = absurd cc
-scans_of honest (Err fault.Memory) old new ahead before after earlier later works same agrees ok memory only lists cause =
+scans_of pages honest (Err (fault.Damaged extent at)) old new ahead before after earlier later works same agrees ok memory (inl is) lists cause = absurd cc
+scans_of pages honest (Err (fault.Damaged extent at)) old new ahead before after earlier later works same agrees ok memory (inr is) lists cause = absurd cc
+scans_of pages honest (Err (fault.Newer version)) old new ahead before after earlier later works same agrees ok memory (inl is) lists cause = absurd cc
+scans_of pages honest (Err (fault.Newer version)) old new ahead before after earlier later works same agrees ok memory (inr is) lists cause = absurd cc
+scans_of pages honest (Err fault.Memory) old new ahead before after earlier later works same agrees ok memory only lists cause =
     let still : store_failed new ≡ false = memory refl ∙ works in
     record {
       same = same;

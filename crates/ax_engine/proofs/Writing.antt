@@ -27,7 +27,6 @@ use Rattle.ax_image.proofs.Writing.{any_found, created_by, deleted_by, replaced_
 use Rattle.ax_area_laws.specs.Risen.{risen}
 use Rattle.ax_area_laws.proofs.Rising.{by_changes}
 use Rattle.ax_lines.specs.Asked.{IsStorable}
-use Rattle.ax_cache.specs.declared.lru_pages.LruPages.{LruPages}
 use Rattle.ax_store.specs.Batch.{AreAllowed}
 use Rattle.ax_store.specs.Store.{SameButRoom, store_contents}
 use Rattle.ax_store.specs.declared.store.Store.{Store}
@@ -100,7 +99,7 @@ within_creating next policy tree contents plain full given =
     )
 
 -- when room was made they may still, and so may the parts that say them
-pub room_follows : (changes : List Change) (old new : Store LruPages) → SameButRoom old new
+pub room_follows : {C : Type 0} (changes : List Change) (old new : Store C) → SameButRoom old new
     → MayFollow changes (store_contents old) → MayFollow changes (store_contents new)
 room_follows changes old new same may = subst (λ parts. MayFollow changes (risen parts)) (sym same.contents) may
 
@@ -164,7 +163,7 @@ pub one_refusal : {one other : WriteRefusal} → (result : Result Container Writ
 one_refusal result is same = cc
 
 -- the number that was found of an id, or that there is none
-pub found_in : (documents : Documents) (before : Container) (id own : List ℕ) (found : Option ℕ) → DocumentsHold documents before
+pub found_in : {C : Type 0} (documents : Documents C) (before : Container) (id own : List ℕ) (found : Option ℕ) → DocumentsHold documents before
     → own ≡ id → found ≡ number_under documents.numbers own → number_in id before ≡ found
 found_in documents before id own found holds same is =
     sym (holds.numbers id) ∙ ap (number_under documents.numbers) (sym same) ∙ sym is

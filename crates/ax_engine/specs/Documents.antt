@@ -2,12 +2,12 @@
 use Rattle.std.specs.Prelude.{◌≡◌, ◌≤◌, ℕ, List, Bool, ◌||◌, nat_le, false, IsTrue, Option, option_map, Result, Ok, Err}
 use Rattle.std.specs.FinMap as map
 use Rattle.ax_ids.specs.Ids.{number_under}
-use Rattle.ax_cache.specs.Held.{held}
+use Rattle.ax_cache.specs.Pages.{CachedPages}
 use Rattle.ax_disk.specs.model.Moments.{History}
 use Rattle.ax_disk.specs.model.Stays.{Rests, Stays, Turns}
 use Rattle.ax_area.specs.Contents.{Contents}
 use Rattle.ax_faults.specs.Faults.{Rose}
-use Rattle.ax_store.specs.Store.{Agrees, store_failed, store_contents}
+use Rattle.ax_store.specs.Store.{Agrees, SameButCache, store_failed, store_contents}
 use Rattle.ax_container.specs.Container.{Container, entry_of, most_documents, last_number}
 use Rattle.ax_container.specs.Writes.{WriteRefusal, Conflict, Absent, Full}
 use Rattle.ax_image.specs.Documents.{ContentsHold}
@@ -17,7 +17,7 @@ use Rattle.ax_engine.specs.declared.documents.Documents.{Documents}
 use Rattle.ax_engine.specs.declared.documents.WriteFault.{WriteFault}
 use Rattle.ax_engine.specs.declared.documents.WriteFault.TheVariants as fault
 
-abbrev pub contents_in : Documents → Contents
+abbrev pub contents_in : {C : Type 0} → Documents C → Contents
 contents_in documents = store_contents documents.store
 
 -- the number that the container has under an id
@@ -25,14 +25,19 @@ abbrev pub number_in : List ℕ → Container → Option ℕ
 number_in id container = option_map (λ entry. entry.number) (entry_of id container)
 
 -- the documents are those of the container
-pub record DocumentsHold (documents : Documents) (container : Container) : Type 0 where
+pub record DocumentsHold {C : Type 0} (documents : Documents C) (container : Container) : Type 0 where
   pub hold : ContentsHold (contents_in documents) container
   pub numbers : (id : List ℕ) → number_under documents.numbers id ≡ number_in id container
 
 -- the store under the documents has not failed, and agrees with the disk where that is honest
-pub record DocumentsWork (honest : Type 0) (documents : Documents) (history : History) : Type 0 where
+pub record DocumentsWork {C : Type 0} (pages : C → CachedPages) (honest : Type 0) (documents : Documents C) (history : History) : Type 0 where
   pub unfailed : store_failed documents.store ≡ false
-  pub agrees : honest → Agrees held documents.store history
+  pub agrees : honest → Agrees pages documents.store history
+
+-- the same documents over another cache
+pub record SameDocuments {C E : Type 0} (old : Documents C) (new : Documents E) : Type 0 where
+  pub store : SameButCache old.store new.store
+  pub numbers : new.numbers ≡ old.numbers
 
 -- no document can be created
 abbrev pub is_full_of : Contents → Bool
@@ -40,14 +45,14 @@ is_full_of contents =
     nat_le most_documents (map.len contents.documents) || nat_le last_number contents.next_number
 
 -- the documents are as they were, and so is what a crash leaves of them
-abbrev pub AreKept : Type 0 → Container → Documents → History → History → Type 0
+abbrev pub AreKept : {C : Type 0} → Type 0 → Container → Documents C → History → History → Type 0
 AreKept honest before documents old new =
     DocumentsHold documents before × (honest → Turns old new (Shows before) (Shows before))
 
 -- What a write answers that makes this of the container, or is refused: it was made; it was refused, and nothing
 -- changed; memory ran out, and nothing changed; or the disk failed while it was made.
-abbrev pub TellsWrite : Type 0 → Container → Result Container WriteRefusal → Result (Unit {0}) WriteFault → Documents
-    → History → History → Type 0
+abbrev pub TellsWrite : {C : Type 0} → Type 0 → Container → Result Container WriteRefusal → Result (Unit {0}) WriteFault
+    → Documents C → History → History → Type 0
 TellsWrite honest before made (Ok done) documents old new =
     (after : Container) × (made ≡ Ok after) × DocumentsHold documents after
     × (honest → Turns old new (Shows before) (Shows after))
@@ -93,9 +98,10 @@ IsOfHeld other = Unit {0}
 -- ---- what a write leaves
 
 -- until the disk fails the documents work
-abbrev pub WorksAfterWrite : Type 0 → Result (Unit {0}) WriteFault → Documents → History → Type 0
-WorksAfterWrite honest (Err fault.Disk) documents history = Unit {0}
-WorksAfterWrite honest other documents history = DocumentsWork honest documents history
+abbrev pub WorksAfterWrite : {C : Type 0} → (C → CachedPages) → Type 0 → Result (Unit {0}) WriteFault → Documents C → History
+    → Type 0
+WorksAfterWrite pages honest (Err fault.Disk) documents history = Unit {0}
+WorksAfterWrite pages honest other documents history = DocumentsWork pages honest documents history
 
 -- the disk's count of faults rises exactly where the disk failed
 abbrev pub CountsWrite : Result (Unit {0}) WriteFault → ℕ → ℕ → Type 0
@@ -103,16 +109,16 @@ CountsWrite (Err fault.Disk) earlier later = Rose earlier later
 CountsWrite other earlier later = later ≡ earlier
 
 -- what a write leaves, whatever it writes
-pub record WriteLeaves (honest : Bool) (result : Result (Unit {0}) WriteFault) (documents : Documents)
-    (before after : History) (earlier later : ℕ) : Type 0 where
-  pub works : WorksAfterWrite (IsTrue honest) result documents after
+pub record WriteLeaves {C : Type 0} (pages : C → CachedPages) (honest : Bool) (result : Result (Unit {0}) WriteFault)
+    (documents : Documents C) (before after : History) (earlier later : ℕ) : Type 0 where
+  pub works : WorksAfterWrite pages (IsTrue honest) result documents after
   pub readable : IsTrue honest → Rests before SaysReadable → Stays before after SaysReadable
   pub counted : CountsWrite result earlier later
   pub never_falls : earlier ≤ later
 
 -- what the commit of changes answers that lead to the container after: they are made, or the disk failed
-abbrev pub TellsCommit : Type 0 → Container → Container → Result (Unit {0}) WriteFault → Documents → History → History
-    → Type 0
+abbrev pub TellsCommit : {C : Type 0} → Type 0 → Container → Container → Result (Unit {0}) WriteFault → Documents C
+    → History → History → Type 0
 TellsCommit honest before after (Ok done) documents old new =
     ContentsHold (contents_in documents) after × (honest → Turns old new (Shows before) (Shows after))
 TellsCommit honest before after (Err fault.Disk) documents old new = honest → Turns old new (Shows before) (Shows after)

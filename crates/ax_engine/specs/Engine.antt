@@ -1,5 +1,6 @@
 -- An engine at work: which container it has, and what it answers to a line.
 use Rattle.std.specs.Prelude.{◌≡◌, ℕ, List, Option, None, Some, Result, Ok, Err, if◌then◌else◌}
+use Rattle.ax_cache.specs.Pages.{CachedPages}
 use Rattle.ax_disk.specs.model.Calls.{Idles}
 use Rattle.ax_disk.specs.model.Image.{Image}
 use Rattle.ax_disk.specs.model.Moments.{History}
@@ -26,18 +27,18 @@ use Rattle.ax_engine.specs.declared.engine.Fault.TheVariants as fault
 use Rattle.ax_engine.specs.declared.reply.Reply.{Reply}
 
 -- it has answered no fault, and its documents are those of the container
-pub record Holds (engine : Engine) (container : Container) : Type 0 where
+pub record Holds {C : Type 0} (engine : Engine C) (container : Container) : Type 0 where
   pub unfaulted : engine.fault ≡ None
   pub documents : DocumentsHold engine.documents container
 
 -- and all that can be read which an image tells that a crash may leave
-pub record HoldsOver (engine : Engine) (history : History) (container : Container) : Type 0 where
+pub record HoldsOver {C : Type 0} (engine : Engine C) (history : History) (container : Container) : Type 0 where
   pub holds : Holds engine container
   pub readable : Rests history SaysReadable
 
 -- until it answers a fault its store has not failed, and agrees with the disk where that is honest
-pub record Works (honest : Type 0) (engine : Engine) (history : History) : Type 0 where
-  pub documents : engine.fault ≡ None → DocumentsWork honest engine.documents history
+pub record Works {C : Type 0} (pages : C → CachedPages) (honest : Type 0) (engine : Engine C) (history : History) : Type 0 where
+  pub documents : engine.fault ≡ None → DocumentsWork pages honest engine.documents history
 
 -- the container after a line that was read, and its reply: by its step, or unchanged for want of memory
 abbrev pub made_by : Container → Line → Outcome → Container × reply.Reply
@@ -57,12 +58,12 @@ TellsOf honest before line (Err fault.Disk) Has Leaves old new =
 TellsOf honest before line (Err (fault.Damaged extent at)) Has Leaves old new = ⊥
 
 -- the same of documents
-abbrev pub Tells : Type 0 → Container → Line → Result Reply Fault → Documents → History → History → Type 0
+abbrev pub Tells : {C : Type 0} → Type 0 → Container → Line → Result Reply Fault → Documents C → History → History → Type 0
 Tells honest before line result held old new =
     TellsOf honest before line result (DocumentsHold held) Shows old new
 
 -- the same of an engine, whose images can be read
-abbrev pub Applies : Type 0 → Container → Line → Result Reply Fault → Engine → History → History → Type 0
+abbrev pub Applies : {C : Type 0} → Type 0 → Container → Line → Result Reply Fault → Engine C → History → History → Type 0
 Applies honest before line result engine old new =
     TellsOf honest before line result (HoldsOver engine new) IsImageOf old new
 

@@ -3,7 +3,6 @@
 -- It is this project's own; it comes from no public document.
 use Rattle.std.specs.Prelude.{◌≡◌, ℕ, Some}
 use Rattle.std.specs.FinMap as map
-use Rattle.ax_cache.specs.declared.lru_pages.LruPages.{LruPages}
 use Rattle.ax_area.specs.Contents.{Stored}
 use Rattle.ax_image.specs.Readable.{newest}
 use Rattle.ax_image_grammar.specs.Payloads.{IsDocumentText}
@@ -25,11 +24,11 @@ pub record HasOutside (pages : Kept) (at : ℕ) : Type 0 where
   pub outside : ¬ IsDocumentText newest document.text
 
 -- the same of a store's pages, at an offset of the area that counts
-abbrev pub IsOutsideAt : Store LruPages → ℕ → ℕ → Type 0
+abbrev pub IsOutsideAt : {C : Type 0} → Store C → ℕ → ℕ → Type 0
 IsOutsideAt store extent at = (extent ≡ extent_number (store_area store)) × HasOutside store.pages at
 
 -- the fault has the place of the part of a document
-abbrev pub IsPlaced : Store LruPages → ℕ → StoreFault → Type 0
+abbrev pub IsPlaced : {C : Type 0} → Store C → ℕ → StoreFault → Type 0
 IsPlaced store number store_fault.Disk = ⊥
 IsPlaced store number (store_fault.Damaged extent at) =
     (extent ≡ extent_number (store_area store)) × (map.get (store_offsets store).documents number ≡ Some at)

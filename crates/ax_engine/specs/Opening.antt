@@ -1,6 +1,7 @@
 -- What opening a store answers, by what reads of it gave, and what finding the numbers of its ids does.
 use Rattle.std.specs.Prelude.{◌≡◌, ◌⊎◌, ℕ, List, Bool, IsTrue, Result, Ok, Err}
 use Rattle.ax_area.specs.Image.{IsDamaged, IsNewer}
+use Rattle.ax_cache.specs.PageLaws.{no_pages}
 use Rattle.ax_cache.specs.declared.no_pages.NoPages.{NoPages}
 use Rattle.ax_container.specs.Container.{Container}
 use Rattle.ax_disk.specs.declared.extent.Extent.{Extent}
@@ -35,20 +36,21 @@ RefusesBy fault.Memory old new = Unit {0}
 
 -- Of a store that was opened: its documents, each number under its id; a read failed; or there was no
 -- memory. The disk's lists are as they were.
-pub record Numbered (honest : Bool) (store : Store NoPages) (documents : Documents) (after : History) : Type 0 where
+pub record Numbered (honest : Bool) (store : Store NoPages) (documents : Documents NoPages) (after : History)
+    : Type 0 where
   pub pages : documents.store.pages ≡ store.pages
-  pub works : DocumentsWork (IsTrue honest) documents after
+  pub works : DocumentsWork (λ _. no_pages) (IsTrue honest) documents after
   pub numbers : IsTrue honest → (container : Container) → ContentsHold (store_contents store) container
       → (id : List ℕ) → number_under documents.numbers id ≡ number_in id container
 
-abbrev pub TellsNumbers : Bool → Result Documents StoreFault → Store NoPages → History → Type 0
+abbrev pub TellsNumbers : Bool → Result (Documents NoPages) StoreFault → Store NoPages → History → Type 0
 TellsNumbers honest (Ok documents) store after = Numbered honest store documents after
 TellsNumbers honest (Err fault.Disk) store after = Unit {0}
 TellsNumbers honest (Err (fault.Damaged extent at)) store after = ⊥
 TellsNumbers honest (Err (fault.Newer version)) store after = ⊥
 TellsNumbers honest (Err fault.Memory) store after = Unit {0}
 
-pub record Numbers (honest : Bool) (result : Result Documents StoreFault) (store : Store NoPages)
+pub record Numbers (honest : Bool) (result : Result (Documents NoPages) StoreFault) (store : Store NoPages)
     (before after : History) (earlier later : ℕ) : Type 0 where
   pub tells : TellsNumbers honest result store after
   pub lists : IsTrue honest → Idles before after

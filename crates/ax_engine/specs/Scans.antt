@@ -2,8 +2,7 @@
 -- until a read has failed, and the disk's lists.
 -- It is this project's own; it comes from no public document.
 use Rattle.std.specs.Prelude.{◌≡◌, ℕ, ◌≤◌, Bool, false, IsTrue, Result, Ok, Err}
-use Rattle.ax_cache.specs.Held.{held}
-use Rattle.ax_cache.specs.declared.lru_pages.LruPages.{LruPages}
+use Rattle.ax_cache.specs.Pages.{CachedPages}
 use Rattle.ax_disk.specs.model.Calls.{Idles}
 use Rattle.ax_disk.specs.model.Moments.{History}
 use Rattle.ax_faults.specs.Faults.{Rose}
@@ -16,20 +15,21 @@ use Rattle.ax_store.specs.declared.store.Store.{Store}
 use Rattle.ax_engine.specs.InPages.{IsOutsideAt}
 
 -- the store has not failed, and agrees with a disk that is honest, as does what was read ahead
-pub record IsReady (honest : Bool) (store : Store LruPages) (ahead : ReadAhead) (history : History) : Type 0 where
+pub record IsReady {C : Type 0} (pages : C → CachedPages) (honest : Bool) (store : Store C) (ahead : ReadAhead) (history : History)
+    : Type 0 where
   pub works : store_failed store ≡ false
-  pub agrees : IsTrue honest → AgreesAhead held store ahead history
+  pub agrees : IsTrue honest → AgreesAhead pages store ahead history
 
 -- no read failed, and the disk counted no fault
-pub record Scanned (honest : Bool) (old new : Store LruPages) (ahead : ReadAhead) (before after : History)
-    (earlier later : ℕ) : Type 0 where
+pub record Scanned {C : Type 0} (pages : C → CachedPages) (honest : Bool) (old new : Store C) (ahead : ReadAhead)
+    (before after : History) (earlier later : ℕ) : Type 0 where
   pub same : SameButReads old new
-  pub ready : IsReady honest new ahead after
+  pub ready : IsReady pages honest new ahead after
   pub lists : IsTrue honest → Idles before after
   pub uncounted : later ≡ earlier
 
 -- a read failed, and the disk's count of faults rose
-pub record ReadFailed (honest : Bool) (old new : Store LruPages) (before after : History)
+pub record ReadFailed {C : Type 0} (honest : Bool) (old new : Store C) (before after : History)
     (earlier later : ℕ) : Type 0 where
   pub same : SameButReads old new
   pub lists : IsTrue honest → Idles before after
@@ -37,19 +37,19 @@ pub record ReadFailed (honest : Bool) (old new : Store LruPages) (before after :
   pub rose : Rose earlier later
 
 -- what a fault leaves, and where it is that of a text
-abbrev pub ScanFails : Bool → StoreFault → Store LruPages → Store LruPages → ReadAhead → History → History
-    → ℕ → ℕ → Type 0
-ScanFails honest fault.Disk old new ahead before after earlier later =
-    ReadFailed honest old new before after earlier later
-ScanFails honest (fault.Damaged extent at) old new ahead before after earlier later =
-    Scanned honest old new ahead before after earlier later × (IsTrue honest → IsOutsideAt new extent at)
-ScanFails honest (fault.Newer version) old new ahead before after earlier later = ⊥
-ScanFails honest fault.Memory old new ahead before after earlier later =
-    Scanned honest old new ahead before after earlier later
-
-abbrev pub Scans : {T : Type 0} → Bool → Result T StoreFault → Store LruPages → Store LruPages → ReadAhead
+abbrev pub ScanFails : {C : Type 0} → (C → CachedPages) → Bool → StoreFault → Store C → Store C → ReadAhead
     → History → History → ℕ → ℕ → Type 0
-Scans honest (Ok value) old new ahead before after earlier later =
-    Scanned honest old new ahead before after earlier later
-Scans honest (Err fault) old new ahead before after earlier later =
-    ScanFails honest fault old new ahead before after earlier later
+ScanFails pages honest fault.Disk old new ahead before after earlier later =
+    ReadFailed honest old new before after earlier later
+ScanFails pages honest (fault.Damaged extent at) old new ahead before after earlier later =
+    Scanned pages honest old new ahead before after earlier later × (IsTrue honest → IsOutsideAt new extent at)
+ScanFails pages honest (fault.Newer version) old new ahead before after earlier later = ⊥
+ScanFails pages honest fault.Memory old new ahead before after earlier later =
+    Scanned pages honest old new ahead before after earlier later
+
+abbrev pub Scans : {T C : Type 0} → (C → CachedPages) → Bool → Result T StoreFault → Store C → Store C → ReadAhead
+    → History → History → ℕ → ℕ → Type 0
+Scans pages honest (Ok value) old new ahead before after earlier later =
+    Scanned pages honest old new ahead before after earlier later
+Scans pages honest (Err fault) old new ahead before after earlier later =
+    ScanFails pages honest fault old new ahead before after earlier later

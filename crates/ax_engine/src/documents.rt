@@ -4,11 +4,12 @@ ghost use Rattle.std.specs.Prelude.{◌≡◌, ◌<◌, ◌≤◌, IfSome, true}
 ghost use Rattle.std.specs.FinMap as map;
 ghost use Rattle.ax_area.specs.Contents.{is_given};
 ghost use Rattle.ax_ids.specs.Ids.{number_under};
-ghost use Rattle.ax_engine.specs.Documents.{contents_in, is_full_of};
+ghost use Rattle.ax_engine.specs.Documents.{contents_in, is_full_of, SameDocuments};
 
+use ax_cache::PageCache;
 use ax_ids::Ids;
 use ax_pages::numbers::{LAST_NUMBER, LAST_POLICY, MOST_DOCUMENTS};
-use ax_store::{LruPages, Store};
+use ax_store::Store;
 use std::alloc::Global;
 
 /// Why a write was not made.
@@ -28,13 +29,32 @@ pub enum WriteFault {
 
 /// The documents of an open store, and the number under which each id stands.
 #[derive(Drop)]
-pub struct Documents {
-    pub(crate) store: Store<LruPages>,
+pub struct Documents<C> {
+    pub(crate) store: Store<C>,
     pub(crate) numbers: Ids,
     pub(crate) alloc: Global,
 }
 
-impl Documents {
+impl<C: PageCache + Drop> Documents<C> {
+    /// The documents over another cache.
+    pub(crate) fn with_cache<E: PageCache>(self, cache: E) -> Documents<E>
+        ensures same { SameDocuments self result }
+        ensures cache { result.store.cache ≡ cache }
+    {
+        let Documents {
+            store,
+            numbers,
+            alloc,
+        } = self;
+        Documents {
+            store: store.with_cache(cache),
+            numbers,
+            alloc,
+        }
+    }
+}
+
+impl<C> Documents<C> {
     /// The number under which an id stands.
     pub(crate) fn number(&self, id: &str) -> Option<u32>
         ensures { result ≡ number_under self.now.numbers id.now }

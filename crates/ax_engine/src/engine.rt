@@ -1,6 +1,8 @@
 //! An engine over an open store.
 
 ghost use Rattle.std.specs.Prelude.{◌≡◌, ◌≤◌, ◌+◌, ℕ, Ok, Err, Some, None, IsTrue, IfOk, IfErr, OnOk};
+ghost use Rattle.std.specs.FinMap as map;
+ghost use Rattle.ax_cache.specs.PageLaws.{no_pages};
 ghost use Rattle.ax_disk.specs.model.Calls.{Idles};
 ghost use Rattle.ax_disk.specs.model.Stays.{Rests, SinceBarrier, Stays};
 ghost use Rattle.ax_area.specs.Image.{IsDamaged, IsFresh, IsNewer};
@@ -16,7 +18,7 @@ ghost use Rattle.ax_image.specs.Readable.{SaysReadable, newest};
 ghost use Rattle.ax_machine.specs.Needs.{most_steps_of};
 ghost use Rattle.ax_machine.specs.Step.{write_refusal};
 ghost use Rattle.ax_engine.specs.Damage.{Meets, PassesOverNone};
-ghost use Rattle.ax_engine.specs.Documents.{fault_of, DocumentsHold, DocumentsWork, TellsWrite, WriteLeaves};
+ghost use Rattle.ax_engine.specs.Documents.{fault_of, DocumentsHold, DocumentsWork, SameDocuments, TellsWrite, WriteLeaves};
 ghost use Rattle.ax_engine.specs.Engine.{made_of, Applies, CountsAnswer, Holds, HoldsOver, IsOfLine, IsWrite, LeavesLists, MayFail, Tells, Works};
 ghost use Rattle.ax_engine.specs.Opening.{IsAnswerUnlessDisk, RefusesBy};
 ghost use Rattle.ax_engine.specs.Replies.{FitsRead, IsOfReading, MayReply, read_answer, write_answer};
@@ -27,9 +29,10 @@ use crate::opening::open_documents;
 use crate::querying::reply_to_query;
 use crate::reply::Reply;
 use ax_base::Steps;
+use ax_cache::PageCache;
 use ax_disk::Disk;
 use ax_lines::{Body, Line, Refusal};
-use ax_store::{ReadAhead, StoreFault};
+use ax_store::{NoPages, ReadAhead, StoreFault};
 use ax_tree::Text;
 use std::alloc::Global;
 use std::sync::ledger::Ledger;
@@ -50,14 +53,14 @@ pub enum Fault {
 
 /// The documents of a container on a disk. After a fault it is to be opened again.
 #[derive(Drop)]
-pub struct Engine {
-    pub(crate) documents: Documents,
+pub struct Engine<C> {
+    pub(crate) documents: Documents<C>,
     /// The fault that was answered first.
     pub(crate) fault: Option<Fault>,
 }
 
-impl Engine {
-    /// Opens the store attached, or forms one where it is fresh.
+impl Engine<NoPages> {
+    /// Opens the store attached, or forms one where it is fresh. It has no cache yet: `with_cache` gives it one.
     ///
     /// It begins with a sync, the barrier: until that succeeds a crash leaves what it might have left
     /// before, and from then on the documents that reads gave. The errors are those of the store:
@@ -65,8 +68,8 @@ impl Engine {
     /// outside the format at that offset, or of that later version, and it is as it was; `Memory`. Over
     /// an honest disk only a store with contents is opened, and a damaged root or a later version is
     /// refused as that unless the disk fails, whatever memory there is.
-    pub fn open_engine<D: Disk>(alloc: Global, disk: &mut D) -> Result<Engine, StoreFault>
-        ensures works { IfOk result (λ engine. Works (IsTrue (D.is_honest disk.old)) engine
+    pub fn open_engine<D: Disk>(alloc: Global, disk: &mut D) -> Result<Engine<NoPages>, StoreFault>
+        ensures works { IfOk result (λ engine. Works (λ _. no_pages) (IsTrue (D.is_honest disk.old)) engine
             (D.history disk.new (D.attached disk.new))) }
         ensures unfaulted { IfOk result (λ engine. engine.fault ≡ None) }
         ensures holds { IsTrue (D.is_honest disk.old) → (before : Container)
@@ -100,14 +103,37 @@ impl Engine {
             Err(fault) => Err(fault),
         }
     }
+}
 
+impl<C: PageCache + Drop> Engine<C> {
+    /// The engine over another cache, which holds nothing yet. So an engine can be opened before its cache takes
+    /// memory, and no want of that hides why a store is refused. Documents and fault are as they were. That it works
+    /// over each history over which it did is the law `works_still` of `proofs/Recaching.antt`.
+    pub fn with_cache<E: PageCache>(self, cache: E) -> Engine<E>
+        requires empty { E.pages cache ≡ map.empty }
+        ensures documents { SameDocuments self.documents result.documents }
+        ensures fault { result.fault ≡ self.fault }
+        ensures cache { result.documents.store.cache ≡ cache }
+        ensures holds { (container : Container) → Holds self container → Holds result container }
+    {
+        let Engine { documents, fault } = self;
+        Engine {
+            documents: documents.with_cache(cache),
+            fault,
+        }
+    }
+}
+
+impl<C> Engine<C> {
     /// The fault that was answered first, and is answered again to every line.
     pub fn fault(&self) -> Option<Fault>
         ensures { result ≡ self.now.fault }
     {
         self.fault
     }
+}
 
+impl<C: PageCache> Engine<C> {
     /// Makes the step of a line, durable where the disk is honest, and answers with its reply; or is
     /// refused for want of memory, with no change. What the container refuses (an id that is held, or is
     /// not; no room for a document) is answered as that, and never for want of memory. After a fault every
@@ -129,7 +155,7 @@ impl Engine {
         steps: &mut Steps<L>,
     ) -> Result<Reply, Fault>
         requires asked { IsAsked line }
-        requires works { Works (IsTrue (D.is_honest disk.old)) self.old (D.history disk.old (D.attached disk.old)) }
+        requires works { Works C.pages (IsTrue (D.is_honest disk.old)) self.old (D.history disk.old (D.attached disk.old)) }
         ensures applies { IsTrue (D.is_honest disk.old) → (before : Container)
             → HoldsOver self.old (D.history disk.old (D.attached disk.old)) before
             → Applies (IsTrue (D.is_honest disk.old)) before line result self.new
@@ -144,7 +170,7 @@ impl Engine {
         ensures lists { IsTrue (D.is_honest disk.old) → self.old.fault ≡ None
             → LeavesLists line (D.history disk.old (D.attached disk.old)) (D.history disk.new (D.attached disk.new)) }
         ensures of_line { self.old.fault ≡ None → IfErr result (λ fault. IsOfLine line fault) }
-        ensures works { Works (IsTrue (D.is_honest disk.old)) self.new (D.history disk.new (D.attached disk.new)) }
+        ensures works { Works C.pages (IsTrue (D.is_honest disk.old)) self.new (D.history disk.new (D.attached disk.new)) }
 
         // A fault that was answered is kept, and answered again, with no call on the disk.
         ensures keeps { IfErr result (λ fault. self.new.fault ≡ Some fault) }
@@ -181,14 +207,14 @@ fn kept_fault(answered: &Result<Reply, Fault>) -> Option<Fault>
 }
 
 /// The reply to a line, and its change to the documents.
-fn answer<D: Disk, L: Ledger>(
-    documents: &mut Documents,
+fn answer<D: Disk, C: PageCache, L: Ledger>(
+    documents: &mut Documents<C>,
     disk: &mut D,
     line: &Line,
     steps: &mut Steps<L>,
 ) -> Result<Reply, Fault>
     requires asked { IsAsked line.now }
-    requires works { DocumentsWork (IsTrue (D.is_honest disk.old)) documents.old (D.history disk.old (D.attached disk.old)) }
+    requires works { DocumentsWork C.pages (IsTrue (D.is_honest disk.old)) documents.old (D.history disk.old (D.attached disk.old)) }
     ensures tells { IsTrue (D.is_honest disk.old)
         → Rests (D.history disk.old (D.attached disk.old)) SaysReadable
         → (before : Container) → DocumentsHold documents.old before
@@ -204,7 +230,7 @@ fn answer<D: Disk, L: Ledger>(
         → IfErr result (λ fault. Meets fault (D.history disk.new (D.attached disk.new)).reads) }
     ensures passes_over_none { IsTrue (D.is_honest disk.old)
         → IfOk result (λ reply. PassesOverNone line.now reply (D.history disk.new (D.attached disk.new)).reads) }
-    ensures works { OnOk result (DocumentsWork (IsTrue (D.is_honest disk.old)) documents.new (D.history disk.new (D.attached disk.new))) }
+    ensures works { OnOk result (DocumentsWork C.pages (IsTrue (D.is_honest disk.old)) documents.new (D.history disk.new (D.attached disk.new))) }
     ensures readable { IsTrue (D.is_honest disk.old)
         → Rests (D.history disk.old (D.attached disk.old)) SaysReadable
         → Stays (D.history disk.old (D.attached disk.old)) (D.history disk.new (D.attached disk.new)) SaysReadable }
@@ -227,10 +253,14 @@ fn answer<D: Disk, L: Ledger>(
 }
 
 /// The reply to a write.
-fn write<D: Disk>(documents: &mut Documents, disk: &mut D, line: &Line) -> Result<Reply, Fault>
+fn write<D: Disk, C: PageCache>(
+    documents: &mut Documents<C>,
+    disk: &mut D,
+    line: &Line,
+) -> Result<Reply, Fault>
     requires writes { IsWrite line.now }
     requires asked { IsAsked line.now }
-    requires works { DocumentsWork (IsTrue (D.is_honest disk.old)) documents.old (D.history disk.old (D.attached disk.old)) }
+    requires works { DocumentsWork C.pages (IsTrue (D.is_honest disk.old)) documents.old (D.history disk.old (D.attached disk.old)) }
     ensures tells { (before : Container) → DocumentsHold documents.old before
         → Tells (IsTrue (D.is_honest disk.old)) before line.now result documents.new
         (D.history disk.old (D.attached disk.old)) (D.history disk.new (D.attached disk.new)) }
@@ -238,7 +268,7 @@ fn write<D: Disk>(documents: &mut Documents, disk: &mut D, line: &Line) -> Resul
         → made_of line.now before ≡ Err why → result ≡ Ok (Reply.Refused (write_refusal why)) }
     ensures may_reply { IfOk result (λ reply. MayReply line.now reply) }
     ensures only { IfErr result (λ fault. fault ≡ Fault.Disk) }
-    ensures works { OnOk result (DocumentsWork (IsTrue (D.is_honest disk.old)) documents.new (D.history disk.new (D.attached disk.new))) }
+    ensures works { OnOk result (DocumentsWork C.pages (IsTrue (D.is_honest disk.old)) documents.new (D.history disk.new (D.attached disk.new))) }
     ensures readable { IsTrue (D.is_honest disk.old)
         → Rests (D.history disk.old (D.attached disk.old)) SaysReadable
         → Stays (D.history disk.old (D.attached disk.old)) (D.history disk.new (D.attached disk.new)) SaysReadable }
@@ -252,17 +282,21 @@ fn write<D: Disk>(documents: &mut Documents, disk: &mut D, line: &Line) -> Resul
 }
 
 /// Makes a write.
-fn make<D: Disk>(documents: &mut Documents, disk: &mut D, line: &Line) -> Result<(), WriteFault>
+fn make<D: Disk, C: PageCache>(
+    documents: &mut Documents<C>,
+    disk: &mut D,
+    line: &Line,
+) -> Result<(), WriteFault>
     requires writes { IsWrite line.now }
     requires asked { IsAsked line.now }
-    requires works { DocumentsWork (IsTrue (D.is_honest disk.old)) documents.old (D.history disk.old (D.attached disk.old)) }
+    requires works { DocumentsWork C.pages (IsTrue (D.is_honest disk.old)) documents.old (D.history disk.old (D.attached disk.old)) }
     ensures tells { (before : Container) → DocumentsHold documents.old before
         → TellsWrite (IsTrue (D.is_honest disk.old)) before (made_of line.now before) result documents.new
         (D.history disk.old (D.attached disk.old)) (D.history disk.new (D.attached disk.new)) }
     ensures refused { (before : Container) → (why : WriteRefusal) → DocumentsHold documents.old before
         → made_of line.now before ≡ Err why → result ≡ Err (fault_of why) }
     ensures only { IfErr result (MayFail line.now) }
-    ensures leaves { WriteLeaves (D.is_honest disk.old) result documents.new
+    ensures leaves { WriteLeaves C.pages (D.is_honest disk.old) result documents.new
         (D.history disk.old (D.attached disk.old)) (D.history disk.new (D.attached disk.new))
         (D.faults disk.old) (D.faults disk.new) }
     ensures attached { D.attached disk.new ≡ D.attached disk.old }
@@ -293,13 +327,13 @@ fn answer_of_write(made: Result<(), WriteFault>) -> Result<Reply, Fault>
 }
 
 /// The document of an id, which changes nothing. Its text is passed on as it is stored.
-fn read<D: Disk, L: Ledger>(
-    documents: &mut Documents,
+fn read<D: Disk, C: PageCache, L: Ledger>(
+    documents: &mut Documents<C>,
     disk: &mut D,
     id: &Text,
     steps: &mut Steps<L>,
 ) -> Result<Reply, Fault>
-    requires works { DocumentsWork (IsTrue (D.is_honest disk.old)) documents.old (D.history disk.old (D.attached disk.old)) }
+    requires works { DocumentsWork C.pages (IsTrue (D.is_honest disk.old)) documents.old (D.history disk.old (D.attached disk.old)) }
     ensures tells { IsTrue (D.is_honest disk.old)
         → (before : Container) → DocumentsHold documents.old before
         → Tells (IsTrue (D.is_honest disk.old)) before (line.Read id.now) result documents.new
@@ -309,7 +343,7 @@ fn read<D: Disk, L: Ledger>(
     ensures may_reply { IfOk result FitsRead }
     ensures only { IfErr result (λ fault. fault ≡ Fault.Disk) }
     ensures lists { IsTrue (D.is_honest disk.old) → Idles (D.history disk.old (D.attached disk.old)) (D.history disk.new (D.attached disk.new)) }
-    ensures works { OnOk result (DocumentsWork (IsTrue (D.is_honest disk.old)) documents.new (D.history disk.new (D.attached disk.new))) }
+    ensures works { OnOk result (DocumentsWork C.pages (IsTrue (D.is_honest disk.old)) documents.new (D.history disk.new (D.attached disk.new))) }
     ensures readable { IsTrue (D.is_honest disk.old)
         → Rests (D.history disk.old (D.attached disk.old)) SaysReadable
         → Stays (D.history disk.old (D.attached disk.old)) (D.history disk.new (D.attached disk.new)) SaysReadable }
@@ -337,13 +371,13 @@ fn read<D: Disk, L: Ledger>(
 }
 
 /// The reply to a query, which changes nothing.
-fn query<D: Disk, L: Ledger>(
-    documents: &mut Documents,
+fn query<D: Disk, C: PageCache, L: Ledger>(
+    documents: &mut Documents<C>,
     disk: &mut D,
     body: &Body,
     steps: &mut Steps<L>,
 ) -> Result<Reply, Fault>
-    requires works { DocumentsWork (IsTrue (D.is_honest disk.old)) documents.old (D.history disk.old (D.attached disk.old)) }
+    requires works { DocumentsWork C.pages (IsTrue (D.is_honest disk.old)) documents.old (D.history disk.old (D.attached disk.old)) }
     ensures tells { IsTrue (D.is_honest disk.old)
         → Rests (D.history disk.old (D.attached disk.old)) SaysReadable
         → (before : Container) → DocumentsHold documents.old before
@@ -356,7 +390,7 @@ fn query<D: Disk, L: Ledger>(
         → IfErr result (λ fault. Meets fault (D.history disk.new (D.attached disk.new)).reads) }
     ensures passes_over_none { IsTrue (D.is_honest disk.old)
         → IfOk result (λ reply. PassesOverNone (line.Query body.now) reply (D.history disk.new (D.attached disk.new)).reads) }
-    ensures works { OnOk result (DocumentsWork (IsTrue (D.is_honest disk.old)) documents.new
+    ensures works { OnOk result (DocumentsWork C.pages (IsTrue (D.is_honest disk.old)) documents.new
         (D.history disk.new (D.attached disk.new))) }
     ensures readable { IsTrue (D.is_honest disk.old)
         → Rests (D.history disk.old (D.attached disk.old)) SaysReadable

@@ -27,22 +27,23 @@ ghost use Rattle.ax_engine.specs.Stores.{IsImageOf, IsStore, IsWithin};
 
 use crate::documents::Documents;
 use crate::reading::{next_held, read_document};
+use ax_cache::PageCache;
 use ax_disk::Disk;
 use ax_ids::{Ids, Memory};
 use ax_skim::find_id;
-use ax_store::{LruPages, NoPages, ReadAhead, Store, StoreFault};
+use ax_store::{NoPages, ReadAhead, Store, StoreFault};
 use ax_text::{TextFault, TreeReader};
 use ax_tree::id_of;
 use std::alloc::Global;
 use std::str;
 
-/// How many parts the cache of a store has room for.
-const CACHED_PARTS: u32 = 256;
-
-/// Opens the store attached. Each document's id is looked for in its text; a text that is no
-/// document's is under any id or none.
-pub(crate) fn open_documents<D: Disk>(alloc: Global, disk: &mut D) -> Result<Documents, StoreFault>
-    ensures works { IfOk result (λ documents. DocumentsWork (IsTrue (D.is_honest disk.old)) documents
+/// Opens the store attached, over no cache: the texts are read ahead. Each document's id is looked for in its
+/// text; a text that is no document's is under any id or none.
+pub(crate) fn open_documents<D: Disk>(
+    alloc: Global,
+    disk: &mut D,
+) -> Result<Documents<NoPages>, StoreFault>
+    ensures works { IfOk result (λ documents. DocumentsWork (λ _. no_pages) (IsTrue (D.is_honest disk.old)) documents
         (D.history disk.new (D.attached disk.new))) }
     ensures holds { IsTrue (D.is_honest disk.old) → (before : Container)
         → IsStore before (D.history disk.old (D.attached disk.old)) → IfOk result (λ documents. DocumentsHold documents before) }
@@ -69,7 +70,6 @@ pub(crate) fn open_documents<D: Disk>(alloc: Global, disk: &mut D) -> Result<Doc
     ensures attached { D.attached disk.new ≡ D.attached disk.old }
     ensures honest { D.is_honest disk.new ≡ D.is_honest disk.old }
 {
-    // The cache takes its memory when the store is open, so that no want of it hides why a store is refused.
     match Store::open_store(alloc, disk, NoPages) {
         Ok(store) => number_all(alloc, disk, store),
         Err(fault) => Err(fault),
@@ -80,8 +80,8 @@ pub(crate) fn open_documents<D: Disk>(alloc: Global, disk: &mut D) -> Result<Doc
 fn number_all<D: Disk>(
     alloc: Global,
     disk: &mut D,
-    store: Store<NoPages>,
-) -> Result<Documents, StoreFault>
+    mut store: Store<NoPages>,
+) -> Result<Documents<NoPages>, StoreFault>
     requires works { store_failed store ≡ false }
     requires agrees { IsTrue (D.is_honest disk.old) → Agrees (λ _. no_pages) store (D.history disk.old (D.attached disk.old)) }
     ensures numbers { Numbers (D.is_honest disk.old) result store
@@ -90,10 +90,6 @@ fn number_all<D: Disk>(
     ensures attached { D.attached disk.new ≡ D.attached disk.old }
     ensures honest { D.is_honest disk.new ≡ D.is_honest disk.old }
 {
-    let Ok(cache) = LruPages::make(alloc, CACHED_PARTS) else {
-        return Err(StoreFault::Memory);
-    };
-    let mut store = store.with_cache(cache);
     let mut numbers = Ids::new(alloc);
     let mut ahead = ReadAhead::new(alloc);
     match number_documents(alloc, &mut store, disk, &mut ahead, &mut numbers) {
@@ -107,19 +103,19 @@ fn number_all<D: Disk>(
 }
 
 /// Puts the number of each document of a store under its id.
-fn number_documents<D: Disk>(
+fn number_documents<D: Disk, C: PageCache>(
     alloc: Global,
-    store: &mut Store<LruPages>,
+    store: &mut Store<C>,
     disk: &mut D,
     ahead: &mut ReadAhead,
     numbers: &mut Ids,
 ) -> Result<(), StoreFault>
     requires none { (id : List ℕ) → number_under numbers.old id ≡ None }
-    requires ready { IsReady (D.is_honest disk.old) store.old ahead.old (D.history disk.old (D.attached disk.old)) }
+    requires ready { IsReady C.pages (D.is_honest disk.old) store.old ahead.old (D.history disk.old (D.attached disk.old)) }
     ensures numbers { IsTrue (D.is_honest disk.old) → (container : Container)
         → ContentsHold (store_contents store.old) container
         → OnOk result ((id : List ℕ) → number_under numbers.new id ≡ number_in id container) }
-    ensures scans { Scans (D.is_honest disk.old) result store.old store.new ahead.new
+    ensures scans { Scans C.pages (D.is_honest disk.old) result store.old store.new ahead.new
         (D.history disk.old (D.attached disk.old)) (D.history disk.new (D.attached disk.new))
         (D.faults disk.old) (D.faults disk.new) }
     ensures only { IfErr result (λ fault. (fault ≡ StoreFault.Disk) ⊎ (fault ≡ StoreFault.Memory)) }
@@ -139,22 +135,22 @@ fn number_documents<D: Disk>(
 }
 
 /// Puts the number of a document under its id.
-fn number_document<D: Disk>(
+fn number_document<D: Disk, C: PageCache>(
     alloc: Global,
-    store: &mut Store<LruPages>,
+    store: &mut Store<C>,
     disk: &mut D,
     ahead: &mut ReadAhead,
     reader: &mut TreeReader,
     numbers: &mut Ids,
     number: u32,
 ) -> Result<(), StoreFault>
-    requires ready { IsReady (D.is_honest disk.old) store.old ahead.old (D.history disk.old (D.attached disk.old)) }
+    requires ready { IsReady C.pages (D.is_honest disk.old) store.old ahead.old (D.history disk.old (D.attached disk.old)) }
     ensures put { IsTrue (D.is_honest disk.old) → (tree : TreeOf) → (id : List ℕ)
         → text_of (map.get (store_contents store.old).documents number) ≡ Some (canonical_text tree)
         → reading (canonical_text tree) ≡ Stands tree → document_id tree ≡ Some id
         → OnOk result ((other : List ℕ) → number_under numbers.new other
         ≡ cond (bytes_eq id other) (Some number) (number_under numbers.old other)) }
-    ensures scans { Scans (D.is_honest disk.old) result store.old store.new ahead.new
+    ensures scans { Scans C.pages (D.is_honest disk.old) result store.old store.new ahead.new
         (D.history disk.old (D.attached disk.old)) (D.history disk.new (D.attached disk.new))
         (D.faults disk.old) (D.faults disk.new) }
     ensures only { IfErr result (λ fault. (fault ≡ StoreFault.Disk) ⊎ (fault ≡ StoreFault.Memory)) }

@@ -28,13 +28,14 @@ use crate::rows::{Rows, rows_shown};
 use crate::shown_documents::{document_rows, keys_of};
 use ax_answer_text::TextAnswer;
 use ax_base::Steps;
+use ax_cache::PageCache;
 use ax_disk::Disk;
 use ax_excerpt::{excerpt_for_keys, shows_document};
 use ax_lines::{Body, Refusal};
 use ax_machine::refusal_of;
 use ax_mean::{KeyedRow, Query};
 use ax_parse::{ParseFault, parse};
-use ax_store::{LruPages, ReadAhead, Store, StoreFault};
+use ax_store::{ReadAhead, Store, StoreFault};
 use ax_tree::Memory;
 use std::alloc::Global;
 use std::sync::ledger::Ledger;
@@ -46,15 +47,15 @@ use std::sync::ledger::Ledger;
 ///
 /// `Disk` where a read failed; `Damaged` where the text of a document that was evaluated is outside the
 /// format, with the place of its part; `Memory`.
-pub(crate) fn reply_to_query<D: Disk, L: Ledger>(
+pub(crate) fn reply_to_query<D: Disk, C: PageCache, L: Ledger>(
     alloc: Global,
-    store: &mut Store<LruPages>,
+    store: &mut Store<C>,
     disk: &mut D,
     ahead: &mut ReadAhead,
     body: &Body,
     steps: &mut Steps<L>,
 ) -> Result<Reply, StoreFault>
-    requires ready { IsReady (D.is_honest disk.old) store.old ahead.old (D.history disk.old (D.attached disk.old)) }
+    requires ready { IsReady C.pages (D.is_honest disk.old) store.old ahead.old (D.history disk.old (D.attached disk.old)) }
     ensures reply { IsTrue (D.is_honest disk.old) → (container : Container) → ContentsHold (store_contents store.old) container
         → IfOk result (λ reply. IsReply reply (query_reply body.now container)) }
     ensures fits { IfOk result (λ reply. FitsRefusal (own_refusal (query_in body.now.params body.now.text)) reply) }
@@ -63,7 +64,7 @@ pub(crate) fn reply_to_query<D: Disk, L: Ledger>(
     ensures bound { (container : Container) → ContentsHold (store_contents store.old) container
         → steps.new ≤ steps.old + 2 * query_need (rows_or_refusal (query_in body.now.params body.now.text) container) container }
     ensures never_falls { steps.old ≤ steps.new }
-    ensures scans { Scans (D.is_honest disk.old) result store.old store.new ahead.new
+    ensures scans { Scans C.pages (D.is_honest disk.old) result store.old store.new ahead.new
         (D.history disk.old (D.attached disk.old)) (D.history disk.new (D.attached disk.new))
         (D.faults disk.old) (D.faults disk.new) }
     ensures attached { D.attached disk.new ≡ D.attached disk.old }
@@ -90,15 +91,15 @@ fn query_of(alloc: Global, body: &Body) -> Result<Option<Query>, Memory>
 
 /// The reply to a query that was read.
 #[tactic(auto, using(crate::proofs::OwnRefusals::is_answered))]
-fn reply_to_read<D: Disk, L: Ledger>(
+fn reply_to_read<D: Disk, C: PageCache, L: Ledger>(
     alloc: Global,
-    store: &mut Store<LruPages>,
+    store: &mut Store<C>,
     disk: &mut D,
     ahead: &mut ReadAhead,
     query: Query,
     steps: &mut Steps<L>,
 ) -> Result<Reply, StoreFault>
-    requires ready { IsReady (D.is_honest disk.old) store.old ahead.old (D.history disk.old (D.attached disk.old)) }
+    requires ready { IsReady C.pages (D.is_honest disk.old) store.old ahead.old (D.history disk.old (D.attached disk.old)) }
     ensures reply { IsTrue (D.is_honest disk.old) → (container : Container) → ContentsHold (store_contents store.old) container
         → IfOk result (λ reply. IsReply reply (rows_reply (rows_or_refusal (Some query) container))) }
     ensures fits { IfOk result (λ reply. FitsRefusal (own_refusal (Some query)) reply) }
@@ -107,7 +108,7 @@ fn reply_to_read<D: Disk, L: Ledger>(
     ensures bound { (container : Container) → ContentsHold (store_contents store.old) container
         → steps.new ≤ steps.old + 2 * query_need (rows_or_refusal (Some query) container) container }
     ensures never_falls { steps.old ≤ steps.new }
-    ensures scans { Scans (D.is_honest disk.old) result store.old store.new ahead.new
+    ensures scans { Scans C.pages (D.is_honest disk.old) result store.old store.new ahead.new
         (D.history disk.old (D.attached disk.old)) (D.history disk.new (D.attached disk.new))
         (D.faults disk.old) (D.faults disk.new) }
     ensures attached { D.attached disk.new ≡ D.attached disk.old }
@@ -124,21 +125,21 @@ fn reply_to_read<D: Disk, L: Ledger>(
 }
 
 /// The rows of a query that is not refused.
-fn rows_of_query<D: Disk, L: Ledger>(
+fn rows_of_query<D: Disk, C: PageCache, L: Ledger>(
     alloc: Global,
-    store: &mut Store<LruPages>,
+    store: &mut Store<C>,
     disk: &mut D,
     ahead: &mut ReadAhead,
     query: Query,
     steps: &mut Steps<L>,
 ) -> Result<Rows, StoreFault>
-    requires ready { IsReady (D.is_honest disk.old) store.old ahead.old (D.history disk.old (D.attached disk.old)) }
+    requires ready { IsReady C.pages (D.is_honest disk.old) store.old ahead.old (D.history disk.old (D.attached disk.old)) }
     ensures rows { IsTrue (D.is_honest disk.old) → (container : Container) → ContentsHold (store_contents store.old) container
         → IfOk result (λ rows. AreRows rows (rows_of query container)) }
     ensures met { IsTrue (D.is_honest disk.old) → OnOk result (MeetsTrees query (store_contents store.old)) }
     ensures bound { (container : Container) → ContentsHold (store_contents store.old) container → steps.new ≤ steps.old + 2 * length container.entries }
     ensures never_falls { steps.old ≤ steps.new }
-    ensures scans { Scans (D.is_honest disk.old) result store.old store.new ahead.new
+    ensures scans { Scans C.pages (D.is_honest disk.old) result store.old store.new ahead.new
         (D.history disk.old (D.attached disk.old)) (D.history disk.new (D.attached disk.new))
         (D.faults disk.old) (D.faults disk.new) }
     ensures attached { D.attached disk.new ≡ D.attached disk.old }
@@ -184,22 +185,22 @@ fn prints_documents(alloc: Global, query: &Query) -> Result<bool, Memory>
 
 /// The same of a query whose rows are documents: these are printed as they are stored, and read only as
 /// far as the keys of the rows ask for.
-fn rows_of_documents<D: Disk, L: Ledger>(
+fn rows_of_documents<D: Disk, C: PageCache, L: Ledger>(
     alloc: Global,
-    store: &mut Store<LruPages>,
+    store: &mut Store<C>,
     disk: &mut D,
     ahead: &mut ReadAhead,
     query: Query,
     steps: &mut Steps<L>,
 ) -> Result<Rows, StoreFault>
     requires printed { IsPrinted query }
-    requires ready { IsReady (D.is_honest disk.old) store.old ahead.old (D.history disk.old (D.attached disk.old)) }
+    requires ready { IsReady C.pages (D.is_honest disk.old) store.old ahead.old (D.history disk.old (D.attached disk.old)) }
     ensures rows { IsTrue (D.is_honest disk.old) → (container : Container) → ContentsHold (store_contents store.old) container
         → IfOk result (λ rows. AreRows rows (rows_of query container)) }
     ensures met { IsTrue (D.is_honest disk.old) → OnOk result (MeetsTrees query (store_contents store.old)) }
     ensures bound { (container : Container) → ContentsHold (store_contents store.old) container → steps.new ≤ steps.old + 2 * length container.entries }
     ensures never_falls { steps.old ≤ steps.new }
-    ensures scans { Scans (D.is_honest disk.old) result store.old store.new ahead.new
+    ensures scans { Scans C.pages (D.is_honest disk.old) result store.old store.new ahead.new
         (D.history disk.old (D.attached disk.old)) (D.history disk.new (D.attached disk.new))
         (D.faults disk.old) (D.faults disk.new) }
     ensures attached { D.attached disk.new ≡ D.attached disk.old }
@@ -217,15 +218,15 @@ fn rows_of_documents<D: Disk, L: Ledger>(
 }
 
 /// The rows of the answer over all documents.
-fn answer_rows<D: Disk, L: Ledger>(
+fn answer_rows<D: Disk, C: PageCache, L: Ledger>(
     alloc: Global,
-    store: &mut Store<LruPages>,
+    store: &mut Store<C>,
     disk: &mut D,
     ahead: &mut ReadAhead,
     query: &Query,
     steps: &mut Steps<L>,
 ) -> Result<Vec<KeyedRow>, StoreFault>
-    requires ready { IsReady (D.is_honest disk.old) store.old ahead.old (D.history disk.old (D.attached disk.old)) }
+    requires ready { IsReady C.pages (D.is_honest disk.old) store.old ahead.old (D.history disk.old (D.attached disk.old)) }
     ensures rows { IsTrue (D.is_honest disk.old) → (container : Container) → ContentsHold (store_contents store.old) container
         → IfOk result (λ rows. rows.items ≡ answer_of query.now (numbered container)) }
     ensures met { IsTrue (D.is_honest disk.old) → LooksAtEach query.now
@@ -234,7 +235,7 @@ fn answer_rows<D: Disk, L: Ledger>(
         → query.now.limit ≡ None → OnOk result (steps.old + length container.entries ≤ steps.new) }
     ensures bound { (container : Container) → ContentsHold (store_contents store.old) container → steps.new ≤ steps.old + 2 * length container.entries }
     ensures never_falls { steps.old ≤ steps.new }
-    ensures scans { Scans (D.is_honest disk.old) result store.old store.new ahead.new
+    ensures scans { Scans C.pages (D.is_honest disk.old) result store.old store.new ahead.new
         (D.history disk.old (D.attached disk.old)) (D.history disk.new (D.attached disk.new))
         (D.faults disk.old) (D.faults disk.new) }
     ensures attached { D.attached disk.new ≡ D.attached disk.old }
@@ -256,15 +257,15 @@ fn answer_rows<D: Disk, L: Ledger>(
 /// Takes documents into the answer in the order of their numbers, all or as many as can change it. The
 /// first text of these that is none of a document is damage, where the query reads it: then nothing is
 /// answered.
-fn add_documents<D: Disk, L: Ledger>(
+fn add_documents<D: Disk, C: PageCache, L: Ledger>(
     alloc: Global,
-    store: &mut Store<LruPages>,
+    store: &mut Store<C>,
     disk: &mut D,
     ahead: &mut ReadAhead,
     answer: &mut TextAnswer<'_>,
     steps: &mut Steps<L>,
 ) -> Result<(), StoreFault>
-    requires ready { IsReady (D.is_honest disk.old) store.old ahead.old (D.history disk.old (D.attached disk.old)) }
+    requires ready { IsReady C.pages (D.is_honest disk.old) store.old ahead.old (D.history disk.old (D.attached disk.old)) }
     ensures added { IsTrue (D.is_honest disk.old) → (container : Container) → ContentsHold (store_contents store.old) container
         → (query : queries.Query) → Answers answer.old query []
         → OnOk result (Answers answer.new query (numbered container)) }
@@ -277,7 +278,7 @@ fn add_documents<D: Disk, L: Ledger>(
         → OnOk result (steps.old + length container.entries ≤ steps.new) }
     ensures bound { (container : Container) → ContentsHold (store_contents store.old) container → steps.new ≤ steps.old + 2 * length container.entries }
     ensures never_falls { steps.old ≤ steps.new }
-    ensures scans { Scans (D.is_honest disk.old) result store.old store.new ahead.new
+    ensures scans { Scans C.pages (D.is_honest disk.old) result store.old store.new ahead.new
         (D.history disk.old (D.attached disk.old)) (D.history disk.new (D.attached disk.new))
         (D.faults disk.old) (D.faults disk.new) }
     ensures attached { D.attached disk.new ≡ D.attached disk.old }
@@ -299,9 +300,9 @@ fn add_documents<D: Disk, L: Ledger>(
 
 /// Takes a document that is held into the answer, for one step of work or two. A text that is none of a
 /// document is damage.
-fn add_document<D: Disk, L: Ledger>(
+fn add_document<D: Disk, C: PageCache, L: Ledger>(
     alloc: Global,
-    store: &mut Store<LruPages>,
+    store: &mut Store<C>,
     disk: &mut D,
     ahead: &mut ReadAhead,
     number: u32,
@@ -309,7 +310,7 @@ fn add_document<D: Disk, L: Ledger>(
     steps: &mut Steps<L>,
 ) -> Result<(), StoreFault>
     requires held { IsTrue (map.contains_key (store_contents store.old).documents number) }
-    requires ready { IsReady (D.is_honest disk.old) store.old ahead.old (D.history disk.old (D.attached disk.old)) }
+    requires ready { IsReady C.pages (D.is_honest disk.old) store.old ahead.old (D.history disk.old (D.attached disk.old)) }
     ensures added { IsTrue (D.is_honest disk.old) → (tree : TreeOf)
         → text_of (map.get (store_contents store.old).documents number) ≡ Some (canonical_text tree)
         → IsReadable tree → OnOk result ((query : queries.Query) → (entries : List (ℕ × TreeOf))
@@ -323,7 +324,7 @@ fn add_document<D: Disk, L: Ledger>(
     ensures asked { (query : queries.Query) → IsTo answer.old query → IsTo answer.new query }
     ensures fetched { steps.old < steps.new }
     ensures two { steps.new ≤ steps.old + 2 }
-    ensures scans { Scans (D.is_honest disk.old) result store.old store.new ahead.new
+    ensures scans { Scans C.pages (D.is_honest disk.old) result store.old store.new ahead.new
         (D.history disk.old (D.attached disk.old)) (D.history disk.new (D.attached disk.new))
         (D.faults disk.old) (D.faults disk.new) }
     ensures attached { D.attached disk.new ≡ D.attached disk.old }

@@ -11,12 +11,13 @@ ghost use Rattle.ax_engine.specs.Scans.{IsReady, Scans};
 
 use ax_answer_text::TextFault;
 use ax_base::Steps;
+use ax_cache::PageCache;
 use ax_disk::Disk;
-use ax_store::{LruPages, Page, ReadAhead, Store, StoreFault};
+use ax_store::{Page, ReadAhead, Store, StoreFault};
 use std::sync::ledger::Ledger;
 
 /// The least number above another that is held. `None` exactly where there is none.
-pub(crate) fn next_held(store: &Store<LruPages>, after: u32) -> Option<u32>
+pub(crate) fn next_held<C>(store: &Store<C>, after: u32) -> Option<u32>
     ensures found { IfSome result (IsNextAfter (store_contents store.now).documents after) }
     ensures none { IfNone result ((number : ℕ) → after < number → map.get (store_contents store.now).documents number ≡ None) }
 {
@@ -25,16 +26,16 @@ pub(crate) fn next_held(store: &Store<LruPages>, after: u32) -> Option<u32>
 
 /// Finds the text of a document, which `ahead` shows from then on, and answers whether the number is
 /// held. `Disk` where a read failed, `Memory` where there is none for what is read.
-pub(crate) fn read_document<D: Disk>(
-    store: &mut Store<LruPages>,
+pub(crate) fn read_document<D: Disk, C: PageCache>(
+    store: &mut Store<C>,
     disk: &mut D,
     ahead: &mut ReadAhead,
     number: u32,
 ) -> Result<bool, StoreFault>
-    requires ready { IsReady (D.is_honest disk.old) store.old ahead.old (D.history disk.old (D.attached disk.old)) }
+    requires ready { IsReady C.pages (D.is_honest disk.old) store.old ahead.old (D.history disk.old (D.attached disk.old)) }
     ensures text { IsTrue (D.is_honest disk.old)
         → IfOk result (λ found. IsAhead (map.get (store_contents store.old).documents number) found (ahead_text ahead.new)) }
-    ensures scans { Scans (D.is_honest disk.old) result store.old store.new ahead.new
+    ensures scans { Scans C.pages (D.is_honest disk.old) result store.old store.new ahead.new
         (D.history disk.old (D.attached disk.old)) (D.history disk.new (D.attached disk.new))
         (D.faults disk.old) (D.faults disk.new) }
     ensures only { IfErr result (λ fault. (fault ≡ StoreFault.Disk) ⊎ (fault ≡ StoreFault.Memory)) }
@@ -45,17 +46,17 @@ pub(crate) fn read_document<D: Disk>(
 }
 
 /// The same for a query that goes over the documents: it takes one step of work, whatever it answers.
-pub(crate) fn fetch_document<D: Disk, L: Ledger>(
-    store: &mut Store<LruPages>,
+pub(crate) fn fetch_document<D: Disk, C: PageCache, L: Ledger>(
+    store: &mut Store<C>,
     disk: &mut D,
     ahead: &mut ReadAhead,
     number: u32,
     steps: &mut Steps<L>,
 ) -> Result<bool, StoreFault>
-    requires ready { IsReady (D.is_honest disk.old) store.old ahead.old (D.history disk.old (D.attached disk.old)) }
+    requires ready { IsReady C.pages (D.is_honest disk.old) store.old ahead.old (D.history disk.old (D.attached disk.old)) }
     ensures text { IsTrue (D.is_honest disk.old)
         → IfOk result (λ found. IsAhead (map.get (store_contents store.old).documents number) found (ahead_text ahead.new)) }
-    ensures scans { Scans (D.is_honest disk.old) result store.old store.new ahead.new
+    ensures scans { Scans C.pages (D.is_honest disk.old) result store.old store.new ahead.new
         (D.history disk.old (D.attached disk.old)) (D.history disk.new (D.attached disk.new))
         (D.faults disk.old) (D.faults disk.new) }
     ensures attached { D.attached disk.new ≡ D.attached disk.old }
@@ -67,7 +68,7 @@ pub(crate) fn fetch_document<D: Disk, L: Ledger>(
 
 /// The fault of a text of a document that is held: where it is outside the format, the place of its
 /// part.
-pub(crate) fn text_fault(store: &Store<LruPages>, number: u32, fault: TextFault) -> StoreFault
+pub(crate) fn text_fault<C>(store: &Store<C>, number: u32, fault: TextFault) -> StoreFault
     requires { IsTrue (map.contains_key (store_contents store.now).documents number) }
     ensures memory { fault ≡ TextFault.Memory → result ≡ StoreFault.Memory }
     ensures outside { fault ≡ TextFault.Outside → IsPlaced store.now number result }
@@ -82,7 +83,7 @@ pub(crate) fn text_fault(store: &Store<LruPages>, number: u32, fault: TextFault)
 }
 
 /// Where the part of a document that is held stands: the list as a number, and the offset in it.
-fn place_of(store: &Store<LruPages>, number: u32) -> (u8, u64)
+fn place_of<C>(store: &Store<C>, number: u32) -> (u8, u64)
     requires { IsTrue (map.contains_key (store_contents store.now).documents number) }
     ensures list { result.0 ≡ extent_number (store_area store.now) }
     ensures offset { map.get (store_offsets store.now).documents number ≡ Some result.1 }

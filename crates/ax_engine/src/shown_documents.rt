@@ -15,9 +15,10 @@ ghost use Rattle.ax_tree.specs.declared.tree.Tree as trees;
 
 use crate::reading::read_document;
 use crate::rows::Rows;
+use ax_cache::PageCache;
 use ax_disk::Disk;
 use ax_mean::{Expr, KeyedRow, Pick, Query, Shared, Tree, Value};
-use ax_store::{LruPages, ReadAhead, Store, StoreFault};
+use ax_store::{ReadAhead, Store, StoreFault};
 use ax_tree::Memory;
 use std::alloc::Global;
 
@@ -54,17 +55,17 @@ pub(crate) fn keys_of(alloc: Global, query: Query) -> Result<Query, Memory>
 
 /// The rows of a query whose rows are documents, from the keys of its rows: each has the text of its
 /// document.
-pub(crate) fn document_rows<D: Disk>(
+pub(crate) fn document_rows<D: Disk, C: PageCache>(
     alloc: Global,
-    store: &mut Store<LruPages>,
+    store: &mut Store<C>,
     disk: &mut D,
     ahead: &mut ReadAhead,
     rows: &[KeyedRow],
 ) -> Result<Rows, StoreFault>
-    requires ready { IsReady (D.is_honest disk.old) store.old ahead.old (D.history disk.old (D.attached disk.old)) }
+    requires ready { IsReady C.pages (D.is_honest disk.old) store.old ahead.old (D.history disk.old (D.attached disk.old)) }
     ensures rows { IsTrue (D.is_honest disk.old) → (container : Container) → ContentsHold (store_contents store.old) container
         → IfOk result (λ made. AreRows made (map (λ row. canonical_text (tree_numbered row.number (numbered container))) rows.now)) }
-    ensures scans { Scans (D.is_honest disk.old) result store.old store.new ahead.new
+    ensures scans { Scans C.pages (D.is_honest disk.old) result store.old store.new ahead.new
         (D.history disk.old (D.attached disk.old)) (D.history disk.new (D.attached disk.new))
         (D.faults disk.old) (D.faults disk.new) }
     ensures attached { D.attached disk.new ≡ D.attached disk.old }
@@ -80,17 +81,17 @@ pub(crate) fn document_rows<D: Disk>(
 }
 
 /// The lines of these rows.
-fn document_lines<D: Disk>(
+fn document_lines<D: Disk, C: PageCache>(
     alloc: Global,
-    store: &mut Store<LruPages>,
+    store: &mut Store<C>,
     disk: &mut D,
     ahead: &mut ReadAhead,
     rows: &[KeyedRow],
 ) -> Result<Vec<u8>, StoreFault>
-    requires ready { IsReady (D.is_honest disk.old) store.old ahead.old (D.history disk.old (D.attached disk.old)) }
+    requires ready { IsReady C.pages (D.is_honest disk.old) store.old ahead.old (D.history disk.old (D.attached disk.old)) }
     ensures lines { IsTrue (D.is_honest disk.old) → (container : Container) → ContentsHold (store_contents store.old) container
         → IfOk result (λ lines. lines.items ≡ lines_of (map (λ row. canonical_text (tree_numbered row.number (numbered container))) rows.now)) }
-    ensures scans { Scans (D.is_honest disk.old) result store.old store.new ahead.new
+    ensures scans { Scans C.pages (D.is_honest disk.old) result store.old store.new ahead.new
         (D.history disk.old (D.attached disk.old)) (D.history disk.new (D.attached disk.new))
         (D.faults disk.old) (D.faults disk.new) }
     ensures attached { D.attached disk.new ≡ D.attached disk.old }
@@ -107,18 +108,18 @@ fn document_lines<D: Disk>(
 }
 
 /// The line of a document. A number under which none stands, which no row of an answer has, shows null.
-fn push_document<D: Disk>(
-    store: &mut Store<LruPages>,
+fn push_document<D: Disk, C: PageCache>(
+    store: &mut Store<C>,
     disk: &mut D,
     ahead: &mut ReadAhead,
     lines: &mut Vec<u8>,
     number: u32,
 ) -> Result<(), StoreFault>
-    requires ready { IsReady (D.is_honest disk.old) store.old ahead.old (D.history disk.old (D.attached disk.old)) }
+    requires ready { IsReady C.pages (D.is_honest disk.old) store.old ahead.old (D.history disk.old (D.attached disk.old)) }
     ensures line { IsTrue (D.is_honest disk.old) → (container : Container) → ContentsHold (store_contents store.old) container
         → OnOk result (lines.new.items
         ≡ lines.old.items ++ row_text (canonical_text (tree_numbered number (numbered container)))) }
-    ensures scans { Scans (D.is_honest disk.old) result store.old store.new ahead.new
+    ensures scans { Scans C.pages (D.is_honest disk.old) result store.old store.new ahead.new
         (D.history disk.old (D.attached disk.old)) (D.history disk.new (D.attached disk.new))
         (D.faults disk.old) (D.faults disk.new) }
     ensures attached { D.attached disk.new ≡ D.attached disk.old }

@@ -21,22 +21,23 @@ ghost use Rattle.ax_engine.specs.Documents.{IsOfCommit, IsOfCreation, IsOfHeld, 
 
 use crate::batches::{creating, deleting, replacing};
 use crate::documents::{Documents, WriteFault};
+use ax_cache::PageCache;
 use ax_disk::Disk;
 use ax_store::Batch;
 use ax_tree::{Text, Tree, id_of};
 
-impl Documents {
+impl<C: PageCache> Documents<C> {
     /// Creates a document behind all others. `Conflict` where its id is held.
     pub fn create<D: Disk>(&mut self, disk: &mut D, tree: &Tree) -> Result<(), WriteFault>
         requires storable { IsStorable tree.now }
-        requires works { DocumentsWork (IsTrue (D.is_honest disk.old)) self.old (D.history disk.old (D.attached disk.old)) }
+        requires works { DocumentsWork C.pages (IsTrue (D.is_honest disk.old)) self.old (D.history disk.old (D.attached disk.old)) }
         ensures tells { (before : Container) → (id : List ℕ) → DocumentsHold self.old before → document_id tree.now ≡ Some id
             → TellsWrite (IsTrue (D.is_honest disk.old)) before (inserted id tree.now before) result self.new
             (D.history disk.old (D.attached disk.old)) (D.history disk.new (D.attached disk.new)) }
         ensures refused { (before : Container) → (why : WriteRefusal) → (id : List ℕ) → DocumentsHold self.old before → document_id tree.now ≡ Some id
             → inserted id tree.now before ≡ Err why → result ≡ Err (fault_of why) }
         ensures only { IfErr result IsOfCreation }
-        ensures leaves { WriteLeaves (D.is_honest disk.old) result self.new
+        ensures leaves { WriteLeaves C.pages (D.is_honest disk.old) result self.new
             (D.history disk.old (D.attached disk.old)) (D.history disk.new (D.attached disk.new))
             (D.faults disk.old) (D.faults disk.new) }
         ensures attached { D.attached disk.new ≡ D.attached disk.old }
@@ -55,14 +56,14 @@ impl Documents {
     /// behind all others.
     pub fn upsert<D: Disk>(&mut self, disk: &mut D, tree: &Tree) -> Result<(), WriteFault>
         requires storable { IsStorable tree.now }
-        requires works { DocumentsWork (IsTrue (D.is_honest disk.old)) self.old (D.history disk.old (D.attached disk.old)) }
+        requires works { DocumentsWork C.pages (IsTrue (D.is_honest disk.old)) self.old (D.history disk.old (D.attached disk.old)) }
         ensures tells { (before : Container) → (id : List ℕ) → DocumentsHold self.old before → document_id tree.now ≡ Some id
             → TellsWrite (IsTrue (D.is_honest disk.old)) before (upserted id tree.now before) result self.new
             (D.history disk.old (D.attached disk.old)) (D.history disk.new (D.attached disk.new)) }
         ensures refused { (before : Container) → (why : WriteRefusal) → (id : List ℕ) → DocumentsHold self.old before → document_id tree.now ≡ Some id
             → upserted id tree.now before ≡ Err why → result ≡ Err (fault_of why) }
         ensures only { IfErr result IsOfUpsert }
-        ensures leaves { WriteLeaves (D.is_honest disk.old) result self.new
+        ensures leaves { WriteLeaves C.pages (D.is_honest disk.old) result self.new
             (D.history disk.old (D.attached disk.old)) (D.history disk.new (D.attached disk.new))
             (D.faults disk.old) (D.faults disk.new) }
         ensures attached { D.attached disk.new ≡ D.attached disk.old }
@@ -81,14 +82,14 @@ impl Documents {
     /// held.
     pub fn replace<D: Disk>(&mut self, disk: &mut D, tree: &Tree) -> Result<(), WriteFault>
         requires storable { IsStorable tree.now }
-        requires works { DocumentsWork (IsTrue (D.is_honest disk.old)) self.old (D.history disk.old (D.attached disk.old)) }
+        requires works { DocumentsWork C.pages (IsTrue (D.is_honest disk.old)) self.old (D.history disk.old (D.attached disk.old)) }
         ensures tells { (before : Container) → (id : List ℕ) → DocumentsHold self.old before → document_id tree.now ≡ Some id
             → TellsWrite (IsTrue (D.is_honest disk.old)) before (exchanged id tree.now before) result self.new
             (D.history disk.old (D.attached disk.old)) (D.history disk.new (D.attached disk.new)) }
         ensures refused { (before : Container) → (why : WriteRefusal) → (id : List ℕ) → DocumentsHold self.old before → document_id tree.now ≡ Some id
             → exchanged id tree.now before ≡ Err why → result ≡ Err (fault_of why) }
         ensures only { IfErr result IsOfHeld }
-        ensures leaves { WriteLeaves (D.is_honest disk.old) result self.new
+        ensures leaves { WriteLeaves C.pages (D.is_honest disk.old) result self.new
             (D.history disk.old (D.attached disk.old)) (D.history disk.new (D.attached disk.new))
             (D.faults disk.old) (D.faults disk.new) }
         ensures attached { D.attached disk.new ≡ D.attached disk.old }
@@ -105,14 +106,14 @@ impl Documents {
 
     /// Deletes the document of an id. `Absent` where the id is not held.
     pub fn delete<D: Disk>(&mut self, disk: &mut D, id: &Text) -> Result<(), WriteFault>
-        requires works { DocumentsWork (IsTrue (D.is_honest disk.old)) self.old (D.history disk.old (D.attached disk.old)) }
+        requires works { DocumentsWork C.pages (IsTrue (D.is_honest disk.old)) self.old (D.history disk.old (D.attached disk.old)) }
         ensures tells { (before : Container) → DocumentsHold self.old before
             → TellsWrite (IsTrue (D.is_honest disk.old)) before (removed id.now before) result self.new
             (D.history disk.old (D.attached disk.old)) (D.history disk.new (D.attached disk.new)) }
         ensures refused { (before : Container) → (why : WriteRefusal) → DocumentsHold self.old before
             → removed id.now before ≡ Err why → result ≡ Err (fault_of why) }
         ensures only { IfErr result IsOfHeld }
-        ensures leaves { WriteLeaves (D.is_honest disk.old) result self.new
+        ensures leaves { WriteLeaves C.pages (D.is_honest disk.old) result self.new
             (D.history disk.old (D.attached disk.old)) (D.history disk.new (D.attached disk.new))
             (D.faults disk.old) (D.faults disk.new) }
         ensures attached { D.attached disk.new ≡ D.attached disk.old }
@@ -125,11 +126,11 @@ impl Documents {
     }
 }
 
-impl Documents {
+impl<C: PageCache> Documents<C> {
     /// Creates a document of an id that is not held, under the next number.
     fn add<D: Disk>(&mut self, disk: &mut D, id: &str, tree: &Tree) -> Result<(), WriteFault>
         requires storable { IsStorable tree.now }
-        requires works { DocumentsWork (IsTrue (D.is_honest disk.old)) self.old (D.history disk.old (D.attached disk.old)) }
+        requires works { DocumentsWork C.pages (IsTrue (D.is_honest disk.old)) self.old (D.history disk.old (D.attached disk.old)) }
         ensures tells { (before : Container) → DocumentsHold self.old before → document_id tree.now ≡ Some id.now
             → number_in id.now before ≡ None
             → TellsWrite (IsTrue (D.is_honest disk.old)) before (creation id.now tree.now before) result self.new
@@ -137,7 +138,7 @@ impl Documents {
         ensures refused { (before : Container) → (why : WriteRefusal) → DocumentsHold self.old before → number_in id.now before ≡ None
             → creation id.now tree.now before ≡ Err why → result ≡ Err (fault_of why) }
         ensures only { IfErr result IsOfUpsert }
-        ensures leaves { WriteLeaves (D.is_honest disk.old) result self.new
+        ensures leaves { WriteLeaves C.pages (D.is_honest disk.old) result self.new
             (D.history disk.old (D.attached disk.old)) (D.history disk.new (D.attached disk.new))
             (D.faults disk.old) (D.faults disk.new) }
         ensures attached { D.attached disk.new ≡ D.attached disk.old }
@@ -174,13 +175,13 @@ impl Documents {
         tree: &Tree,
     ) -> Result<(), WriteFault>
         requires storable { IsStorable tree.now }
-        requires works { DocumentsWork (IsTrue (D.is_honest disk.old)) self.old (D.history disk.old (D.attached disk.old)) }
+        requires works { DocumentsWork C.pages (IsTrue (D.is_honest disk.old)) self.old (D.history disk.old (D.attached disk.old)) }
         ensures tells { (before : Container) → (id : List ℕ) → DocumentsHold self.old before → document_id tree.now ≡ Some id
             → number_in id before ≡ Some number
             → TellsWrite (IsTrue (D.is_honest disk.old)) before (Ok (replaced id tree.now before)) result self.new
             (D.history disk.old (D.attached disk.old)) (D.history disk.new (D.attached disk.new)) }
         ensures only { IfErr result IsOfCommit }
-        ensures leaves { WriteLeaves (D.is_honest disk.old) result self.new
+        ensures leaves { WriteLeaves C.pages (D.is_honest disk.old) result self.new
             (D.history disk.old (D.attached disk.old)) (D.history disk.new (D.attached disk.new))
             (D.faults disk.old) (D.faults disk.new) }
         ensures attached { D.attached disk.new ≡ D.attached disk.old }
@@ -205,12 +206,12 @@ impl Documents {
 
     /// Takes away the document of an id, which stands under the number.
     fn take_away<D: Disk>(&mut self, disk: &mut D, id: &str, number: u32) -> Result<(), WriteFault>
-        requires works { DocumentsWork (IsTrue (D.is_honest disk.old)) self.old (D.history disk.old (D.attached disk.old)) }
+        requires works { DocumentsWork C.pages (IsTrue (D.is_honest disk.old)) self.old (D.history disk.old (D.attached disk.old)) }
         ensures tells { (before : Container) → DocumentsHold self.old before → number_in id.now before ≡ Some number
             → TellsWrite (IsTrue (D.is_honest disk.old)) before (Ok (deleted id.now before)) result self.new
             (D.history disk.old (D.attached disk.old)) (D.history disk.new (D.attached disk.new)) }
         ensures only { IfErr result IsOfCommit }
-        ensures leaves { WriteLeaves (D.is_honest disk.old) result self.new
+        ensures leaves { WriteLeaves C.pages (D.is_honest disk.old) result self.new
             (D.history disk.old (D.attached disk.old)) (D.history disk.new (D.attached disk.new))
             (D.faults disk.old) (D.faults disk.new) }
         ensures attached { D.attached disk.new ≡ D.attached disk.old }
@@ -232,7 +233,7 @@ impl Documents {
 
     /// Commits a batch, for whose parts there is room. The numbers of ids are not its affair.
     fn commit<D: Disk>(&mut self, disk: &mut D, batch: Batch) -> Result<(), WriteFault>
-        requires works { DocumentsWork (IsTrue (D.is_honest disk.old)) self.old (D.history disk.old (D.attached disk.old)) }
+        requires works { DocumentsWork C.pages (IsTrue (D.is_honest disk.old)) self.old (D.history disk.old (D.attached disk.old)) }
         requires sealed { is_sealed batch ≡ true }
         requires room { length (batch_parts batch) ≤ store_spare self.old.store }
         requires deltas { (number : ℕ) → deltas_of number (batch_parts batch) ≤ store_room number self.old.store }
@@ -243,7 +244,7 @@ impl Documents {
             (D.history disk.old (D.attached disk.old)) (D.history disk.new (D.attached disk.new)) }
         ensures numbers { self.new.numbers ≡ self.old.numbers }
         ensures only { IfErr result (λ fault. fault ≡ WriteFault.Disk) }
-        ensures works { WorksAfterWrite (IsTrue (D.is_honest disk.old)) result self.new (D.history disk.new (D.attached disk.new)) }
+        ensures works { WorksAfterWrite C.pages (IsTrue (D.is_honest disk.old)) result self.new (D.history disk.new (D.attached disk.new)) }
         ensures readable { (changes : List Change) → changes_said (batch_parts batch) ≡ Some changes
             → AllByRecursion (IsReadable newest) changes → IsTrue (D.is_honest disk.old)
             → Rests (D.history disk.old (D.attached disk.old)) SaysReadable

@@ -67,6 +67,17 @@ pub no_policy : IsPolicyText junk → ⊥
 no_policy is =
     other_first (normal_text is.policy) (map_text _) (sym is.is.spelled)
 
+-- {} as a text: it is read as a policy, and is the normal text of none
+plain_text : (members : List (Member Tree)) (second : Member Tree) (first : Member Tree)
+    → get_or (canonical_text (trees.Object (first ∷ second ∷ members))) 1 0 ≡ 34
+plain_text members second first = search (rules, tree.the_lemmas)
+
+pub no_plain_policy : IsPolicyText (123 ∷ 125 ∷ []) → ⊥
+no_plain_policy is =
+    let same : 34 ≡ 125 =
+    sym (plain_text _ _ _) ∙ ap (λ (bytes : List ℕ). get_or bytes 1 0) (sym is.is.spelled) in
+    omega (arith, same)
+
 -- ---- a delta of no term
 
 is_none : (n : ℕ) (more : List ℕ) → 0 < n → 0 ∷ [] ≡ varint n ++ more → ⊥

@@ -7,3 +7,9 @@ pub mod Junk
 pub mod RowsSay
 pub mod SampleReads
 pub mod DefaultReads
+pub mod Matched
+pub mod FromTold
+pub mod Once
+pub mod MetThere
+pub mod OneThere
+pub mod RowsMet

@@ -1,5 +1,5 @@
 -- The images that were worked out by hand are outside the grammar where they were worked out to be.
-use Rattle.std.proofs.Common.{zero, arith, inl, inr, refl, ap, true}
+use Rattle.std.proofs.Common.{◌≡◌, zero, arith, inl, inr, refl, ap, true}
 use Rattle.std.proofs.Common.{[], ◌∷◌}
 use Rattle.std.specs.Prelude.{Some, None, if◌then◌else◌, option_and_then}
 use Rattle.std.proofs.lemmas.Bool.{and_from}
@@ -22,7 +22,7 @@ use Rattle.ax_image_grammar.proofs.Junk.{no_document, no_policy, no_delta}
 first : Change
 first = Document 1 (record { policy = 0; version = None; text = junk })
 
-text_contents : Contents
+pub text_contents : Contents
 text_contents = with_change (Gone 1) (with_change first no_contents)
 
 text_lead : Lead text_told no_contents text_contents
@@ -31,7 +31,7 @@ text_lead =
     ap (λ b. option_and_then (after_changes (Gone 1 ∷ []))
     (if b then Some (with_change first no_contents) else None)) (and_from _ true some_room refl)
 
-text_live : IsLiveWith 1 1 text_told text_contents text_row
+pub text_live : IsLiveWith 1 1 text_told text_contents text_row
 text_live = record {
   slot = slot;
   version_is = refl;
@@ -99,7 +99,7 @@ text_outside = inr (inl (record {
 
 -- ---- the text of a policy that no document is indexed by
 
-policy_live : IsLiveWith 1 1 policy_told (with_change (Policy 1 junk) no_contents) policy_row
+pub policy_live : IsLiveWith 1 1 policy_told (with_change (Policy 1 junk) no_contents) policy_row
 policy_live = record {
   slot = slot;
   version_is = refl;
@@ -137,6 +137,10 @@ policy_live = record {
   lead = refl;
 }
 
+pub policy_area : policy_live.slot.area ≡ A
+unfolding policy_live
+policy_area = refl
+
 pub policy_outside : IsOutside 1 A 9 policy_row
 unfolding policy_live
 policy_outside = inr (inl (record {
@@ -157,7 +161,7 @@ policy_outside = inr (inl (record {
 
 -- ---- a delta of no term
 
-delta_live : IsLiveWith 1 1 delta_told (with_change (Delta 0 (0 ∷ [])) no_contents) delta_row
+pub delta_live : IsLiveWith 1 1 delta_told (with_change (Delta 0 (0 ∷ [])) no_contents) delta_row
 delta_live = record {
   slot = slot;
   version_is = refl;
@@ -195,6 +199,10 @@ delta_live = record {
   lead = refl;
 }
 
+pub delta_area : delta_live.slot.area ≡ A
+unfolding delta_live
+delta_area = refl
+
 pub delta_outside : IsOutside 1 A 9 delta_row
 unfolding delta_live
 delta_outside = inr (inl (record {
@@ -215,7 +223,7 @@ delta_outside = inr (inl (record {
 
 -- ---- the same delta, superseded
 
-superseded_live : IsLiveWith 1 1 superseded_told (with_change (Base 0 (0 ∷ 0 ∷ 0 ∷ []))
+pub superseded_live : IsLiveWith 1 1 superseded_told (with_change (Base 0 (0 ∷ 0 ∷ 0 ∷ []))
     (with_change (Delta 0 (0 ∷ [])) no_contents)) superseded_row
 superseded_live = record {
   slot = slot;

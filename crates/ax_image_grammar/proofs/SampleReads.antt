@@ -1,8 +1,9 @@
 -- The example of the format is in the grammar: its document can be stored, and its delta is one.
 use Rattle.std.proofs.Common.{◌≡◌, ℕ, zero, suc, ◌<◌, ◌^◌, arith, List, [], ◌∷◌, ◌++◌}
 use Rattle.std.proofs.Common.{true, refl, sym, ap, ◌∙◌, rules}
-use Rattle.std.specs.Prelude.{◌&&◌, codes, slice_index, slice_index_or}
-use Rattle.std.specs.Str.{is_utf8}
+use Rattle.std.specs.Prelude.{◌&&◌, codes, length, map, nat_le, slice_index, slice_index_or, sum_by}
+use Rattle.std.specs.Set.{unique_keys}
+use Rattle.std.specs.Str.{bytes_eq, is_utf8}
 use Rattle.std.proofs.lemmas.Bool.{and_from}
 use Rattle.std.proofs.lemmas.Str.{IsUtf8-from_ascii, is_utf8-from_IsUtf8}
 use Rattle.std.specs.List.{AllByRecursion}
@@ -15,7 +16,18 @@ use Rattle.ax_tree.specs.CanonicalText.{canonical_text, in_brackets}
 use Rattle.ax_tree.specs.Document.{IsDocument}
 use Rattle.ax_tree.specs.Nesting.{nesting}
 use Rattle.ax_tree.specs.WellFormed.{IsWellFormed, is_well_formed}
+use Rattle.ax_tree.specs.Nesting.{greatest}
+use Rattle.ax_lines.specs.IndexLimits.{fits_within, most_path_bytes}
 use Rattle.ax_lines.specs.ShortNames.{has_short_names}
+use Rattle.ax_mean.specs.declared.query.Step.{Step}
+use Rattle.ax_mean.specs.declared.query.Step.TheVariants.{Name}
+use Rattle.ax_mean.specs.declared.value.Value.TheVariants.{Defined}
+use Rattle.ax_term.specs.CutTexts.{cut}
+use Rattle.ax_term.specs.CutValues.{CutValue, cut_of}
+use Rattle.ax_term.specs.TermBytes.{term_bytes}
+use Rattle.ax_term.specs.Terms.{Term}
+use Rattle.ax_terms.specs.Counts.{distinct_terms, path_size}
+use Rattle.ax_terms.specs.Leaves.{Leaf, leaves}
 use Rattle.ax_gap.specs.Gaps.{gaps, gaps_from}
 use Rattle.ax_gap.specs.Varint.{varint, groups}
 use Rattle.ax_leaf.specs.Payload.{term_after}
@@ -92,6 +104,31 @@ short_names : has_short_names sample_tree ≡ true
 unfolding sample_tree members
 short_names = search (rules, tree.the_lemmas)
 
+-- its one leaf is the text of the id, and its one term that of this
+the_path : List Step
+the_path = Name (codes "id") ∷ []
+
+the_leaf : Leaf
+the_leaf = record { path = the_path; tree = trees.Text (codes "a") }
+
+leaves_are : leaves sample_tree ≡ the_leaf ∷ []
+unfolding sample_tree members the_leaf the_path
+leaves_are = search (rules, tree.the_lemmas)
+
+value_is : cut_of (Defined (trees.Text (codes "a"))) ≡ CutValue.Text (cut (codes "a"))
+value_is = search (rules, tree.the_lemmas)
+
+the_terms : CutValue → List (List ℕ)
+the_terms value = unique_keys bytes_eq (term_bytes (Term.Plain the_path value) ∷ [])
+
+fits_index : fits_within 4096 1048576 sample_tree ≡ true
+unfolding the_leaf the_path the_terms
+fits_index =
+    ap (λ ls. (nat_le (greatest (map path_size ls)) most_path_bytes && nat_le (length (distinct_terms ls)) 4096)
+    && nat_le (sum_by length (distinct_terms ls)) 1048576) leaves_are
+    ∙ ap (λ value. (nat_le (greatest (path_size the_leaf ∷ [])) most_path_bytes && nat_le (length (the_terms value)) 4096)
+    && nat_le (sum_by length (the_terms value)) 1048576) value_is
+
 pub sample_document : IsDocumentText 1 sample_text
 sample_document = record {
   tree = sample_tree;
@@ -100,6 +137,7 @@ sample_document = record {
   shallow = omega (arith, nests_once);
   named = short_names;
   small = omega arith;
+  fits = fits_index;
   spelled = sym text_is;
 }
 

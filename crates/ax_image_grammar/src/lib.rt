@@ -6,7 +6,8 @@
 //! `ax_pairs` for the index. `ax_image` cites the grammar from here, and so `run` does.
 //!
 //! Its one contract: an image in the grammar is outside it nowhere, all that it holds can be read, a commit of changes
-//! that may be committed keeps it there, and it stands for one container at most.
+//! that may be committed keeps it there, and it stands for one container at most. Of what is outside it, that which opening
+//! does not see and which counts is met later, each thing at a place of its own.
 #![tactic(auto)]
 
 pub mod laws;

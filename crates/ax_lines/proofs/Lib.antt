@@ -1,9 +1,9 @@
 mod FineBodies
 mod FineTrees
-mod Fits
 mod Ids
 mod LastCounts
 mod Newlines
 mod Short
 pub mod Splits
+mod StoredDocuments
 mod Written

@@ -227,7 +227,11 @@ pub(crate) fn storable(alloc: Global, tree: &Tree) -> Result<(), LineFault>
 fn has_room_in_index(alloc: Global, tree: &Tree) -> Result<bool, Memory>
     ensures { IfOk result (λ fits. fits ≡ fits_index tree.now) }
 {
-    let TermCount { count, bytes, longest_path } = count_all(alloc, tree)?;
+    let TermCount {
+        count,
+        bytes,
+        longest_path,
+    } = count_all(alloc, tree)?;
     Ok(longest_path <= MOST_PATH_BYTES && count <= MOST_TERMS && bytes <= MOST_TERM_BYTES)
 }
 

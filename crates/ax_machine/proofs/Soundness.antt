@@ -28,6 +28,7 @@ use Rattle.ax_lines.specs.Causes.{Cause, unless}
 use Rattle.ax_lines.specs.Lines.{Form, Document, Delete, Read, Query, form_of, without_return, with_tree_of, deepest, most_bytes}
 use Rattle.ax_lines.specs.Lines.{line_causes, document_causes, id_causes, query_causes, query_from, line_with, of_form}
 use Rattle.ax_lines.specs.Lines.{line_of}
+use Rattle.ax_lines.specs.IndexLimits.{fits_index}
 use Rattle.ax_lines.specs.ShortNames.{has_short_names}
 use Rattle.ax_machine.specs.Step.{written, write_by, served, step}
 use Rattle.ax_machine.specs.Run.{Exchange, Outcome, Served, OutOfMemory, after_line, after}
@@ -83,19 +84,30 @@ document_asks form tree good = by_id (is_some (document_id tree)) refl
     answer : Result Line Refusal
     answer = Ok (line_with form tree)
 
-    by_size : (long : Bool) → nat_lt most_bytes size ≡ long → IsDocument tree → nesting tree ≤ deepest
-        → has_short_names tree ≡ true → IfOk (cond long (Err refusal.Large) answer) AsksForRead
-    by_size true is document shallow named = tt
-    by_size false is document shallow named = with_form form tree (record {
+    by_room : (fits : Bool) → fits_index tree ≡ fits → IsDocument tree → nesting tree ≤ deepest
+        → has_short_names tree ≡ true → size ≤ most_bytes
+        → IfOk (cond (not fits) (Err refusal.Large) answer) AsksForRead
+    by_room true is document shallow named small = with_form form tree (record {
       document = document;
       well_formed = good.formed;
       shallow = shallow;
       named = named;
-      small = ltb-false most_bytes size is;
+      small = small;
+      fits = is;
     })
+    by_room false is document shallow named small = tt
+
+    unless_full : Result Line Refusal
+    unless_full = cond (not (fits_index tree)) (Err refusal.Large) answer
+
+    by_size : (long : Bool) → nat_lt most_bytes size ≡ long → IsDocument tree → nesting tree ≤ deepest
+        → has_short_names tree ≡ true → IfOk (cond long (Err refusal.Large) unless_full) AsksForRead
+    by_size true is document shallow named = tt
+    by_size false is document shallow named =
+        by_room (fits_index tree) refl document shallow named (ltb-false most_bytes size is)
 
     unless_long : Result Line Refusal
-    unless_long = cond (nat_lt most_bytes size) (Err refusal.Large) answer
+    unless_long = cond (nat_lt most_bytes size) (Err refusal.Large) unless_full
 
     by_names : (short : Bool) → has_short_names tree ≡ short → IsDocument tree → nesting tree ≤ deepest
         → IfOk (cond (not short) (Err refusal.Large) unless_long) AsksForRead

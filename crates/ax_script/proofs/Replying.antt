@@ -2,6 +2,7 @@
 use Rattle.std.proofs.Common.{◌≡◌, inl, inr, ℕ, Bool, ◌+◌, ◌≤◌, List, Option, Some, None, Result, Ok, Err, OnOk, OnErr}
 use Rattle.std.proofs.Common.{◌++◌, refl, sym, ap, subst, ◌∙◌}
 use Rattle.std.specs.Prelude.{◌≢◌, IfErr, IsTrue}
+use Rattle.ax_cache.specs.Pages.{CachedPages}
 use Rattle.ax_disk.specs.model.Moments.{History}
 use Rattle.ax_disk.specs.model.Stays.{Turns}
 use Rattle.ax_container.specs.Container.{Container}
@@ -78,7 +79,7 @@ text_meant (given.Rows rows) meant is =
     (λ i. is.1.lines i ++ end_text reply.End (is.1.count i)) ∙ sym (ap reply_text is.2)
 text_meant (given.Refused why) meant is = sym (ap reply_text is)
 
-module _ (honest : Type 0) (before : Container) (line : List ℕ) (engine : Engine)
+module _ {C : Type 0} (pages : C → CachedPages) (honest : Type 0) (before : Container) (line : List ℕ) (engine : Engine C)
     (written now : Option (List ℕ)) (old new : History) (steps later : ℕ) where
   by_text : (made : Reply) (text : List ℕ) → IsTextOf made text
       → TellsLine honest before line (Ok made) engine old new
@@ -97,7 +98,7 @@ module _ (honest : Type 0) (before : Container) (line : List ℕ) (engine : Engi
 
   pub whole_of : (result : Result (Unit {0}) Status) (answered : Result Reply Fault)
       → TellsLine honest before line answered engine old new
-      → Works honest engine new → later ≤ steps + most_steps before line
+      → Works pages honest engine new → later ≤ steps + most_steps before line
       → OnOk result (WritesWhole answered written now)
       → OnOk result ((after : Container) × HoldsOver engine new after
       × Serves honest before line after (outlets written old steps) (outlets now new later))
@@ -105,7 +106,7 @@ module _ (honest : Type 0) (before : Container) (line : List ℕ) (engine : Engi
       (λ added. (let by = by_text made added.0 added.1 told in (
         after_line before line by.0,
         by.2,
-        serves_by honest engine before line by.0 (outlets written old steps) (outlets now new later)
+        serves_by pages honest engine before line by.0 (outlets written old steps) (outlets now new later)
             added.0 by.1 added.2 works by.2 by.3 bounded,
       ))) whole
   whole_of result (Err fault.Disk) told works bounded whole = OnOk-map result (λ none. absurd none) whole
@@ -113,12 +114,12 @@ module _ (honest : Type 0) (before : Container) (line : List ℕ) (engine : Engi
 
   pub part_of : (result : Result (Unit {0}) Status) (answered : Result Reply Fault)
       → TellsLine honest before line answered engine old new
-      → Works honest engine new → later ≤ steps + most_steps before line
+      → Works pages honest engine new → later ≤ steps + most_steps before line
       → OnErr result (WritesPart answered written now)
       → OnErr result (BeginsToServe honest before line (outlets written old steps) (outlets now new later))
   part_of result (Ok made) told works bounded part = OnErr-map result
       (λ added. (let by = by_text made added.0 added.1 told in
-      begins_by honest engine before line by.0 (outlets written old steps) (outlets now new later)
+      begins_by pages honest engine before line by.0 (outlets written old steps) (outlets now new later)
       added.0 by.1 added.2 works by.2 by.3 bounded)) part
   part_of result (Err fault.Disk) told works bounded part = OnErr-map result
       (λ same. subst (λ w. BeginsToServe honest before line (outlets written old steps)
@@ -129,8 +130,8 @@ module _ (honest : Type 0) (before : Container) (line : List ℕ) (engine : Engi
 -- ---- the answer to a line
 
 -- what the engine tells of a line that was read is what it tells of its bytes
-pub tells_applied : (honest : Type 0) (before : Container) (bytes : List ℕ) (asked : Line)
-    (engine : Engine) (old new : History) (result : Result Reply Fault) → line_of bytes ≡ Ok asked
+pub tells_applied : {C : Type 0} (honest : Type 0) (before : Container) (bytes : List ℕ) (asked : Line)
+    (engine : Engine C) (old new : History) (result : Result Reply Fault) → line_of bytes ≡ Ok asked
     → Applies honest before asked result engine old new → TellsLine honest before bytes result engine old new
 tells_applied honest before bytes asked engine old new (Ok made) read told =
     by told.0 told.1 told.2 told.3
@@ -154,8 +155,8 @@ tells_applied honest before bytes asked engine old new (Err fault.Disk) read tol
     (sym (ap (served before) read)) told
 tells_applied honest before bytes asked engine old new (Err (fault.Damaged extent at)) read told = absurd told
 
-pub tells_refused : (honest : Type 0) (before : Container) (bytes : List ℕ) (why : Refusal)
-    (engine : Engine) (old new : History) → line_of bytes ≡ Err why → HoldsOver engine new before
+pub tells_refused : {C : Type 0} (honest : Type 0) (before : Container) (bytes : List ℕ) (why : Refusal)
+    (engine : Engine C) (old new : History) → line_of bytes ≡ Err why → HoldsOver engine new before
     → (honest → Turns old new (IsImageOf before) (IsImageOf before))
     → TellsLine honest before bytes (Ok (given.Refused why)) engine old new
 tells_refused honest before bytes why engine old new read holds turns =
@@ -169,7 +170,7 @@ tells_refused honest before bytes why engine old new read holds turns =
 -- ---- the status of a line that was not served
 
 -- over documents that are those of a container none is damaged
-pub sound_of : (honest : Type 0) (before : Container) (line : List ℕ) (engine : Engine) (old new : History)
+pub sound_of : {C : Type 0} (honest : Type 0) (before : Container) (line : List ℕ) (engine : Engine C) (old new : History)
     (result : Result (Unit {0}) Status) (answered : Result Reply Fault)
     → TellsLine honest before line answered engine old new → IfErr result IsLineFault
     → ((extent at : ℕ) → result ≡ Err (status.Damaged extent at) → answered ≡ Err (fault.Damaged extent at))

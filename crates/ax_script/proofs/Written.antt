@@ -4,6 +4,7 @@ use Rattle.std.proofs.Common.{Option, refl, subst, arith}
 use Rattle.std.specs.Io.KnownBytes.{Appends}
 use Rattle.std.proofs.KnownBytes.{Appends-nil}
 use Rattle.ax_base.specs.Appends.{AppendsPrefix}
+use Rattle.ax_cache.specs.Pages.{CachedPages}
 use Rattle.ax_disk.specs.model.Image.{Image}
 use Rattle.ax_disk.specs.model.Moments.{History}
 use Rattle.ax_disk.specs.model.Stays.{Turns}
@@ -20,7 +21,7 @@ use Rattle.ax_script.specs.Streams.{Outlets}
 use Rattle.ax_script.specs.Progress.{Reaches, Serves, BeginsToServe, outlets}
 use Rattle.ax_script.proofs.DiskMoments.{reaches_served, reaches_unserved}
 
-module _ (honest : Type 0) (engine : Engine) (before : Container) (line : List ℕ)
+module _ {C : Type 0} (pages : C → CachedPages) (honest : Type 0) (engine : Engine C) (before : Container) (line : List ℕ)
     (outcome : Outcome) (old new : Outlets) where
   abbrev after : Container
   after = after_line before line outcome
@@ -29,7 +30,7 @@ module _ (honest : Type 0) (engine : Engine) (before : Container) (line : List �
   answered = reply_text (reply_to before line outcome)
 
   pub serves_by : (bytes : List ℕ) → bytes ≡ answered → Appends old.written new.written bytes
-      → Works honest engine new.history → HoldsOver engine new.history after
+      → Works pages honest engine new.history → HoldsOver engine new.history after
       → (honest → Turns old.history new.history (IsImageOf before) (IsImageOf after))
       → new.steps ≤ old.steps + most_steps before line
       → Serves honest before line after old new
@@ -38,12 +39,12 @@ module _ (honest : Type 0) (engine : Engine) (before : Container) (line : List �
     made = refl;
     replied = subst (Appends old.written new.written) is added;
     turns = turns;
-    rests = rests_over honest engine new.history after works holds;
+    rests = rests_over pages honest engine new.history after works holds;
     bounded = bounded;
   }
 
   pub begins_by : (bytes : List ℕ) → bytes ≡ answered → AppendsPrefix old.written new.written bytes
-      → Works honest engine new.history → HoldsOver engine new.history after
+      → Works pages honest engine new.history → HoldsOver engine new.history after
       → (honest → Turns old.history new.history (IsImageOf before) (IsImageOf after))
       → new.steps ≤ old.steps + most_steps before line
       → BeginsToServe honest before line old new
@@ -56,7 +57,7 @@ module _ (honest : Type 0) (engine : Engine) (before : Container) (line : List �
         rests = λ h. rests_weaken new.history (IsImageOf after)
             (Reaches before (record { line = line; outcome = outcome } ∷ []) (take prefix.0 answered))
             (λ image shows. reaches_served before line outcome (take prefix.0 answered) image shows)
-            (rests_over honest engine new.history after works holds h);
+            (rests_over pages honest engine new.history after works holds h);
         bounded = bounded;
       }
 

@@ -56,7 +56,7 @@ WritesPart (Ok made) old new = (text : List ℕ) × IsTextOf made text × Append
 WritesPart (Err why) old new = old ≡ new
 
 -- what the answer to a line's bytes is
-abbrev pub TellsLine : Type 0 → Container → List ℕ → Result Reply Fault → Engine → History → History → Type 0
+abbrev pub TellsLine : {C : Type 0} → Type 0 → Container → List ℕ → Result Reply Fault → Engine C → History → History → Type 0
 TellsLine honest before line (Ok made) engine old new =
     (outcome : Outcome) × IsReply made (reply_to before line outcome)
     × HoldsOver engine new (after_line before line outcome)

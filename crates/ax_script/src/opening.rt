@@ -2,6 +2,7 @@
 
 ghost use Rattle.std.specs.Prelude.{◌≡◌, ◌≤◌, ℕ, None, IsTrue, IfOk, IfErr, OnOk};
 ghost use Rattle.ax_area.specs.Image.{IsDamaged, IsNewer};
+ghost use Rattle.ax_cache.specs.PageLaws.{no_pages};
 ghost use Rattle.ax_disk.specs.declared.extent.Extent.TheVariants.{Root};
 ghost use Rattle.ax_disk.specs.model.Stays.{SinceBarrier};
 ghost use Rattle.ax_container.specs.Container.{Container};
@@ -16,13 +17,17 @@ ghost use Rattle.ax_script.specs.Statuses.{CallCountsDisk};
 use crate::status::Status;
 use ax_disk::Disk;
 use ax_engine::Engine;
-use ax_store::StoreFault;
+use ax_store::{NoPages, StoreFault};
 use std::alloc::Global;
 
-/// Attaches the store of a name, and opens it. Over an honest disk a store with a damaged root or of a later
+/// Attaches the store of a name, and opens it, with no cache yet. Over an honest disk a store with a damaged root or of a later
 /// version is refused as that unless the disk fails, whatever memory there is.
-pub(crate) fn open_named<D: Disk>(alloc: Global, disk: &mut D, name: &str) -> Result<Engine, Status>
-    ensures works { IfOk result (λ engine. Works (IsTrue (D.is_honest disk.old)) engine
+pub(crate) fn open_named<D: Disk>(
+    alloc: Global,
+    disk: &mut D,
+    name: &str,
+) -> Result<Engine<NoPages>, Status>
+    ensures works { IfOk result (λ engine. Works (λ _. no_pages) (IsTrue (D.is_honest disk.old)) engine
         (D.history disk.new (D.attached disk.new))) }
     ensures unfaulted { IfOk result (λ engine. engine.fault ≡ None) }
     ensures attached { OnOk result (D.attached disk.new ≡ D.store_named name.now) }

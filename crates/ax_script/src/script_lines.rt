@@ -13,6 +13,7 @@ ghost use Rattle.ax_lines.specs.ScriptLines.{IsOneLine};
 use crate::serving::serve_line;
 use crate::status::Status;
 use ax_base::{Sink, Source, Steps};
+use ax_cache::PageCache;
 use ax_disk::Disk;
 use ax_engine::Engine;
 use ax_lines::first_line;
@@ -24,9 +25,9 @@ const MOST_INPUT: u64 = 1 << 40;
 
 /// Reads the source to its end, piece by piece into `buffer`, and serves each line as soon as its
 /// newline has come, and the last piece at the end. A fault of the engine ends it, and is its status.
-pub fn serve_source<D: Disk, S: Source, K: Sink, L: Ledger>(
+pub fn serve_source<D: Disk, C: PageCache, S: Source, K: Sink, L: Ledger>(
     alloc: Global,
-    engine: &mut Engine,
+    engine: &mut Engine<C>,
     disk: &mut D,
     source: &mut S,
     sink: &mut K,
@@ -35,7 +36,7 @@ pub fn serve_source<D: Disk, S: Source, K: Sink, L: Ledger>(
 ) -> Status
     requires some { 0 < length buffer.old }
     requires few { length buffer.old ≤ 2 ^ 20 }
-    requires works { Works (IsTrue (D.is_honest disk.old)) engine.old (D.history disk.old (D.attached disk.old)) }
+    requires works { Works C.pages (IsTrue (D.is_honest disk.old)) engine.old (D.history disk.old (D.attached disk.old)) }
     requires unfaulted { engine.old.fault ≡ None }
     ensures script { IsTrue (D.is_honest disk.old) → (before : Container) → HoldsOver engine.old (D.history disk.old (D.attached disk.old)) before
         → Ends (IsTrue (D.is_honest disk.old)) before result
@@ -90,9 +91,9 @@ pub fn serve_source<D: Disk, S: Source, K: Sink, L: Ledger>(
 
 /// Serves the lines whose newline is in the piece; the first of them begins with what is pending.
 /// What follows the last newline is pending then.
-fn serve_piece<D: Disk, K: Sink, L: Ledger>(
+fn serve_piece<D: Disk, C: PageCache, K: Sink, L: Ledger>(
     alloc: Global,
-    engine: &mut Engine,
+    engine: &mut Engine<C>,
     disk: &mut D,
     pending: &mut Vec<u8>,
     piece: &[u8],
@@ -100,7 +101,7 @@ fn serve_piece<D: Disk, K: Sink, L: Ledger>(
     steps: &mut Steps<L>,
 ) -> Result<(), Status>
     requires line { IsOneLine pending.old.items }
-    requires works { Works (IsTrue (D.is_honest disk.old)) engine.old (D.history disk.old (D.attached disk.old)) }
+    requires works { Works C.pages (IsTrue (D.is_honest disk.old)) engine.old (D.history disk.old (D.attached disk.old)) }
     requires unfaulted { engine.old.fault ≡ None }
     ensures ok { IsTrue (D.is_honest disk.old) → (before : Container) → HoldsOver engine.old (D.history disk.old (D.attached disk.old)) before
         → OnOk result ((now : Container) × HoldsOver engine.new (D.history disk.new (D.attached disk.new)) now
@@ -111,7 +112,7 @@ fn serve_piece<D: Disk, K: Sink, L: Ledger>(
         → OnErr result (BeginsLines (IsTrue (D.is_honest disk.old)) before (pending.old.items ++ piece.now)
         (outlets (K.written sink.old) (D.history disk.old (D.attached disk.old)) steps.old)
         (outlets (K.written sink.new) (D.history disk.new (D.attached disk.new)) steps.new)) }
-    ensures works { OnOk result (Works (IsTrue (D.is_honest disk.old)) engine.new (D.history disk.new (D.attached disk.new))) }
+    ensures works { OnOk result (Works C.pages (IsTrue (D.is_honest disk.old)) engine.new (D.history disk.new (D.attached disk.new))) }
     ensures unfaulted { OnOk result (engine.new.fault ≡ None) }
     ensures kept { (fault : Fault) → engine.new.fault ≡ Some fault → result ≡ Err (fault_status fault) }
     ensures line { OnOk result (IsOneLine pending.new.items) }
@@ -150,16 +151,16 @@ fn put_behind(pending: &mut Vec<u8>, part: &[u8]) -> Result<(), AllocError>
 
 /// Serves the line that is pending and ends with `head`, whose newline has come. A line of which
 /// nothing is pending is served where it stands.
-fn serve_head<D: Disk, K: Sink, L: Ledger>(
+fn serve_head<D: Disk, C: PageCache, K: Sink, L: Ledger>(
     alloc: Global,
-    engine: &mut Engine,
+    engine: &mut Engine<C>,
     disk: &mut D,
     pending: &mut Vec<u8>,
     head: &[u8],
     sink: &mut K,
     steps: &mut Steps<L>,
 ) -> Result<(), Status>
-    requires works { Works (IsTrue (D.is_honest disk.old)) engine.old (D.history disk.old (D.attached disk.old)) }
+    requires works { Works C.pages (IsTrue (D.is_honest disk.old)) engine.old (D.history disk.old (D.attached disk.old)) }
     requires unfaulted { engine.old.fault ≡ None }
     ensures ok { IsTrue (D.is_honest disk.old) → (before : Container) → HoldsOver engine.old (D.history disk.old (D.attached disk.old)) before
         → OnOk result ((now : Container) × HoldsOver engine.new (D.history disk.new (D.attached disk.new)) now
@@ -172,7 +173,7 @@ fn serve_head<D: Disk, K: Sink, L: Ledger>(
         → OnErr result (BeginsToServe (IsTrue (D.is_honest disk.old)) before (pending.old.items ++ head.now)
         (outlets (K.written sink.old) (D.history disk.old (D.attached disk.old)) steps.old)
         (outlets (K.written sink.new) (D.history disk.new (D.attached disk.new)) steps.new)) }
-    ensures works { OnOk result (Works (IsTrue (D.is_honest disk.old)) engine.new (D.history disk.new (D.attached disk.new))) }
+    ensures works { OnOk result (Works C.pages (IsTrue (D.is_honest disk.old)) engine.new (D.history disk.new (D.attached disk.new))) }
     ensures unfaulted { OnOk result (engine.new.fault ≡ None) }
     ensures kept { (fault : Fault) → engine.new.fault ≡ Some fault → result ≡ Err (fault_status fault) }
     ensures sound { IsTrue (D.is_honest disk.old) → (before : Container) → HoldsOver engine.old (D.history disk.old (D.attached disk.old)) before → IfErr result BreaksOffWith }
@@ -201,15 +202,15 @@ fn serve_head<D: Disk, K: Sink, L: Ledger>(
 }
 
 /// Serves the last piece of the input, which is a line unless it is empty.
-fn serve_last<D: Disk, K: Sink, L: Ledger>(
+fn serve_last<D: Disk, C: PageCache, K: Sink, L: Ledger>(
     alloc: Global,
-    engine: &mut Engine,
+    engine: &mut Engine<C>,
     disk: &mut D,
     pending: &[u8],
     sink: &mut K,
     steps: &mut Steps<L>,
 ) -> Status
-    requires works { Works (IsTrue (D.is_honest disk.old)) engine.old (D.history disk.old (D.attached disk.old)) }
+    requires works { Works C.pages (IsTrue (D.is_honest disk.old)) engine.old (D.history disk.old (D.attached disk.old)) }
     requires unfaulted { engine.old.fault ≡ None }
     ensures done { IsTrue (D.is_honest disk.old) → (before : Container) → HoldsOver engine.old (D.history disk.old (D.attached disk.old)) before
         → result ≡ Status.Done → ServesLast (IsTrue (D.is_honest disk.old)) before pending.now

@@ -1,5 +1,6 @@
 ghost use Rattle.std.specs.Prelude.{◌≡◌, ◌≢◌, ◌↔◌, ◌≤◌, ◌⊎◌, ℕ, None, IsTrue, true, false};
 ghost use Rattle.ax_area.specs.Image.{IsDamaged, IsNewer};
+ghost use Rattle.ax_cache.specs.PageLaws.{no_pages};
 ghost use Rattle.ax_disk.specs.declared.extent.Extent.TheVariants.{Root};
 ghost use Rattle.ax_faults.specs.Faults.{Rose};
 ghost use Rattle.ax_container.specs.Container.{Container};
@@ -19,13 +20,18 @@ use crate::opening::open_named;
 use crate::script_lines::serve_source;
 use crate::status::Status;
 use ax_base::{Sink, Source, Steps};
+use ax_cache::PageCache;
 use ax_disk::Disk;
 use ax_engine::Engine;
+use ax_store::{LruPages, NoPages};
 use std::alloc::Global;
 use std::sync::ledger::Ledger;
 
 /// How many bytes of the input are read at once, at most.
 const PIECE: usize = 65_536;
+
+/// How many parts the cache of a store has room for.
+const CACHED_PARTS: u32 = 256;
 
 /// Runs the script that the source holds over the store on the disk that the words name, and writes
 /// the reply of each line to the sink, once its change is durable. `words` are those of the command
@@ -163,22 +169,63 @@ fn serve<D: Disk, S: Source, K: Sink, L: Ledger>(
     ensures not_words { result ≢ Status.Words }
 {
     match open_named(alloc, disk, store_name(words)) {
-        Ok(mut engine) => serve_opened(alloc, &mut engine, disk, source, sink, steps),
+        Ok(engine) => serve_opened(alloc, engine, disk, source, sink, steps),
         Err(status) => status,
     }
 }
 
-/// Serves the source over an open store, piece by piece. The buffer for the pieces is taken here, behind the
-/// opening, so that no want of memory hides why a store is refused.
+/// Serves the source over a store that was opened. The engine's cache is made here, behind the opening, so that no
+/// want of memory hides why a store is refused.
 fn serve_opened<D: Disk, S: Source, K: Sink, L: Ledger>(
     alloc: Global,
-    engine: &mut Engine,
+    engine: Engine<NoPages>,
     disk: &mut D,
     source: &mut S,
     sink: &mut K,
     steps: &mut Steps<L>,
 ) -> Status
-    requires works { Works (IsTrue (D.is_honest disk.old)) engine.old (D.history disk.old (D.attached disk.old)) }
+    requires works { Works (λ _. no_pages) (IsTrue (D.is_honest disk.old)) engine (D.history disk.old (D.attached disk.old)) }
+    requires unfaulted { engine.fault ≡ None }
+    ensures script { IsTrue (D.is_honest disk.old) → (before : Container) → HoldsOver engine (D.history disk.old (D.attached disk.old)) before
+        → Ends (IsTrue (D.is_honest disk.old)) before result
+        (record { remaining = S.rest source.old; written = K.written sink.old; steps = steps.old })
+        (record { remaining = S.rest source.new; written = K.written sink.new; steps = steps.new })
+        (D.history disk.old (D.attached disk.old)) (D.history disk.new (D.attached disk.new)) }
+    ensures disk_counted { CountsDisk result (D.faults disk.old) (D.faults disk.new) }
+    ensures read_fault { result ≡ Status.ReadFault
+        → Rose (S.faults source.old) (S.faults source.new) }
+    ensures write_fault { result ≡ Status.WriteFault
+        → Rose (K.faults sink.old) (K.faults sink.new) }
+    ensures disk_faults { D.faults disk.old ≤ D.faults disk.new }
+    ensures source_faults { S.faults source.old ≤ S.faults source.new }
+    ensures sink_faults { K.faults sink.old ≤ K.faults sink.new }
+    ensures attached { D.attached disk.new ≡ D.attached disk.old }
+    ensures honest { D.is_honest disk.new ≡ D.is_honest disk.old }
+    ensures steps { steps.old ≤ steps.new }
+    ensures sound { IsTrue (D.is_honest disk.old) → (before : Container) → HoldsOver engine (D.history disk.old (D.attached disk.old)) before → IsOfServing result }
+    ensures of_serving { EndsServing (D.is_honest disk.old) result (D.history disk.new (D.attached disk.new)) }
+    ensures answered { TellsAnswered result
+        (record { remaining = S.rest source.old; written = K.written sink.old; steps = steps.old })
+        (record { remaining = S.rest source.new; written = K.written sink.new; steps = steps.new }) }
+{
+    let Ok(cache) = LruPages::make(alloc, CACHED_PARTS) else {
+        return Status::Memory;
+    };
+    let mut engine = engine.with_cache(cache);
+    serve_cached(alloc, &mut engine, disk, source, sink, steps)
+}
+
+/// Serves the source over an engine with its cache, piece by piece. The buffer for the pieces is taken here, behind the
+/// opening, so that no want of memory hides why a store is refused.
+fn serve_cached<D: Disk, C: PageCache, S: Source, K: Sink, L: Ledger>(
+    alloc: Global,
+    engine: &mut Engine<C>,
+    disk: &mut D,
+    source: &mut S,
+    sink: &mut K,
+    steps: &mut Steps<L>,
+) -> Status
+    requires works { Works C.pages (IsTrue (D.is_honest disk.old)) engine.old (D.history disk.old (D.attached disk.old)) }
     requires unfaulted { engine.old.fault ≡ None }
     ensures script { IsTrue (D.is_honest disk.old) → (before : Container) → HoldsOver engine.old (D.history disk.old (D.attached disk.old)) before
         → Ends (IsTrue (D.is_honest disk.old)) before result

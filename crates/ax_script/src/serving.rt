@@ -14,6 +14,7 @@ ghost use Rattle.ax_script.specs.Replies.{IsTextOf, MayAnswer, TellsLine, Writes
 use crate::reply_lines::{doc_line, ok_line, out_of_memory_line, refusal_line, rows_text};
 use crate::status::Status;
 use ax_base::{Failed, Sink, Steps, write_all};
+use ax_cache::PageCache;
 use ax_disk::Disk;
 use ax_engine::{Engine, Fault, Reply};
 use ax_lines::{LineFault, Refusal, read_line};
@@ -32,15 +33,15 @@ use std::sync::ledger::Ledger;
 /// never over documents that are those of a container. A fault that the engine has afterwards is the error.
 /// What is written at `Ok` is a reply that the line may have, whatever the documents are: that a line is
 /// refused is told as that, but where the tree of its argument wants memory.
-pub fn serve_line<D: Disk, K: Sink, L: Ledger>(
+pub fn serve_line<D: Disk, C: PageCache, K: Sink, L: Ledger>(
     alloc: Global,
-    engine: &mut Engine,
+    engine: &mut Engine<C>,
     disk: &mut D,
     line: &[u8],
     sink: &mut K,
     steps: &mut Steps<L>,
 ) -> Result<(), Status>
-    requires works { Works (IsTrue (D.is_honest disk.old)) engine.old (D.history disk.old (D.attached disk.old)) }
+    requires works { Works C.pages (IsTrue (D.is_honest disk.old)) engine.old (D.history disk.old (D.attached disk.old)) }
     ensures whole { IsTrue (D.is_honest disk.old) → (before : Container) → HoldsOver engine.old (D.history disk.old (D.attached disk.old)) before
         → OnOk result ((now : Container) × HoldsOver engine.new (D.history disk.new (D.attached disk.new)) now
         × Serves (IsTrue (D.is_honest disk.old)) before line.now now
@@ -50,7 +51,7 @@ pub fn serve_line<D: Disk, K: Sink, L: Ledger>(
         (BeginsToServe (IsTrue (D.is_honest disk.old)) before line.now
         (outlets (K.written sink.old) (D.history disk.old (D.attached disk.old)) steps.old)
         (outlets (K.written sink.new) (D.history disk.new (D.attached disk.new)) steps.new)) }
-    ensures works { Works (IsTrue (D.is_honest disk.old)) engine.new (D.history disk.new (D.attached disk.new)) }
+    ensures works { Works C.pages (IsTrue (D.is_honest disk.old)) engine.new (D.history disk.new (D.attached disk.new)) }
     ensures sound { IsTrue (D.is_honest disk.old) → (before : Container) → HoldsOver engine.old (D.history disk.old (D.attached disk.old)) before → IfErr result BreaksOffWith }
     ensures only { IfErr result IsLineFault }
     ensures stops { engine.old.fault ≡ None → IfErr result (λ status. StopsBy (D.is_honest disk.old) status
@@ -80,18 +81,18 @@ pub fn serve_line<D: Disk, K: Sink, L: Ledger>(
 }
 
 /// What the engine answers to a line, or its refusal; once it has answered a fault, that one to every line.
-fn answer<D: Disk, L: Ledger>(
+fn answer<D: Disk, C: PageCache, L: Ledger>(
     alloc: Global,
-    engine: &mut Engine,
+    engine: &mut Engine<C>,
     disk: &mut D,
     line: &[u8],
     steps: &mut Steps<L>,
 ) -> Result<Reply, Fault>
-    requires works { Works (IsTrue (D.is_honest disk.old)) engine.old (D.history disk.old (D.attached disk.old)) }
+    requires works { Works C.pages (IsTrue (D.is_honest disk.old)) engine.old (D.history disk.old (D.attached disk.old)) }
     ensures tells { IsTrue (D.is_honest disk.old) → (before : Container) → HoldsOver engine.old (D.history disk.old (D.attached disk.old)) before
         → TellsLine (IsTrue (D.is_honest disk.old)) before line.now result engine.new
         (D.history disk.old (D.attached disk.old)) (D.history disk.new (D.attached disk.new)) }
-    ensures works { Works (IsTrue (D.is_honest disk.old)) engine.new (D.history disk.new (D.attached disk.new)) }
+    ensures works { Works C.pages (IsTrue (D.is_honest disk.old)) engine.new (D.history disk.new (D.attached disk.new)) }
     ensures may_answer { IfOk result (λ reply. MayAnswer line.now reply) }
     ensures met { IsTrue (D.is_honest disk.old) → engine.old.fault ≡ None
         → IfErr result (λ fault. Meets fault (D.history disk.new (D.attached disk.new)).reads) }
@@ -115,18 +116,18 @@ fn answer<D: Disk, L: Ledger>(
 
 /// What the engine answers to a line, or its refusal.
 #[tactic(auto, using(crate::proofs::AnsweredLines::read_may, crate::proofs::AnsweredLines::refused_may, crate::proofs::AnsweredLines::memory_may))]
-fn answer_line<D: Disk, L: Ledger>(
+fn answer_line<D: Disk, C: PageCache, L: Ledger>(
     alloc: Global,
-    engine: &mut Engine,
+    engine: &mut Engine<C>,
     disk: &mut D,
     line: &[u8],
     steps: &mut Steps<L>,
 ) -> Result<Reply, Fault>
-    requires works { Works (IsTrue (D.is_honest disk.old)) engine.old (D.history disk.old (D.attached disk.old)) }
+    requires works { Works C.pages (IsTrue (D.is_honest disk.old)) engine.old (D.history disk.old (D.attached disk.old)) }
     ensures tells { IsTrue (D.is_honest disk.old) → (before : Container) → HoldsOver engine.old (D.history disk.old (D.attached disk.old)) before
         → TellsLine (IsTrue (D.is_honest disk.old)) before line.now result engine.new
         (D.history disk.old (D.attached disk.old)) (D.history disk.new (D.attached disk.new)) }
-    ensures works { Works (IsTrue (D.is_honest disk.old)) engine.new (D.history disk.new (D.attached disk.new)) }
+    ensures works { Works C.pages (IsTrue (D.is_honest disk.old)) engine.new (D.history disk.new (D.attached disk.new)) }
     ensures may_answer { IfOk result (λ reply. MayAnswer line.now reply) }
     ensures met { IsTrue (D.is_honest disk.old) → engine.old.fault ≡ None
         → IfErr result (λ fault. Meets fault (D.history disk.new (D.attached disk.new)).reads) }

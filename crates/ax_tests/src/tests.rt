@@ -1,4 +1,5 @@
 mod bodies;
+mod caches;
 mod crashes;
 mod disks;
 mod faults;

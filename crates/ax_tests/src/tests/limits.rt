@@ -180,3 +180,61 @@ fn the_word_of_a_parameter_has_255_bytes_at_most(rt: HostRuntime) -> Result<(), 
     }
     Ok(())
 }
+
+/// Two texts, and between them the numbers from 0 on, so many, with commas.
+fn with_numbers(
+    alloc: Global,
+    front: &str,
+    count: usize,
+    back: &str,
+) -> Result<String, AllocError> {
+    let mut line = String::from_str(alloc, front)?;
+    line.push_str("0")?;
+    for number in 1..count {
+        let item = format!(in alloc; ",{number}")?;
+        line.push_str(item.as_str())?;
+    }
+    line.push_str(back)?;
+    Ok(line)
+}
+
+// The term of the id's text is one. A number that stands twice has one term.
+#[test]
+fn a_document_has_4096_terms_at_most(rt: HostRuntime) -> Result<(), Fail> {
+    let alloc = rt.alloc();
+    let front = "UPSERT {\"id\":\"a\",\"v\":[";
+    let line = with_numbers(alloc, front, 4_095, ",7,4094]}")?;
+    assert_eq!(rt; word_of(alloc, line.as_bytes()), "document");
+    let line = with_numbers(alloc, front, 4_096, "]}")?;
+    assert_eq!(rt; word_of(alloc, line.as_bytes()), "large");
+    Ok(())
+}
+
+// The path of the number has 3 bytes besides each of four names, and one at its end.
+#[test]
+fn an_encoded_path_has_1024_bytes_at_most(rt: HostRuntime) -> Result<(), Fail> {
+    let alloc = rt.alloc();
+    let outer = built(alloc, "UPSERT {\"id\":\"a\",\"", "n", 255, "\":{\"")?;
+    let middle = built(alloc, outer.as_str(), "n", 255, "\":{\"")?;
+    let inner = built(alloc, middle.as_str(), "n", 255, "\":{\"")?;
+    let line = built(alloc, inner.as_str(), "n", 246, "\":1}}}}")?;
+    assert_eq!(rt; word_of(alloc, line.as_bytes()), "document");
+    let line = built(alloc, inner.as_str(), "n", 247, "\":1}}}}")?;
+    assert_eq!(rt; word_of(alloc, line.as_bytes()), "large");
+    Ok(())
+}
+
+// The terms of 3,883 numbers behind a name of 255 bytes have 270 bytes each, that of the id's text 11, and that of a
+// text behind a name of one byte 9 besides the text.
+#[test]
+fn terms_have_1048576_bytes_at_most(rt: HostRuntime) -> Result<(), Fail> {
+    let alloc = rt.alloc();
+    let front = built(alloc, "UPSERT {\"id\":\"a\",\"", "n", 255, "\":[")?;
+    let many = with_numbers(alloc, front.as_str(), 3_883, "],\"y\":\"")?;
+    let texts = built(alloc, many.as_str(), "y", 100, "\",\"z\":\"")?;
+    let line = built(alloc, texts.as_str(), "z", 37, "\"}")?;
+    assert_eq!(rt; word_of(alloc, line.as_bytes()), "document");
+    let line = built(alloc, texts.as_str(), "z", 38, "\"}")?;
+    assert_eq!(rt; word_of(alloc, line.as_bytes()), "large");
+    Ok(())
+}

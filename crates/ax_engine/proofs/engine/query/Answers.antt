@@ -1,7 +1,6 @@
 -- What reading answered, as the answer to the line.
 use Rattle.std.proofs.Common.{subst, sym}
 use Rattle.std.specs.Prelude.{IfErr, IfOk, IsTrue, OnOk, Result}
-use Rattle.ax_cache.specs.Held.{held}
 use Rattle.ax_lines.specs.declared.line.Line.TheVariants as line
 use Rattle.ax_store.proofs.AheadLemmas.{ahead_of_nothing}
 use Rattle.ax_store.proofs.StoreLemmas.{agrees_says}
@@ -22,13 +21,13 @@ pub reply_to_query-read-requires : goal.reply_to_query-read-requires
 reply_to_query-read-requires g c = record {
   ready = record {
     works = c.requires.works.unfailed;
-    agrees = λ honest. ahead_of_nothing held c.args.documents.now.store _ (c.requires.works.agrees honest) _ c.new-ahead.ensures;
+    agrees = λ honest. ahead_of_nothing g.C.PageCache.pages c.args.documents.now.store _ (c.requires.works.agrees honest) _ c.new-ahead.ensures;
   };
 }
 
 pub answer_of_read-requires : goal.answer_of_read-requires
 answer_of_read-requires g c =
-    of_reading _ c.reply_to_query-read.result _ _ _ _ _ _ _ c.reply_to_query-read.ensures.scans
+    of_reading g.C.PageCache.pages _ c.reply_to_query-read.result _ _ _ _ _ _ _ c.reply_to_query-read.ensures.scans
 
 pub returns-clause-tells : goal.returns-clause-tells
 returns-clause-tells g c = λ honest readable before holds.
@@ -37,12 +36,12 @@ returns-clause-tells g c = λ honest readable before holds.
     (g.D.Disk.history c.args.disk.now (g.D.Disk.attached c.args.disk.now))
     (g.D.Disk.history c.reply_to_query-read.new.disk (g.D.Disk.attached c.reply_to_query-read.new.disk)) in
     subst P (sym c.answer_of_read.ensures)
-    (tells_read _ c.args.documents.now _ _ _ _ _ _ before c.args.body.now c.requires.works holds
+    (tells_read g.C.PageCache.pages _ c.args.documents.now _ _ _ _ _ _ before c.args.body.now c.requires.works holds
     c.reply_to_query-read.result c.reply_to_query-read.ensures.scans
     (g.met.D.Disk.reads_may_stay c.reply_to_query-read.new.disk (g.D.Disk.attached c.reply_to_query-read.new.disk)
     (subst IsTrue (sym c.reply_to_query-read.ensures.honest) honest))
     ((idles_rest _ _ SaysReadable readable
-    (lists_read _ c.args.documents.now _ _ _ _ _ _ c.reply_to_query-read.result c.reply_to_query-read.ensures.scans honest)).each _
+    (lists_read g.C.PageCache.pages _ c.args.documents.now _ _ _ _ _ _ c.reply_to_query-read.result c.reply_to_query-read.ensures.scans honest)).each _
     (g.met.D.Disk.reads_may_stay c.reply_to_query-read.new.disk (g.D.Disk.attached c.reply_to_query-read.new.disk)
     (subst IsTrue (sym c.reply_to_query-read.ensures.honest) honest)))
     (c.reply_to_query-read.ensures.reply honest before holds.hold) honest)
@@ -58,49 +57,49 @@ returns-clause-met g c = λ honest.
     let P : Result Reply Fault → Type 0 = λ answer. IfErr answer (λ why. Meets why
     (g.D.Disk.history c.reply_to_query-read.new.disk (g.D.Disk.attached c.reply_to_query-read.new.disk)).reads) in
     subst P (sym c.answer_of_read.ensures)
-    (met_read _ c.args.documents.now _ _ _ _ _ _ c.reply_to_query-read.result c.reply_to_query-read.ensures.scans
+    (met_read g.C.PageCache.pages _ c.args.documents.now _ _ _ _ _ _ c.reply_to_query-read.result c.reply_to_query-read.ensures.scans
     (g.met.D.Disk.reads_may_stay c.reply_to_query-read.new.disk (g.D.Disk.attached c.reply_to_query-read.new.disk)
     (subst IsTrue (sym c.reply_to_query-read.ensures.honest) honest)) honest)
 
 pub returns-clause-passes_over_none : goal.returns-clause-passes_over_none
 returns-clause-passes_over_none g c = λ honest.
     let contents = store_contents c.args.documents.now.store in
-    let of = agrees_says held c.args.documents.now.store _ (c.requires.works.agrees honest) in
+    let of = agrees_says g.C.PageCache.pages c.args.documents.now.store _ (c.requires.works.agrees honest) in
     let P : Result Reply Fault → Type 0 = λ answer. IfOk answer (λ reply. PassesOverNone (line.Query c.args.body.now) reply
     (g.D.Disk.history c.reply_to_query-read.new.disk (g.D.Disk.attached c.reply_to_query-read.new.disk)).reads) in
     subst P (sym c.answer_of_read.ensures)
     (passes_read of.version of.told contents c.args.body.now _
     ((idles_rest _ _ (Says newest of.version of.told contents) of.says
-    (lists_read _ c.args.documents.now _ _ _ _ _ _ c.reply_to_query-read.result c.reply_to_query-read.ensures.scans honest)).each _
+    (lists_read g.C.PageCache.pages _ c.args.documents.now _ _ _ _ _ _ c.reply_to_query-read.result c.reply_to_query-read.ensures.scans honest)).each _
     (g.met.D.Disk.reads_may_stay c.reply_to_query-read.new.disk (g.D.Disk.attached c.reply_to_query-read.new.disk)
     (subst IsTrue (sym c.reply_to_query-read.ensures.honest) honest)))
     c.reply_to_query-read.result (c.reply_to_query-read.ensures.met honest))
 
 pub returns-clause-works : goal.returns-clause-works
 returns-clause-works g c =
-    let W = DocumentsWork (IsTrue (g.D.Disk.is_honest c.args.disk.now))
+    let W = DocumentsWork g.C.PageCache.pages (IsTrue (g.D.Disk.is_honest c.args.disk.now))
     (record c.args.documents.now { store = c.reply_to_query-read.new.store })
     (g.D.Disk.history c.reply_to_query-read.new.disk (g.D.Disk.attached c.reply_to_query-read.new.disk)) in
     let P : Result Reply Fault → Type 0 = λ answer. OnOk answer W in
     subst P (sym c.answer_of_read.ensures)
-    (works_read _ c.args.documents.now _ _ _ _ _ _ c.reply_to_query-read.result c.reply_to_query-read.ensures.scans)
+    (works_read g.C.PageCache.pages _ c.args.documents.now _ _ _ _ _ _ c.reply_to_query-read.result c.reply_to_query-read.ensures.scans)
 
 pub returns-clause-counted : goal.returns-clause-counted
 returns-clause-counted g c =
     let P : Result Reply Fault → Type 0 = λ answer. CountsAnswer answer (g.D.Disk.faults c.args.disk.now)
     (g.D.Disk.faults c.reply_to_query-read.new.disk) in
     subst P (sym c.answer_of_read.ensures)
-    (counted_read _ c.args.documents.now _ _ _ _ _ _ c.reply_to_query-read.result c.reply_to_query-read.ensures.scans)
+    (counted_read g.C.PageCache.pages _ c.args.documents.now _ _ _ _ _ _ c.reply_to_query-read.result c.reply_to_query-read.ensures.scans)
 
 pub returns-clause-never_falls : goal.returns-clause-never_falls
 returns-clause-never_falls g c =
-    never_falls_read _ c.args.documents.now _ _ _ _ _ _ c.reply_to_query-read.result c.reply_to_query-read.ensures.scans
+    never_falls_read g.C.PageCache.pages _ c.args.documents.now _ _ _ _ _ _ c.reply_to_query-read.result c.reply_to_query-read.ensures.scans
 
 pub returns-clause-lists : goal.returns-clause-lists
 returns-clause-lists g c = λ honest.
-    lists_read _ c.args.documents.now _ _ _ _ _ _ c.reply_to_query-read.result c.reply_to_query-read.ensures.scans honest
+    lists_read g.C.PageCache.pages _ c.args.documents.now _ _ _ _ _ _ c.reply_to_query-read.result c.reply_to_query-read.ensures.scans honest
 
 pub returns-clause-readable : goal.returns-clause-readable
 returns-clause-readable g c = λ honest rests.
     idles_stay _ _ SaysReadable rests
-    (lists_read _ c.args.documents.now _ _ _ _ _ _ c.reply_to_query-read.result c.reply_to_query-read.ensures.scans honest)
+    (lists_read g.C.PageCache.pages _ c.args.documents.now _ _ _ _ _ _ c.reply_to_query-read.result c.reply_to_query-read.ensures.scans honest)

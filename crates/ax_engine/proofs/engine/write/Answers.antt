@@ -38,11 +38,11 @@ returns-clause-only g c =
 
 pub returns-clause-works : goal.returns-clause-works
 returns-clause-works g c =
-    let W = DocumentsWork (IsTrue (g.D.Disk.is_honest c.args.disk.now)) c.make-made.new.documents
+    let W = DocumentsWork g.C.PageCache.pages (IsTrue (g.D.Disk.is_honest c.args.disk.now)) c.make-made.new.documents
     (g.D.Disk.history c.make-made.new.disk (g.D.Disk.attached c.make-made.new.disk)) in
     let P : Result Reply Fault → Type 0 = λ answer. OnOk answer W in
     subst P (sym c.answer_of_write.ensures)
-    (works_written _ c.make-made.new.documents _ c.make-made.result c.make-made.ensures.leaves.works)
+    (works_written g.C.PageCache.pages _ c.make-made.new.documents _ c.make-made.result c.make-made.ensures.leaves.works)
 
 pub returns-clause-readable : goal.returns-clause-readable
 returns-clause-readable g c = c.make-made.ensures.leaves.readable

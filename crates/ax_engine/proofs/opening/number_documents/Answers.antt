@@ -17,14 +17,14 @@ texts-init g c = record {
       ∙ ap (λ es. number_or (find (has_id id) es) None)
       (at_the_start (store_contents c.args.store.now) container hold)
       ∙ number_or-none (entry_of id container);
-  scans = nothing_scanned _ c.args.store.now _ _ _ c.requires.ready;
+  scans = nothing_scanned g.C.PageCache.pages _ c.args.store.now _ _ _ c.requires.ready;
   attached = refl;
   honest = refl;
 }
 
 pub number_document-requires : goal.number_document-requires
 number_document-requires g c = record {
-  ready = ready_now _ _ c.texts.store _ _ c.texts.invariant.honest c.texts.invariant.scans.ready;
+  ready = ready_now g.C.PageCache.pages _ _ c.texts.store _ _ c.texts.invariant.honest c.texts.invariant.scans.ready;
 }
 
 pub texts-preserved : goal.texts-preserved
@@ -43,14 +43,14 @@ texts-preserved g c =
           numbers_on contents container hold c.texts.number c.in-Some.next id
           (number_under c.texts.numbers id) (number_under c.number_document.new.numbers id)
           (number_in id container) next put (inv.numbers honest container hold id);
-      scans = scanned_on _ _ _ _ _ _ _ _ _ _ _ _ _ inv.honest inv.scans c.in-Ok.ensures.scans;
+      scans = scanned_on g.C.PageCache.pages _ _ _ _ _ _ _ _ _ _ _ _ _ inv.honest inv.scans c.in-Ok.ensures.scans;
       attached = c.in-Ok.ensures.attached ∙ inv.attached;
       honest = c.in-Ok.ensures.honest ∙ inv.honest;
     }
 
 pub returns-in-Err-clause-scans : goal.returns-in-Err-clause-scans
 returns-in-Err-clause-scans g c =
-    fails_on _ _ _ _ _ _ _ _ _ _ _ _ _ c.texts.invariant.honest c.texts.invariant.scans c.in-Err.fault c.in-Err.ensures.scans
+    fails_on g.C.PageCache.pages _ _ _ _ _ _ _ _ _ _ _ _ _ c.texts.invariant.honest c.texts.invariant.scans c.in-Err.fault c.in-Err.ensures.scans
 
 pub returns-clause-numbers : goal.returns-clause-numbers
 returns-clause-numbers g c = λ honest container hold id.

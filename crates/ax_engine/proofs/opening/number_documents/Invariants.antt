@@ -19,7 +19,7 @@ invariant-texts g l = record {
       → ContentsHold (store_contents l.fn.store) container → (id : List ℕ)
       → number_or (find (has_id id) (above l.number container.entries)) (number_under l.numbers id)
       ≡ number_in id container;
-  scans : Scanned (g.D.Disk.is_honest l.fn.disk) l.fn.store l.store l.ahead
+  scans : Scanned g.C.PageCache.pages (g.D.Disk.is_honest l.fn.disk) l.fn.store l.store l.ahead
       (g.D.Disk.history l.fn.disk (g.D.Disk.attached l.fn.disk)) (g.D.Disk.history l.disk (g.D.Disk.attached l.disk))
       (g.D.Disk.faults l.fn.disk) (g.D.Disk.faults l.disk);
   attached : g.D.Disk.attached l.disk ≡ g.D.Disk.attached l.fn.disk;

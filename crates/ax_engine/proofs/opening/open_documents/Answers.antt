@@ -1,6 +1,7 @@
 -- The store is opened as it stands, and then its texts are read.
 use Rattle.std.proofs.Common.{IsTrue, sym, subst}
 use Rattle.std.specs.Prelude.{IfOk}
+use Rattle.ax_cache.specs.PageLaws.{no_pages}
 use Rattle.ax_engine.specs.Documents.{DocumentsWork}
 use Rattle.ax_store.proofs.OpenLemmas.{keeps_idle}
 use Rattle.ax_engine.proofs.Opened.{cause_numbered, holds_opened, in_any, never_answered, opened_rests, passed_on, readable_still, refuses_by, refuses_none, since_opening, since_reading, when_opened, within_by, works_numbered}
@@ -8,7 +9,7 @@ use Rattle.ax_engine.proofs.opening.open_documents.Goals as goal
 
 pub returns-in-Ok-clause-works : goal.returns-in-Ok-clause-works
 returns-in-Ok-clause-works g c =
-    subst (λ h. IfOk c.number_all.result (λ documents. DocumentsWork (IsTrue h) documents
+    subst (λ h. IfOk c.number_all.result (λ documents. DocumentsWork (λ _. no_pages) (IsTrue h) documents
     (g.D.Disk.history c.number_all.new.disk (g.D.Disk.attached c.number_all.new.disk)))) c.open_store.ensures.honest
     (works_numbered _ c.number_all.result c.in-Ok.store _ c.number_all.ensures.numbers.tells)
 

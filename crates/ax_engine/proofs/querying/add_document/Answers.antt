@@ -13,7 +13,7 @@ use Rattle.ax_engine.proofs.querying.add_document.Goals as goal
 pub returns-in-Err-add-clause-scans : goal.returns-in-Err-add-clause-scans
 returns-in-Err-add-clause-scans g c =
     let same = c.in-Ok.ensures.scans.same.pages in
-    text_fails _ c.in-Err-add.fault c.text_fault.result _ c.fetch_document.new.store c.fetch_document.new.ahead _ _ _ _
+    text_fails g.C.PageCache.pages _ c.in-Err-add.fault c.text_fault.result _ c.fetch_document.new.store c.fetch_document.new.ahead _ _ _ _
     c.args.number (ahead_text c.fetch_document.new.ahead) c.in-Ok.field-0 c.in-Ok.ensures.scans
     (subst (λ (kept : Kept). IsTrue (map.contains_key (kept_says kept).documents c.args.number)) (sym same) c.requires.held)
     (λ honest. subst (λ (kept : Kept). IsAhead (map.get (kept_says kept).documents c.args.number) c.in-Ok.field-0

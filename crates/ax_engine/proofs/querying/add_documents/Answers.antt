@@ -23,7 +23,7 @@ texts-init g c = record {
   bound = λ container hold.
       omega (arith, ap length (at_the_start (store_contents c.args.store.now) container hold));
   never_falls = omega arith;
-  scans = nothing_scanned _ c.args.store.now _ _ _ c.requires.ready;
+  scans = nothing_scanned g.C.PageCache.pages _ c.args.store.now _ _ _ c.requires.ready;
   attached = refl;
   honest = refl;
 }
@@ -68,14 +68,14 @@ texts-preserved g c =
             one_less contents container hold c.texts.number c.in-Some.next next,
           );
       never_falls = omega (arith, inv.never_falls, c.in-Ok.ensures.fetched);
-      scans = scanned_on _ _ _ _ _ _ _ _ _ _ _ _ _ inv.honest inv.scans c.in-Ok.ensures.scans;
+      scans = scanned_on g.C.PageCache.pages _ _ _ _ _ _ _ _ _ _ _ _ _ inv.honest inv.scans c.in-Ok.ensures.scans;
       attached = c.in-Ok.ensures.attached ∙ inv.attached;
       honest = c.in-Ok.ensures.honest ∙ inv.honest;
     }
 
 pub add_document-requires-clause-ready : goal.add_document-requires-clause-ready
 add_document-requires-clause-ready g c =
-    ready_now _ _ c.texts.store _ _ c.texts.invariant.honest c.texts.invariant.scans.ready
+    ready_now g.C.PageCache.pages _ _ c.texts.store _ _ c.texts.invariant.honest c.texts.invariant.scans.ready
 
 pub returns-then-is_done-clause-added : goal.returns-then-is_done-clause-added
 returns-then-is_done-clause-added g c = λ honest container hold query answers.
@@ -109,7 +109,7 @@ returns-in-Err-clause-bound g c = λ container hold.
 
 pub returns-in-Err-clause-scans : goal.returns-in-Err-clause-scans
 returns-in-Err-clause-scans g c =
-    fails_on _ _ _ _ _ _ _ _ _ _ _ _ _ c.texts.invariant.honest c.texts.invariant.scans c.in-Err.fault c.in-Err.ensures.scans
+    fails_on g.C.PageCache.pages _ _ _ _ _ _ _ _ _ _ _ _ _ c.texts.invariant.honest c.texts.invariant.scans c.in-Err.fault c.in-Err.ensures.scans
 
 pub returns-clause-fetched : goal.returns-clause-fetched
 returns-clause-fetched g c = λ container hold query asked unlimited.

@@ -33,7 +33,7 @@ invariant-texts g l = record {
       → l.steps + 2 * length (above l.number container.entries)
       ≤ l.fn.steps + 2 * length container.entries;
   never_falls : l.fn.steps ≤ l.steps;
-  scans : Scanned (g.D.Disk.is_honest l.fn.disk) l.fn.store l.store l.ahead
+  scans : Scanned g.C.PageCache.pages (g.D.Disk.is_honest l.fn.disk) l.fn.store l.store l.ahead
       (g.D.Disk.history l.fn.disk (g.D.Disk.attached l.fn.disk)) (g.D.Disk.history l.disk (g.D.Disk.attached l.disk))
       (g.D.Disk.faults l.fn.disk) (g.D.Disk.faults l.disk);
   attached : g.D.Disk.attached l.disk ≡ g.D.Disk.attached l.fn.disk;

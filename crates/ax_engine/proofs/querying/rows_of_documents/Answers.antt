@@ -25,7 +25,7 @@ returns-in-Ok-rows-clause-rows g c = λ honest container hold.
 
 pub returns-in-Ok-rows-clause-scans : goal.returns-in-Ok-rows-clause-scans
 returns-in-Ok-rows-clause-scans g c =
-    scans_on _ _ _ _ _ _ _ _ _ _ _ _ _ c.in-Ok-rows.ensures.honest c.in-Ok-rows.ensures.scans c.document_rows.result
+    scans_on g.C.PageCache.pages _ _ _ _ _ _ _ _ _ _ _ _ _ c.in-Ok-rows.ensures.honest c.in-Ok-rows.ensures.scans c.document_rows.result
     c.document_rows.ensures.scans
 
 pub returns-in-Ok-rows-clause-met : goal.returns-in-Ok-rows-clause-met

@@ -6,8 +6,8 @@ use Rattle.ax_store.proofs.Saying.{held_alike}
 use Rattle.ax_engine.proofs.reading.place_of.Goals as goal
 
 pub place-requires : goal.place-requires
-place-requires c =
+place-requires g c =
     one_part _ (sym (held_alike (store_parts c.args.store.now) c.args.number) ∙ c.requires)
 
 pub returns-clause-offset : goal.returns-clause-offset
-returns-clause-offset c = only_place _ _ c.place.ensures.offset
+returns-clause-offset g c = only_place _ _ c.place.ensures.offset

@@ -11,12 +11,12 @@ use Rattle.ax_engine.proofs.shown_documents.document_lines.Goals as goal
 
 pub push_document-requires : goal.push_document-requires
 push_document-requires g c = record {
-  ready = ready_now _ _ c.loop-row.store _ _ c.loop-row.invariant.honest c.loop-row.invariant.scans.ready;
+  ready = ready_now g.C.PageCache.pages _ _ c.loop-row.store _ _ c.loop-row.invariant.honest c.loop-row.invariant.scans.ready;
 }
 
 pub returns-in-Err-clause-scans : goal.returns-in-Err-clause-scans
 returns-in-Err-clause-scans g c =
-    fails_on _ _ _ _ _ _ _ _ _ _ _ _ _ c.loop-row.invariant.honest c.loop-row.invariant.scans c.in-Err.fault c.in-Err.ensures.scans
+    fails_on g.C.PageCache.pages _ _ _ _ _ _ _ _ _ _ _ _ _ c.loop-row.invariant.honest c.loop-row.invariant.scans c.in-Err.fault c.in-Err.ensures.scans
 
 pub loop-row-preserved : goal.loop-row-preserved
 loop-row-preserved g c =
@@ -28,7 +28,7 @@ loop-row-preserved g c =
           (c.in-Ok.ensures.line (subst IsTrue (sym inv.honest) honest) container
           (subst (λ (kept : Kept). ContentsHold (kept_says kept) container) (sym inv.scans.same.pages) hold))
           (inv.lines honest container hold);
-      scans = scanned_on _ _ _ _ _ _ _ _ _ _ _ _ _ inv.honest inv.scans c.in-Ok.ensures.scans;
+      scans = scanned_on g.C.PageCache.pages _ _ _ _ _ _ _ _ _ _ _ _ _ inv.honest inv.scans c.in-Ok.ensures.scans;
       attached = c.in-Ok.ensures.attached ∙ inv.attached;
       honest = c.in-Ok.ensures.honest ∙ inv.honest;
     }

@@ -15,7 +15,7 @@ invariant-loop-row g l = record {
       → ContentsHold (store_contents l.fn.store) container
       → l.lines.items ++ lines_of_documents (pairs container.entries) (drop l.row-index l.rows)
       ≡ lines_of_documents (pairs container.entries) l.rows;
-  scans : Scanned (g.D.Disk.is_honest l.fn.disk) l.fn.store l.store l.ahead
+  scans : Scanned g.C.PageCache.pages (g.D.Disk.is_honest l.fn.disk) l.fn.store l.store l.ahead
       (g.D.Disk.history l.fn.disk (g.D.Disk.attached l.fn.disk)) (g.D.Disk.history l.disk (g.D.Disk.attached l.disk))
       (g.D.Disk.faults l.fn.disk) (g.D.Disk.faults l.disk);
   attached : g.D.Disk.attached l.disk ≡ g.D.Disk.attached l.fn.disk;

@@ -18,3 +18,8 @@ pub returns-in-Ok-from_str-clause-answered : goal.returns-in-Ok-from_str-clause-
 returns-in-Ok-from_str-clause-answered c = λ answer.
     not_refused c.args.id.now answer c.in-Ok.ensures.cases.1
     (ap is_id (sym c.in-Ok.ensures.cases.0) ∙ sym c.if-not-may_be_id.ensures)
+
+pub returns-in-Err-clause-memory : goal.returns-in-Err-clause-memory
+returns-in-Err-clause-memory c = λ is answer.
+    not_refused c.args.id.now answer c.in-Ok.ensures.cases.1
+    (ap is_id (sym c.in-Ok.ensures.cases.0) ∙ sym c.if-not-may_be_id.ensures)

@@ -26,7 +26,7 @@ returns-then-is_empty-clause-ok g c = λ honest before holds.
 pub returns-in_default-clause-err : goal.returns-in_default-clause-err
 returns-in_default-clause-err g c = λ honest before holds.
     begins_without _ before _ Served _ _ _ _ _
-    (still_over _ c.args.engine.now _ before _ c.requires.works holds) (omega arith)
+    (still_over g.C.PageCache.pages _ c.args.engine.now _ before _ c.requires.works holds) (omega arith)
 
 pub returns-clause-ok : goal.returns-clause-ok
 returns-clause-ok g c = λ honest before holds.

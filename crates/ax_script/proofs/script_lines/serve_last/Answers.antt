@@ -23,7 +23,7 @@ returns-then-is_empty-clause-done g c = λ honest before holds _.
     let here = outlets (g.K.Sink.written c.args.sink.now)
     (g.D.Disk.history c.args.disk.now (g.D.Disk.attached c.args.disk.now)) c.args.steps.now in
     let P : List ℕ → Type 0 = λ last. ServesLast (IsTrue (g.D.Disk.is_honest c.args.disk.now)) before last here here in
-    subst P (sym none) (serves_no_last _ before here (rests_over _ c.args.engine.now _ before c.requires.works holds))
+    subst P (sym none) (serves_no_last _ before here (rests_over g.C.PageCache.pages _ c.args.engine.now _ before c.requires.works holds))
 
 pub returns-in-Ok-clause-answered : goal.returns-in-Ok-clause-answered
 returns-in-Ok-clause-answered g c = λ _.

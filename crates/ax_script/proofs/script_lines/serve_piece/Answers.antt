@@ -18,7 +18,7 @@ lines-init g c = record {
     before,
     holds,
     piece_begins _ before _ c.args.piece.now _ c.requires.line
-        (rests_over _ c.args.engine.now _ before c.requires.works holds),
+        (rests_over g.C.PageCache.pages _ c.args.engine.now _ before c.requires.works holds),
   );
   answered = answered_begins c.args.pending.now.items c.args.piece.now _ c.requires.line;
   line = c.requires.line;
@@ -63,7 +63,7 @@ lines-preserved g c = record {
       (answered_goes_on _ _ _ _ _ _ c.lines.invariant.answered c.in-Some.head.now c.in-Some.tail.now _
       c.in-Some.ensures.split c.in-Some.ensures.line c.in_default-serve_head.ensures.answered);
   line = subst IsOneLine (sym c.in_default-serve_head.ensures.empty) refl;
-  works = subst (λ honest. Works (IsTrue honest) c.serve_head.new.engine
+  works = subst (λ honest. Works g.C.PageCache.pages (IsTrue honest) c.serve_head.new.engine
       (g.D.Disk.history c.serve_head.new.disk (g.D.Disk.attached c.serve_head.new.disk)))
       (sym c.in_default-serve_head.ensures.honest) c.in_default-serve_head.ensures.works;
   unfaulted = c.in_default-serve_head.ensures.unfaulted;

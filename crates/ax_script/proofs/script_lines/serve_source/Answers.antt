@@ -25,7 +25,7 @@ pieces-init g c =
             before,
             holds,
             subst P (sym c.new-pending.ensures.items)
-                (progress_begins _ before here _ (rests_over _ c.args.engine.now _ before c.requires.works holds)),
+                (progress_begins _ before here _ (rests_over g.C.PageCache.pages _ c.args.engine.now _ before c.requires.works holds)),
           );
       answered = subst (λ pending. AnswersSoMany here here pending 0) (sym c.new-pending.ensures.items)
           (answers_begin here);
@@ -126,7 +126,7 @@ pieces-preserved g c = record {
   answered = answers_go_on _ _ _ _ c.pieces.invariant.answered _ _ _ (take c.in-Ok.count c.read_some.new.buf) _
       c.in-Ok.count c.in-Ok.ensures.taken (sym c.in-Ok.ensures.bound.1) c.in_default-served.ensures.answered;
   line = c.in_default-served.ensures.line;
-  works = subst (λ honest. Works (IsTrue honest) c.serve_piece-served.new.engine
+  works = subst (λ honest. Works g.C.PageCache.pages (IsTrue honest) c.serve_piece-served.new.engine
       (g.D.Disk.history c.serve_piece-served.new.disk (g.D.Disk.attached c.serve_piece-served.new.disk)))
       (sym c.in_default-served.ensures.honest) c.in_default-served.ensures.works;
   unfaulted = c.in_default-served.ensures.unfaulted;

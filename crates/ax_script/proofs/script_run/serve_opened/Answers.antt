@@ -1,8 +1,29 @@
--- No memory was left for the buffer.
+-- The engine over its cache has the same documents; or no memory was left for the cache.
+use Rattle.std.proofs.Common.{ap, ◌∙◌}
+use Rattle.ax_cache.specs.Held.{held}
+use Rattle.ax_cache.specs.PageLaws.{no_pages}
 use Rattle.ax_engine.proofs.Applying.{rests_over}
+use Rattle.ax_engine.proofs.Recaching.{over_still, works_still}
 use Rattle.ax_script.proofs.Endings.{ends_without_memory}
 use Rattle.ax_script.proofs.script_run.serve_opened.Goals as goal
 
 pub returns-in_default-clause-script : goal.returns-in_default-clause-script
 returns-in_default-clause-script g c = λ honest before holds.
-    ends_without_memory _ before _ _ (rests_over _ c.args.engine.now _ before c.requires.works holds)
+    ends_without_memory _ before _ _ (rests_over (λ _. no_pages) _ c.args.engine _ before c.requires.works holds)
+
+pub serve_cached-requires-clause-works : goal.serve_cached-requires-clause-works
+serve_cached-requires-clause-works g c =
+    works_still c.args.engine c.with_cache-engine.result c.with_cache-engine.ensures.fault c.with_cache-engine.ensures.documents
+    (λ _. no_pages) held _ _ (ap held c.with_cache-engine.ensures.cache ∙ c.in-Ok.ensures.pages) c.requires.works
+
+pub returns-clause-script : goal.returns-clause-script
+returns-clause-script g c = λ honest before holds.
+    c.serve_cached.ensures.script honest before
+    (over_still c.args.engine c.with_cache-engine.result c.with_cache-engine.ensures.fault
+    c.with_cache-engine.ensures.documents _ before holds)
+
+pub returns-clause-sound : goal.returns-clause-sound
+returns-clause-sound g c = λ honest before holds.
+    c.serve_cached.ensures.sound honest before
+    (over_still c.args.engine c.with_cache-engine.result c.with_cache-engine.ensures.fault
+    c.with_cache-engine.ensures.documents _ before holds)

@@ -13,11 +13,11 @@ returns-in-Err-Refused-clause-tells g c = λ honest before holds.
     let P : LineFault → Type 0 = λ fault. IsRefusedBy fault (line_of c.args.line.now) in
     tells_refused _ before c.args.line.now c.in-Err-Refused.refusal c.args.engine.now _ _
     (subst P c.in-Err-Refused.field-0-is c.in-Err-Refused.ensures.answers) holds
-    (still_over _ c.args.engine.now _ before before c.requires.works holds)
+    (still_over g.C.PageCache.pages _ c.args.engine.now _ before before c.requires.works holds)
 
 pub returns-in-Err-Memory-clause-tells : goal.returns-in-Err-Memory-clause-tells
 returns-in-Err-Memory-clause-tells g c = λ honest before holds.
-    (OutOfMemory, refl, holds, still_over _ c.args.engine.now _ before before c.requires.works holds)
+    (OutOfMemory, refl, holds, still_over g.C.PageCache.pages _ c.args.engine.now _ before before c.requires.works holds)
 
 pub returns-in-Ok-clause-tells : goal.returns-in-Ok-clause-tells
 returns-in-Ok-clause-tells g c = λ honest before holds.

@@ -20,7 +20,7 @@ pub returns-then-is_full-clause-tells : goal.returns-then-is_full-clause-tells
 returns-then-is_full-clause-tells g c = λ before holds doc at. (
   refuses_full (contents_in c.args.self.now) before holds.hold c.args.id.now c.args.tree.now
       (sym c.is_full.ensures ∙ c.if-is_full.true),
-  (holds, still _ c.args.self.now _ before before c.requires.works holds),
+  (holds, still g.C.PageCache.pages _ c.args.self.now _ before before c.requires.works holds),
 )
 
 pub returns-then-is_full-clause-refused : goal.returns-then-is_full-clause-refused
@@ -28,10 +28,10 @@ returns-then-is_full-clause-refused g c = λ before why holds at is.
     ap (λ w. Err (fault_of w)) (refused_as_full (contents_in c.args.self.now) before holds.hold c.args.id.now c.args.tree.now why is)
 
 pub returns-then-is_full-clause-leaves : goal.returns-then-is_full-clause-leaves
-returns-then-is_full-clause-leaves g c = rests_left _ _ _ _ _ c.requires.works refl
+returns-then-is_full-clause-leaves g c = rests_left g.C.PageCache.pages _ _ _ _ _ c.requires.works refl
 
 pub returns-in_default-clause-tells : goal.returns-in_default-clause-tells
-returns-in_default-clause-tells g c = λ before holds doc at. (holds, still _ c.args.self.now _ before before c.requires.works holds)
+returns-in_default-clause-tells g c = λ before holds doc at. (holds, still g.C.PageCache.pages _ c.args.self.now _ before before c.requires.works holds)
 
 pub returns-in_default-clause-refused : goal.returns-in_default-clause-refused
 returns-in_default-clause-refused g c = λ before why holds at is.
@@ -39,10 +39,10 @@ returns-in_default-clause-refused g c = λ before why holds at is.
     (sym c.is_full.ensures ∙ c.if-is_full.false) is
 
 pub returns-in_default-clause-leaves : goal.returns-in_default-clause-leaves
-returns-in_default-clause-leaves g c = rests_left _ _ _ _ _ c.requires.works refl
+returns-in_default-clause-leaves g c = rests_left g.C.PageCache.pages _ _ _ _ _ c.requires.works refl
 
 pub returns-then-number-eq0-clause-tells : goal.returns-then-number-eq0-clause-tells
-returns-then-number-eq0-clause-tells g c = λ before holds doc at. (holds, still _ c.args.self.now _ before before c.requires.works holds)
+returns-then-number-eq0-clause-tells g c = λ before holds doc at. (holds, still g.C.PageCache.pages _ c.args.self.now _ before before c.requires.works holds)
 
 pub returns-then-number-eq0-clause-refused : goal.returns-then-number-eq0-clause-refused
 returns-then-number-eq0-clause-refused g c = λ before why holds at is.
@@ -50,10 +50,10 @@ returns-then-number-eq0-clause-refused g c = λ before why holds at is.
     (sym c.is_full.ensures ∙ c.if-is_full.false) is
 
 pub returns-then-number-eq0-clause-leaves : goal.returns-then-number-eq0-clause-leaves
-returns-then-number-eq0-clause-leaves g c = rests_left _ _ _ _ _ c.requires.works refl
+returns-then-number-eq0-clause-leaves g c = rests_left g.C.PageCache.pages _ _ _ _ _ c.requires.works refl
 
 pub returns-in_default-creating-clause-tells : goal.returns-in_default-creating-clause-tells
-returns-in_default-creating-clause-tells g c = λ before holds doc at. (holds, still _ c.args.self.now _ before before c.requires.works holds)
+returns-in_default-creating-clause-tells g c = λ before holds doc at. (holds, still g.C.PageCache.pages _ c.args.self.now _ before before c.requires.works holds)
 
 pub returns-in_default-creating-clause-refused : goal.returns-in_default-creating-clause-refused
 returns-in_default-creating-clause-refused g c = λ before why holds at is.
@@ -61,12 +61,12 @@ returns-in_default-creating-clause-refused g c = λ before why holds at is.
     (sym c.is_full.ensures ∙ c.if-is_full.false) is
 
 pub returns-in_default-creating-clause-leaves : goal.returns-in_default-creating-clause-leaves
-returns-in_default-creating-clause-leaves g c = rests_left _ _ _ _ _ c.requires.works refl
+returns-in_default-creating-clause-leaves g c = rests_left g.C.PageCache.pages _ _ _ _ _ c.requires.works refl
 
 pub returns-in_default-reserve-clause-tells : goal.returns-in_default-reserve-clause-tells
 returns-in_default-reserve-clause-tells g c = λ before holds doc at. (
   holds_room c.args.self.now c.reserve.new.self before c.reserve.ensures.same holds,
-  still _ c.args.self.now _ before before c.requires.works holds,
+  still g.C.PageCache.pages _ c.args.self.now _ before before c.requires.works holds,
 )
 
 pub returns-in_default-reserve-clause-refused : goal.returns-in_default-reserve-clause-refused
@@ -75,12 +75,12 @@ returns-in_default-reserve-clause-refused g c = λ before why holds at is.
     (sym c.is_full.ensures ∙ c.if-is_full.false) is
 
 pub returns-in_default-reserve-clause-leaves : goal.returns-in_default-reserve-clause-leaves
-returns-in_default-reserve-clause-leaves g c = rests_left _ _ _ _ _ (works_room _ c.args.self.now c.reserve.new.self _ c.reserve.ensures.same c.requires.works) refl
+returns-in_default-reserve-clause-leaves g c = rests_left g.C.PageCache.pages _ _ _ _ _ (works_room g.C.PageCache.pages _ c.args.self.now c.reserve.new.self _ c.reserve.ensures.same c.requires.works) refl
 
 pub returns-in_default-insert-clause-tells : goal.returns-in_default-insert-clause-tells
 returns-in_default-insert-clause-tells g c = λ before holds doc at. (
   holds_same c.args.self.now _ before (ap risen c.reserve.ensures.same.contents) c.in_default-insert.ensures.err holds,
-  still _ c.args.self.now _ before before c.requires.works holds,
+  still g.C.PageCache.pages _ c.args.self.now _ before before c.requires.works holds,
 )
 
 pub returns-in_default-insert-clause-refused : goal.returns-in_default-insert-clause-refused
@@ -89,12 +89,12 @@ returns-in_default-insert-clause-refused g c = λ before why holds at is.
     (sym c.is_full.ensures ∙ c.if-is_full.false) is
 
 pub returns-in_default-insert-clause-leaves : goal.returns-in_default-insert-clause-leaves
-returns-in_default-insert-clause-leaves g c = rests_left _ _ _ _ _ (let works = works_room _ c.args.self.now c.reserve.new.self _ c.reserve.ensures.same c.requires.works in
+returns-in_default-insert-clause-leaves g c = rests_left g.C.PageCache.pages _ _ _ _ _ (let works = works_room g.C.PageCache.pages _ c.args.self.now c.reserve.new.self _ c.reserve.ensures.same c.requires.works in
     record { unfailed = works.unfailed; agrees = works.agrees }) refl
 
 pub commit-requires-clause-works : goal.commit-requires-clause-works
 commit-requires-clause-works g c =
-    let works = works_room _ c.args.self.now c.reserve.new.self _ c.reserve.ensures.same c.requires.works in
+    let works = works_room g.C.PageCache.pages _ c.args.self.now c.reserve.new.self _ c.reserve.ensures.same c.requires.works in
     record { unfailed = works.unfailed; agrees = works.agrees }
 
 pub commit-requires-clause-within : goal.commit-requires-clause-within

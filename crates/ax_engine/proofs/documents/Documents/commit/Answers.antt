@@ -1,5 +1,4 @@
 -- What the store answers of a commit, as what it makes of containers.
-use Rattle.ax_cache.specs.Held.{held}
 use Rattle.ax_store.specs.Batch.{batch_parts}
 use Rattle.ax_store.specs.Store.{store_contents}
 use Rattle.ax_store.proofs.StoreLemmas.{agrees_says}
@@ -16,7 +15,7 @@ returns-in-Ok-clause-tells g c = λ before after changes hold said leads.
     let parts = batch_parts c.args.batch in (
       made_by store parts changes said after leads (store_contents c.commit.new.self) c.in-Ok.ensures.ok,
       λ honest. turned_by store parts changes said _ _ (record {
-        says = agrees_says held store _ (c.requires.works.agrees honest);
+        says = agrees_says g.C.PageCache.pages store _ (c.requires.works.agrees honest);
         may = g.met.D.Disk.reads_may_stay c.args.disk.now (g.D.Disk.attached c.args.disk.now) honest;
         turns = c.commit.ensures.any_moment honest c.requires.works.unfailed;
       }) before after leads hold,
@@ -27,7 +26,7 @@ returns-in-Err-clause-tells g c = λ before after changes hold said leads honest
     let store = c.args.self.now.store in
     let parts = batch_parts c.args.batch in
     turned_by store parts changes said _ _ (record {
-      says = agrees_says held store _ (c.requires.works.agrees honest);
+      says = agrees_says g.C.PageCache.pages store _ (c.requires.works.agrees honest);
       may = g.met.D.Disk.reads_may_stay c.args.disk.now (g.D.Disk.attached c.args.disk.now) honest;
       turns = c.commit.ensures.any_moment honest c.requires.works.unfailed;
     }) before after leads hold
@@ -37,7 +36,7 @@ returns-in-Ok-clause-readable g c = λ changes said readable honest rests.
     let store = c.args.self.now.store in
     let parts = batch_parts c.args.batch in
     readable_on store parts changes said _ _ (record {
-      says = agrees_says held store _ (c.requires.works.agrees honest);
+      says = agrees_says g.C.PageCache.pages store _ (c.requires.works.agrees honest);
       may = g.met.D.Disk.reads_may_stay c.args.disk.now (g.D.Disk.attached c.args.disk.now) honest;
       turns = c.commit.ensures.any_moment honest c.requires.works.unfailed;
     }) c.requires.within.0 (allowed_leads parts changes (store_contents store) said c.requires.within) readable rests
@@ -47,7 +46,7 @@ returns-in-Err-clause-readable g c = λ changes said readable honest rests.
     let store = c.args.self.now.store in
     let parts = batch_parts c.args.batch in
     readable_on store parts changes said _ _ (record {
-      says = agrees_says held store _ (c.requires.works.agrees honest);
+      says = agrees_says g.C.PageCache.pages store _ (c.requires.works.agrees honest);
       may = g.met.D.Disk.reads_may_stay c.args.disk.now (g.D.Disk.attached c.args.disk.now) honest;
       turns = c.commit.ensures.any_moment honest c.requires.works.unfailed;
     }) c.requires.within.0 (allowed_leads parts changes (store_contents store) said c.requires.within) readable rests

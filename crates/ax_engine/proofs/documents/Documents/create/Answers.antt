@@ -14,7 +14,7 @@ returns-in-Some-number-clause-tells g c = λ before id holds doc.
     let own : c.in-Some.id.now ≡ id = cc in
     let at = found_in c.args.self.now before id _ _ holds (c.as_str.ensures.text ∙ own) (sym c.in-Some-number.is ∙ c.number.ensures) in (
       conflicts id c.args.tree.now before (is_there id before _ at),
-      (holds, still _ c.args.self.now _ before before c.requires.works holds),
+      (holds, still g.C.PageCache.pages _ c.args.self.now _ before before c.requires.works holds),
     )
 
 pub returns-in-Some-number-clause-refused : goal.returns-in-Some-number-clause-refused
@@ -25,7 +25,7 @@ returns-in-Some-number-clause-refused g c = λ before why id holds doc is.
     ap (λ w. Err (fault_of w)) (one_refusal _ (conflicts id c.args.tree.now before (is_there id before _ at)) is)
 
 pub returns-in-Some-number-clause-leaves : goal.returns-in-Some-number-clause-leaves
-returns-in-Some-number-clause-leaves g c = rests_left _ _ _ _ _ c.requires.works refl
+returns-in-Some-number-clause-leaves g c = rests_left g.C.PageCache.pages _ _ _ _ _ c.requires.works refl
 
 pub returns-in-None-clause-tells : goal.returns-in-None-clause-tells
 returns-in-None-clause-tells g c = λ before id holds doc.

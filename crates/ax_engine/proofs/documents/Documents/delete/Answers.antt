@@ -32,7 +32,7 @@ returns-in-None-clause-tells g c = λ before holds.
     let at : number_in id before ≡ None =
     found_in c.args.self.now before id _ _ holds c.as_str.ensures.text (sym c.in-None.is ∙ c.number.ensures) in (
       removal_absent id before (is_absent id before at),
-      (holds, still _ c.args.self.now _ before before c.requires.works holds),
+      (holds, still g.C.PageCache.pages _ c.args.self.now _ before before c.requires.works holds),
     )
 
 pub returns-in-None-clause-refused : goal.returns-in-None-clause-refused
@@ -43,4 +43,4 @@ returns-in-None-clause-refused g c = λ before why holds is.
     ap (λ w. Err (fault_of w)) (one_refusal _ (removal_absent id before (is_absent id before at)) is)
 
 pub returns-in-None-clause-leaves : goal.returns-in-None-clause-leaves
-returns-in-None-clause-leaves g c = rests_left _ _ _ _ _ c.requires.works refl
+returns-in-None-clause-leaves g c = rests_left g.C.PageCache.pages _ _ _ _ _ c.requires.works refl

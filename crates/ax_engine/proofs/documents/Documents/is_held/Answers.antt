@@ -12,5 +12,5 @@ there_by (Some x) None of from same is = absurd cc
 there_by (Some x) (Some y) of from same is = refl
 
 pub returns-then-number-gt0-clause-held : goal.returns-then-number-gt0-clause-held
-returns-then-number-gt0-clause-held c = λ yes.
+returns-then-number-gt0-clause-held g c = λ yes.
     there_by c.head_of.result _ _ _ c.head_of.ensures.policy (sym c.is_some.ensures ∙ yes)

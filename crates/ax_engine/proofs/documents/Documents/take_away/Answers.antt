@@ -16,29 +16,29 @@ use Rattle.ax_engine.proofs.Writing.{deleted_leads, may_commit, numbers_deleted,
 use Rattle.ax_engine.proofs.documents.Documents.take_away.Goals as goal
 
 pub returns-then-number-eq0-clause-tells : goal.returns-then-number-eq0-clause-tells
-returns-then-number-eq0-clause-tells g c = λ before holds at. (holds, still _ c.args.self.now _ before before c.requires.works holds)
+returns-then-number-eq0-clause-tells g c = λ before holds at. (holds, still g.C.PageCache.pages _ c.args.self.now _ before before c.requires.works holds)
 
 pub returns-then-number-eq0-clause-leaves : goal.returns-then-number-eq0-clause-leaves
-returns-then-number-eq0-clause-leaves g c = rests_left _ _ _ _ _ c.requires.works refl
+returns-then-number-eq0-clause-leaves g c = rests_left g.C.PageCache.pages _ _ _ _ _ c.requires.works refl
 
 pub returns-in_default-clause-tells : goal.returns-in_default-clause-tells
-returns-in_default-clause-tells g c = λ before holds at. (holds, still _ c.args.self.now _ before before c.requires.works holds)
+returns-in_default-clause-tells g c = λ before holds at. (holds, still g.C.PageCache.pages _ c.args.self.now _ before before c.requires.works holds)
 
 pub returns-in_default-clause-leaves : goal.returns-in_default-clause-leaves
-returns-in_default-clause-leaves g c = rests_left _ _ _ _ _ c.requires.works refl
+returns-in_default-clause-leaves g c = rests_left g.C.PageCache.pages _ _ _ _ _ c.requires.works refl
 
 pub returns-in_default-reserve-clause-tells : goal.returns-in_default-reserve-clause-tells
 returns-in_default-reserve-clause-tells g c = λ before holds at. (
   holds_room c.args.self.now c.reserve.new.self before c.reserve.ensures.same holds,
-  still _ c.args.self.now _ before before c.requires.works holds,
+  still g.C.PageCache.pages _ c.args.self.now _ before before c.requires.works holds,
 )
 
 pub returns-in_default-reserve-clause-leaves : goal.returns-in_default-reserve-clause-leaves
-returns-in_default-reserve-clause-leaves g c = rests_left _ _ _ _ _ (works_room _ c.args.self.now c.reserve.new.self _ c.reserve.ensures.same c.requires.works) refl
+returns-in_default-reserve-clause-leaves g c = rests_left g.C.PageCache.pages _ _ _ _ _ (works_room g.C.PageCache.pages _ c.args.self.now c.reserve.new.self _ c.reserve.ensures.same c.requires.works) refl
 
 pub commit-requires-clause-works : goal.commit-requires-clause-works
 commit-requires-clause-works g c =
-    let works = works_room _ c.args.self.now c.reserve.new.self _ c.reserve.ensures.same c.requires.works in
+    let works = works_room g.C.PageCache.pages _ c.args.self.now c.reserve.new.self _ c.reserve.ensures.same c.requires.works in
     record { unfailed = works.unfailed; agrees = works.agrees }
 
 pub commit-requires-clause-within : goal.commit-requires-clause-within
