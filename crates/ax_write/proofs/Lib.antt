@@ -7,3 +7,4 @@ pub mod StayReadable
 pub mod Committing
 pub mod Holding
 pub mod Counting
+pub mod Agreeing

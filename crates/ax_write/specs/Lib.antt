@@ -1,3 +1,4 @@
 pub mod Committed
 pub mod Batches
 pub mod Held
+pub mod TableAgrees
