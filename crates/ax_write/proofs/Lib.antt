@@ -8,3 +8,5 @@ pub mod Committing
 pub mod Holding
 pub mod Counting
 pub mod Agreeing
+pub mod ShortTerms
+pub mod Exchanging

@@ -2,3 +2,4 @@ pub mod Committed
 pub mod Batches
 pub mod Held
 pub mod TableAgrees
+pub mod Exchanged

@@ -13,3 +13,4 @@
 mod batches;
 mod commit;
 mod held;
+mod pairs;
