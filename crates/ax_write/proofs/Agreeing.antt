@@ -1,5 +1,5 @@
 -- A table that agrees with the contents agrees with them after a write of a document, where its counts follow.
-use Rattle.std.proofs.Common.{◌≡◌, ◌⊎◌, inl, inr, ⊎_elim, ℕ, ◌+◌, ◌-◌, ◌<◌, ◌≤◌, ◌==◌, Bool, true, false, cond, List, Option, Some, None, refl, sym, ap, subst, ◌∙◌, arith}
+use Rattle.std.proofs.Common.{◌≡◌, inl, inr, ⊎_elim, ℕ, ◌+◌, ◌-◌, ◌<◌, ◌≤◌, ◌==◌, Bool, cond, List, Some, None, refl, sym, ap, subst, ◌∙◌, arith}
 use Rattle.std.specs.Prelude.{IsSome, is_some}
 use Rattle.std.proofs.lemmas.Bool.{cases_eq, eq-eqb, eqb-true, false_from_ne_true}
 use Rattle.std.specs.Cmp.{nat_cmp_total}
@@ -8,11 +8,10 @@ use Rattle.std.specs.Ordering.{nat_cmp}
 use Rattle.ax_area.proofs.OneTelling.{same_some, some_or_none}
 use Rattle.ax_area.specs.Contents.{Contents, Stored}
 use Rattle.ax_image_grammar.specs.Payloads.{IsTextOf}
-use Rattle.ax_image_grammar.specs.Table.{IsTaken, IsUsed, policy_text}
+use Rattle.ax_image_grammar.specs.Table.{IsTaken, policy_text}
 use Rattle.ax_pages.proofs.LastPart.{get_inserted, get_not_inserted, get_not_removed, get_removed}
 use Rattle.ax_pages.specs.AfterPart.{most_documents}
 use Rattle.ax_policy.specs.Table.{SetsCount, Table, count_at, policy_at}
-use Rattle.ax_policy.specs.declared.policy.Policy.{Policy}
 use Rattle.ax_write.specs.TableAgrees.{TableAgrees, documents_under}
 use Rattle.ax_write.proofs.Counting.{count, count_insert, count_remove}
 

@@ -1,6 +1,6 @@
 -- Calls one after another: what each answer says of both.
-use Rattle.std.proofs.Common.{◌≡◌, ℕ, ◌≤◌, Bool, true, false, List, [], ◌∷◌, ◌++◌, Result, Ok, Err, refl, sym, ap, subst, ◌∙◌, arith}
-use Rattle.std.specs.Prelude.{◌≢◌, IsTrue, IfErr, OnErr, OnOk}
+use Rattle.std.proofs.Common.{◌≡◌, ℕ, Bool, true, false, List, [], ◌∷◌, ◌++◌, Result, Ok, Err, refl, sym, ap, subst, ◌∙◌}
+use Rattle.std.specs.Prelude.{◌≢◌, IfErr, OnErr, OnOk}
 use Rattle.ax_index.specs.Damage.{FailsBy, FailsWith, TellsPart}
 use Rattle.ax_index.specs.Reads.{KeepsTaken}
 use Rattle.ax_pool.specs.Frames.{Frames, bytes_at}

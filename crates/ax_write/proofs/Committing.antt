@@ -1,5 +1,5 @@
 -- A batch with a plan behind it is committed: where that leads, and what a crash leaves of it.
-use Rattle.std.proofs.Common.{◌≡◌, ◌⊎◌, ℕ, Bool, true, List, ◌++◌, Result, Ok, Err, Some, refl, sym, ap, subst, ◌∙◌}
+use Rattle.std.proofs.Common.{◌≡◌, ◌⊎◌, ℕ, Bool, true, List, ◌++◌, Result, Some, refl, sym, ap, subst, ◌∙◌}
 use Rattle.std.specs.Prelude.{IsTrue, OnOk}
 use Rattle.std.specs.List.{AllByRecursion}
 use Rattle.ax_area.proofs.OneOutcome.{one_told, one_version}

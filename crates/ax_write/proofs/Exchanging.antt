@@ -1,7 +1,6 @@
 -- The changes that exchange the pairs of a document for those of another have short terms.
-use Rattle.std.proofs.Common.{◌≡◌, ℕ, zero, suc, ◌<◌, ◌≤◌, Bool, true, false, List, [], ◌∷◌, length, Option, Some, None, Result, Ok, Err, get_or, arith, refl, sym, subst, ◌∙◌}
-use Rattle.std.specs.Prelude.{IfOk, IfSome, IsSome}
-use Rattle.ax_area.proofs.OneTelling.{same_some}
+use Rattle.std.proofs.Common.{◌≡◌, ℕ, zero, suc, ◌<◌, ◌≤◌, Bool, true, false, List, [], ◌∷◌, length, Option, Some, None, get_or, arith, refl}
+use Rattle.std.specs.Prelude.{IfSome}
 use Rattle.ax_delta.specs.declared.change.Change.{Change}
 use Rattle.ax_index.specs.DeltaSizes.{HaveShortTerms}
 use Rattle.ax_keep.specs.Exchanges.{Exchanges, IsNetted}

@@ -1,5 +1,5 @@
 -- What parts of a batch say, one behind another.
-use Rattle.std.proofs.Common.{◌≡◌, ℕ, Bool, List, [], ◌∷◌, ◌++◌, Option, Some, None, refl, sym, ap, subst, ◌∙◌}
+use Rattle.std.proofs.Common.{◌≡◌, List, [], ◌∷◌, ◌++◌, Option, Some, None, refl, sym, ap, ◌∙◌}
 use Rattle.std.specs.Prelude.{option_and_then}
 use Rattle.std.specs.Option.{option_map}
 use Rattle.ax_area.proofs.OneTelling.{same_some, some_or_none}
@@ -70,7 +70,6 @@ more_said (part ∷ first) second front behind one other =
     ap (option_and_then (λ change. with_first change (changes_said (first ++ second)))) by.says
     ∙ ap (with_first by.first) (more_said first second by.behind behind by.are other)
     ∙ ap (λ list. Some (list ++ behind)) (sym by.whole)
-
 
 pub turns_pages : (parts : List PartValue) (changes : List Change) (before after : List TermPage)
     → changes_said parts ≡ Some changes → by_parts.LeadTo parts before after → LeadTo changes before after

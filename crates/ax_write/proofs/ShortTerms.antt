@@ -1,12 +1,12 @@
 -- The pairs of a document that a store can hold have short terms, under every policy that some tree is.
-use Rattle.std.proofs.Common.{◌≡◌, ◌⊎◌, inl, inr, ⊎_elim, ℕ, zero, suc, ◌+◌, ◌*◌, ◌<◌, ◌≤◌, ◌==◌, Bool, true, false, cond, ℤ, List, [], ◌∷◌, ◌++◌, length, map, take}
-use Rattle.std.proofs.Common.{get_or, max, arith, refl, sym, ap, subst, ◌∙◌}
+use Rattle.std.proofs.Common.{◌≡◌, inl, inr, ℕ, zero, suc, ◌+◌, ◌*◌, ◌≤◌, ◌==◌, Bool, true, false, List, [], ◌∷◌, length, map}
+use Rattle.std.proofs.Common.{arith, refl, ap, subst, ◌∙◌}
 use Rattle.std.specs.Prelude.{◌-◌, if◌then◌else◌, sum_by, ◌&&◌, nat_le}
 use Rattle.std.specs.List.{Contains}
 use Rattle.std.proofs.lemmas.Bool.{and_parts, eqb-true, leb-true}
 use Rattle.std.proofs.lemmas.List.{length-append, length-map, length-take}
 use Rattle.std.proofs.lemmas.List.Sums.{sum_by-cons}
-use Rattle.std.proofs.Common.{Option, Some, None, find}
+use Rattle.std.proofs.Common.{Option, Some, None}
 use Rattle.std.specs.Prelude.{IfSome, codes, option_and_then}
 use Rattle.std.specs.Option.{option_map}
 use Rattle.std.specs.List.{AllByRecursion, fold}
@@ -38,7 +38,7 @@ use Rattle.ax_policy.specs.Composites.{are_apart, is_composite, parts_size}
 use Rattle.ax_policy.specs.Limits as limits
 use Rattle.ax_term.specs.CutTexts.{CutText, cut}
 use Rattle.ax_term.specs.CutValues.{CutValue, cut_level, cut_of}
-use Rattle.ax_term.specs.TermBytes.{columns_bytes, complemented, directed_bytes, escaped, path_bytes, step_bytes, term_bytes, text_bytes, value_bytes, values_bytes}
+use Rattle.ax_term.specs.TermBytes.{columns_bytes, directed_bytes, escaped, path_bytes, step_bytes, text_bytes, value_bytes, values_bytes}
 use Rattle.ax_terms.specs.Counts.{path_size}
 use Rattle.ax_terms.specs.Leaves.{Leaf, leaves}
 use Rattle.ax_terms.specs.TermsOf.{composite_term_of, leaf_term, value_at}
@@ -127,8 +127,13 @@ steps_are (step ∷ steps) =
 columns_are : (columns : List Order) → length (columns_bytes columns) ≡ length columns + parts_size columns
 columns_are [] = refl
 columns_are (column ∷ columns) =
-    omega (arith, sum_by-cons (λ (part : Order). limits.path_size part.path) column columns, steps_are column.path, columns_are columns,
-    length-append ((if column.down then 1 else 0) ∷ path_bytes column.path) (columns_bytes columns))
+    omega (
+      arith,
+      sum_by-cons (λ (part : Order). limits.path_size part.path) column columns,
+      steps_are column.path,
+      columns_are columns,
+      length-append ((if column.down then 1 else 0) ∷ path_bytes column.path) (columns_bytes columns),
+    )
 
 directed_is : (down : Bool) (value : CutValue) → length (directed_bytes down value) ≡ length (value_bytes value)
 directed_is true value = length-map (value_bytes value) (λ byte. 0xFF - byte)
@@ -138,8 +143,13 @@ values_most : (tree : Tree) (columns : List Order) → length (values_bytes colu
 values_most tree [] = omega arith
 values_most tree (column ∷ columns) =
     let value : CutValue = value_at tree column in
-    omega (arith, value_most (along_path (Defined tree) column.path), directed_is column.down value, values_most tree columns,
-    length-append (directed_bytes column.down value) (values_bytes columns (map (value_at tree) columns)))
+    omega (
+      arith,
+      value_most (along_path (Defined tree) column.path),
+      directed_is column.down value,
+      values_most tree columns,
+      length-append (directed_bytes column.down value) (values_bytes columns (map (value_at tree) columns)),
+    )
 
 pub composite_short : (tree : Tree) (composite : List Order) → is_composite composite ≡ true → length (composite_term_of tree composite) ≤ 4096
 composite_short tree composite is =
@@ -151,8 +161,14 @@ composite_short tree composite is =
     let many = and_parts (nat_le least_paths (length composite)) (nat_le (length composite) most_paths) apart.0 in
     let few : length composite ≤ 8 = leb-true (length composite) 8 many.1 in
     let small : parts_size composite ≤ 1024 = leb-true (parts_size composite) 1024 size.1 in
-    omega (arith, few, small, columns_are composite, values_most tree composite,
-    length-append (columns_bytes composite) (values_bytes composite (map (value_at tree) composite)))
+    omega (
+      arith,
+      few,
+      small,
+      columns_are composite,
+      values_most tree composite,
+      length-append (columns_bytes composite) (values_bytes composite (map (value_at tree) composite)),
+    )
 
 -- ---- the composites of a policy
 

@@ -66,12 +66,7 @@ pub(crate) fn deleting(alloc: Global, number: u32) -> Result<Batch, Memory>
 }
 
 /// Adds the part of a document.
-fn add_document(
-    alloc: Global,
-    batch: &mut Batch,
-    number: u32,
-    payload: &[u8],
-) -> Result<(), Memory>
+fn add_document(alloc: Global, batch: &mut Batch, number: u32, payload: &[u8]) -> Result<(), Memory>
     requires { length payload.now ≤ 65536 }
     ensures { OnOk result (batch_parts batch.new ≡ batch_parts batch.old ++ stored_part number payload.now ∷ []) }
 {

@@ -6,7 +6,6 @@ use Rattle.ax_image.specs.Readable.{SaysReadable}
 use Rattle.ax_index.proofs.ReadsLaws.{agrees_told}
 use Rattle.ax_log.specs.Log.{log_area}
 use Rattle.ax_store.proofs.StoreLemmas.{agrees_says}
-use Rattle.ax_store.specs.Batch.{batch_parts}
 use Rattle.ax_store.specs.Store.{store_contents}
 use Rattle.ax_write.proofs.Calls.{cause_then, fails_then, keeps_still, on_err, on_ok, some_more, told_briefly}
 use Rattle.ax_write.proofs.Committing.{made_by, readable_with, says_all, told_with, trusted_plan, turns_with, unplanned}

@@ -1,9 +1,7 @@
 -- The batch that is sealed has the parts of the batch; where it is not sealed, nothing has changed.
-use Rattle.std.proofs.Common.{◌≡◌, Some, sym, subst, ◌∙◌}
-use Rattle.std.specs.Prelude.{IsTrue, OnOk}
-use Rattle.ax_area.specs.Parts.{after_parts, changes_said}
-use Rattle.ax_disk.specs.laws.StaysLaws.{stays_start, stays_turn}
-use Rattle.ax_store.specs.Batch.{AreAllowed, batch_parts}
+use Rattle.std.proofs.Common.{◌≡◌, Some, sym, subst}
+use Rattle.ax_area.specs.Parts.{changes_said}
+use Rattle.ax_store.specs.Batch.{AreAllowed}
 use Rattle.ax_store.specs.Store.{store_contents}
 use Rattle.ax_store.proofs.StoreLemmas.{agrees_says}
 use Rattle.ax_write.proofs.Calls.{brief, fails_alone, unless_failed}
