@@ -10,3 +10,5 @@ pub mod Counting
 pub mod Agreeing
 pub mod ShortTerms
 pub mod Exchanging
+pub mod Saying
+pub mod Fronts
