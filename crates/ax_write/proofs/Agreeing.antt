@@ -1,0 +1,209 @@
+-- A table that agrees with the contents agrees with them after a write of a document, where its counts follow.
+use Rattle.std.proofs.Common.{◌≡◌, inl, inr, ⊎_elim, ℕ, ◌+◌, ◌-◌, ◌<◌, ◌≤◌, ◌==◌, Bool, cond, List, Some, None, refl, sym, ap, subst, ◌∙◌, arith}
+use Rattle.std.specs.Prelude.{IsSome, is_some}
+use Rattle.std.proofs.lemmas.Bool.{cases_eq, eq-eqb, eqb-true, false_from_ne_true}
+use Rattle.std.specs.Cmp.{nat_cmp_total}
+use Rattle.std.specs.FinMap as map
+use Rattle.std.specs.Ordering.{nat_cmp}
+use Rattle.ax_area.proofs.OneTelling.{same_some, some_or_none}
+use Rattle.ax_area.specs.Contents.{Contents, Stored}
+use Rattle.ax_image_grammar.specs.Payloads.{IsTextOf}
+use Rattle.ax_image_grammar.specs.Table.{IsTaken, policy_text}
+use Rattle.ax_pages.proofs.LastPart.{get_inserted, get_not_inserted, get_not_removed, get_removed}
+use Rattle.ax_pages.specs.AfterPart.{most_documents}
+use Rattle.ax_policy.specs.Table.{SetsCount, Table, count_at, policy_at}
+use Rattle.ax_write.specs.TableAgrees.{TableAgrees, documents_under}
+use Rattle.ax_write.proofs.Counting.{count, count_insert, count_remove}
+
+abbrev bit : Bool → ℕ
+bit b = cond b 1 0
+
+test_true : (m n : ℕ) → m ≡ n → bit (m == n) ≡ 1
+test_true m n e = ap bit (eq-eqb m n e)
+
+test_false : (m n : ℕ) → (m ≡ n → ⊥) → bit (m == n) ≡ 0
+test_false m n h = ap bit (false_from_ne_true (m == n) (λ e. h (eqb-true m n e)))
+
+-- ---- counts
+
+one_less : (number : ℕ) (old new : Table) → SetsCount number (count_at old number - 1) old new → 0 < count_at old number
+    → (n : ℕ) → count_at new n + bit (number == n) ≡ count_at old n
+one_less number old new sets some n =
+    ⊎_elim
+    (λ (same : n ≡ number).
+    let one : bit (number == n) ≡ 1 = test_true number n (sym same) in
+    let here : count_at new n ≡ count_at old n - 1 = ap (count_at new) same ∙ sets.changed ∙ ap (λ m. count_at old m - 1) (sym same) in
+    let more : 0 < count_at old n = subst (λ m. 0 < count_at old m) (sym same) some in
+    omega arith)
+    (λ (apart : n ≡ number → ⊥).
+    let none : bit (number == n) ≡ 0 = test_false number n (λ e. apart (sym e)) in
+    let there : count_at new n ≡ count_at old n = sets.others n apart in
+    omega arith)
+    (cases_eq n number)
+
+one_more : (number : ℕ) (old new : Table) → SetsCount number (count_at old number + 1) old new
+    → (n : ℕ) → count_at new n ≡ count_at old n + bit (number == n)
+one_more number old new sets n =
+    ⊎_elim
+    (λ (same : n ≡ number).
+    let one : bit (number == n) ≡ 1 = test_true number n (sym same) in
+    let here : count_at new n ≡ count_at old n + 1 = ap (count_at new) same ∙ sets.changed ∙ ap (λ m. count_at old m + 1) (sym same) in
+    omega arith)
+    (λ (apart : n ≡ number → ⊥).
+    let none : bit (number == n) ≡ 0 = test_false number n (λ e. apart (sym e)) in
+    let there : count_at new n ≡ count_at old n = sets.others n apart in
+    omega arith)
+    (cases_eq n number)
+
+abbrev under : ℕ → Stored → Bool
+under n document = document.policy == n
+
+module _ (table : Table) (contents : Contents) (agrees : TableAgrees table contents) where
+  -- a document that is held is counted
+  pub is_counted : (number : ℕ) (old : Stored) → map.get contents.documents number ≡ Some old → 0 < count_at table old.policy
+  is_counted number old held =
+      let counted : count (under old.policy) (map.entries (map.remove contents.documents number)) + bit (old.policy == old.policy)
+      ≡ count (under old.policy) (map.entries contents.documents) = count_remove (under old.policy) contents.documents number old held in
+      let one : bit (old.policy == old.policy) ≡ 1 = test_true old.policy old.policy refl in
+      let all : count_at table old.policy ≡ count (under old.policy) (map.entries contents.documents) = agrees.counts old.policy in
+      omega arith
+
+  -- and its number is in use
+  pub is_taken : (number : ℕ) (old : Stored) → map.get contents.documents number ≡ Some old → IsTaken old.policy contents
+  is_taken number old held = inr (record { number = number; document = old; held = held; indexed_by = refl })
+
+  module _ (after : Table) (new : Contents) (now : new.policy_now ≡ contents.policy_now) (policies : new.policies ≡ contents.policies)
+      (current : after.current ≡ table.current) (there : (n : ℕ) → policy_at after n ≡ policy_at table n) where
+    still : ((n : ℕ) → IsTaken n new → IsTaken n contents) → ((n : ℕ) → count_at after n ≡ documents_under n new)
+        → map.len new.documents ≤ most_documents → TableAgrees after new
+    still taken counts few = record {
+      now = current ∙ agrees.now ∙ sym now;
+      known = λ n is. subst IsSome (sym (there n)) (agrees.known n (taken n is));
+      texts = λ n policy is.
+          subst (λ text. IsTextOf text policy) (sym (same_text n)) (agrees.texts n policy (sym (there n) ∙ is));
+      counts = counts;
+      few = few;
+    }
+      where
+        same_text : (n : ℕ) → policy_text n new ≡ policy_text n contents
+        same_text n = ap (λ (p : map.FinMap nat_cmp (List ℕ)). policy_text n (record contents { policies = p })) policies
+
+-- ---- a document takes the place of one, or is new
+
+module _ (table : Table) (contents new : Contents) (agrees : TableAgrees table contents)
+    (now : new.policy_now ≡ contents.policy_now) (policies : new.policies ≡ contents.policies) where
+  -- where a document is put under the policy now, no other number comes into use
+  put_taken : (number : ℕ) (made : Stored) → new.documents ≡ map.insert contents.documents number made → made.policy ≡ contents.policy_now
+      → (n : ℕ) → IsTaken n new → IsTaken n contents
+  put_taken number made put under_now n (inl is) = inl (is ∙ now)
+  put_taken number made put under_now n (inr used) =
+      ⊎_elim
+      (λ (same : used.number ≡ number).
+      let found : map.get (map.insert contents.documents number made) number ≡ Some used.document =
+      sym (ap (map.get (map.insert contents.documents number made)) same) ∙ sym (ap (λ d. map.get d used.number) put) ∙ used.held in
+      let is : used.document ≡ made = same_some used.document made (sym found ∙ get_inserted contents.documents number made) in
+      inl (sym used.indexed_by ∙ ap (λ (d : Stored). d.policy) is ∙ under_now))
+      (λ (apart : used.number ≡ number → ⊥).
+      let before : map.get contents.documents used.number ≡ Some used.document =
+      sym (get_not_inserted contents.documents number used.number made apart) ∙ sym (ap (λ d. map.get d used.number) put) ∙ used.held in
+      inr (record { number = used.number; document = used.document; held = before; indexed_by = used.indexed_by }))
+      (cases_eq used.number number)
+
+  gone_taken : (number : ℕ) → new.documents ≡ map.remove contents.documents number → (n : ℕ) → IsTaken n new → IsTaken n contents
+  gone_taken number gone n (inl is) = inl (is ∙ now)
+  gone_taken number gone n (inr used) =
+      let found : map.get (map.remove contents.documents number) used.number ≡ Some used.document =
+      sym (ap (λ d. map.get d used.number) gone) ∙ used.held in
+      ⊎_elim
+      (λ (same : used.number ≡ number).
+      absurd (some_or_none used.document
+      (sym (get_removed contents.documents number) ∙ sym (ap (map.get (map.remove contents.documents number)) same) ∙ found)))
+      (λ (apart : used.number ≡ number → ⊥).
+      let before : map.get contents.documents used.number ≡ Some used.document =
+      sym (get_not_removed contents.documents number used.number apart) ∙ found in
+      inr (record { number = used.number; document = used.document; held = before; indexed_by = used.indexed_by }))
+      (cases_eq used.number number)
+
+  counted : (n : ℕ) (d : map.FinMap nat_cmp Stored) → new.documents ≡ d → documents_under n new ≡ count (under n) (map.entries d)
+  counted n d is = ap (λ (m : map.FinMap nat_cmp Stored). count (under n) (map.entries m)) is
+
+  pub agrees_replaced : (mid after : Table) (number : ℕ) (old made : Stored) → map.get contents.documents number ≡ Some old
+      → new.documents ≡ map.insert contents.documents number made → made.policy ≡ contents.policy_now
+      → SetsCount old.policy (count_at table old.policy - 1) table mid → SetsCount table.current (count_at mid table.current + 1) mid after
+      → TableAgrees after new
+  agrees_replaced mid after number old made held put under_now out into =
+      still table contents agrees after new now policies (into.current ∙ out.current) (λ n. into.policies n ∙ out.policies n)
+      (put_taken number made put under_now) counts few
+    where
+      some : 0 < count_at table old.policy
+      some = is_counted table contents agrees number old held
+
+      counts : (n : ℕ) → count_at after n ≡ documents_under n new
+      counts n =
+          let moved : count (under n) (map.entries (map.insert contents.documents number made)) + bit (old.policy == n)
+          ≡ count (under n) (map.entries contents.documents) + bit (made.policy == n) =
+          count_insert (under n) contents.documents number made (Some old) held in
+          let less : count_at mid n + bit (old.policy == n) ≡ count_at table n = one_less old.policy table mid out some n in
+          let more : count_at after n ≡ count_at mid n + bit (table.current == n) = one_more table.current mid after into n in
+          let same : bit (made.policy == n) ≡ bit (table.current == n) = ap (λ p. bit (p == n)) (under_now ∙ sym agrees.now) in
+          let were : count_at table n ≡ count (under n) (map.entries contents.documents) = agrees.counts n in
+          let are : documents_under n new ≡ count (under n) (map.entries (map.insert contents.documents number made)) = counted n _ put in
+          omega arith
+
+      few : map.len new.documents ≤ most_documents
+      few =
+          let as_many : map.len (map.insert contents.documents number made) ≡ map.len contents.documents =
+          map.len-insert nat_cmp_total contents.documents number made
+          ∙ ap (λ found. cond (is_some found) (map.len contents.documents) (map.len contents.documents + 1)) held in
+          let is : map.len new.documents ≡ map.len contents.documents = ap map.len put ∙ as_many in
+          omega (arith, agrees.few, is)
+
+  pub agrees_created : (after : Table) (number : ℕ) (made : Stored) → map.get contents.documents number ≡ None
+      → map.len contents.documents < most_documents
+      → new.documents ≡ map.insert contents.documents number made → made.policy ≡ contents.policy_now
+      → SetsCount table.current (count_at table table.current + 1) table after → TableAgrees after new
+  agrees_created after number made none room put under_now into =
+      still table contents agrees after new now policies into.current into.policies (put_taken number made put under_now) counts few
+    where
+      counts : (n : ℕ) → count_at after n ≡ documents_under n new
+      counts n =
+          let moved : count (under n) (map.entries (map.insert contents.documents number made)) + 0
+          ≡ count (under n) (map.entries contents.documents) + bit (made.policy == n) =
+          count_insert (under n) contents.documents number made None none in
+          let more : count_at after n ≡ count_at table n + bit (table.current == n) = one_more table.current table after into n in
+          let same : bit (made.policy == n) ≡ bit (table.current == n) = ap (λ p. bit (p == n)) (under_now ∙ sym agrees.now) in
+          let were : count_at table n ≡ count (under n) (map.entries contents.documents) = agrees.counts n in
+          let are : documents_under n new ≡ count (under n) (map.entries (map.insert contents.documents number made)) = counted n _ put in
+          omega arith
+
+      few : map.len new.documents ≤ most_documents
+      few =
+          let one_longer : map.len (map.insert contents.documents number made) ≡ map.len contents.documents + 1 =
+          map.len-insert nat_cmp_total contents.documents number made
+          ∙ ap (λ found. cond (is_some found) (map.len contents.documents) (map.len contents.documents + 1)) none in
+          let is : map.len new.documents ≡ map.len contents.documents + 1 = ap map.len put ∙ one_longer in
+          omega (arith, room, is)
+
+  pub agrees_deleted : (after : Table) (number : ℕ) (old : Stored) → map.get contents.documents number ≡ Some old
+      → new.documents ≡ map.remove contents.documents number
+      → SetsCount old.policy (count_at table old.policy - 1) table after → TableAgrees after new
+  agrees_deleted after number old held gone out =
+      still table contents agrees after new now policies out.current out.policies (gone_taken number gone) counts few
+    where
+      counts : (n : ℕ) → count_at after n ≡ documents_under n new
+      counts n =
+          let moved : count (under n) (map.entries (map.remove contents.documents number)) + bit (old.policy == n)
+          ≡ count (under n) (map.entries contents.documents) = count_remove (under n) contents.documents number old held in
+          let less : count_at after n + bit (old.policy == n) ≡ count_at table n =
+          one_less old.policy table after out (is_counted table contents agrees number old held) n in
+          let were : count_at table n ≡ count (under n) (map.entries contents.documents) = agrees.counts n in
+          let are : documents_under n new ≡ count (under n) (map.entries (map.remove contents.documents number)) = counted n _ gone in
+          omega arith
+
+      few : map.len new.documents ≤ most_documents
+      few =
+          let shorter : map.len (map.remove contents.documents number) ≡ map.len contents.documents - 1 =
+          map.len-remove nat_cmp_total contents.documents number
+          ∙ ap (λ found. cond (is_some found) (map.len contents.documents - 1) (map.len contents.documents)) held in
+          let is : map.len new.documents ≡ map.len contents.documents - 1 = ap map.len gone ∙ shorter in
+          omega (arith, agrees.few, is)

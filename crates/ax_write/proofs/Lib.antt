@@ -1,0 +1,14 @@
+pub mod Calls
+pub mod PartsSaid
+mod PagesAlone
+mod PutReadable
+pub mod Planned
+pub mod StayReadable
+pub mod Committing
+pub mod Holding
+pub mod Counting
+pub mod Agreeing
+pub mod ShortTerms
+pub mod Exchanging
+pub mod Saying
+pub mod Fronts

@@ -1,0 +1,5 @@
+pub mod Committed
+pub mod Batches
+pub mod Held
+pub mod TableAgrees
+pub mod Exchanged
