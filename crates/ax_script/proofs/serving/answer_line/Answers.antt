@@ -5,6 +5,7 @@ use Rattle.ax_lines.specs.Lines.{line_of}
 use Rattle.ax_lines.specs.Answers.{IsRefusedBy}
 use Rattle.ax_machine.specs.Run.{OutOfMemory}
 use Rattle.ax_engine.proofs.Applying.{still_over}
+use Rattle.ax_script.proofs.AnsweredLines.{refused_may}
 use Rattle.ax_script.proofs.Replying.{tells_applied, tells_refused}
 use Rattle.ax_script.proofs.serving.answer_line.Goals as goal
 
@@ -23,3 +24,9 @@ pub returns-in-Ok-clause-tells : goal.returns-in-Ok-clause-tells
 returns-in-Ok-clause-tells g c = λ honest before holds.
     tells_applied _ before c.args.line.now c.in-Ok.asked c.apply.new.self _ _ c.apply.result c.in-Ok.ensures.answers
     (c.apply.ensures.applies honest before holds)
+
+pub returns-in-Err-Refused-clause-may_answer : goal.returns-in-Err-Refused-clause-may_answer
+returns-in-Err-Refused-clause-may_answer g c =
+    let P : LineFault → Type 0 = λ fault. IsRefusedBy fault (line_of c.args.line.now) in
+    refused_may c.args.line.now c.in-Err-Refused.refusal
+    (subst P c.in-Err-Refused.field-0-is c.in-Err-Refused.ensures.answers)
