@@ -1,10 +1,10 @@
-//! Whatever cache an engine has, lines are answered alike; and what a cache holds is not read again.
+//! Whatever cache an engine has, lines are answered alike.
 ghost use Rattle.std.specs.Prelude.{◌≡◌, ◌<◌, true, IfOk, IsTrue};
 ghost use Rattle.std.specs.FinMap as map;
 ghost use Rattle.ax_disk.specs.mem_disk.MemDisk.{disk_history};
 ghost use Rattle.ax_engine.specs.Engine.{Works};
 
-use crate::tests::script::{ROOM, fresh_disk, output_over};
+use crate::tests::script::{ROOM, fresh_disk};
 use ax_base::{MemSink, Steps};
 use ax_cache::{LruPages, NoPages, PageCache};
 use ax_disk::MemDisk;
@@ -42,8 +42,6 @@ const SCRIPT: [(&str, &str); 18] = [
         "row {\"id\":\"b\",\"n\":5}\nrow {\"id\":\"c\",\"n\":6}\nend 2\n",
     ),
 ];
-
-const STORED: &[u8] = b"UPSERT {\"id\":\"a\",\"n\":1}\nUPSERT {\"id\":\"b\",\"n\":2}\n";
 
 fn replies(alloc: Global) -> Result<Vec<u8>, Fail> {
     let mut text = Vec::new(alloc);
@@ -107,55 +105,6 @@ fn answers<C: PageCache + Drop>(alloc: Global, cache: C) -> Result<Vec<u8>, Fail
     answers_by::<C, Brand>(alloc, cache, Blank::new(1))
 }
 
-/// How often an engine with this cache reads the disk for a line, and then for the same line again.
-fn reads_by<C: PageCache + Drop, L: Ledger>(
-    alloc: Global,
-    disk: &mut MemDisk,
-    cache: C,
-    line: &str,
-    blank: Blank,
-) -> Result<(u64, u64), Fail>
-    requires empty { C.pages cache ≡ map.empty }
-    requires name { blank.name ≡ L.name }
-    requires parts { blank.parts ≡ L.parts }
-    requires some { 0 < blank.parts }
-{
-    let mut sink = MemSink::make(alloc, ROOM, Vec::new(alloc))?;
-    let mut steps = Steps::<L>::begin(blank);
-    let mut engine = engine_over(alloc, disk, cache)?;
-    let before = disk.reads();
-    serve_line(
-        alloc,
-        &mut engine,
-        disk,
-        line.as_bytes(),
-        &mut sink,
-        &mut steps,
-    )?;
-    let between = disk.reads();
-    serve_line(
-        alloc,
-        &mut engine,
-        disk,
-        line.as_bytes(),
-        &mut sink,
-        &mut steps,
-    )?;
-    Ok((
-        between.saturating_sub(before),
-        disk.reads().saturating_sub(between),
-    ))
-}
-
-/// The same over a store of two documents.
-fn reads<C: PageCache + Drop>(alloc: Global, cache: C, line: &str) -> Result<(u64, u64), Fail>
-    requires { C.pages cache ≡ map.empty }
-{
-    let mut disk = fresh_disk(alloc)?;
-    let _stored = output_over(alloc, &mut disk, STORED)?;
-    reads_by::<C, Brand>(alloc, &mut disk, cache, line, Blank::new(1))
-}
-
 #[test]
 fn each_cache_answers_alike(rt: HostRuntime) -> Result<(), Fail> {
     let alloc = rt.alloc();
@@ -166,26 +115,5 @@ fn each_cache_answers_alike(rt: HostRuntime) -> Result<(), Fail> {
     assert_eq!(rt; small.as_slice(), expected.as_slice());
     let large = answers(alloc, LruPages::make(alloc, 256)?)?;
     assert_eq!(rt; large.as_slice(), expected.as_slice());
-    Ok(())
-}
-
-#[test]
-fn what_a_cache_holds_is_not_read_again(rt: HostRuntime) -> Result<(), Fail> {
-    let alloc = rt.alloc();
-    let (first, second) = reads(alloc, NoPages, "READ a")?;
-    assert!(rt; first > 0);
-    assert_eq!(rt; second, first);
-    let (first, second) = reads(alloc, LruPages::make(alloc, 4)?, "READ a")?;
-    assert!(rt; first > 0);
-    assert_eq!(rt; second, 0);
-    Ok(())
-}
-
-#[test]
-fn a_query_reads_the_texts_anew(rt: HostRuntime) -> Result<(), Fail> {
-    let line = "QUERY {\"query\":\"SELECT VALUE c.n FROM c\"}";
-    let (first, second) = reads(rt.alloc(), NoPages, line)?;
-    assert!(rt; first > 0);
-    assert_eq!(rt; second, first);
     Ok(())
 }
