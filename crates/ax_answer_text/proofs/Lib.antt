@@ -1,2 +1,4 @@
 mod SameParts
+pub mod TakenWhole
 mod TextLaws
+mod WholeTexts

@@ -9,16 +9,14 @@ use Rattle.ax_mean.specs.declared.query.KeyedRow.{KeyedRow}
 use Rattle.ax_mean.specs.declared.query.Query.{Query}
 use Rattle.ax_mean.specs.Answer.{distinct_where}
 use Rattle.ax_excerpt.specs.declared.excerpt.Excerpt.{Excerpt}
-use Rattle.ax_excerpt.specs.declared.excerpt.Excerpt.TheVariants.{Whole}
 use Rattle.ax_excerpt.specs.Enough.{is_enough}
 use Rattle.ax_excerpt.specs.Plain.{are_plain}
-use Rattle.ax_excerpt_text.specs.Wholes.{IsNoMap, tree_read}
 use Rattle.ax_sieve.specs.Conditions.{is_dropped, DropsNothing}
 use Rattle.ax_result.specs.Answers.{answer_of}
 use Rattle.ax_answer.proofs.Rowless.{nothing_added}
 use Rattle.ax_answer.specs.Gathering.{Gathers, HasEnough}
 use Rattle.ax_answer_text.specs.declared.text_answer.TextAnswer.{TextAnswer}
-use Rattle.ax_answer_text.specs.Parts.{Suffices, AreReadWhole, is_plain, part_of, parts_of}
+use Rattle.ax_answer_text.specs.Parts.{Suffices, IsOfDocument, is_plain, part_of, parts_of}
 use Rattle.ax_answer_text.specs.TextAnswers.{Answers, IsTo}
 use Rattle.ax_answer_text.proofs.SameParts.{all_the_same, and_parts, no_envs, no_rows, same_answer, same_numbers}
 
@@ -124,20 +122,12 @@ finished held rows gives query entries answers rise =
     (subst (IsStrictlySortedBy nat_cmp) (sym (same_numbers held.excerpt entries)) rise)
     ∙ same_answer held.excerpt query entries answers.asked.enough
 
--- what an excerpt gives of bytes that are read whole
-pub whole_read : (excerpt : Excerpt) (text : List ℕ) (found : Option Tree) (tree : Tree) → found ≡ Some tree
-    → (excerpt ≡ Whole → found ≡ tree_read text) → (IsNoMap text → found ≡ tree_read text)
-    → AreReadWhole (Some excerpt) text → tree_read text ≡ Some tree
-whole_read excerpt text found tree is whole no_map (inl all) = sym (whole all) ∙ is
-whole_read excerpt text found tree is whole no_map (inr none) = sym (no_map none) ∙ is
+-- bytes that are no document's are not dropped, where nothing is
+pub none_passed_over : (held : TextAnswer) (text : List ℕ) (drops : Bool) → drops ≡ true
+    → (DropsNothing held.sieve → drops ≡ false) → DropsNothing held.sieve → IsOfDocument text
+none_passed_over held text drops is nothing none = absurd (false≢true (sym (nothing none) ∙ is))
 
--- bytes that stand for a tree do not stand for none
-pub one_stands : (tree : Tree) (text : List ℕ) → tree_read text ≡ Some tree → tree_read text ≢ None
-one_stands tree text is none = absurd (cc)
-
--- they are not dropped, either, where nothing is
-pub not_passed_over : (held : TextAnswer) (text : List ℕ) (drops : Bool) → drops ≡ true
-    → (DropsNothing held.sieve → drops ≡ false) → DropsNothing held.sieve
-    → AreReadWhole held.excerpt text → tree_read text ≢ None
-not_passed_over held text drops is nothing none whole =
-    absurd (false≢true (sym (nothing none) ∙ is))
+-- nor are those of a tree that no condition rules out
+pub not_passed_over : (held : TextAnswer) (text : List ℕ) (tree : Tree) → is_dropped held.sieve tree ≡ true
+    → is_dropped held.sieve tree ≡ false → IsOfDocument text
+not_passed_over held text tree dropped kept = absurd (false≢true (sym kept ∙ dropped))

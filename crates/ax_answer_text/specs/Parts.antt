@@ -1,7 +1,9 @@
 -- What is read of documents for a query: parts that are enough for it, or all of them.
-use Rattle.std.specs.Prelude.{◌≡◌, ◌⊎◌, ℕ, List, map, Bool, true, Option, Some, None}
+use Rattle.std.specs.Prelude.{◌≡◌, ◌≢◌, ◌⊎◌, ℕ, List, [], map, Bool, true, Option, Some, None}
+use Rattle.ax_tree.specs.CanonicalText.{canonical_text}
 use Rattle.ax_tree.specs.declared.tree.Tree.{Tree}
 use Rattle.ax_mean.specs.declared.query.Query.{Query}
+use Rattle.ax_mean.specs.Rows.{envs_of_tree}
 use Rattle.ax_excerpt.specs.declared.excerpt.Excerpt.{Excerpt}
 use Rattle.ax_excerpt.specs.declared.excerpt.Excerpt.TheVariants.{Whole}
 use Rattle.ax_excerpt.specs.Enough.{is_enough}
@@ -9,6 +11,7 @@ use Rattle.ax_excerpt.specs.Excerpts.{excerpt_of}
 use Rattle.ax_excerpt.specs.Needs.{NeedsAll}
 use Rattle.ax_excerpt.specs.Plain.{are_plain}
 use Rattle.ax_excerpt_text.specs.Wholes.{IsNoMap}
+use Rattle.ax_lines.specs.StoredTexts.{IsStoredText}
 
 -- what is read of a document: what an excerpt leaves of it, and all of it without one
 abbrev pub part_of : Option Excerpt → Tree → Tree
@@ -38,3 +41,22 @@ AreReadWhole (Some excerpt) text = (excerpt ≡ Whole) ⊎ IsNoMap text
 -- map does.
 abbrev pub AreReadWholeFor : Query → List ℕ → Type 0
 AreReadWholeFor query text = NeedsAll query ⊎ IsNoMap text
+
+-- the text is the canonical text of a tree that has rows in the query, before they are grouped
+pub record HasRows (query : Query) (text : List ℕ) : Type 0 where
+  pub tree : Tree
+  pub spelled : text ≡ canonical_text tree
+  pub rows : envs_of_tree query tree ≢ []
+
+-- No condition of the query passes the text over: it has none, or the text is that of a tree that has rows
+-- in it.
+abbrev pub IsKept : Query → List ℕ → Type 0
+IsKept query text = (query.condition ≡ None) ⊎ HasRows query text
+
+-- all of the text is read for the query, and it is not passed over
+abbrev pub IsTakenWhole : Query → List ℕ → Type 0
+IsTakenWhole query text = AreReadWholeFor query text × IsKept query text
+
+-- the text is that of a document that a store can hold
+abbrev pub IsOfDocument : List ℕ → Type 0
+IsOfDocument text = (tree : Tree) × IsStoredText text tree

@@ -1,19 +1,20 @@
 //! The answer of a query from texts that are added one by one.
 
-ghost use Rattle.std.specs.Prelude.{◌≡◌, ◌≢◌, true, Ok, Err, None, Some, IfOk, IfSome, IsErr};
+ghost use Rattle.std.specs.Prelude.{◌≡◌, ◌≢◌, true, Ok, Err, None, Some, IfOk, OnOk, IfSome, IfNone, IsErr};
 ghost use Rattle.ax_tree.specs.CanonicalText.{canonical_text};
 ghost use Rattle.ax_tree.specs.declared.tree.Tree.{Tree as TreeOf};
-ghost use Rattle.ax_excerpt_text.specs.Left.{IsReadable};
-ghost use Rattle.ax_excerpt_text.specs.Wholes.{tree_read};
-ghost use Rattle.ax_answer_text.specs.Parts.{is_plain, part_of, AreReadWhole};
+ghost use Rattle.ax_lines.specs.Asked.{IsStorable};
+ghost use Rattle.ax_answer_text.specs.Parts.{is_plain, part_of, AreReadWhole, IsOfDocument};
 
 use crate::text_fault::{Memory, TextFault};
 use ax_answer::Answer;
 use ax_base::Steps;
 use ax_excerpt::{Excerpt, excerpt_for};
 use ax_excerpt_text::read_excerpt;
+use ax_lines::{DocumentFault, read_document};
 use ax_mean::{KeyedRow, Query};
 use ax_sieve::Sieve;
+use ax_skim::after_prefix;
 use ax_text::TreeReader;
 use ax_tree::Tree;
 use std::alloc::Global;
@@ -39,12 +40,11 @@ impl<'a> TextAnswer<'a> {
     ghost use Rattle.std.specs.List.Sorted.{IsStrictlySortedBy};
     ghost use Rattle.ax_tree.specs.CanonicalText.{canonical_text};
     ghost use Rattle.ax_mean.specs.declared.query.Query as queries;
-    ghost use Rattle.ax_excerpt_text.specs.Left.{IsReadable};
+    ghost use Rattle.ax_lines.specs.Asked.{IsStorable};
     ghost use Rattle.ax_result.specs.Answers.{answer_of};
     ghost use Rattle.ax_answer.specs.Gathering.{HasEnough};
-    ghost use Rattle.ax_excerpt_text.specs.Wholes.{tree_read};
-    ghost use Rattle.ax_sieve.specs.Conditions.{DropsNothing};
-    ghost use Rattle.ax_answer_text.specs.Parts.{AreReadWhole};
+    ghost use Rattle.ax_sieve.specs.Conditions.{is_dropped, DropsNothing};
+    ghost use Rattle.ax_answer_text.specs.Parts.{AreReadWhole, IsOfDocument};
     ghost use Rattle.ax_answer_text.specs.TextAnswers.{Answers, IsTo};
 
     /// No document yet.
@@ -74,9 +74,10 @@ impl<'a> TextAnswer<'a> {
     }
 
     /// Takes in a document: its number and its canonical text. It takes at most one step of work. After
-    /// an error the answer is of no more use. Bytes that stand for no tree are `Outside` where they are
-    /// read whole and no document is dropped, as by a query without condition.
-    #[tactic(auto, using(crate::proofs::TextLaws::dropped, crate::proofs::TextLaws::taken, crate::proofs::TextLaws::asked_still, crate::proofs::TextLaws::one_stands, crate::proofs::TextLaws::not_passed_over))]
+    /// an error the answer is of no more use. Bytes that are the text of no document are `Outside` where
+    /// they are read whole and not passed over: a query without condition passes none over, and one with a
+    /// condition no canonical text of a tree that its comparisons do not rule out.
+    #[tactic(auto, using(crate::proofs::TextLaws::dropped, crate::proofs::TextLaws::taken, crate::proofs::TextLaws::asked_still, crate::proofs::TextLaws::none_passed_over, crate::proofs::TextLaws::not_passed_over))]
     pub fn add<L: Ledger>(
         &mut self,
         alloc: Global,
@@ -84,14 +85,17 @@ impl<'a> TextAnswer<'a> {
         text: &[u8],
         steps: &mut Steps<L>,
     ) -> Result<(), TextFault>
-        ensures added { (tree : TreeOf) → text.now ≡ canonical_text tree → IsReadable tree
+        ensures added { (tree : TreeOf) → text.now ≡ canonical_text tree → IsStorable tree
             → OnOk result ((query : queries.Query) → (entries : List (ℕ × TreeOf))
             → Answers self.old query entries
             → Answers self.new query (entries ++ (number, tree) ∷ [])) }
-        ensures inside { (tree : TreeOf) → text.now ≡ canonical_text tree → IsReadable tree
+        ensures inside { (tree : TreeOf) → text.now ≡ canonical_text tree → IsStorable tree
             → result ≢ Err TextFault.Outside }
         ensures outside { DropsNothing self.old.sieve → AreReadWhole self.old.excerpt text.now
-            → OnOk result (tree_read text.now ≢ None) }
+            → OnOk result (IsOfDocument text.now) }
+        ensures kept { (tree : TreeOf) → text.now ≡ canonical_text tree
+            → is_dropped self.old.sieve tree ≡ false → AreReadWhole self.old.excerpt text.now
+            → OnOk result (IsOfDocument text.now) }
         ensures asked { (query : queries.Query) → IsTo self.old query → IsTo self.new query }
         ensures one { steps.new ≤ steps.old + 1 }
         ensures never_falls { steps.old ≤ steps.new }
@@ -148,8 +152,8 @@ impl<'a> TextAnswer<'a> {
     }
 }
 
-/// What is read of the document of a canonical text.
-#[tactic(auto, using(crate::proofs::TextLaws::whole_read))]
+/// What is read of the document of a canonical text. Bytes that are read whole are those of a document.
+#[tactic(auto, using(crate::proofs::WholeTexts::whole_part, crate::proofs::WholeTexts::readable, crate::proofs::WholeTexts::stored, crate::proofs::WholeTexts::of_document))]
 fn read_part(
     alloc: Global,
     reader: &mut TreeReader,
@@ -158,17 +162,28 @@ fn read_part(
 ) -> Result<Tree, TextFault>
     requires plain { is_plain excerpt.now ≡ true }
     ensures part { IfOk result (λ found. (tree : TreeOf) → text.now ≡ canonical_text tree
-        → IsReadable tree → found ≡ part_of excerpt.now tree) }
-    ensures inside { (tree : TreeOf) → text.now ≡ canonical_text tree → IsReadable tree
+        → IsStorable tree → found ≡ part_of excerpt.now tree) }
+    ensures inside { (tree : TreeOf) → text.now ≡ canonical_text tree → IsStorable tree
         → result ≢ Err TextFault.Outside }
-    ensures whole { IfOk result (λ found. AreReadWhole excerpt.now text.now
-        → tree_read text.now ≡ Some found) }
+    ensures whole { AreReadWhole excerpt.now text.now → OnOk result (IsOfDocument text.now) }
 {
-    let read = match excerpt {
-        Some(excerpt) => read_excerpt(alloc, reader, excerpt, text),
-        None => read_excerpt(alloc, reader, &Excerpt::Whole, text),
-    };
-    tree_or_fault(read)
+    match excerpt_by(excerpt, text) {
+        Some(excerpt) => tree_or_fault(read_excerpt(alloc, reader, excerpt, text)),
+        None => document_or_fault(read_document(alloc, text)),
+    }
+}
+
+/// The excerpt by which the text is read in part. `None` exactly where it is read whole.
+fn excerpt_by<'a>(excerpt: &'a Option<Excerpt>, text: &[u8]) -> Option<&'a Excerpt>
+    ensures same { IfSome result (λ found. excerpt.now ≡ Some found.now) }
+    ensures part { IfSome result (λ found. AreReadWhole excerpt.now text.now → ⊥) }
+    ensures whole { IfNone result (AreReadWhole excerpt.now text.now) }
+{
+    match excerpt {
+        None | Some(Excerpt::Whole) => None,
+        Some(part) if after_prefix(text, b"{").is_some() => Some(part),
+        Some(_) => None,
+    }
 }
 
 /// What is read, or why it is not: bytes that stand for no tree are `Outside`, and only out of memory is
@@ -182,5 +197,18 @@ fn tree_or_fault(read: Result<Option<Tree>, ax_tree::Memory>) -> Result<Tree, Te
         Ok(Some(tree)) => Ok(tree),
         Ok(None) => Err(TextFault::Outside),
         Err(_) => Err(TextFault::Memory),
+    }
+}
+
+/// The document that is read, or why it is not.
+fn document_or_fault(read: Result<Tree, DocumentFault>) -> Result<Tree, TextFault>
+    ensures document { IfOk read (λ tree. result ≡ Ok tree) }
+    ensures outside { read ≡ Err DocumentFault.Outside → result ≡ Err TextFault.Outside }
+    ensures memory { read ≡ Err DocumentFault.Memory → result ≡ Err TextFault.Memory }
+{
+    match read {
+        Ok(tree) => Ok(tree),
+        Err(DocumentFault::Outside) => Err(TextFault::Outside),
+        Err(DocumentFault::Memory) => Err(TextFault::Memory),
     }
 }
