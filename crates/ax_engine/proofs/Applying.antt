@@ -42,7 +42,7 @@ use Rattle.ax_machine.specs.Querying.{query_reply}
 use Rattle.ax_machine.specs.Reply as reply
 use Rattle.ax_machine.specs.Run.{Served, OutOfMemory}
 use Rattle.ax_machine.specs.Step.{doc_reply, read_reply, served, write_by, write_refusal, written}
-use Rattle.ax_engine.specs.Damage.{Meets, MeetsTrees, PassesOverNone}
+use Rattle.ax_engine.specs.Damage.{Meets, MeetsDocuments, PassesOverNone}
 use Rattle.ax_engine.specs.Documents.{AreKept, CountsWrite, DocumentsHold, DocumentsWork, TellsWrite, WorksAfterWrite, fault_of, number_in}
 use Rattle.ax_engine.specs.Engine.{Applies, CountsAnswer, HoldsOver, IsWrite, MayFail, Tells, Works, by_document, made_by, made_of}
 use Rattle.ax_image.specs.Readable.{SaysReadable, newest}
@@ -327,12 +327,12 @@ pub passes_read : (version : ℕ) (told : List Told) (contents : Contents) (body
     → Says newest version told contents image
     → (read : Result Reply StoreFault)
     → ((query : Query) → query_in body.params body.text ≡ Some query
-    → IfOk read (λ reply. OnRows reply (MeetsTrees query contents)))
+    → IfOk read (λ reply. OnRows reply (MeetsDocuments query contents)))
     → IfOk (read_answer read) (λ reply. PassesOverNone (line.Query body) reply image)
 passes_read version told contents body image says (Ok reply) met = λ query is.
-    on_rows reply (MeetsTrees query contents)
+    on_rows reply (MeetsDocuments query contents)
     ((version : ℕ) × (told : List Told) × (there : Contents) × Says newest version told there image
-    × MeetsTrees query there)
+    × MeetsDocuments query there)
     (λ none. (version, told, contents, says, none)) (met query is)
 passes_read version told contents body image says (Err store_fault.Disk) met = tt
 passes_read version told contents body image says (Err (store_fault.Damaged extent at)) met = tt

@@ -1,14 +1,12 @@
 -- Documents whose text is none of a document: none where all can be read, and where they stand on the
 -- disk; and texts that a query meets.
-use Rattle.std.proofs.Common.{◌≡◌, ◌≢◌, ℕ, Bool, true, List, Option, Some, None, Result, Ok, Err, OnOk, length}
+use Rattle.std.proofs.Common.{◌≡◌, ◌≢◌, ℕ, Bool, List, Option, Some, None, Result, Ok, Err, OnOk, length}
 use Rattle.std.proofs.Common.{◌<◌, ◌≤◌, inl, inr, refl, sym, ap, subst, ◌∙◌, arith}
 use Rattle.std.specs.Prelude.{IsTrue, is_some, slice_get}
 use Rattle.std.specs.FinMap as finite
 use Rattle.std.specs.Option.{option_to_list}
 use Rattle.std.proofs.lemmas.Bool.{cases_lt}
-use Rattle.ax_answer_text.specs.Parts.{AreReadWhole, AreReadWholeFor, Suffices, is_plain}
-use Rattle.ax_answer_text.specs.TextAnswers.{IsTo}
-use Rattle.ax_answer_text.specs.declared.text_answer.TextAnswer.{TextAnswer}
+use Rattle.ax_answer_text.specs.Parts.{IsKept, IsOfDocument, IsTakenWhole}
 use Rattle.ax_answer_text.specs.declared.text_fault.TextFault.{TextFault}
 use Rattle.ax_answer_text.specs.declared.text_fault.TextFault.TheVariants as text_fault
 use Rattle.ax_area.proofs.KeptSo.{told_so}
@@ -21,12 +19,11 @@ use Rattle.ax_disk.specs.model.Image.{Image}
 use Rattle.ax_disk.specs.model.Moments.{History}
 use Rattle.ax_disk.specs.model.Pending.{MayLeave}
 use Rattle.ax_excerpt.specs.ShownDocuments.{without_pick}
-use Rattle.ax_excerpt.specs.declared.excerpt.Excerpt.{Excerpt}
-use Rattle.ax_excerpt_text.specs.Left.{IsReadable}
-use Rattle.ax_excerpt_text.specs.Wholes.{tree_read}
 use Rattle.ax_image.specs.Readable.{SaysReadable, newest}
 use Rattle.ax_image_grammar.specs.Payloads.{IsDocumentText, IsReadable as IsReadableChange}
 use Rattle.ax_area_laws.proofs.Rising.{told_risen}
+use Rattle.ax_lines.specs.Asked.{IsStorable}
+use Rattle.ax_lines.specs.Lines.{most_bytes}
 use Rattle.ax_log.specs.Log.{log_slot}
 use Rattle.ax_mean.specs.declared.query.Query.{Query}
 use Rattle.ax_store.proofs.LoadLemmas.{lead_on_of}
@@ -38,11 +35,10 @@ use Rattle.ax_store.specs.declared.fault.StoreFault.TheVariants as store_fault
 use Rattle.ax_store.specs.declared.read_ahead.ReadAhead.{ReadAhead}
 use Rattle.ax_store.specs.declared.store.Store.{Store}
 use Rattle.ax_tree.specs.CanonicalText.{canonical_text}
-use Rattle.ax_tree.specs.Nesting.{nesting}
 use Rattle.ax_tree.specs.declared.tree.Tree.{Tree}
 use Rattle.ax_store.specs.Listed.{IsNextAfter}
 use Rattle.ax_store.specs.Store.{store_contents}
-use Rattle.ax_engine.specs.Damage.{IsMetOutside, LooksAtEach, MeetsTrees, StandForTrees}
+use Rattle.ax_engine.specs.Damage.{AreDocuments, IsMetOutside, MeetsDocuments}
 use Rattle.ax_engine.specs.InPages.{HasOutside, IsOutsideAt, IsPlaced}
 use Rattle.ax_engine.specs.StoreSays.{kept_says, text_of}
 use Rattle.ax_engine.proofs.Placing.{alike_on, begins_at, nothing_alike}
@@ -76,15 +72,39 @@ pub none_outside : (image : Image) (extent at : ℕ) → SaysReadable image → 
 none_outside image extent at readable met =
     let holds = told_so (IsReadableChange newest) (changes_of met.told) met.contents met.live.lead
     (readable met.version met.told met.contents (inr met.live)) in
-    let written = holds.documents met.number met.document met.held in
-    met.outside (subst (λ (d : Stored). IsDocumentText newest d.text) (sym written.is) written.so)
+    let written = holds.documents met.number met.met.document met.met.held in
+    met.met.bad (subst (λ (d : Stored). IsDocumentText newest d.text) (sym written.is) written.so)
+
+-- ---- the texts by which a store holds documents are those of the format
+
+pub of_document : (text : List ℕ) → IsOfDocument text → IsDocumentText newest text
+of_document text (tree, stored) = record {
+  tree = tree;
+  document = stored.storable.document;
+  well_formed = stored.storable.well_formed;
+  shallow = stored.storable.shallow;
+  named = stored.storable.named;
+  small = subst (λ t. length t ≤ most_bytes) (sym stored.spelled) stored.storable.small;
+  fits = stored.storable.fits;
+  spelled = stored.spelled;
+}
+
+of_storable : (text : List ℕ) (is : IsDocumentText newest text) → IsStorable is.tree
+of_storable text is = record {
+  document = is.document;
+  well_formed = is.well_formed;
+  shallow = is.shallow;
+  named = is.named;
+  small = subst (λ t. length t ≤ most_bytes) is.spelled is.small;
+  fits = is.fits;
+}
 
 -- ---- the text that was read is none of a document
 
 pub outside_here : (pages : Kept) (number at : ℕ) (text : List ℕ) (found : Bool)
     → IsTrue (finite.contains_key (kept_says pages).documents number)
     → IsAhead (finite.get (kept_says pages).documents number) found text
-    → ((tree : Tree) → text ≡ canonical_text tree → IsReadable tree → ⊥)
+    → ((tree : Tree) → text ≡ canonical_text tree → IsStorable tree → ⊥)
     → finite.get pages.offsets.documents number ≡ Some at → HasOutside pages at
 outside_here pages number at text found is ahead none placed =
     let some = document_of (finite.get (kept_says pages).documents number) is in
@@ -94,9 +114,7 @@ outside_here pages number at text found is ahead none placed =
       document = some.0;
       held = some.1;
       placed = placed;
-      outside = λ text_is.
-          let shallow : nesting text_is.tree ≤ 127 = omega (arith, text_is.shallow) in
-          none text_is.tree (shown.1 ∙ text_is.spelled) (text_is.well_formed, shallow);
+      outside = λ text_is. none text_is.tree (shown.1 ∙ text_is.spelled) (of_storable some.0.text text_is);
     }
 
 -- what the fault of a text leaves
@@ -104,7 +122,7 @@ pub text_fails : {C : Type 0} (pages : C → CachedPages) (honest : Bool) (why :
     (before after : History) (l m number : ℕ) (text : List ℕ) (found : Bool)
     → Scanned pages honest old store ahead before after l m → IsTrue (finite.contains_key (store_contents store).documents number)
     → (IsTrue honest → IsAhead (finite.get (store_contents store).documents number) found text)
-    → ((tree : Tree) → text ≡ canonical_text tree → IsReadable tree → why ≢ text_fault.Outside)
+    → ((tree : Tree) → text ≡ canonical_text tree → IsStorable tree → why ≢ text_fault.Outside)
     → (why ≡ text_fault.Memory → given ≡ store_fault.Memory) → (why ≡ text_fault.Outside → IsPlaced store number given)
     → ScanFails pages honest given old store ahead before after l m
 text_fails pages honest text_fault.Memory given old store ahead before after l m number text found scanned held shows inside memory outside =
@@ -119,7 +137,7 @@ text_fails pages honest text_fault.Outside given old store ahead before after l 
       λ h. (
         placed.0,
         outside_here store.pages number at text found held (shows h)
-            (λ tree is readable. inside tree is readable refl) placed.1,
+            (λ tree is storable. inside tree is storable refl) placed.1,
       ),
     )
     by_fault (store_fault.Newer version) placed = absurd placed
@@ -154,13 +172,12 @@ met_outside pages store ahead history extent at agrees may outside =
       };
       list = outside.0;
       number = outside.1.number;
-      document = outside.1.document;
-      held = outside.1.held;
-      front = begins.front;
-      pieces = begins.pieces;
-      placed = begins.placed;
-      place = begins.place;
-      outside = outside.1.outside;
+      met = record {
+        document = outside.1.document;
+        held = outside.1.held;
+        begin = begins;
+        bad = outside.1.outside;
+      };
     }
 
 -- what was read ahead of a document that has this text is this text
@@ -171,34 +188,22 @@ text_ahead None found text meant ahead is = absurd cc
 
 -- ---- a text that is met
 
--- what is read whole for a query is read whole by the answer to it
-whole_by : (excerpt : Option Excerpt) (query : Query) (text : List ℕ) → is_plain excerpt ≡ true
-    → Suffices excerpt query → AreReadWholeFor query text → AreReadWhole excerpt text
-whole_by None query text plain enough whole = tt
-whole_by (Some excerpt) query text plain enough (inl all) = inl (all excerpt plain enough)
-whole_by (Some excerpt) query text plain enough (inr none) = inr none
-
-pub read_whole : (answer : TextAnswer) (query : Query) (text : List ℕ) → IsTo answer query
-    → AreReadWholeFor query text → AreReadWhole answer.excerpt text
-read_whole answer query text asked whole =
-    whole_by answer.excerpt query text answer.plain asked.enough whole
-
--- up to a number the texts stand for trees, where they are such that are read
-abbrev pub AreTreesTo : ℕ → (List ℕ → Type 0) → Contents → Type 0
-AreTreesTo last IsRead contents =
+-- up to a number the texts are those of documents, where they are such that are read
+abbrev pub AreDocumentsTo : ℕ → (List ℕ → Type 0) → Contents → Type 0
+AreDocumentsTo last IsRead contents =
     (number : ℕ) (document : Stored) → 0 < number → number ≤ last
     → finite.get contents.documents number ≡ Some document → IsRead document.text
-    → tree_read document.text ≢ None
+    → IsDocumentText newest document.text
 
-module _ (contents : Contents) (IsRead : List ℕ → Type 0) (n : ℕ) (before : AreTreesTo n IsRead contents) where
+module _ (contents : Contents) (IsRead : List ℕ → Type 0) (n : ℕ) (before : AreDocumentsTo n IsRead contents) where
   -- the next one too
-  pub one_tree_more : (k : ℕ) → IsNextAfter contents.documents n k
+  pub one_document_more : (k : ℕ) → IsNextAfter contents.documents n k
       → ((text : List ℕ) → text_of (finite.get contents.documents k) ≡ Some text
-      → IsRead text → tree_read text ≢ None)
-      → AreTreesTo k IsRead contents
-  one_tree_more k next here number document low high is read =
-      elim (cases_lt n number) as (λ _. tree_read document.text ≢ None) [
-        | inl behind ↦ elim (cases_lt number k) as (λ _. tree_read document.text ≢ None) [
+      → IsRead text → IsDocumentText newest text)
+      → AreDocumentsTo k IsRead contents
+  one_document_more k next here number document low high is read =
+      elim (cases_lt n number) as (λ _. IsDocumentText newest document.text) [
+        | inl behind ↦ elim (cases_lt number k) as (λ _. IsDocumentText newest document.text) [
           | inl less ↦
               let none : None ≡ Some document = sym (next.least number behind less) ∙ is in
               absurd cc
@@ -211,33 +216,40 @@ module _ (contents : Contents) (IsRead : List ℕ → Type 0) (n : ℕ) (before 
       ]
 
   -- none comes behind
-  pub all_trees : ((b : ℕ) → n < b → finite.get contents.documents b ≡ None) → StandForTrees IsRead contents
-  all_trees last number document low is read =
-      elim (cases_lt n number) as (λ _. tree_read document.text ≢ None) [
+  pub all_documents : ((b : ℕ) → n < b → finite.get contents.documents b ≡ None) → AreDocuments IsRead contents
+  all_documents last number document low is read =
+      elim (cases_lt n number) as (λ _. IsDocumentText newest document.text) [
         | inl behind ↦
             let none : None ≡ Some document = sym (last number behind) ∙ is in
             absurd cc
         | inr le ↦ before number document low le is read
       ]
 
-pub no_trees : (contents : Contents) (IsRead : List ℕ → Type 0) → AreTreesTo 0 IsRead contents
-no_trees contents IsRead number document low high is read =
+pub no_documents : (contents : Contents) (IsRead : List ℕ → Type 0) → AreDocumentsTo 0 IsRead contents
+no_documents contents IsRead number document low high is read =
     let not : ⊥ = omega (arith, low, high) in
     absurd not
 
 -- rows that are written
 pub rows_met : (query : Query) (contents : Contents)
-    → (LooksAtEach query → StandForTrees (AreReadWholeFor query) contents) → MeetsTrees query contents
-rows_met query contents trees each number document low is (inl none) = trees each number document low is (inr none)
-rows_met query contents trees each number document low is (inr (all, printed)) =
-    trees each number document low is (inl all)
+    → (query.limit ≡ None → AreDocuments (IsTakenWhole query) contents) → MeetsDocuments query contents
+rows_met query contents met unlimited number document low is (inl none, kept) =
+    met unlimited number document low is (inr none, kept)
+rows_met query contents met unlimited number document low is (inr (all, printed), kept) =
+    met unlimited number document low is (inl all, kept)
+
+-- what has rows in a query has rows in that for the keys of its rows
+kept_for_keys : (query : Query) (text : List ℕ) → IsKept query text → IsKept (without_pick query) text
+kept_for_keys query text (inl none) = inl none
+kept_for_keys query text (inr has) = inr (record { tree = has.tree; spelled = has.spelled; rows = has.rows })
 
 -- rows that are printed as they are stored, found by their keys
 pub keys_met : (query keys : Query) (contents : Contents) → keys ≡ without_pick query → IsPrinted query
-    → (LooksAtEach keys → StandForTrees (AreReadWholeFor keys) contents) → MeetsTrees query contents
-keys_met query keys contents these printed trees each number document low is (inl none) =
-    trees (subst LooksAtEach (sym these) each) number document low is (inr none)
-keys_met query keys contents these printed trees each number document low is (inr (all, other)) =
+    → (keys.limit ≡ None → AreDocuments (IsTakenWhole keys) contents) → MeetsDocuments query contents
+keys_met query keys contents these printed met unlimited number document low is (inl none, kept) =
+    subst (λ (q : Query). q.limit ≡ None → AreDocuments (IsTakenWhole q) contents) these met
+    unlimited number document low is (inr none, kept_for_keys query document.text kept)
+keys_met query keys contents these printed met unlimited number document low is (inr (all, other), kept) =
     absurd (other printed)
 
 pub one_query : (a b : Query) → Some a ≡ Some b → a ≡ b

@@ -21,6 +21,7 @@ use Rattle.ax_area.specs.Places.{Place, PagePlaces, no_places, places_after, pla
 use Rattle.ax_area.specs.Told.{Told, IsTold, AreTold, TellOn, told_bytes}
 use Rattle.ax_area.proofs.OneTelling.{same_some, some_or_none}
 use Rattle.ax_image.specs.Readable.{newest}
+use Rattle.ax_image_grammar.specs.Met.{BeginAt}
 use Rattle.ax_area_laws.proofs.Parts.{one_part_told, parts_told, are_parts}
 use Rattle.ax_area_laws.proofs.Refusing.{no_kind}
 use Rattle.ax_area_laws.proofs.Stepping.{kind_number}
@@ -183,26 +184,19 @@ alike_on (frame ∷ frames) at told old new places (first, others, is, begins, m
     (sym (ap (λ t. places_after t places) is ∙ places_joined first others places)) later
 
 -- the document that has its part at an offset begins there
-pub record BeginsAt (places : PagePlaces) (number at : ℕ) : Type 0 where
-  pub front : Place
-  pub pieces : List Place
-  pub placed : finite.get places.documents number ≡ Some (front ∷ pieces)
-  pub place : front.at ≡ at
-
 pub begins_at : (offsets : PageOffsets) (places : PagePlaces) (number at : ℕ)
     → Alike offsets.documents places.documents → finite.get offsets.documents number ≡ Some at
-    → BeginsAt places number at
+    → BeginAt (finite.get places.documents number) at
 begins_at offsets places number at alike found =
-    by_places (finite.get places.documents number) refl
+    by_places (finite.get places.documents number)
     (alike number ∙ ap (option_map (λ (at : ℕ). Some at)) found)
   where
-    by_places : (there : Option (List Place)) → finite.get places.documents number ≡ there
-        → option_map first_at there ≡ Some (Some at) → BeginsAt places number at
-    by_places None is e = absurd (some_or_none (Some at) e)
-    by_places (Some []) is e = absurd (some_or_none at (same_some None (Some at) e))
-    by_places (Some (front ∷ pieces)) is e = record {
+    by_places : (there : Option (List Place)) → option_map first_at there ≡ Some (Some at) → BeginAt there at
+    by_places None e = absurd (some_or_none (Some at) e)
+    by_places (Some []) e = absurd (some_or_none at (same_some None (Some at) e))
+    by_places (Some (front ∷ pieces)) e = record {
       front = front;
       pieces = pieces;
-      placed = is;
+      stand = refl;
       place = same_some front.at at (same_some (Some front.at) (Some at) e);
     }

@@ -1,17 +1,18 @@
--- Documents whose stored text is none that a document can have: the store is damaged there. And what a
--- query that looks at each document has met before it answers rows.
+-- Documents whose stored text is none that a document can have: the store is damaged there. And which texts a
+-- query without a limit has met before it answers rows.
 -- It is this project's own; it comes from no public document.
-use Rattle.std.specs.Prelude.{◌≡◌, ◌≢◌, ◌⊎◌, ℕ, ◌<◌, List, ◌∷◌, Some, None}
+use Rattle.std.specs.Prelude.{◌≡◌, ◌⊎◌, ℕ, ◌<◌, List, Some, None}
 use Rattle.std.specs.FinMap as map
+use Rattle.ax_answer_text.specs.Parts.{IsKept}
 use Rattle.ax_area.specs.Contents.{Contents, Stored}
 use Rattle.ax_area.specs.Image.{IsLiveWith, Says}
-use Rattle.ax_area.specs.Places.{Place, no_places, places_after}
 use Rattle.ax_area.specs.Told.{Told}
 use Rattle.ax_disk.specs.model.Image.{Image}
 use Rattle.ax_excerpt.specs.Needs.{NeedsAll}
-use Rattle.ax_excerpt_text.specs.Wholes.{IsNoMap, tree_read}
+use Rattle.ax_excerpt_text.specs.Wholes.{IsNoMap}
 use Rattle.ax_grammar.specs.Query.{query_in}
 use Rattle.ax_image.specs.Readable.{newest}
+use Rattle.ax_image_grammar.specs.Met.{IsDocumentMet}
 use Rattle.ax_image_grammar.specs.Payloads.{IsDocumentText}
 use Rattle.ax_lines.specs.declared.line.Line.{Line}
 use Rattle.ax_lines.specs.declared.line.Line.TheVariants as line
@@ -34,13 +35,7 @@ pub record IsMetOutside (image : Image) (extent at : ℕ) : Type 0 where
   pub live : IsLiveWith newest version told contents image
   pub list : extent ≡ extent_number live.slot.area
   pub number : ℕ
-  pub document : Stored
-  pub held : map.get contents.documents number ≡ Some document
-  pub front : Place
-  pub pieces : List Place
-  pub placed : map.get (places_after told no_places).documents number ≡ Some (front ∷ pieces)
-  pub place : front.at ≡ at
-  pub outside : ¬ IsDocumentText newest document.text
+  pub met : IsDocumentMet newest number told contents at
 
 -- where the fault is that a text is outside, it is so at that place of the image
 abbrev pub Meets : Fault → Image → Type 0
@@ -49,27 +44,24 @@ Meets (fault.Damaged extent at) image = IsMetOutside image extent at
 
 -- ---- what a query has met
 
--- of each document the text stands for a tree, where it is one that is read
-abbrev pub StandForTrees : (List ℕ → Type 0) → Contents → Type 0
-StandForTrees IsRead contents =
+-- of each document the text is one that a document can have, where it is one that is read
+abbrev pub AreDocuments : (List ℕ → Type 0) → Contents → Type 0
+AreDocuments IsRead contents =
     (number : ℕ) (document : Stored) → 0 < number → map.get contents.documents number ≡ Some document
-    → IsRead document.text → tree_read document.text ≢ None
-
--- The query looks at each document: it has no condition that drops one, and no limit at which it ends.
-abbrev pub LooksAtEach : Query → Type 0
-LooksAtEach query = (query.condition ≡ None) × (query.limit ≡ None)
+    → IsRead document.text → IsDocumentText newest document.text
 
 -- The text is read whole for the rows of the query: it does not begin as that of a map, or no part of a
 -- document is enough for the query, and it does not print documents as they are stored.
 abbrev pub IsReadWhole : Query → List ℕ → Type 0
 IsReadWhole query text = IsNoMap text ⊎ (NeedsAll query × (IsPrinted query → ⊥))
 
--- Among these documents a query that looks at each meets none whose text it reads whole and which is that of
--- no tree.
-abbrev pub MeetsTrees : Query → Contents → Type 0
-MeetsTrees query contents = LooksAtEach query → StandForTrees (IsReadWhole query) contents
+-- Among these documents a query that has no limit at which it ends meets none whose text is that of no
+-- document: of those that it reads whole and does not pass over.
+abbrev pub MeetsDocuments : Query → Contents → Type 0
+MeetsDocuments query contents =
+    query.limit ≡ None → AreDocuments (λ text. IsReadWhole query text × IsKept query text) contents
 
--- Rows are the reply to a query only where it meets none among the documents of the image: none is
+-- Rows are the reply to a query only where it meets no such text among the documents of the image: none is
 -- passed over.
 abbrev pub PassesOverNone : Line → Reply → Image → Type 0
 PassesOverNone (line.Create tree) reply image = Unit {0}
@@ -80,4 +72,4 @@ PassesOverNone (line.Read id) reply image = Unit {0}
 PassesOverNone (line.Query body) reply image =
     (query : Query) → query_in body.params body.text ≡ Some query
     → OnRows reply ((version : ℕ) × (told : List Told) × (contents : Contents)
-    × Says newest version told contents image × MeetsTrees query contents)
+    × Says newest version told contents image × MeetsDocuments query contents)

@@ -141,8 +141,8 @@ impl<C: PageCache> Engine<C> {
     ///
     /// `Disk` where a call on the disk failed, and nowhere else does the disk count a fault. `Damaged` where the text of a document is none that a
     /// document can have, over an honest disk with the place at which its part stands; only a query
-    /// answers it, and it leaves the disk's lists as they were. A query without WHERE and LIMIT answers no
-    /// rows over such a text, where it reads it whole.
+    /// answers it, and it leaves the disk's lists as they were. A query without LIMIT answers no rows over such
+    /// a text that it reads whole, where it has no WHERE, or the text is that of a tree that has rows in it.
     ///
     /// Whatever the store holds, a query is answered rows only where it has no refusal of its own (of its text
     /// or its ORDER BY), and is refused by that one alone, or for want of memory; a write is answered `Ok`,

@@ -1,14 +1,15 @@
 //! The rows of a query over all documents of an open store, and the reply that has them.
 
-ghost use Rattle.std.specs.Prelude.{◌≡◌, ◌≢◌, ◌≤◌, ◌+◌, ◌*◌, ◌<◌, ℕ, List, [], ◌∷◌, ◌++◌, length, Some, None, IsTrue, IfOk, OnOk, true, drop, option_map};
+ghost use Rattle.std.specs.Prelude.{◌≡◌, ◌≤◌, ◌+◌, ◌*◌, ◌<◌, ℕ, List, [], ◌∷◌, ◌++◌, length, Some, None, IsTrue, IfOk, OnOk, true, drop, option_map};
 ghost use Rattle.std.specs.FinMap as map;
-ghost use Rattle.ax_answer_text.specs.Parts.{AreReadWholeFor};
+ghost use Rattle.ax_answer_text.specs.Parts.{IsTakenWhole};
 ghost use Rattle.ax_answer_text.specs.TextAnswers.{Answers, IsTo};
 ghost use Rattle.ax_container.specs.Container.{Container};
-ghost use Rattle.ax_excerpt_text.specs.Left.{IsReadable};
-ghost use Rattle.ax_excerpt_text.specs.Wholes.{tree_read};
 ghost use Rattle.ax_grammar.specs.Query.{query_in};
 ghost use Rattle.ax_image.specs.Documents.{ContentsHold};
+ghost use Rattle.ax_image.specs.Readable.{newest};
+ghost use Rattle.ax_image_grammar.specs.Payloads.{IsDocumentText};
+ghost use Rattle.ax_lines.specs.Asked.{IsStorable};
 ghost use Rattle.ax_machine.specs.Needs.{query_need};
 ghost use Rattle.ax_machine.specs.Querying.{numbered, query_reply, rows_of, rows_or_refusal, rows_reply};
 ghost use Rattle.ax_mean.specs.declared.query.Query as queries;
@@ -16,7 +17,7 @@ ghost use Rattle.ax_result.specs.Answers.{answer_of};
 ghost use Rattle.ax_tree.specs.CanonicalText.{canonical_text};
 ghost use Rattle.ax_tree.specs.declared.tree.Tree.{Tree as TreeOf};
 ghost use Rattle.ax_store.specs.Store.{store_contents};
-ghost use Rattle.ax_engine.specs.Damage.{LooksAtEach, MeetsTrees, StandForTrees};
+ghost use Rattle.ax_engine.specs.Damage.{AreDocuments, MeetsDocuments};
 ghost use Rattle.ax_engine.specs.Printing.{IsPrinted};
 ghost use Rattle.ax_engine.specs.Replies.{AreRows, FitsRefusal, IsReply, OnRows, own_refusal};
 ghost use Rattle.ax_engine.specs.Scans.{IsReady, Scans};
@@ -60,7 +61,7 @@ pub(crate) fn reply_to_query<D: Disk, C: PageCache, L: Ledger>(
         → IfOk result (λ reply. IsReply reply (query_reply body.now container)) }
     ensures fits { IfOk result (λ reply. FitsRefusal (own_refusal (query_in body.now.params body.now.text)) reply) }
     ensures met { IsTrue (D.is_honest disk.old) → (query : queries.Query) → query_in body.now.params body.now.text ≡ Some query
-        → IfOk result (λ reply. OnRows reply (MeetsTrees query (store_contents store.old))) }
+        → IfOk result (λ reply. OnRows reply (MeetsDocuments query (store_contents store.old))) }
     ensures bound { (container : Container) → ContentsHold (store_contents store.old) container
         → steps.new ≤ steps.old + 2 * query_need (rows_or_refusal (query_in body.now.params body.now.text) container) container }
     ensures never_falls { steps.old ≤ steps.new }
@@ -104,7 +105,7 @@ fn reply_to_read<D: Disk, C: PageCache, L: Ledger>(
         → IfOk result (λ reply. IsReply reply (rows_reply (rows_or_refusal (Some query) container))) }
     ensures fits { IfOk result (λ reply. FitsRefusal (own_refusal (Some query)) reply) }
     ensures met { IsTrue (D.is_honest disk.old)
-        → IfOk result (λ reply. OnRows reply (MeetsTrees query (store_contents store.old))) }
+        → IfOk result (λ reply. OnRows reply (MeetsDocuments query (store_contents store.old))) }
     ensures bound { (container : Container) → ContentsHold (store_contents store.old) container
         → steps.new ≤ steps.old + 2 * query_need (rows_or_refusal (Some query) container) container }
     ensures never_falls { steps.old ≤ steps.new }
@@ -136,7 +137,7 @@ fn rows_of_query<D: Disk, C: PageCache, L: Ledger>(
     requires ready { IsReady C.pages (D.is_honest disk.old) store.old ahead.old (D.history disk.old (D.attached disk.old)) }
     ensures rows { IsTrue (D.is_honest disk.old) → (container : Container) → ContentsHold (store_contents store.old) container
         → IfOk result (λ rows. AreRows rows (rows_of query container)) }
-    ensures met { IsTrue (D.is_honest disk.old) → OnOk result (MeetsTrees query (store_contents store.old)) }
+    ensures met { IsTrue (D.is_honest disk.old) → OnOk result (MeetsDocuments query (store_contents store.old)) }
     ensures bound { (container : Container) → ContentsHold (store_contents store.old) container → steps.new ≤ steps.old + 2 * length container.entries }
     ensures never_falls { steps.old ≤ steps.new }
     ensures scans { Scans C.pages (D.is_honest disk.old) result store.old store.new ahead.new
@@ -197,7 +198,7 @@ fn rows_of_documents<D: Disk, C: PageCache, L: Ledger>(
     requires ready { IsReady C.pages (D.is_honest disk.old) store.old ahead.old (D.history disk.old (D.attached disk.old)) }
     ensures rows { IsTrue (D.is_honest disk.old) → (container : Container) → ContentsHold (store_contents store.old) container
         → IfOk result (λ rows. AreRows rows (rows_of query container)) }
-    ensures met { IsTrue (D.is_honest disk.old) → OnOk result (MeetsTrees query (store_contents store.old)) }
+    ensures met { IsTrue (D.is_honest disk.old) → OnOk result (MeetsDocuments query (store_contents store.old)) }
     ensures bound { (container : Container) → ContentsHold (store_contents store.old) container → steps.new ≤ steps.old + 2 * length container.entries }
     ensures never_falls { steps.old ≤ steps.new }
     ensures scans { Scans C.pages (D.is_honest disk.old) result store.old store.new ahead.new
@@ -229,8 +230,8 @@ fn answer_rows<D: Disk, C: PageCache, L: Ledger>(
     requires ready { IsReady C.pages (D.is_honest disk.old) store.old ahead.old (D.history disk.old (D.attached disk.old)) }
     ensures rows { IsTrue (D.is_honest disk.old) → (container : Container) → ContentsHold (store_contents store.old) container
         → IfOk result (λ rows. rows.items ≡ answer_of query.now (numbered container)) }
-    ensures met { IsTrue (D.is_honest disk.old) → LooksAtEach query.now
-        → OnOk result (StandForTrees (AreReadWholeFor query.now) (store_contents store.old)) }
+    ensures met { IsTrue (D.is_honest disk.old) → query.now.limit ≡ None
+        → OnOk result (AreDocuments (IsTakenWhole query.now) (store_contents store.old)) }
     ensures fetched { (container : Container) → ContentsHold (store_contents store.old) container
         → query.now.limit ≡ None → OnOk result (steps.old + length container.entries ≤ steps.new) }
     ensures bound { (container : Container) → ContentsHold (store_contents store.old) container → steps.new ≤ steps.old + 2 * length container.entries }
@@ -269,8 +270,8 @@ fn add_documents<D: Disk, C: PageCache, L: Ledger>(
     ensures added { IsTrue (D.is_honest disk.old) → (container : Container) → ContentsHold (store_contents store.old) container
         → (query : queries.Query) → Answers answer.old query []
         → OnOk result (Answers answer.new query (numbered container)) }
-    ensures met { IsTrue (D.is_honest disk.old) → (query : queries.Query) → IsTo answer.old query → LooksAtEach query
-        → OnOk result (StandForTrees (AreReadWholeFor query) (store_contents store.old)) }
+    ensures met { IsTrue (D.is_honest disk.old) → (query : queries.Query) → IsTo answer.old query → query.limit ≡ None
+        → OnOk result (AreDocuments (IsTakenWhole query) (store_contents store.old)) }
 
     // Without a limit each document is fetched, for one step of work.
     ensures fetched { (container : Container) → ContentsHold (store_contents store.old) container
@@ -313,14 +314,14 @@ fn add_document<D: Disk, C: PageCache, L: Ledger>(
     requires ready { IsReady C.pages (D.is_honest disk.old) store.old ahead.old (D.history disk.old (D.attached disk.old)) }
     ensures added { IsTrue (D.is_honest disk.old) → (tree : TreeOf)
         → text_of (map.get (store_contents store.old).documents number) ≡ Some (canonical_text tree)
-        → IsReadable tree → OnOk result ((query : queries.Query) → (entries : List (ℕ × TreeOf))
+        → IsStorable tree → OnOk result ((query : queries.Query) → (entries : List (ℕ × TreeOf))
         → Answers answer.old query entries → Answers answer.new query (entries ++ (number, tree) ∷ [])) }
 
-    // Bytes that are read whole and stand for no tree are never passed over, where the query has no condition.
+    // Bytes that are read whole and are no document's are never taken in, and passed over by a condition alone.
     ensures outside { IsTrue (D.is_honest disk.old) → (text : List ℕ)
         → text_of (map.get (store_contents store.old).documents number) ≡ Some text
-        → (query : queries.Query) → IsTo answer.old query → query.condition ≡ None
-        → AreReadWholeFor query text → OnOk result (tree_read text ≢ None) }
+        → (query : queries.Query) → IsTo answer.old query → IsTakenWhole query text
+        → OnOk result (IsDocumentText newest text) }
     ensures asked { (query : queries.Query) → IsTo answer.old query → IsTo answer.new query }
     ensures fetched { steps.old < steps.new }
     ensures two { steps.new ≤ steps.old + 2 }

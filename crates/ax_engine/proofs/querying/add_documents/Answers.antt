@@ -3,12 +3,12 @@ use Rattle.std.proofs.Common.{◌++◌, ◌∙◌, [], ap, sym, subst, arith, le
 use Rattle.std.proofs.lemmas.Bool.{false≢true}
 use Rattle.std.proofs.lemmas.List.{append-nil}
 use Rattle.std.specs.Prelude.{IsTrue}
-use Rattle.ax_answer_text.specs.Parts.{AreReadWholeFor}
 use Rattle.ax_answer_text.specs.TextAnswers.{Answers}
 use Rattle.ax_store.specs.Store.{store_contents}
-use Rattle.ax_engine.proofs.Damaging.{all_trees, no_trees, one_tree_more}
-use Rattle.ax_engine.proofs.InOrder.{within_text, above, pairs, next_entry, next_same, stored_here, text_here, taken_on}
-use Rattle.ax_engine.proofs.InOrder.{within_text, one_less, at_the_end, at_the_start, none_same, text_same}
+use Rattle.ax_answer_text.specs.Parts.{IsTakenWhole}
+use Rattle.ax_engine.proofs.Damaging.{all_documents, no_documents, one_document_more}
+use Rattle.ax_engine.proofs.InOrder.{above, pairs, next_entry, next_same, stored_here, text_here, taken_on}
+use Rattle.ax_engine.proofs.InOrder.{one_less, at_the_end, at_the_start, none_same, text_same}
 use Rattle.ax_engine.proofs.Scanning.{fails_on, nothing_scanned, ready_now, scanned_on}
 use Rattle.ax_engine.proofs.querying.add_documents.Goals as goal
 
@@ -17,7 +17,7 @@ texts-init g c = record {
   added = λ honest container hold query answers.
       ([], ap pairs (at_the_start (store_contents c.args.store.now) container hold), answers);
   asked = λ query asked. asked;
-  met = λ honest query asked each. no_trees (store_contents c.args.store.now) (AreReadWholeFor query);
+  met = λ honest query asked unlimited. no_documents (store_contents c.args.store.now) (IsTakenWhole query);
   fetched = λ container hold.
       omega (arith, ap length (at_the_start (store_contents c.args.store.now) container hold));
   bound = λ container hold.
@@ -43,14 +43,14 @@ texts-preserved g c =
             c.in-Ok.ensures.added (subst IsTrue (sym inv.honest) honest) next.entry.tree
                 (text_same c.args.store.now c.texts.store c.in-Some.next _ inv.scans.same
                 (text_here contents container hold c.texts.number c.in-Some.next next))
-                (stored.storable.well_formed, within_text stored.storable.shallow) query before.0 before.2,
+                stored.storable query before.0 before.2,
           );
       asked = λ query asked. c.in-Ok.ensures.asked query (inv.asked query asked);
-      met = λ honest query asked each.
-          one_tree_more contents (AreReadWholeFor query) c.texts.number (inv.met honest query asked each) c.in-Some.next found
-          (λ text is whole. c.in-Ok.ensures.outside (subst IsTrue (sym inv.honest) honest) text
+      met = λ honest query asked unlimited.
+          one_document_more contents (IsTakenWhole query) c.texts.number (inv.met honest query asked unlimited) c.in-Some.next found
+          (λ text is taken. c.in-Ok.ensures.outside (subst IsTrue (sym inv.honest) honest) text
           (text_same c.args.store.now c.texts.store c.in-Some.next text inv.scans.same is)
-          query (inv.asked query asked) each.0 whole);
+          query (inv.asked query asked) taken);
       fetched = λ container hold.
           let next = next_entry contents container hold c.texts.number c.in-Some.next found in
           omega (
@@ -85,8 +85,8 @@ returns-then-is_done-clause-added g c = λ honest container hold query answers.
     (pairs (above c.texts.number container.entries)) all.2)
 
 pub returns-then-is_done-clause-met : goal.returns-then-is_done-clause-met
-returns-then-is_done-clause-met g c = λ honest query asked each.
-    absurd (false≢true (sym (c.is_done.ensures.unlimited query (c.texts.invariant.asked query asked) each.1)
+returns-then-is_done-clause-met g c = λ honest query asked unlimited.
+    absurd (false≢true (sym (c.is_done.ensures.unlimited query (c.texts.invariant.asked query asked) unlimited)
     ∙ c.if-is_done.true))
 
 pub returns-then-is_done-clause-fetched : goal.returns-then-is_done-clause-fetched
@@ -128,7 +128,7 @@ returns-clause-added g c = λ honest container hold query answers.
     (sym (append-nil all.0) ∙ ap (λ es. all.0 ++ pairs es) (sym end) ∙ all.1) all.2
 
 pub returns-clause-met : goal.returns-clause-met
-returns-clause-met g c = λ honest query asked each.
+returns-clause-met g c = λ honest query asked unlimited.
     let inv = c.texts.invariant in
-    all_trees (store_contents c.args.store.now) (AreReadWholeFor query) c.texts.number (inv.met honest query asked each)
+    all_documents (store_contents c.args.store.now) (IsTakenWhole query) c.texts.number (inv.met honest query asked unlimited)
     (none_same c.args.store.now c.texts.store c.texts.number inv.scans.same c.in_default.ensures.none)

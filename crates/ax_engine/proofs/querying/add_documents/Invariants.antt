@@ -1,16 +1,15 @@
 -- The documents up to the number were taken in, each for one step or two.
-use Rattle.std.proofs.Common.{◌≡◌, ◌-◌, ◌^◌, ◌*◌, ◌+◌, ◌++◌, ◌≤◌, ℕ, List, [], length}
+use Rattle.std.proofs.Common.{◌≡◌, ◌-◌, ◌^◌, ◌*◌, ◌+◌, ◌++◌, ◌≤◌, ℕ, List, [], None, length}
 use Rattle.std.specs.Prelude.{IsTrue}
 use Rattle.ax_tree.specs.declared.tree.Tree.{Tree}
 use Rattle.ax_mean.specs.declared.query.Query.{Query}
 use Rattle.ax_container.specs.Container.{Container}
 use Rattle.ax_image.specs.Documents.{ContentsHold}
-use Rattle.ax_answer_text.specs.Parts.{AreReadWholeFor}
 use Rattle.ax_answer_text.specs.TextAnswers.{Answers, IsTo}
 use Rattle.ax_store.specs.Store.{store_contents}
-use Rattle.ax_engine.specs.Damage.{LooksAtEach}
+use Rattle.ax_answer_text.specs.Parts.{IsTakenWhole}
 use Rattle.ax_engine.specs.Scans.{Scanned}
-use Rattle.ax_engine.proofs.Damaging.{AreTreesTo}
+use Rattle.ax_engine.proofs.Damaging.{AreDocumentsTo}
 use Rattle.ax_engine.proofs.InOrder.{above, pairs}
 use Rattle.ax_engine.proofs.querying.add_documents.Given as goal
 
@@ -25,8 +24,8 @@ invariant-texts g l = record {
       × (done ++ pairs (above l.number container.entries) ≡ pairs container.entries)
       × Answers l.answer query done;
   asked : (query : Query) → IsTo l.fn.answer query → IsTo l.answer query;
-  met : IsTrue (g.D.Disk.is_honest l.fn.disk) → (query : Query) → IsTo l.fn.answer query → LooksAtEach query
-      → AreTreesTo l.number (AreReadWholeFor query) (store_contents l.fn.store);
+  met : IsTrue (g.D.Disk.is_honest l.fn.disk) → (query : Query) → IsTo l.fn.answer query → query.limit ≡ None
+      → AreDocumentsTo l.number (IsTakenWhole query) (store_contents l.fn.store);
   fetched : (container : Container) → ContentsHold (store_contents l.fn.store) container
       → l.fn.steps + length container.entries ≤ l.steps + length (above l.number container.entries);
   bound : (container : Container) → ContentsHold (store_contents l.fn.store) container

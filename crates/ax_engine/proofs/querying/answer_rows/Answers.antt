@@ -10,8 +10,8 @@ returns-in-Ok-finish-clause-rows g c = λ honest container hold.
     (numbers_rise container hold.show.sound)
 
 pub returns-in-Ok-finish-clause-met : goal.returns-in-Ok-finish-clause-met
-returns-in-Ok-finish-clause-met g c = λ honest each.
-    c.in_default-add_documents.ensures.met honest c.args.query.now c.in-Ok.ensures.asked each
+returns-in-Ok-finish-clause-met g c = λ honest unlimited.
+    c.in_default-add_documents.ensures.met honest c.args.query.now c.in-Ok.ensures.asked unlimited
 
 pub returns-in-Ok-finish-clause-fetched : goal.returns-in-Ok-finish-clause-fetched
 returns-in-Ok-finish-clause-fetched g c = λ container hold unlimited.

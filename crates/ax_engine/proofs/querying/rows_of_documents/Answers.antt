@@ -7,7 +7,7 @@ use Rattle.ax_result.specs.Answers.{answer_of}
 use Rattle.ax_store.specs.Kept.{Kept}
 use Rattle.ax_store.specs.Store.{store_contents}
 use Rattle.ax_engine.specs.Replies.{AreRows}
-use Rattle.ax_engine.specs.Damage.{MeetsTrees}
+use Rattle.ax_engine.specs.Damage.{MeetsDocuments}
 use Rattle.ax_engine.specs.StoreSays.{kept_says}
 use Rattle.ax_engine.proofs.Damaging.{keys_met, on_ok}
 use Rattle.ax_engine.proofs.Numbers.{shown_rows}
@@ -30,6 +30,6 @@ returns-in-Ok-rows-clause-scans g c =
 
 pub returns-in-Ok-rows-clause-met : goal.returns-in-Ok-rows-clause-met
 returns-in-Ok-rows-clause-met g c = λ honest.
-    on_ok c.document_rows.result (MeetsTrees c.args.query (store_contents c.args.store.now))
+    on_ok c.document_rows.result (MeetsDocuments c.args.query (store_contents c.args.store.now))
     (keys_met c.args.query _ (store_contents c.args.store.now) c.in-Ok.ensures c.requires.printed
     (c.in-Ok-rows.ensures.met honest))
