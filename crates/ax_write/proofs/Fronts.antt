@@ -8,12 +8,9 @@ use Rattle.ax_area.specs.Contents.{Contents, after_changes, has_room, is_given, 
 use Rattle.ax_image.specs.WriteChanges.{creating_changes, deleting_changes, document_change, meta_change, replacing_changes}
 use Rattle.ax_index.specs.Plans.{HasNoDeltas}
 use Rattle.ax_pages.specs.AfterPart.{most_documents}
-use Rattle.ax_policy.specs.Table.{Table}
 use Rattle.ax_tree.specs.declared.tree.Tree.{Tree}
 use Rattle.ax_write.specs.Batches.{creating_parts, deleting_parts, replacing_parts}
 use Rattle.ax_write.specs.Committed.{LeaveTerms}
-use Rattle.ax_write.specs.Exchanged.{ArePolicies}
-use Rattle.ax_write.specs.TableAgrees.{TableAgrees}
 use Rattle.ax_write.proofs.PartsSaid.{said_leads}
 use Rattle.ax_write.proofs.Saying.{creating_said, deleting_said, replacing_said}
 
@@ -80,7 +77,3 @@ no_delta_creating number policy tree n = refl
 
 pub no_delta_deleting : (number : ℕ) → HasNoDeltas (deleting_parts number)
 no_delta_deleting number n = refl
-
--- the policies of a table that agrees are those of their own texts
-pub policies_of : (table : Table) (contents : Contents) → TableAgrees table contents → ArePolicies table
-policies_of table contents agrees number policy is = (agrees.texts number policy is).is_policy

@@ -6,8 +6,6 @@ pub mod Planned
 pub mod StayReadable
 pub mod Committing
 pub mod Holding
-pub mod Counting
-pub mod Agreeing
 pub mod ShortTerms
 pub mod Exchanging
 pub mod Saying

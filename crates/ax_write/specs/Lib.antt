@@ -1,5 +1,4 @@
 pub mod Committed
 pub mod Batches
 pub mod Held
-pub mod TableAgrees
 pub mod Exchanged

@@ -12,8 +12,8 @@ use Rattle.ax_image_grammar.specs.Table.{IsTaken, policy_text}
 use Rattle.ax_pages.proofs.LastPart.{get_inserted, get_not_inserted, get_not_removed, get_removed}
 use Rattle.ax_pages.specs.AfterPart.{most_documents}
 use Rattle.ax_policy.specs.Table.{SetsCount, Table, count_at, policy_at}
-use Rattle.ax_write.specs.TableAgrees.{TableAgrees, documents_under}
-use Rattle.ax_write.proofs.Counting.{count, count_insert, count_remove}
+use Rattle.ax_table.specs.TableAgrees.{TableAgrees, documents_under}
+use Rattle.ax_table.proofs.Counting.{count, count_insert, count_remove}
 
 abbrev bit : Bool → ℕ
 bit b = cond b 1 0
@@ -58,7 +58,7 @@ one_more number old new sets n =
 abbrev under : ℕ → Stored → Bool
 under n document = document.policy == n
 
-module _ (table : Table) (contents : Contents) (agrees : TableAgrees table contents) where
+module _ (honest : Bool) (table : Table) (contents : Contents) (agrees : TableAgrees honest table contents) where
   -- a document that is held is counted
   pub is_counted : (number : ℕ) (old : Stored) → map.get contents.documents number ≡ Some old → 0 < count_at table old.policy
   is_counted number old held =
@@ -75,12 +75,13 @@ module _ (table : Table) (contents : Contents) (agrees : TableAgrees table conte
   module _ (after : Table) (new : Contents) (now : new.policy_now ≡ contents.policy_now) (policies : new.policies ≡ contents.policies)
       (current : after.current ≡ table.current) (there : (n : ℕ) → policy_at after n ≡ policy_at table n) where
     still : ((n : ℕ) → IsTaken n new → IsTaken n contents) → ((n : ℕ) → count_at after n ≡ documents_under n new)
-        → map.len new.documents ≤ most_documents → TableAgrees after new
+        → map.len new.documents ≤ most_documents → TableAgrees honest after new
     still taken counts few = record {
       now = current ∙ agrees.now ∙ sym now;
       known = λ n is. subst IsSome (sym (there n)) (agrees.known n (taken n is));
-      texts = λ n policy is.
-          subst (λ text. IsTextOf text policy) (sym (same_text n)) (agrees.texts n policy (sym (there n) ∙ is));
+      policies = λ n policy is. agrees.policies n policy (sym (there n) ∙ is);
+      texts = λ h n policy is.
+          subst (λ text. IsTextOf text policy) (sym (same_text n)) (agrees.texts h n policy (sym (there n) ∙ is));
       counts = counts;
       few = few;
     }
@@ -90,7 +91,7 @@ module _ (table : Table) (contents : Contents) (agrees : TableAgrees table conte
 
 -- ---- a document takes the place of one, or is new
 
-module _ (table : Table) (contents new : Contents) (agrees : TableAgrees table contents)
+module _ (honest : Bool) (table : Table) (contents new : Contents) (agrees : TableAgrees honest table contents)
     (now : new.policy_now ≡ contents.policy_now) (policies : new.policies ≡ contents.policies) where
   -- where a document is put under the policy now, no other number comes into use
   put_taken : (number : ℕ) (made : Stored) → new.documents ≡ map.insert contents.documents number made → made.policy ≡ contents.policy_now
@@ -130,13 +131,13 @@ module _ (table : Table) (contents new : Contents) (agrees : TableAgrees table c
   pub agrees_replaced : (mid after : Table) (number : ℕ) (old made : Stored) → map.get contents.documents number ≡ Some old
       → new.documents ≡ map.insert contents.documents number made → made.policy ≡ contents.policy_now
       → SetsCount old.policy (count_at table old.policy - 1) table mid → SetsCount table.current (count_at mid table.current + 1) mid after
-      → TableAgrees after new
+      → TableAgrees honest after new
   agrees_replaced mid after number old made held put under_now out into =
-      still table contents agrees after new now policies (into.current ∙ out.current) (λ n. into.policies n ∙ out.policies n)
+      still honest table contents agrees after new now policies (into.current ∙ out.current) (λ n. into.policies n ∙ out.policies n)
       (put_taken number made put under_now) counts few
     where
       some : 0 < count_at table old.policy
-      some = is_counted table contents agrees number old held
+      some = is_counted honest table contents agrees number old held
 
       counts : (n : ℕ) → count_at after n ≡ documents_under n new
       counts n =
@@ -161,9 +162,9 @@ module _ (table : Table) (contents new : Contents) (agrees : TableAgrees table c
   pub agrees_created : (after : Table) (number : ℕ) (made : Stored) → map.get contents.documents number ≡ None
       → map.len contents.documents < most_documents
       → new.documents ≡ map.insert contents.documents number made → made.policy ≡ contents.policy_now
-      → SetsCount table.current (count_at table table.current + 1) table after → TableAgrees after new
+      → SetsCount table.current (count_at table table.current + 1) table after → TableAgrees honest after new
   agrees_created after number made none room put under_now into =
-      still table contents agrees after new now policies into.current into.policies (put_taken number made put under_now) counts few
+      still honest table contents agrees after new now policies into.current into.policies (put_taken number made put under_now) counts few
     where
       counts : (n : ℕ) → count_at after n ≡ documents_under n new
       counts n =
@@ -186,16 +187,16 @@ module _ (table : Table) (contents new : Contents) (agrees : TableAgrees table c
 
   pub agrees_deleted : (after : Table) (number : ℕ) (old : Stored) → map.get contents.documents number ≡ Some old
       → new.documents ≡ map.remove contents.documents number
-      → SetsCount old.policy (count_at table old.policy - 1) table after → TableAgrees after new
+      → SetsCount old.policy (count_at table old.policy - 1) table after → TableAgrees honest after new
   agrees_deleted after number old held gone out =
-      still table contents agrees after new now policies out.current out.policies (gone_taken number gone) counts few
+      still honest table contents agrees after new now policies out.current out.policies (gone_taken number gone) counts few
     where
       counts : (n : ℕ) → count_at after n ≡ documents_under n new
       counts n =
           let moved : count (under n) (map.entries (map.remove contents.documents number)) + bit (old.policy == n)
           ≡ count (under n) (map.entries contents.documents) = count_remove (under n) contents.documents number old held in
           let less : count_at after n + bit (old.policy == n) ≡ count_at table n =
-          one_less old.policy table after out (is_counted table contents agrees number old held) n in
+          one_less old.policy table after out (is_counted honest table contents agrees number old held) n in
           let were : count_at table n ≡ count (under n) (map.entries contents.documents) = agrees.counts n in
           let are : documents_under n new ≡ count (under n) (map.entries (map.remove contents.documents number)) = counted n _ gone in
           omega arith
