@@ -6,7 +6,7 @@ use Rattle.std.specs.Cmp.{nat_cmp_total}
 use Rattle.std.specs.FinMap as map
 use Rattle.std.specs.Ordering.{nat_cmp}
 use Rattle.ax_area.proofs.OneTelling.{same_some, some_or_none}
-use Rattle.ax_area.specs.Contents.{Contents, Stored}
+use Rattle.ax_area.specs.Contents.{Contents, Stored, is_given}
 use Rattle.ax_image_grammar.specs.Payloads.{IsTextOf}
 use Rattle.ax_image_grammar.specs.Table.{IsTaken, policy_text}
 use Rattle.ax_pages.proofs.LastPart.{get_inserted, get_not_inserted, get_not_removed, get_removed}
@@ -78,6 +78,7 @@ module _ (honest : Bool) (table : Table) (contents : Contents) (agrees : TableAg
         → map.len new.documents ≤ most_documents → TableAgrees honest after new
     still taken counts few = record {
       now = current ∙ agrees.now ∙ sym now;
+      given = same_given ∙ agrees.given;
       known = λ n is. subst IsSome (sym (there n)) (agrees.known n (taken n is));
       policies = λ n policy is. agrees.policies n policy (sym (there n) ∙ is);
       texts = λ h n policy is.
@@ -86,6 +87,11 @@ module _ (honest : Bool) (table : Table) (contents : Contents) (agrees : TableAg
       few = few;
     }
       where
+        same_given : is_given new.policy_now new ≡ is_given contents.policy_now contents
+        same_given =
+            ap (λ (p : map.FinMap nat_cmp (List ℕ)). is_given new.policy_now (record contents { policies = p })) policies
+            ∙ ap (λ n. is_given n contents) now
+
         same_text : (n : ℕ) → policy_text n new ≡ policy_text n contents
         same_text n = ap (λ (p : map.FinMap nat_cmp (List ℕ)). policy_text n (record contents { policies = p })) policies
 

@@ -2,9 +2,9 @@
 -- number that is in use or now has a policy in the table, where the disk is to be trusted a policy that the table has is
 -- the one of the text that its number has, and each count is that of the documents under that number.
 -- It is this project's own; it comes from no public document.
-use Rattle.std.specs.Prelude.{◌≡◌, ◌≤◌, ℕ, ◌==◌, Bool, count_by, Some, IsSome, IsTrue}
+use Rattle.std.specs.Prelude.{◌≡◌, ◌≤◌, ℕ, ◌==◌, Bool, true, count_by, Some, IsSome, IsTrue}
 use Rattle.std.specs.FinMap as map
-use Rattle.ax_area.specs.Contents.{Contents, Stored}
+use Rattle.ax_area.specs.Contents.{Contents, Stored, is_given}
 use Rattle.ax_image_grammar.specs.Payloads.{IsTextOf}
 use Rattle.ax_image_grammar.specs.Table.{IsTaken, policy_text}
 use Rattle.ax_pages.specs.AfterPart.{most_documents}
@@ -27,6 +27,8 @@ ArePolicies table = (number : ℕ) (policy : Policy) → policy_at table number 
 
 pub record TableAgrees (honest : Bool) (table : Table) (contents : Contents) : Type 0 where
   pub now : table.current ≡ contents.policy_now
+  -- a part gave it, or it is number 0
+  pub given : is_given contents.policy_now contents ≡ true
   pub known : (number : ℕ) → IsTaken number contents → IsSome (policy_at table number)
   pub policies : ArePolicies table
   pub texts : IsTrue honest → (number : ℕ) (policy : Policy) → policy_at table number ≡ Some policy

@@ -2,3 +2,4 @@ pub mod Committed
 pub mod Batches
 pub mod Held
 pub mod Exchanged
+pub mod Writes

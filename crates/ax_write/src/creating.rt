@@ -1,0 +1,56 @@
+//! A document is created.
+
+ghost use Rattle.std.specs.Prelude.{◌≡◌, ◌≤◌, ◌+◌, ℕ, List, Option, None, Some, Ok, Err, IsTrue, IfErr, IfOk, IfSome, true, false};
+ghost use Rattle.ax_container.specs.Container.{Container, entry_of};
+ghost use Rattle.ax_container.specs.Writes.{creation, is_full};
+ghost use Rattle.ax_lines.specs.Asked.{IsStorable};
+ghost use Rattle.ax_pool.specs.Frames.{free_count};
+ghost use Rattle.ax_store.specs.Store.{AgreesUnlessFailed, store_contents, store_failed, store_slots};
+ghost use Rattle.ax_table.specs.TableAgrees.{TableAgrees};
+ghost use Rattle.ax_tree.specs.Document.{document_id};
+ghost use Rattle.ax_image_pairs.specs.Indexed.{ContentsHoldAll};
+ghost use Rattle.ax_write.specs.Writes.{HoldsAll, IsOfUpsert, TellsWrite, WriteLeaves};
+
+use crate::batches::creating;
+use crate::commit::plan_and_commit;
+use crate::fault::WriteFault;
+use crate::pairs::pair_changes;
+use ax_cache::PageCache;
+use ax_disk::Disk;
+use ax_policy::PolicyTable;
+use ax_recent::RecentIds;
+use ax_store::{Store, StoreFault};
+use ax_tree::Tree;
+use std::alloc::Global;
+
+/// Creates a document of an id that is not held, behind all others, under the policy now. `Full` exactly where as many
+/// are held as a store holds, or no number is left.
+pub(crate) fn create_new<D: Disk, C: PageCache>(
+    alloc: Global,
+    store: &mut Store<C>,
+    disk: &mut D,
+    table: &mut PolicyTable,
+    ids: &mut RecentIds,
+    id: &[u8],
+    tree: &Tree,
+) -> Result<(), WriteFault>
+    requires storable { IsStorable tree.now }
+    requires free { 2 ≤ free_count (store_slots store.old) }
+    requires agrees { AgreesUnlessFailed C.pages (D.is_honest disk.old) store.old (D.history disk.old (D.attached disk.old)) }
+    requires table { TableAgrees (D.is_honest disk.old) table.old (store_contents store.old) }
+    ensures tells { IsTrue (D.is_honest disk.old) → store_failed store.old ≡ false → (before : Container) → HoldsAll store.old ids.old before
+        → document_id tree.now ≡ Some id.now → entry_of id.now before ≡ None
+        → TellsWrite before (creation id.now tree.now before) result store.new ids.new
+        (D.history disk.old (D.attached disk.old)) (D.history disk.new (D.attached disk.new)) }
+    ensures full { (before : Container) → ContentsHoldAll (store_contents store.old) before → is_full before ≡ true
+        → result ≡ Err WriteFault.Full }
+    ensures only { IfErr result IsOfUpsert }
+    ensures table { TableAgrees (D.is_honest disk.old) table.new (store_contents store.new) }
+    ensures leaves { WriteLeaves C.pages (D.is_honest disk.old) result store.old store.new
+        (D.history disk.old (D.attached disk.old)) (D.history disk.new (D.attached disk.new))
+        (D.faults disk.old) (D.faults disk.new) }
+    ensures attached { D.attached disk.new ≡ D.attached disk.old }
+    ensures honest { D.is_honest disk.new ≡ D.is_honest disk.old }
+{
+    Err(WriteFault::Store(StoreFault::Memory))
+}
