@@ -10,3 +10,9 @@ pub mod ShortTerms
 pub mod Exchanging
 pub mod Saying
 pub mod Fronts
+mod Unspoiled
+pub mod Writing
+mod Numbered
+mod Owned
+mod Creating
+mod Tables

@@ -9,6 +9,7 @@ ghost use Rattle.ax_store.specs.Store.{AgreesUnlessFailed, store_contents, store
 ghost use Rattle.ax_table.specs.TableAgrees.{TableAgrees};
 ghost use Rattle.ax_tree.specs.Document.{document_id};
 ghost use Rattle.ax_image_pairs.specs.Indexed.{ContentsHoldAll};
+ghost use Rattle.ax_write.specs.Full.{is_free_in, is_full_of};
 ghost use Rattle.ax_write.specs.Writes.{HoldsAll, IsOfUpsert, TellsWrite, WriteLeaves};
 
 use crate::batches::creating;
@@ -17,6 +18,7 @@ use crate::fault::WriteFault;
 use crate::pairs::pair_changes;
 use ax_cache::PageCache;
 use ax_disk::Disk;
+use ax_pages::numbers::{LAST_NUMBER, MOST_DOCUMENTS};
 use ax_policy::PolicyTable;
 use ax_recent::RecentIds;
 use ax_store::{Store, StoreFault};
@@ -52,5 +54,37 @@ pub(crate) fn create_new<D: Disk, C: PageCache>(
     ensures attached { D.attached disk.new ≡ D.attached disk.old }
     ensures honest { D.is_honest disk.new ≡ D.is_honest disk.old }
 {
-    Err(WriteFault::Store(StoreFault::Memory))
+    if is_full(store) {
+        return Err(WriteFault::Full);
+    }
+    let number = store.meta().next;
+    let now = table.now();
+    let Ok(batch) = creating(alloc, number, now, tree) else {
+        return Err(WriteFault::Store(StoreFault::Memory));
+    };
+    let Ok(changes) = pair_changes(alloc, table, number, now, None, now, Some(tree)) else {
+        return Err(WriteFault::Store(StoreFault::Memory));
+    };
+    match plan_and_commit(alloc, store, disk, changes.as_slice(), batch) {
+        Ok(()) => {
+            table.count_in(now);
+            ids.put(id, number);
+            Ok(())
+        }
+        Err(fault) => Err(WriteFault::Store(fault)),
+    }
+}
+
+/// Whether no document can be created: as many are held as a store holds, or the next number can be taken by none.
+fn is_full<C>(store: &Store<C>) -> bool
+    ensures { result ≡ is_full_of (store_contents store.now) }
+{
+    store.documents() >= MOST_DOCUMENTS || !is_free(store, store.meta().next)
+}
+
+/// Whether a document can take the number: it is neither 0 nor the last one, and no document has it.
+fn is_free<C>(store: &Store<C>, number: u32) -> bool
+    ensures { result ≡ is_free_in (store_contents store.now) number }
+{
+    number > 0 && number < LAST_NUMBER && store.head_of(number).is_none()
 }

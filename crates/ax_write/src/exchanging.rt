@@ -1,6 +1,6 @@
 //! A document that is held gets another tree, or is deleted.
 
-ghost use Rattle.std.specs.Prelude.{◌≡◌, ◌≤◌, ◌+◌, ℕ, List, Option, None, Some, Ok, Err, IsTrue, IfErr, IfOk, IfSome, true, false};
+ghost use Rattle.std.specs.Prelude.{◌≡◌, ◌≤◌, ◌<◌, ◌+◌, ℕ, List, Option, None, Some, Ok, Err, IsTrue, IfErr, IfOk, IfSome, true, false};
 ghost use Rattle.ax_container.specs.Container.{Container, entry_of};
 ghost use Rattle.ax_container.specs.Writes.{deleted, replaced};
 ghost use Rattle.ax_lines.specs.Asked.{IsStorable};
@@ -35,6 +35,7 @@ pub(crate) fn replace_held<D: Disk, C: PageCache>(
     requires storable { IsStorable tree.now }
     requires was { IsStorable found.now.document.tree }
     requires held { IsHeldAs (store_contents store.old) found.now }
+    requires some { 0 < found.now.number }
     requires free { 2 ≤ free_count (store_slots store.old) }
     requires agrees { AgreesUnlessFailed C.pages (D.is_honest disk.old) store.old (D.history disk.old (D.attached disk.old)) }
     requires table { TableAgrees (D.is_honest disk.old) table.old (store_contents store.old) }
@@ -51,7 +52,22 @@ pub(crate) fn replace_held<D: Disk, C: PageCache>(
     ensures attached { D.attached disk.new ≡ D.attached disk.old }
     ensures honest { D.is_honest disk.new ≡ D.is_honest disk.old }
 {
-    Err(WriteFault::Store(StoreFault::Memory))
+    let now = table.now();
+    let before = found.document.policy;
+    let Ok(batch) = replacing(alloc, found.number, now, tree) else {
+        return Err(WriteFault::Store(StoreFault::Memory));
+    };
+    let Ok(changes) = pair_changes(alloc, table, found.number, before, Some(&found.document.tree), now, Some(tree)) else {
+        return Err(WriteFault::Store(StoreFault::Memory));
+    };
+    match plan_and_commit(alloc, store, disk, changes.as_slice(), batch) {
+        Ok(()) => {
+            table.count_out(before);
+            table.count_in(now);
+            Ok(())
+        }
+        Err(fault) => Err(WriteFault::Store(fault)),
+    }
 }
 
 /// Deletes a document that is held.
@@ -66,6 +82,7 @@ pub(crate) fn delete_held<D: Disk, C: PageCache>(
 ) -> Result<(), WriteFault>
     requires was { IsStorable found.now.document.tree }
     requires held { IsHeldAs (store_contents store.old) found.now }
+    requires some { 0 < found.now.number }
     requires free { 2 ≤ free_count (store_slots store.old) }
     requires agrees { AgreesUnlessFailed C.pages (D.is_honest disk.old) store.old (D.history disk.old (D.attached disk.old)) }
     requires table { TableAgrees (D.is_honest disk.old) table.old (store_contents store.old) }
@@ -81,5 +98,20 @@ pub(crate) fn delete_held<D: Disk, C: PageCache>(
     ensures attached { D.attached disk.new ≡ D.attached disk.old }
     ensures honest { D.is_honest disk.new ≡ D.is_honest disk.old }
 {
-    Err(WriteFault::Store(StoreFault::Memory))
+    let now = table.now();
+    let before = found.document.policy;
+    let Ok(batch) = deleting(alloc, found.number) else {
+        return Err(WriteFault::Store(StoreFault::Memory));
+    };
+    let Ok(changes) = pair_changes(alloc, table, found.number, before, Some(&found.document.tree), now, None) else {
+        return Err(WriteFault::Store(StoreFault::Memory));
+    };
+    match plan_and_commit(alloc, store, disk, changes.as_slice(), batch) {
+        Ok(()) => {
+            table.count_out(before);
+            ids.remove(id);
+            Ok(())
+        }
+        Err(fault) => Err(WriteFault::Store(fault)),
+    }
 }
