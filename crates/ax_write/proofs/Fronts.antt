@@ -57,7 +57,7 @@ create_leads number policy tree contents plain given few =
     (second_or (finite.contains_key contents.documents number) (nat_lt (finite.len contents.documents) most_documents)
     (lt-ltb (finite.len contents.documents) most_documents few))
 
-pub creating_beside : (number policy : ℕ) (tree : Tree) (contents : Contents) → 0 < number → number < 2 ^ 32 - 1 → policy ≤ 8
+pub creating_beside : (number policy : ℕ) (tree : Tree) (contents : Contents) → 0 < number → number < 2 ^ 32 - 1 → policy < 2 ^ 32
     → contents.versioned ≡ false → is_given policy contents ≡ true → finite.len contents.documents < most_documents
     → LeaveTerms (creating_parts number policy tree) contents
 creating_beside number policy tree contents some left small plain given few = record {

@@ -14,5 +14,5 @@ mod Unspoiled
 pub mod Writing
 mod Numbered
 mod Owned
-mod Creating
+mod Fullness
 mod Tables

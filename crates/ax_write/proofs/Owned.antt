@@ -29,6 +29,8 @@ use Rattle.ax_table.specs.TableAgrees.{TableAgrees}
 use Rattle.ax_tree.specs.Document.{document_id}
 use Rattle.ax_tree.specs.declared.tree.Tree.{Tree}
 use Rattle.ax_write.specs.Exchanged.{IsExchanged}
+use Rattle.ax_write.specs.Writes.{IsFoundIn, IsHeldAs}
+use Rattle.ax_write.specs.declared.finding.FoundDocument.{FoundDocument}
 use Rattle.ax_write.proofs.Numbered.{is_absent}
 
 -- ---- the policy of the document of an entry
@@ -82,45 +84,51 @@ module _ (honest : Bool) (table : Table) (contents : Contents) (agrees : TableAg
       (found_under (λ n. policy_text n contents) (finite.entries contents.documents) before.entries 0 before.next_number id found document
       hold.documents.show.sound.numbers hold.documents.show.shown hold.documents.show.under there here)
 
-  pub created_carries : (id : List ℕ) (tree : Tree) (number now : ℕ) (changes : List Change) → number ≡ before.next_number
-      → now ≡ contents.policy_now → document_id tree ≡ Some id → IsStorable tree → entry_of id before ≡ None → is_full before ≡ false
-      → IsExchanged table number now None now (Some tree) changes
+  pub created_carries : (id : List ℕ) (tree : Tree) (number now : ℕ) (changes : List Change) → number ≡ contents.next_number
+      → now ≡ table.current → document_id tree ≡ Some id → IsStorable tree → entry_of id before ≡ None → is_full before ≡ false
+      → IsExchanged table number table.current None table.current (Some tree) changes
       → Carries contents (creating_changes number now tree) changes (created id tree before)
-  created_carries id tree number now changes next same own storable none space is =
-      let old : is.old_under ≡ before.policy = now_is now is.old_under same is.before_is in
-      let new : is.new_under ≡ before.policy = now_is now is.new_under same is.after_is in
+  created_carries id tree number now changes next current own storable none space is =
+      let at : number ≡ before.next_number = next ∙ hold.documents.show.next in
+      let old : is.old_under ≡ before.policy = now_is table.current is.old_under agrees.now is.before_is in
+      let new : is.new_under ≡ before.policy = now_is table.current is.new_under agrees.now is.after_is in
       let by : Exchanges (Owns before.next_number before.policy None) (Owns before.next_number before.policy (Some tree)) changes =
-      subst (λ n. Exchanges (Owns n before.policy None) (Owns n before.policy (Some tree)) changes) next
+      subst (λ n. Exchanges (Owns n before.policy None) (Owns n before.policy (Some tree)) changes) at
       (subst (λ p. Exchanges (Owns number p None) (Owns number before.policy (Some tree)) changes) old
       (subst (λ p. Exchanges (Owns number is.old_under None) (Owns number p (Some tree)) changes) new is.exchanges)) in
-      subst (λ n. Carries contents (creating_changes n now tree) changes (created id tree before)) (sym next)
-      (subst (λ p. Carries contents (creating_changes before.next_number p tree) changes (created id tree before)) (sym same)
+      subst (λ n. Carries contents (creating_changes n now tree) changes (created id tree before)) (sym at)
+      (subst (λ p. Carries contents (creating_changes before.next_number p tree) changes (created id tree before)) (sym (current ∙ agrees.now))
       (creation contents before hold tree id changes plain own storable (is_absent id before none) space by))
 
-  module _ (id : List ℕ) (found : Entry) (there : entry_of id before ≡ Some found) (document : Stored) (number was : ℕ)
-      (held_tree : Tree) (at : number ≡ found.number) (tree_is : held_tree ≡ found.tree)
-      (held : finite.get contents.documents number ≡ Some document) (own_policy : was ≡ document.policy) (now : ℕ)
-      (same : now ≡ contents.policy_now) (changes : List Change) where
-    exchanged : (new : Option Tree) → IsExchanged table number was (Some held_tree) now new changes
-        → Exchanges (Owns found.number found.indexed_by (Some found.tree)) (Owns found.number before.policy new) changes
-    exchanged new is =
-        let old_is : is.old_under ≡ found.indexed_by = was_is id found document number was is.old_under there at held own_policy is.before_is in
-        let new_is : is.new_under ≡ before.policy = now_is now is.new_under same is.after_is in
-        subst (λ n. Exchanges (Owns n found.indexed_by (Some found.tree)) (Owns n before.policy new) changes) at
-        (subst (λ t. Exchanges (Owns number found.indexed_by (Some t)) (Owns number before.policy new) changes) tree_is
-        (subst (λ p. Exchanges (Owns number p (Some held_tree)) (Owns number before.policy new) changes) old_is
-        (subst (λ p. Exchanges (Owns number is.old_under (Some held_tree)) (Owns number p new) changes) new_is is.exchanges)))
+  -- a document that was found
+  module _ (id : List ℕ) (found : FoundDocument) (held : IsHeldAs contents found) (is : IsFoundIn id before (Some found))
+      (changes : List Change) where
+    abbrev entry : Entry
+    entry = is.0
 
-    pub replaced_carries : (tree : Tree) → document_id tree ≡ Some id → IsStorable tree
-        → IsExchanged table number was (Some held_tree) now (Some tree) changes
-        → Carries contents (replacing_changes number now tree) changes (replaced id tree before)
-    replaced_carries tree own storable is =
-        subst (λ n. Carries contents (replacing_changes n now tree) changes (replaced id tree before)) (sym at)
-        (subst (λ p. Carries contents (replacing_changes found.number p tree) changes (replaced id tree before)) (sym same)
-        (replacement contents before hold id found there tree changes plain own storable (exchanged (Some tree) is)))
+    exchanged : (new : Option Tree)
+        → IsExchanged table found.number found.document.policy (Some found.document.tree) table.current new changes
+        → Exchanges (Owns entry.number entry.indexed_by (Some entry.tree)) (Owns entry.number before.policy new) changes
+    exchanged new exchange =
+        let old_is : exchange.old_under ≡ entry.indexed_by =
+        was_is id entry held.stored found.number found.document.policy exchange.old_under is.1 is.2 held.held held.policy exchange.before_is in
+        let new_is : exchange.new_under ≡ before.policy = now_is table.current exchange.new_under agrees.now exchange.after_is in
+        subst (λ n. Exchanges (Owns n entry.indexed_by (Some entry.tree)) (Owns n before.policy new) changes) is.2
+        (subst (λ t. Exchanges (Owns found.number entry.indexed_by (Some t)) (Owns found.number before.policy new) changes) is.3
+        (subst (λ p. Exchanges (Owns found.number p (Some found.document.tree)) (Owns found.number before.policy new) changes) old_is
+        (subst (λ p. Exchanges (Owns found.number exchange.old_under (Some found.document.tree)) (Owns found.number p new) changes) new_is
+        exchange.exchanges)))
 
-    pub deleted_carries : IsExchanged table number was (Some held_tree) now None changes
-        → Carries contents (deleting_changes number) changes (deleted id before)
-    deleted_carries is =
-        subst (λ n. Carries contents (deleting_changes n) changes (deleted id before)) (sym at)
-        (deletion contents before hold id found there changes (exchanged None is))
+    pub replaced_carries : (tree : Tree) (now : ℕ) → now ≡ table.current → document_id tree ≡ Some id → IsStorable tree
+        → IsExchanged table found.number found.document.policy (Some found.document.tree) table.current (Some tree) changes
+        → Carries contents (replacing_changes found.number now tree) changes (replaced id tree before)
+    replaced_carries tree now current own storable exchange =
+        subst (λ n. Carries contents (replacing_changes n now tree) changes (replaced id tree before)) (sym is.2)
+        (subst (λ p. Carries contents (replacing_changes entry.number p tree) changes (replaced id tree before)) (sym (current ∙ agrees.now))
+        (replacement contents before hold id entry is.1 tree changes plain own storable (exchanged (Some tree) exchange)))
+
+    pub deleted_carries : IsExchanged table found.number found.document.policy (Some found.document.tree) table.current None changes
+        → Carries contents (deleting_changes found.number) changes (deleted id before)
+    deleted_carries exchange =
+        subst (λ n. Carries contents (deleting_changes n) changes (deleted id before)) (sym is.2)
+        (deletion contents before hold id entry is.1 changes (exchanged None exchange))

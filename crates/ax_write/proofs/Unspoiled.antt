@@ -3,7 +3,7 @@ use Rattle.std.proofs.Common.{◌≡◌, ℕ, zero, suc, ◌<◌, ◌≤◌, ◌
 use Rattle.std.proofs.Common.{arith, ⊎_elim}
 use Rattle.std.specs.Prelude.{◌&&◌, is_some, slice_index_or}
 use Rattle.std.specs.Option.{option_to_list}
-use Rattle.std.proofs.lemmas.Bool.{cases_lt}
+use Rattle.std.proofs.lemmas.Bool.{cases_lt, eqb-true, false_from_ne_true}
 use Rattle.ax_delta.specs.Changes.{TermChange}
 use Rattle.ax_pair.specs.declared.pair.Pair.{Pair}
 use Rattle.ax_pages.specs.Contents.{TermPage, no_term_page, term_page, term_parts}
@@ -25,7 +25,7 @@ delta_at (payload ∷ payloads) (delta ∷ deltas) (suc i) are there = delta_at 
 
 
 not_first : (i : ℕ) → (suc i == 0) ≡ false
-not_first i = refl
+not_first i = false_from_ne_true (suc i == 0) (λ e. absurd (omega (arith, eqb-true (suc i) 0 e)))
 
 never : (b : Bool) → (b && false) ≡ false
 never true = refl

@@ -139,9 +139,9 @@ told_damage : {C : Type 0} (store : Store C) (result : Result (Unit {0}) StoreFa
 told_damage store (Ok done) is = tt
 told_damage store (Err why) is = damage_told store why is
 
-kept_by : {P : Type 0} (result : Result (Unit {0}) StoreFault) → OnErr result P → OnErr (written result) P
-kept_by (Ok done) kept = tt
-kept_by (Err why) kept = kept
+kept_by : (P : Type 0) (result : Result (Unit {0}) StoreFault) → OnErr result P → OnErr (written result) P
+kept_by P (Ok done) kept = tt
+kept_by P (Err why) kept = kept
 
 module _ {C : Type 0} (pages : C → CachedPages) (honest : Bool) (old new : Store C) (earlier later : History) (first last : ℕ) where
   pub left_behind : (result : Result (Unit {0}) StoreFault) → OnErr result (store_contents new ≡ store_contents old)
@@ -158,7 +158,7 @@ module _ {C : Type 0} (pages : C → CachedPages) (honest : Bool) (old new : Sto
       → WriteLeaves pages honest (written result) old new earlier later first last
   left_behind result kept readable damage fails agrees slots others area cause never_falls = record {
     told = λ trusted. told_damage old result (damage trusted);
-    kept = kept_by result kept;
+    kept = kept_by (store_contents new ≡ store_contents old) result kept;
     readable = readable;
     fails = subst (λ r. FailsBy r (store_failed old) (store_failed new)) (same_answer result) fails;
     agrees = agrees;
