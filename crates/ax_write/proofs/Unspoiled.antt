@@ -23,7 +23,6 @@ delta_at (payload ∷ payloads) [] i are there = absurd are
 delta_at (payload ∷ payloads) (delta ∷ deltas) zero are there = (delta, are.0)
 delta_at (payload ∷ payloads) (delta ∷ deltas) (suc i) are there = delta_at payloads deltas i are.1 (omega (arith, there))
 
-
 not_first : (i : ℕ) → (suc i == 0) ≡ false
 not_first i = false_from_ne_true (suc i == 0) (λ e. absurd (omega (arith, eqb-true (suc i) 0 e)))
 

@@ -31,7 +31,7 @@ use ax_tree::Tree;
 use std::alloc::Global;
 
 /// Creates a document of an id that is not held, behind all others, under the policy now. `Full` exactly where as many
-/// are held as a store holds, or no number is left.
+/// are held as a store holds, or the next number can be taken by none.
 pub(crate) fn create_new<D: Disk, C: PageCache>(
     alloc: Global,
     store: &mut Store<C>,

@@ -131,20 +131,28 @@ fn replaced_pairs(
     ensures { IfOk result (λ changes. IsExchanged table.now found.now.number
         found.now.document.policy (Some found.now.document.tree) table.now.current (Some tree.now) changes.items) }
 {
-    let (before, now) = (found.document.policy, table.now());
-    pair_changes(alloc, table, found.number, before, Some(&found.document.tree), now, Some(tree))
+    let before = found.document.policy;
+    let old = Some(&found.document.tree);
+    let now = table.now();
+    pair_changes(alloc, table, found.number, before, old, now, Some(tree))
 }
 
 /// The changes of the index by which a document that is held is deleted.
-fn deleted_pairs(alloc: Global, table: &PolicyTable, found: &FoundDocument) -> Result<Vec<Change>, Memory>
+fn deleted_pairs(
+    alloc: Global,
+    table: &PolicyTable,
+    found: &FoundDocument,
+) -> Result<Vec<Change>, Memory>
     requires policies { ArePolicies table.now }
     requires known { IsSome (policy_at table.now found.now.document.policy) }
     requires was { IsStorable found.now.document.tree }
     ensures { IfOk result (λ changes. IsExchanged table.now found.now.number
         found.now.document.policy (Some found.now.document.tree) table.now.current None changes.items) }
 {
-    let (before, now) = (found.document.policy, table.now());
-    pair_changes(alloc, table, found.number, before, Some(&found.document.tree), now, None)
+    let before = found.document.policy;
+    let old = Some(&found.document.tree);
+    let now = table.now();
+    pair_changes(alloc, table, found.number, before, old, now, None)
 }
 
 /// Counts a document that was deleted no more, and forgets the number of its id.
