@@ -7,7 +7,7 @@ pub mod StayReadable
 pub mod Committing
 pub mod Holding
 pub mod ShortTerms
-pub mod Exchanging
+pub mod ShortExchanges
 pub mod Saying
 pub mod Fronts
 mod Unspoiled
