@@ -7,6 +7,12 @@ pub mod StayReadable
 pub mod Committing
 pub mod Holding
 pub mod ShortTerms
-pub mod Exchanging
+pub mod ShortExchanges
 pub mod Saying
 pub mod Fronts
+mod Unspoiled
+pub mod Writing
+mod Numbered
+mod Owned
+mod Fullness
+mod Tables
