@@ -10,3 +10,5 @@ pub mod ShortTerms
 pub mod Exchanging
 pub mod Saying
 pub mod Fronts
+pub mod FoundNumbers
+pub mod Passing
