@@ -157,23 +157,17 @@ module _ (contents : Contents) (before : Container) (hold : ContentsHold content
   none_by (Some stored) text none = none
 
   -- the document that is read under the number is that of the id
-  pub found_under : (held : HeldDocument) → IsHeld (finite.get contents.documents number) (Some held)
+  pub found_under : (answer : Option HeldDocument) (held : HeldDocument) → answer ≡ Some held → IsHeld (finite.get contents.documents number) answer
       → IsFoundIn id before (Some (record { number = number; document = held }))
-  found_under held read = (there.0, there.1, there.2, found_by (finite.get contents.documents number) held text_under read)
+  found_under answer held same read =
+      let stored = finite.get contents.documents number in
+      (there.0, there.1, there.2, found_by stored held text_under (subst (IsHeld stored) same read))
 
   -- and there is one
-  pub one_under : IsHeld (finite.get contents.documents number) None → ⊥
-  one_under = none_by (finite.get contents.documents number) text_under
-
--- whatever was read, it is under the policy of its number
-pub held_as : (contents : Contents) (number : ℕ) (held : HeldDocument) → HasPolicyOf (finite.get contents.documents number) (Some held)
-    → IsHeldAs contents (record { number = number; document = held })
-held_as contents number held has = by_stored (finite.get contents.documents number) refl has
-  where
-    by_stored : (o : Option Stored) → finite.get contents.documents number ≡ o → HasPolicyOf o (Some held)
-        → IsHeldAs contents (record { number = number; document = held })
-    by_stored None at policy = absurd policy
-    by_stored (Some stored) at policy = record { stored = stored; held = at; policy = policy }
+  pub one_under : (answer : Option HeldDocument) → answer ≡ None → IsHeld (finite.get contents.documents number) answer → ⊥
+  one_under answer same read =
+      let stored = finite.get contents.documents number in
+      none_by stored text_under (subst (IsHeld stored) same read)
 
 -- ---- what a store that holds a container is not
 
