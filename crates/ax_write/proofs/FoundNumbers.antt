@@ -1,5 +1,5 @@
 -- The number of an id and the document that was found under it; and that a store which holds a container is not damaged.
-use Rattle.std.proofs.Common.{◌≡◌, ℕ, zero, suc, ◌<◌, Bool, true, false, cond, List, [], ◌∷◌, ◌++◌, length, find, Option, Some, None, refl, sym, ap}
+use Rattle.std.proofs.Common.{◌≡◌, ℕ, zero, suc, ◌<◌, Bool, true, false, cond, List, [], ◌∷◌, ◌++◌, length, find, Option, Some, None, Ok, Err, refl, sym, ap}
 use Rattle.std.proofs.Common.{subst, ◌∙◌, ◌⊎◌, inl, inr, ⊎_elim, arith, is_some}
 use Rattle.std.proofs.lemmas.Bool.{ne_eqb}
 use Rattle.std.specs.Prelude.{◌≢◌, ◌&&◌, ◌==◌, if◌then◌else◌, option_map, slice_index_or}
@@ -9,8 +9,10 @@ use Rattle.std.specs.Option.{option_to_list}
 use Rattle.std.specs.Ordering.{eq_by_cmp, nat_cmp}
 use Rattle.ax_area.specs.Contents.{Contents, Stored}
 use Rattle.ax_container.proofs.ByNumber.{same_some}
+use Rattle.ax_container.proofs.Refusing.{conflicts, exchange_absent, exchange_made, removal_absent, removal_made, upsert_exchanges}
 use Rattle.ax_container.proofs.Writing.{entry_there}
-use Rattle.ax_container.specs.Container.{Container, Entry, IsStored, contains, entry_at, entry_of, has_id}
+use Rattle.ax_container.specs.Container.{Container, Entry, IsStored, contains, entry_of, has_id}
+use Rattle.ax_container.specs.Writes.{Absent, Conflict, created, creation, deleted, exchanged, inserted, is_full, removed, replaced, upserted}
 use Rattle.ax_delta.specs.Changes.{TermChange}
 use Rattle.ax_delta.specs.Payload.{IsDelta}
 use Rattle.ax_image.proofs.Shown.{text_there}
@@ -35,9 +37,10 @@ use Rattle.ax_store.specs.declared.store.Store.{Store}
 use Rattle.ax_tree.proofs.Fitting.{numbers_fit-well_formed}
 use Rattle.ax_tree.proofs.OneText.{one_text}
 use Rattle.ax_tree.specs.CanonicalText.{canonical_text}
+use Rattle.ax_tree.specs.Document.{document_id}
 use Rattle.ax_tree.specs.declared.tree.Tree.{Tree}
-use Rattle.ax_write.specs.Held.{HasNone, HasPolicyOf, IsHeld}
-use Rattle.ax_write.specs.Writes.{HoldsAll, IsFoundIn, IsHeldAs, TellsDamage}
+use Rattle.ax_write.specs.Held.{HasNone, IsHeld}
+use Rattle.ax_write.specs.Writes.{HoldsAll, IsFoundIn, TellsDamage}
 use Rattle.ax_write.specs.declared.finding.FoundDocument.{FoundDocument}
 use Rattle.ax_write.specs.declared.held.HeldDocument.{HeldDocument}
 
@@ -84,6 +87,55 @@ never_absent id before number is absent =
     let there = number_there id before number is in
     let held : contains id before ≡ true = id_held id before there.0 there.1 in
     absurd cc
+
+-- ---- what each write makes, by what is found
+
+-- the id of a document, as its bytes were taken
+pub own_id : (tree : Tree) (text bytes id : List ℕ) → Some text ≡ document_id tree → bytes ≡ text → document_id tree ≡ Some id → bytes ≡ id
+own_id tree text bytes id own same is = same ∙ same_some text id (own ∙ is)
+
+pub own_document : (tree : Tree) (text bytes : List ℕ) → Some text ≡ document_id tree → bytes ≡ text → document_id tree ≡ Some bytes
+own_document tree text bytes own same = sym own ∙ ap (λ (i : List ℕ). Some i) (sym same)
+
+module _ (tree : Tree) (before : Container) (own id : List ℕ) (same : own ≡ id) where
+  held_same : (entry : Entry) → entry_of own before ≡ Some entry → contains id before ≡ true
+  held_same entry is = ap (λ i. contains i before) (sym same) ∙ id_held own before entry is
+
+  absent_same : entry_of own before ≡ None → contains id before ≡ false
+  absent_same none = ap (λ i. contains i before) (sym same) ∙ id_absent own before none
+
+  pub conflict_is : (number : ℕ) → Some number ≡ number_in own before → inserted id tree before ≡ Err Conflict
+  conflict_is number is =
+      let there = number_there own before number is in
+      conflicts id tree before (held_same there.0 there.1)
+
+  pub insertion_is : entry_of own before ≡ None → creation own tree before ≡ inserted id tree before
+  insertion_is none =
+      ap (λ i. creation i tree before) same
+      ∙ sym (ap (λ b. if b then Err Conflict else creation id tree before) (absent_same none))
+
+  pub upsert_is : entry_of own before ≡ None → creation own tree before ≡ upserted id tree before
+  upsert_is none =
+      ap (λ i. creation i tree before) same
+      ∙ sym (ap (λ b. if b then Ok (replaced id tree before) else creation id tree before) (absent_same none))
+
+  pub upsert_replaces : (found : FoundDocument) → IsFoundIn own before (Some found) → Ok (replaced own tree before) ≡ upserted id tree before
+  upsert_replaces found is =
+      ap (λ i. Ok (replaced i tree before)) same ∙ sym (upsert_exchanges id tree before (held_same is.0 is.1))
+
+  pub exchange_is : (found : FoundDocument) → IsFoundIn own before (Some found) → Ok (replaced own tree before) ≡ exchanged id tree before
+  exchange_is found is =
+      ap (λ i. Ok (replaced i tree before)) same ∙ sym (exchange_made id tree before (held_same is.0 is.1))
+
+  pub no_exchange : entry_of own before ≡ None → exchanged id tree before ≡ Err Absent
+  no_exchange none = exchange_absent id tree before (absent_same none)
+
+pub removal_is : (before : Container) (id : List ℕ) (found : FoundDocument) → IsFoundIn id before (Some found)
+    → Ok (deleted id before) ≡ removed id before
+removal_is before id found is = sym (removal_made id before (id_held id before is.0 is.1))
+
+pub no_removal : (before : Container) (id : List ℕ) → entry_of id before ≡ None → removed id before ≡ Err Absent
+no_removal before id none = removal_absent id before (id_absent id before none)
 
 -- ---- the table of those lately found
 

@@ -1,5 +1,5 @@
 -- One call after another: a look-up and then one more call leave what the two leave together, since the look-up only reads.
-use Rattle.std.proofs.Common.{◌≡◌, ◌⊎◌, inl, inr, ℕ, ◌≤◌, Bool, false, true, Option, Result, Ok, Err, refl, sym, ap, subst, ◌∙◌, arith}
+use Rattle.std.proofs.Common.{◌≡◌, ◌⊎◌, inl, inr, ℕ, ◌≤◌, Bool, false, true, List, [], Some, Result, Ok, Err, sym, ap, subst, ◌∙◌, arith}
 use Rattle.std.specs.Prelude.{IfErr, IsTrue, OnErr, count_by, not, slice_index_or}
 use Rattle.std.specs.FinMap as finite
 use Rattle.ax_area.specs.Contents.{Contents}
@@ -269,51 +269,54 @@ module _ {C : Type 0} (pages : C → CachedPages) (honest : Bool) where
 
 -- ---- what a crash leaves of the container
 
--- each image says what the store has
-pub rests_all : {C : Type 0} (pages : C → CachedPages) (store : Store C) (history : History) (before : Container) → Agrees pages store history
-    → ContentsHoldAll (store_contents store) before → Rests history (HasAll before)
-rests_all pages store history before agrees hold =
-    let of = agrees_says pages store history agrees in
-    rests_weaken history (Says newest of.version of.told (store_contents store)) (HasAll before)
-    (λ image says. record { version = of.version; told = of.told; contents = store_contents store; says = says; hold = hold }) of.says
-
-module _ {C : Type 0} (before : Container) (made : Result Container WriteRefusal) (start mid end : History) (rests : Rests start (HasAll before))
-    (idles : Idles start mid) where
-  abbrev Was : Image → Type 0
-  Was image = HasAll before image
+-- behind a look-up over a store that holds the container
+module _ {C : Type 0} (pages : C → CachedPages) (old : Store C) (start mid : History) (before : Container) (agrees : Agrees pages old start)
+    (hold : ContentsHoldAll (store_contents old) before) (idles : Idles start mid) where
+  -- each image says what the store has
+  rests : Rests start (HasAll before)
+  rests =
+      let of = agrees_says pages old start agrees in
+      rests_weaken start (Says newest of.version of.told (store_contents old)) (HasAll before)
+      (λ image says. record { version = of.version; told = of.told; contents = store_contents old; says = says; hold = hold }) of.says
 
   still : (after : Container) → Turns start mid (HasAll before) (HasAll after)
-  still after = stays_turn start mid Was (HasAll after) (idles_stay start mid Was rests idles)
+  still after = stays_turn start mid (HasAll before) (HasAll after) (idles_stay start mid (HasAll before) rests idles)
 
-  turns_then : (after : Container) → Turns mid end (HasAll before) (HasAll after) → Turns start end (HasAll before) (HasAll after)
-  turns_then after turns = stays_join start mid end (λ image. HasAll before image ⊎ HasAll after image) (still after) turns
-
-  kept_then : (store : Store C) (ids : List (List ℕ × ℕ)) → IsKept before store ids mid end → IsKept before store ids start end
-  kept_then store ids kept = (kept.0, turns_then before kept.1)
-
-  -- what a write answers behind a look-up it answers of both
-  pub tells_then : (result : Result (Unit {0}) WriteFault) (store : Store C) (ids : List (List ℕ × ℕ))
-      → TellsWrite before made result store ids mid end → TellsWrite before made result store ids start end
-  tells_then (Ok done) store ids told = (told.0, told.1, told.2, turns_then told.0 told.3)
-  tells_then (Err fault.Conflict) store ids told = (told.0, kept_then store ids told.1)
-  tells_then (Err fault.Absent) store ids told = (told.0, kept_then store ids told.1)
-  tells_then (Err fault.Full) store ids told = (told.0, kept_then store ids told.1)
-  tells_then (Err (fault.Store store_fault.Disk)) store ids told = turns_then (left_by before made) told
-  tells_then (Err (fault.Store (store_fault.Damaged extent at))) store ids told = told
-  tells_then (Err (fault.Store (store_fault.Newer version))) store ids told = told
-  tells_then (Err (fault.Store store_fault.Memory)) store ids told = kept_then store ids told
-
-  -- the container is as it was behind a look-up
+  -- the container is as it was
   pub kept_by_look : (store : Store C) (ids : List (List ℕ × ℕ)) → HoldsAll store ids before → IsKept before store ids start mid
   kept_by_look store ids holds = (holds, still before)
 
-  -- a look-up that failed
-  pub tells_failed : (old new : Store C) (ids : List (List ℕ × ℕ)) (why : StoreFault) → ContentsHoldAll (store_contents old) before
-      → HoldsAll new ids before → TellsDamage old why → TellsWrite before made (Err (fault.Store why)) new ids start mid
-  tells_failed old new ids store_fault.Disk hold holds told = still (left_by before made)
-  tells_failed old new ids (store_fault.Damaged extent at) hold holds told = undamaged old before extent at hold told
-  tells_failed old new ids (store_fault.Newer version) hold holds told = told
-  tells_failed old new ids store_fault.Memory hold holds told = kept_by_look new ids holds
+  -- the look-up failed
+  pub tells_failed : (made : Result Container WriteRefusal) (new : Store C) (ids : List (List ℕ × ℕ)) (why : StoreFault) → HoldsAll new ids before
+      → TellsDamage old why → TellsWrite before made (Err (fault.Store why)) new ids start mid
+  tells_failed made new ids store_fault.Disk holds told = still (left_by before made)
+  tells_failed made new ids (store_fault.Damaged extent at) holds told = undamaged old before extent at hold told
+  tells_failed made new ids (store_fault.Newer version) holds told = told
+  tells_failed made new ids store_fault.Memory holds told = kept_by_look new ids holds
+
+  -- what a write answers behind it, it answers of both
+  module _ (end : History) where
+    turns_then : (after : Container) → Turns mid end (HasAll before) (HasAll after) → Turns start end (HasAll before) (HasAll after)
+    turns_then after turns = stays_join start mid end (λ image. HasAll before image ⊎ HasAll after image) (still after) turns
+
+    kept_then : (store : Store C) (ids : List (List ℕ × ℕ)) → IsKept before store ids mid end → IsKept before store ids start end
+    kept_then store ids kept = (kept.0, turns_then before kept.1)
+
+    of_both : (made : Result Container WriteRefusal) (result : Result (Unit {0}) WriteFault) (store : Store C) (ids : List (List ℕ × ℕ))
+        → TellsWrite before made result store ids mid end → TellsWrite before made result store ids start end
+    of_both made (Ok done) store ids told = (told.0, told.1, told.2, turns_then told.0 told.3)
+    of_both made (Err fault.Conflict) store ids told = (told.0, kept_then store ids told.1)
+    of_both made (Err fault.Absent) store ids told = (told.0, kept_then store ids told.1)
+    of_both made (Err fault.Full) store ids told = (told.0, kept_then store ids told.1)
+    of_both made (Err (fault.Store store_fault.Disk)) store ids told = turns_then (left_by before made) told
+    of_both made (Err (fault.Store (store_fault.Damaged extent at))) store ids told = told
+    of_both made (Err (fault.Store (store_fault.Newer version))) store ids told = told
+    of_both made (Err (fault.Store store_fault.Memory)) store ids told = kept_then store ids told
+
+    pub tells_then : (made other : Result Container WriteRefusal) (result : Result (Unit {0}) WriteFault) (store : Store C) (ids : List (List ℕ × ℕ))
+        → other ≡ made → TellsWrite before other result store ids mid end → TellsWrite before made result store ids start end
+    tells_then made other result store ids same told =
+        of_both made result store ids (subst (λ m. TellsWrite before m result store ids mid end) same told)
 
 -- ---- the faults of one write and another
 
