@@ -88,6 +88,15 @@ never_absent id before number is absent =
     let held : contains id before ≡ true = id_held id before there.0 there.1 in
     absurd cc
 
+-- what was found, where it is answered
+pub found_is : (id : List ℕ) (before : Container) (answer : Option FoundDocument) (found : FoundDocument) → answer ≡ Some found
+    → IsFoundIn id before answer → IsFoundIn id before (Some found)
+found_is id before answer found same is = subst (IsFoundIn id before) same is
+
+pub none_is : (id : List ℕ) (before : Container) (answer : Option FoundDocument) → answer ≡ None → IsFoundIn id before answer
+    → entry_of id before ≡ None
+none_is id before answer same is = subst (IsFoundIn id before) same is
+
 -- ---- what each write makes, by what is found
 
 -- the id of a document, as its bytes were taken

@@ -141,7 +141,8 @@ pub fn replace<D: Disk, C: PageCache, L: Ledger>(
     let Some(id) = id_of(tree) else {
         unreachable!()
     };
-    match find_held(alloc, store, disk, ids, id.as_str().as_bytes(), steps) {
+    let id = id.as_str().as_bytes();
+    match find_held(alloc, store, disk, ids, id, steps) {
         Ok(Some(found)) => {
             let done = replace_held(alloc, store, disk, table, &found, tree);
             drop(found);
