@@ -7,7 +7,7 @@ pub mod StayReadable
 pub mod Committing
 pub mod Holding
 pub mod ShortTerms
-pub mod Exchanging
+pub mod ExchangedPairs
 pub mod Saying
 pub mod Fronts
 pub mod FoundNumbers

@@ -14,9 +14,9 @@ returns-in-Ok-Some-clause-number g c = λ honest before holds.
 
 pub returns-in-Ok-Some-clause-ids : goal.returns-in-Ok-Some-clause-ids
 returns-in-Ok-Some-clause-ids g c = λ honest before holds.
-    holds_still c.args.store.now c.number_of.new.store c.put.new.self before
+    holds_still c.args.store.now c.number_of.new.store c.remember.new.ids before
     (same_contents c.args.store.now c.number_of.new.store c.number_of.ensures.reads.same.same)
-    (holds_put c.args.store.now c.args.ids.now c.put.new.self before c.args.id.now c.in-Ok-Some.number c.put.ensures.only
+    (holds_put c.args.store.now c.args.ids.now c.remember.new.ids before c.args.id.now c.in-Ok-Some.number c.remember.ensures
     (by_index c.args.store.now c.args.ids.now before c.args.id.now c.in-Ok-Some.field-0 (Some c.in-Ok-Some.number)
     c.in-Ok-Some.field-0-is holds (c.in-Ok-Some.ensures.number honest))
     holds)

@@ -8,11 +8,13 @@ use Rattle.ax_write.proofs.writes.create.Goals as goal
 
 pub returns-in-Ok-Some-clause-tells : goal.returns-in-Ok-Some-clause-tells
 returns-in-Ok-Some-clause-tells g c = λ honest works before id holds document.
+    let start = g.D.Disk.history c.args.disk.now (g.D.Disk.attached c.args.disk.now) in
+    let mid = g.D.Disk.history c.find_number.new.disk (g.D.Disk.attached c.find_number.new.disk) in
     let own = c.as_bytes-id.result.now in
     let same = own_id c.args.tree.now c.in-Some.id.now own id c.in-Some.ensures (c.as_bytes-id.ensures.value ∙ c.as_str.ensures.text) document in (
       conflict_is c.args.tree.now before own id same c.in-Ok-Some.field-0-0
           (sym c.in-Ok-Some.field-0-is ∙ c.in-Ok-Some.ensures.number honest before holds),
-      kept_by_look g.C.PageCache.pages c.args.store.now _ _ before (c.requires.agrees honest works) holds.contents
+      kept_by_look g.C.PageCache.pages c.args.store.now start mid before (c.requires.agrees honest works) holds.contents
           (c.in-Ok-Some.ensures.leaves.reads.lists honest) c.find_number.new.store c.find_number.new.ids
           (c.find_number.ensures.ids honest before holds),
     )
@@ -22,12 +24,14 @@ returns-in-Ok-Some-clause-leaves g c = leaves_conflict g.C.PageCache.pages _ _ _
 
 pub returns-in-Ok-None-clause-tells : goal.returns-in-Ok-None-clause-tells
 returns-in-Ok-None-clause-tells g c = λ honest works before id holds document.
+    let start = g.D.Disk.history c.args.disk.now (g.D.Disk.attached c.args.disk.now) in
+    let mid = g.D.Disk.history c.find_number.new.disk (g.D.Disk.attached c.find_number.new.disk) in
     let tree = c.args.tree.now in
     let own = c.as_bytes-id.result.now in
     let taken = c.as_bytes-id.ensures.value ∙ c.as_str.ensures.text in
     let same = own_id tree c.in-Some.id.now own id c.in-Some.ensures taken document in
     let none = number_absent own before (sym c.in-Ok-None.field-0-is ∙ c.in-Ok-None.ensures.number honest before holds) in
-    tells_then g.C.PageCache.pages c.args.store.now _ _ before (c.requires.agrees honest works) holds.contents
+    tells_then g.C.PageCache.pages c.args.store.now start mid before (c.requires.agrees honest works) holds.contents
     (c.in-Ok-None.ensures.leaves.reads.lists honest) (g.D.Disk.history c.create_new.new.disk (g.D.Disk.attached c.create_new.new.disk))
     (inserted id tree before) (creation own tree before) c.create_new.result c.create_new.new.store c.create_new.new.ids
     (insertion_is tree before own id same none)
@@ -41,7 +45,9 @@ returns-in-Ok-None-clause-leaves g c =
 
 pub returns-in-Err-clause-tells : goal.returns-in-Err-clause-tells
 returns-in-Err-clause-tells g c = λ honest works before id holds document.
-    tells_failed g.C.PageCache.pages c.args.store.now _ _ before (c.requires.agrees honest works) holds.contents
+    let start = g.D.Disk.history c.args.disk.now (g.D.Disk.attached c.args.disk.now) in
+    let mid = g.D.Disk.history c.find_number.new.disk (g.D.Disk.attached c.find_number.new.disk) in
+    tells_failed g.C.PageCache.pages c.args.store.now start mid before (c.requires.agrees honest works) holds.contents
     (c.in-Err.ensures.leaves.reads.lists honest) (inserted id c.args.tree.now before) c.find_number.new.store c.find_number.new.ids c.in-Err.fault
     (c.find_number.ensures.ids honest before holds) (c.in-Err.ensures.leaves.told honest)
 
