@@ -7,7 +7,7 @@ pub mod StayReadable
 pub mod Committing
 pub mod Holding
 pub mod ShortTerms
-pub mod ExchangedPairs
+pub mod ShortExchanges
 pub mod Saying
 pub mod Fronts
 pub mod FoundNumbers
