@@ -1,4 +1,6 @@
 pub mod Calls
+pub mod FoundNumbers
+pub mod Passing
 pub mod PartsSaid
 mod PagesAlone
 mod PutReadable
@@ -10,5 +12,3 @@ pub mod ShortTerms
 pub mod ShortExchanges
 pub mod Saying
 pub mod Fronts
-pub mod FoundNumbers
-pub mod Passing
