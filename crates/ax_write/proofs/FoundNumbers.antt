@@ -8,10 +8,10 @@ use Rattle.std.specs.List.{AllByRecursion, Contains}
 use Rattle.std.specs.Option.{option_to_list}
 use Rattle.std.specs.Ordering.{eq_by_cmp, nat_cmp}
 use Rattle.ax_area.specs.Contents.{Contents, Stored}
-use Rattle.ax_container.proofs.ByNumber.{same_some}
+use Rattle.ax_container.proofs.ByNumber.{found_above, same_some}
 use Rattle.ax_container.proofs.Refusing.{conflicts, exchange_absent, exchange_made, removal_absent, removal_made, upsert_exchanges}
 use Rattle.ax_container.proofs.Writing.{entry_there}
-use Rattle.ax_container.specs.Container.{Container, Entry, IsStored, contains, entry_of, has_id}
+use Rattle.ax_container.specs.Container.{Container, Entry, IsSound, IsStored, contains, entry_of, has_id}
 use Rattle.ax_container.specs.Writes.{Absent, Conflict, created, creation, deleted, exchanged, inserted, is_full, removed, replaced, upserted}
 use Rattle.ax_delta.specs.Changes.{TermChange}
 use Rattle.ax_delta.specs.Payload.{IsDelta}
@@ -145,6 +145,14 @@ removal_is before id found is = sym (removal_made id before (id_held id before i
 
 pub no_removal : (before : Container) (id : List ℕ) → entry_of id before ≡ None → removed id before ≡ Err Absent
 no_removal before id none = removal_absent id before (id_absent id before none)
+
+-- nor is 0
+pub zero_absent : (id : List ℕ) (before : Container) (number : ℕ) → IsSound before → number ≡ 0 → Some number ≡ number_in id before
+    → entry_of id before ≡ None
+zero_absent id before number sound zero_is is =
+    let there = number_there id before number is in
+    let above : 0 < there.0.number = found_above id 0 before.next_number before.entries there.0 sound.numbers there.1 in
+    absurd (omega (arith, above, there.2, zero_is))
 
 -- ---- the table of those lately found
 

@@ -1,6 +1,6 @@
 //! The document of an id: under which number it stands, and what it is.
 
-ghost use Rattle.std.specs.Prelude.{◌≡◌, ◌≢◌, ◌≤◌, ◌⊎◌, ◌+◌, ℕ, List, IsTrue, IfOk, IfSome, false};
+ghost use Rattle.std.specs.Prelude.{◌≡◌, ◌≢◌, ◌<◌, ◌≤◌, ◌⊎◌, ◌+◌, ℕ, List, IsTrue, IfOk, IfSome, false};
 ghost use Rattle.std.specs.List.{Contains};
 ghost use Rattle.ax_container.specs.Container.{Container, contains};
 ghost use Rattle.ax_lines.specs.Asked.{IsStorable};
@@ -90,6 +90,7 @@ pub(crate) fn find_held<D: Disk, C: PageCache, L: Ledger>(
         → HoldsAll store.new ids.new before }
     ensures held { IfOk result (λ found. IfSome found (IsHeldAs (store_contents store.old))) }
     ensures storable { IfOk result (λ found. IfSome found (λ found. IsStorable found.document.tree)) }
+    ensures some { IfOk result (λ found. IfSome found (λ found. 0 < found.number)) }
     ensures one { steps.new ≤ steps.old + 1 }
     ensures none { IsTrue (D.is_honest disk.old) → (before : Container) → HoldsAll store.old ids.old before
         → contains id.now before ≡ false → steps.new ≡ steps.old }
@@ -105,6 +106,10 @@ pub(crate) fn find_held<D: Disk, C: PageCache, L: Ledger>(
         Ok(None) => return Ok(None),
         Err(fault) => return Err(fault),
     };
+    // No document has the number 0.
+    if number == 0 {
+        return Ok(None);
+    }
     match held(alloc, store, disk, number, steps) {
         Ok(Some(document)) => Ok(Some(FoundDocument { number, document })),
         Ok(None) => Ok(None),
