@@ -1,4 +1,6 @@
 pub mod Calls
+pub mod FoundNumbers
+pub mod Passing
 pub mod PartsSaid
 mod PagesAlone
 mod PutReadable

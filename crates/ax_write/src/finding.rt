@@ -1,10 +1,11 @@
 //! The document of an id: under which number it stands, and what it is.
 
-ghost use Rattle.std.specs.Prelude.{◌≡◌, ◌≤◌, ◌+◌, ℕ, List, Option, None, Some, Ok, Err, IsTrue, IfErr, IfOk, IfSome, true, false};
-ghost use Rattle.ax_container.specs.Container.{Container, contains, entry_of};
+ghost use Rattle.std.specs.Prelude.{◌≡◌, ◌≢◌, ◌<◌, ◌≤◌, ◌⊎◌, ◌+◌, ℕ, List, IsTrue, IfOk, IfSome, false};
+ghost use Rattle.std.specs.List.{Contains};
+ghost use Rattle.ax_container.specs.Container.{Container, contains};
 ghost use Rattle.ax_lines.specs.Asked.{IsStorable};
 ghost use Rattle.ax_pool.specs.Frames.{free_count};
-ghost use Rattle.ax_store.specs.Store.{AgreesUnlessFailed, store_contents, store_failed, store_slots};
+ghost use Rattle.ax_store.specs.Store.{AgreesUnlessFailed, store_contents, store_slots};
 ghost use Rattle.ax_image_pairs.specs.Found.{number_in};
 ghost use Rattle.ax_write.specs.Writes.{HoldsAll, IsFoundIn, IsHeldAs, Looks};
 
@@ -54,12 +55,20 @@ pub fn find_number<D: Disk, C: PageCache>(
     }
     match number_of(alloc, store, disk, id) {
         Ok(Some(number)) => {
-            ids.put(id, number);
+            remember(ids, id, number);
             Ok(Some(number))
         }
         Ok(None) => Ok(None),
         Err(fault) => Err(fault),
     }
+}
+
+/// Puts an id that was found into the table of those lately found, with its number.
+fn remember(ids: &mut RecentIds, id: &[u8], number: u32)
+    ensures { (entry : List ℕ × ℕ) → Contains ids.new entry
+        → (entry ≡ (id.now, number)) ⊎ (Contains ids.old entry × (entry.0 ≢ id.now)) }
+{
+    ids.put(id, number);
 }
 
 /// The document of an id; `None` exactly where none is held. It counts one step where a number was found, else none.
@@ -81,6 +90,7 @@ pub(crate) fn find_held<D: Disk, C: PageCache, L: Ledger>(
         → HoldsAll store.new ids.new before }
     ensures held { IfOk result (λ found. IfSome found (IsHeldAs (store_contents store.old))) }
     ensures storable { IfOk result (λ found. IfSome found (λ found. IsStorable found.document.tree)) }
+    ensures some { IfOk result (λ found. IfSome found (λ found. 0 < found.number)) }
     ensures one { steps.new ≤ steps.old + 1 }
     ensures none { IsTrue (D.is_honest disk.old) → (before : Container) → HoldsAll store.old ids.old before
         → contains id.now before ≡ false → steps.new ≡ steps.old }
@@ -96,6 +106,10 @@ pub(crate) fn find_held<D: Disk, C: PageCache, L: Ledger>(
         Ok(None) => return Ok(None),
         Err(fault) => return Err(fault),
     };
+    // No document has the number 0.
+    if number == 0 {
+        return Ok(None);
+    }
     match held(alloc, store, disk, number, steps) {
         Ok(Some(document)) => Ok(Some(FoundDocument { number, document })),
         Ok(None) => Ok(None),

@@ -55,8 +55,8 @@ pub fn create<D: Disk, C: PageCache>(
     };
     let id = id.as_str().as_bytes();
     match find_number(alloc, store, disk, ids, id) {
-        Ok(Some(_)) => Err(WriteFault::Conflict),
         Ok(None) => create_new(alloc, store, disk, table, ids, id, tree),
+        Ok(Some(_)) => Err(WriteFault::Conflict),
         Err(fault) => Err(WriteFault::Store(fault)),
     }
 }
@@ -96,6 +96,7 @@ pub fn upsert<D: Disk, C: PageCache, L: Ledger>(
         unreachable!()
     };
     let id = id.as_str().as_bytes();
+    // What is held is replaced, and else one is created.
     match find_held(alloc, store, disk, ids, id, steps) {
         Ok(Some(found)) => {
             let done = replace_held(alloc, store, disk, table, &found, tree);
@@ -141,7 +142,9 @@ pub fn replace<D: Disk, C: PageCache, L: Ledger>(
     let Some(id) = id_of(tree) else {
         unreachable!()
     };
-    match find_held(alloc, store, disk, ids, id.as_str().as_bytes(), steps) {
+    let id = id.as_str().as_bytes();
+    // Nothing is created where the id is not held.
+    match find_held(alloc, store, disk, ids, id, steps) {
         Ok(Some(found)) => {
             let done = replace_held(alloc, store, disk, table, &found, tree);
             drop(found);
@@ -181,6 +184,7 @@ pub fn delete<D: Disk, C: PageCache, L: Ledger>(
     ensures attached { D.attached disk.new ≡ D.attached disk.old }
     ensures honest { D.is_honest disk.new ≡ D.is_honest disk.old }
 {
+    // Its tree tells which pairs leave the index.
     match find_held(alloc, store, disk, ids, id, steps) {
         Ok(Some(found)) => {
             let done = delete_held(alloc, store, disk, table, ids, id, &found);
