@@ -5,7 +5,7 @@ use Rattle.std.specs.List.{filter_map}
 use Rattle.ax_recent.specs.declared.entry.Entry.{Entry}
 use Rattle.ax_recent.specs.Hash.{place_of}
 
--- the id of an entry: the first bytes of its thirty
+-- the id of an entry: as many of its thirty bytes as the id has
 abbrev pub id_of : Entry → List ℕ
 id_of entry = take entry.len entry.bytes
 

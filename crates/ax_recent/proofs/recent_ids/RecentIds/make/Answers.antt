@@ -1,5 +1,5 @@
 -- All places are empty.
-use Rattle.std.proofs.Common.{rules, ◌≡◌, ap, ◌∙◌}
+use Rattle.std.proofs.Common.{rules, ap, ◌∙◌}
 use Rattle.ax_recent.specs.Table.{entries_of}
 use Rattle.ax_recent.proofs.Places.{none_kept}
 use Rattle.ax_recent.proofs.recent_ids.RecentIds.make.Goals as goal

@@ -5,7 +5,8 @@ use Rattle.std.proofs.lemmas.List.{length-set, with_items_is}
 use Rattle.std.specs.List.{Contains}
 use Rattle.ax_recent.specs.Hash.{place_of}
 use Rattle.ax_recent.specs.Table.{entries_of, id_of}
-use Rattle.ax_recent.proofs.Places.{put_only, put_there, short}
+use Rattle.ax_recent.proofs.Places.{short}
+use Rattle.ax_recent.proofs.Putting.{put_only, put_there}
 use Rattle.ax_recent.proofs.recent_ids.RecentIds.put.Goals as goal
 
 made : (c : goal.After-self-1) → (with_items c.self.inside.places c.put_entry.new.places).items

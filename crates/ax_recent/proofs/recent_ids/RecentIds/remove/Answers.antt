@@ -1,7 +1,7 @@
 -- The place of the id was given to what it held without the id.
 use Rattle.std.proofs.Common.{◌≡◌, ◌∙◌, ap, arith, length}
 use Rattle.ax_recent.specs.Hash.{place_of}
-use Rattle.ax_recent.proofs.Places.{gone_without, others_without}
+use Rattle.ax_recent.proofs.AtPlace.{gone_without, others_without}
 use Rattle.ax_recent.proofs.recent_ids.RecentIds.remove.Goals as goal
 
 own : (c : goal.After-self-1) → c.place_of-place.result ≡ place_of c.args.id.now (length c.self.inside.places.items)
