@@ -1,7 +1,8 @@
 -- A table that agrees with the contents agrees with them after a write of a document, where its counts follow.
-use Rattle.std.proofs.Common.{◌≡◌, inl, inr, ⊎_elim, ℕ, ◌+◌, ◌-◌, ◌<◌, ◌≤◌, ◌==◌, Bool, cond, List, Some, None, refl, sym, ap, subst, ◌∙◌, arith}
+use Rattle.std.proofs.Common.{◌≡◌, inl, inr, ⊎_elim, ℕ, ◌+◌, ◌-◌, ◌<◌, ◌≤◌, ◌==◌, Bool, cond, List, length, Some, None, refl, sym, ap, subst, ◌∙◌, arith}
 use Rattle.std.specs.Prelude.{IsSome, is_some}
 use Rattle.std.proofs.lemmas.Bool.{cases_eq, eq-eqb, eqb-true, false_from_ne_true}
+use Rattle.std.proofs.lemmas.List.Sums.{count_by-le-length}
 use Rattle.std.specs.Cmp.{nat_cmp_total}
 use Rattle.std.specs.FinMap as map
 use Rattle.std.specs.Ordering.{nat_cmp}
@@ -94,6 +95,32 @@ module _ (honest : Bool) (table : Table) (contents : Contents) (agrees : TableAg
 
         same_text : (n : ℕ) → policy_text n new ≡ policy_text n contents
         same_text n = ap (λ (p : map.FinMap nat_cmp (List ℕ)). policy_text n (record contents { policies = p })) policies
+
+  -- ---- there is room for one more under each policy
+
+  under_most : (documents : map.FinMap nat_cmp Stored) (n : ℕ) → count (under n) (map.entries documents) ≤ map.len documents
+  under_most documents n =
+      let most : count (under n) (map.entries documents) ≤ length (map.entries documents) =
+      count_by-le-length (λ (document : ℕ × Stored). under n document.1) (map.entries documents) in
+      omega (arith, most, map.len-entries documents)
+
+  -- where one document less is held than may be
+  pub room_created : map.len contents.documents < most_documents → (n : ℕ) → count_at table n < most_documents
+  room_created few n = omega (arith, few, under_most contents.documents n, agrees.counts n)
+
+  -- where one that is held was counted out
+  pub room_replaced : (mid : Table) (number : ℕ) (old : Stored) → map.get contents.documents number ≡ Some old
+      → SetsCount old.policy (count_at table old.policy - 1) table mid → (n : ℕ) → count_at mid n < most_documents
+  room_replaced mid number old held out n =
+      let without : map.FinMap nat_cmp Stored = map.remove contents.documents number in
+      let less : count_at mid n + bit (old.policy == n) ≡ count_at table n =
+      one_less old.policy table mid out (is_counted number old held) n in
+      let moved : count (under n) (map.entries without) + bit (old.policy == n) ≡ count (under n) (map.entries contents.documents) =
+      count_remove (under n) contents.documents number old held in
+      let shorter : map.len without ≡ map.len contents.documents - 1 =
+      map.len-remove nat_cmp_total contents.documents number
+      ∙ ap (λ found. cond (is_some found) (map.len contents.documents - 1) (map.len contents.documents)) held in
+      omega (arith, agrees.few, less, moved, shorter, under_most without n, agrees.counts n)
 
 -- ---- a document takes the place of one, or is new
 

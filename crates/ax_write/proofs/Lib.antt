@@ -12,3 +12,9 @@ pub mod ShortTerms
 pub mod ShortExchanges
 pub mod Saying
 pub mod Fronts
+mod Unspoiled
+pub mod Writing
+mod Numbered
+mod Owned
+mod Fullness
+mod Tables

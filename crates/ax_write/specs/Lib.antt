@@ -2,4 +2,5 @@ pub mod Committed
 pub mod Batches
 pub mod Held
 pub mod Exchanged
+pub mod Full
 pub mod Writes
