@@ -1,20 +1,16 @@
 -- The number of an id and the document that was found under it; and that a store which holds a container is not damaged.
-use Rattle.std.proofs.Common.{◌≡◌, ℕ, zero, suc, ◌<◌, Bool, true, false, cond, List, [], ◌∷◌, ◌++◌, length, find, Option, Some, None, Ok, Err, refl, sym, ap}
+use Rattle.std.proofs.Common.{◌≡◌, ℕ, ◌<◌, true, false, cond, List, [], ◌∷◌, find, Option, Some, None, Ok, Err, refl, sym, ap}
 use Rattle.std.proofs.Common.{subst, ◌∙◌, ◌⊎◌, inl, inr, ⊎_elim, arith, is_some}
-use Rattle.std.proofs.lemmas.Bool.{ne_eqb}
-use Rattle.std.specs.Prelude.{◌≢◌, ◌&&◌, ◌==◌, if◌then◌else◌, option_map, slice_index_or}
+use Rattle.std.specs.Prelude.{◌≢◌, if◌then◌else◌, option_map}
 use Rattle.std.specs.FinMap as finite
 use Rattle.std.specs.List.{AllByRecursion, Contains}
-use Rattle.std.specs.Option.{option_to_list}
 use Rattle.std.specs.Ordering.{eq_by_cmp, nat_cmp}
 use Rattle.ax_area.specs.Contents.{Contents, Stored}
 use Rattle.ax_container.proofs.ByNumber.{found_above, same_some}
 use Rattle.ax_container.proofs.Refusing.{conflicts, exchange_absent, exchange_made, removal_absent, removal_made, upsert_exchanges}
 use Rattle.ax_container.proofs.Writing.{entry_there}
 use Rattle.ax_container.specs.Container.{Container, Entry, IsSound, IsStored, contains, entry_of, has_id}
-use Rattle.ax_container.specs.Writes.{Absent, Conflict, created, creation, deleted, exchanged, inserted, is_full, removed, replaced, upserted}
-use Rattle.ax_delta.specs.Changes.{TermChange}
-use Rattle.ax_delta.specs.Payload.{IsDelta}
+use Rattle.ax_container.specs.Writes.{Absent, Conflict, creation, deleted, exchanged, inserted, removed, replaced, upserted}
 use Rattle.ax_image.proofs.Shown.{text_there}
 use Rattle.ax_image.proofs.Writing.{any_found}
 use Rattle.ax_image.specs.Documents.{ContentsHold}
@@ -23,13 +19,8 @@ use Rattle.ax_image_pairs.proofs.Finding.{number_by_contents}
 use Rattle.ax_image_pairs.specs.Found.{HasNumber, number_in}
 use Rattle.ax_image_pairs.specs.Indexed.{ContentsHoldAll}
 use Rattle.ax_index.specs.ById.{IsNumberOf}
-use Rattle.ax_index.specs.Damage.{IsPayload, TellsPart}
-use Rattle.ax_lines.specs.Asked.{IsStorable}
 use Rattle.ax_lines.specs.StoredTexts.{IsStoredText}
-use Rattle.ax_pages.specs.Contents.{TermPage, term_page, term_parts}
-use Rattle.ax_pair.specs.declared.pair.Pair.{Pair}
 use Rattle.ax_pairs.specs.Index.{IsIndex}
-use Rattle.ax_pairs.specs.PagePairs.{AreDeltas, AreOfBase, HasPairs}
 use Rattle.ax_pairs.specs.PairSets.{PairSet}
 use Rattle.ax_store.specs.Store.{store_contents}
 use Rattle.ax_store.specs.declared.fault.StoreFault.TheVariants.{Damaged}
@@ -39,6 +30,7 @@ use Rattle.ax_tree.proofs.OneText.{one_text}
 use Rattle.ax_tree.specs.CanonicalText.{canonical_text}
 use Rattle.ax_tree.specs.Document.{document_id}
 use Rattle.ax_tree.specs.declared.tree.Tree.{Tree}
+use Rattle.ax_write.proofs.Unspoiled.{never_spoiled}
 use Rattle.ax_write.specs.Held.{HasNone, IsHeld}
 use Rattle.ax_write.specs.Writes.{HoldsAll, IsFoundIn, TellsDamage}
 use Rattle.ax_write.specs.declared.finding.FoundDocument.{FoundDocument}
@@ -265,38 +257,8 @@ never_none contents before number hold none = by_stored (finite.get contents.doc
         (sym (finite.get-entries contents.documents number) ∙ at) in
         none has.0 has.1
 
--- each part of a page that has pairs is in its grammar
-delta_fine : (payloads : List (List ℕ)) (deltas : List (List TermChange)) (i : ℕ) → AreDeltas payloads deltas → i < length payloads
-    → IsPayload false (slice_index_or payloads i [])
-delta_fine [] deltas i are there = absurd (omega (arith, there))
-delta_fine (p ∷ ps) [] i are there = absurd are
-delta_fine (p ∷ ps) (d ∷ ds) zero are there = (d, are.0)
-delta_fine (p ∷ ps) (d ∷ ds) (suc i) are there = delta_fine ps ds i are.1 (omega (arith, there))
-
-part_fine : (base : Option (List ℕ)) (payloads : List (List ℕ)) (pairs : List Pair) (deltas : List (List TermChange)) (i : ℕ)
-    → AreOfBase base pairs → AreDeltas payloads deltas → i < length (option_to_list base ++ payloads)
-    → IsPayload ((i == 0) && is_some base) (slice_index_or (option_to_list base ++ payloads) i [])
-part_fine None payloads pairs deltas zero of are there = delta_fine payloads deltas zero are there
-part_fine None payloads pairs deltas (suc i) of are there =
-    let later : ((suc i == 0) && false) ≡ false = rw (ne_eqb (suc i) 0 (λ e. omega arith)) refl in
-    subst (λ b. IsPayload b (slice_index_or payloads (suc i) [])) (sym later) (delta_fine payloads deltas (suc i) are there)
-part_fine (Some payload) payloads pairs deltas zero of are there = (pairs, of)
-part_fine (Some payload) payloads pairs deltas (suc i) of are there =
-    let later : ((suc i == 0) && true) ≡ false = rw (ne_eqb (suc i) 0 (λ e. omega arith)) refl in
-    subst (λ b. IsPayload b (slice_index_or payloads i [])) (sym later) (delta_fine payloads deltas i are (omega (arith, there)))
-
--- a part that is there is of a page that is there
-page_there : (pages : List TermPage) (page i : ℕ) → i < length (term_parts (term_page page pages)) → page < length pages
-page_there [] page i there = absurd (omega (arith, there))
-page_there (p ∷ ps) zero i there = omega arith
-page_there (p ∷ ps) (suc page) i there = omega (arith, page_there ps page i there)
-
 -- no part is outside its grammar, and no text that of no document
 pub undamaged : {C : Type 0} (store : Store C) (before : Container) (extent at : ℕ) → ContentsHoldAll (store_contents store) before
     → TellsDamage store (Damaged extent at) → ⊥
 undamaged store before extent at hold (inl text) = never_none (store_contents store) before text.number hold.documents text.none
-undamaged store before extent at hold (inr part) =
-    let pages = (store_contents store).terms in
-    let has = hold.pairs.is.have part.page (page_there pages part.page part.i part.there) in
-    part.spoiled
-    (part_fine (term_page part.page pages).base (term_page part.page pages).deltas has.base has.deltas part.i has.of_base has.are_deltas part.there)
+undamaged store before extent at hold (inr part) = never_spoiled store hold.pairs.set (Damaged extent at) hold.pairs.is part

@@ -1,47 +1,41 @@
 -- One call after another: a look-up and then one more call leave what the two leave together, since the look-up only reads.
-use Rattle.std.proofs.Common.{◌≡◌, ◌⊎◌, inl, inr, ℕ, ◌≤◌, Bool, false, true, List, [], Some, Result, Ok, Err, sym, ap, subst, ◌∙◌, arith}
-use Rattle.std.specs.Prelude.{IfErr, IsTrue, OnErr, count_by, not, slice_index_or}
+use Rattle.std.proofs.Common.{◌≡◌, ◌⊎◌, inl, inr, ℕ, Bool, false, true, List, Some, Result, Ok, Err, sym, ap, subst, ◌∙◌, arith}
+use Rattle.std.specs.Prelude.{IfErr, IsTrue, slice_index_or}
 use Rattle.std.specs.FinMap as finite
 use Rattle.ax_area.specs.Contents.{Contents}
+use Rattle.ax_area.specs.Image.{Says}
 use Rattle.ax_cache.specs.Pages.{CachedPages}
 use Rattle.ax_container.specs.Container.{Container}
 use Rattle.ax_container.specs.Writes.{WriteRefusal, Absent, Conflict, Full}
-use Rattle.ax_disk.specs.laws.StaysLaws.{idles_join, idles_rest, idles_stay, rests_weaken, stays_join, stays_turn}
+use Rattle.ax_disk.specs.laws.StaysLaws.{idles_rest, idles_stay, rests_weaken, stays_join, stays_turn}
 use Rattle.ax_disk.specs.model.Calls.{Idles}
 use Rattle.ax_disk.specs.model.Image.{Image}
 use Rattle.ax_disk.specs.model.Moments.{History}
 use Rattle.ax_disk.specs.model.Stays.{Rests, Stays, Turns}
 use Rattle.ax_image.specs.Readable.{SaysReadable, newest}
 use Rattle.ax_image_pairs.specs.Indexed.{ContentsHoldAll, HasAll}
-use Rattle.ax_area.specs.Image.{Says}
-use Rattle.ax_index.proofs.Unmoved.{same_contents, same_offsets, told_back, unmoved_then}
-use Rattle.ax_index.specs.Damage.{FailsBy, TellsPart}
-use Rattle.ax_index.specs.Reading.{SameButBytes}
+use Rattle.ax_index.proofs.Unmoved.{same_contents, same_offsets, told_back}
+use Rattle.ax_index.specs.Damage.{FailsBy}
 use Rattle.ax_index.specs.Reads.{KeepsTaken, Reads}
 use Rattle.ax_log.specs.Log.{log_area}
 use Rattle.ax_pages.specs.Area.{extent_number}
 use Rattle.ax_pairs.specs.Index.{IsIndex}
-use Rattle.ax_pool.specs.Frames.{Frames, free_count}
+use Rattle.ax_pool.specs.Frames.{Frames}
 use Rattle.ax_store.proofs.StoreLemmas.{agrees_says}
 use Rattle.ax_store.specs.Faults.{HasDiskCause}
 use Rattle.ax_store.specs.Kept.{PageOffsets}
-use Rattle.ax_store.specs.Reads.{ReadsStore}
 use Rattle.ax_store.specs.Store.{Agrees, SameButReads, store_area, store_contents, store_failed, store_offsets, store_slots}
 use Rattle.ax_store.specs.declared.fault.StoreFault.{StoreFault}
 use Rattle.ax_store.specs.declared.fault.StoreFault.TheVariants as store_fault
 use Rattle.ax_store.specs.declared.store.Store.{Store}
+use Rattle.ax_write.proofs.Calls.{on_err}
 use Rattle.ax_write.proofs.FoundNumbers.{undamaged}
-use Rattle.ax_write.specs.Held.{HasNone, TellsText}
-use Rattle.ax_write.specs.Writes.{HoldsAll, IsKept, IsSpoiledText, Looks, TellsDamage, TellsWrite, WriteLeaves, left_by, of_store}
-use Rattle.ax_write.specs.Writes.{IsOfCreation, IsOfHeld, IsOfStore, IsOfUpsert}
+use Rattle.ax_write.specs.Held.{HasNone}
+use Rattle.ax_write.specs.Writes.{HoldsAll, IsKept, Looks, TellsDamage, TellsWrite, WriteLeaves, left_by, of_store}
 use Rattle.ax_write.specs.declared.fault.WriteFault.{WriteFault}
 use Rattle.ax_write.specs.declared.fault.WriteFault.TheVariants as fault
 
 -- ---- faults of one call and another
-
-on_error : {T E A B : Type 0} (result : Result T E) → (A → B) → OnErr result A → OnErr result B
-on_error (Ok value) weaker is = tt
-on_error (Err why) weaker is = weaker is
 
 -- why a call of another kind failed alike
 cause_alike : {A B : Type 0} (why : StoreFault) (earlier later : ℕ) → HasDiskCause {T = A} (Err why) earlier later
@@ -78,7 +72,7 @@ module _ {C : Type 0} (old new : Store C) (same : SameButReads old new) where
   none_back number none =
       subst (λ (contents : Contents). HasNone (finite.get contents.documents number)) (same_contents old new same) none
 
-  pub damage_back : (why : StoreFault) → TellsDamage new why → TellsDamage old why
+  damage_back : (why : StoreFault) → TellsDamage new why → TellsDamage old why
   damage_back store_fault.Disk told = tt
   damage_back (store_fault.Damaged extent at) (inl text) = inl (record {
     number = text.number;
@@ -93,105 +87,15 @@ module _ {C : Type 0} (old new : Store C) (same : SameButReads old new) where
   errors_back (Ok value) told = tt
   errors_back (Err why) told = damage_back why told
 
--- what a fault of the text of a document says, and one of a part
-pub by_text : {C : Type 0} (store : Store C) (number : ℕ) (why : StoreFault) → TellsText store number why → TellsDamage store why
-by_text store number store_fault.Disk told = tt
-by_text store number (store_fault.Damaged extent at) told = inl (record { number = number; placed = told.0; none = told.1 })
-by_text store number (store_fault.Newer version) told = told
-by_text store number store_fault.Memory told = tt
-
-by_part : {C : Type 0} (store : Store C) (why : StoreFault) → TellsPart store why → TellsDamage store why
-by_part store store_fault.Disk told = tt
-by_part store (store_fault.Damaged extent at) told = inr told
-by_part store (store_fault.Newer version) told = told
-by_part store store_fault.Memory told = tt
-
-text_errors : {C T : Type 0} (store : Store C) (number : ℕ) (result : Result T StoreFault) → IfErr result (TellsText store number)
-    → IfErr result (TellsDamage store)
-text_errors store number (Ok value) told = tt
-text_errors store number (Err why) told = by_text store number why told
-
-part_errors : {C T : Type 0} (store : Store C) (result : Result T StoreFault) → IfErr result (TellsPart store) → IfErr result (TellsDamage store)
-part_errors store (Ok value) told = tt
-part_errors store (Err why) told = by_part store why told
-
--- ---- slots
-
-keeps_same : (frames new : Frames) → new ≡ frames → KeepsTaken frames new
-keeps_same frames new same number taken = ap (λ (f : Frames). slice_index_or f.bytes number []) same
-
+-- the bytes of slots that others have
 keeps_then : (old mid new : Frames) → mid.taken ≡ old.taken → KeepsTaken old mid → KeepsTaken mid new → KeepsTaken old new
 keeps_then old mid new same first second number taken =
     second number (subst (λ (t : List Bool). slice_index_or t number false ≡ true) (sym same) taken) ∙ first number taken
 
--- as many slots are free as before
-pub free_still : {C : Type 0} (old new : Store C) (count : ℕ) → (store_slots new).taken ≡ (store_slots old).taken
-    → count ≤ free_count (store_slots old) → count ≤ free_count (store_slots new)
-free_still old new count same free = subst (λ (taken : List Bool). count ≤ count_by not taken) (sym same) free
-
--- ---- look-ups
+-- ---- a write, and the look-up before it
 
 module _ {C : Type 0} (pages : C → CachedPages) (honest : Bool) where
-  -- a look-up by the index
-  pub looks_by_index : {T : Type 0} (result : Result T StoreFault) (old new : Store C) (before after : History) (earlier later : ℕ)
-      → (IsTrue honest → IfErr result (TellsPart old)) → Reads pages honest old new before after earlier later
-      → KeepsTaken (store_slots old) (store_slots new) → FailsBy result (store_failed old) (store_failed new)
-      → (store_failed old ≡ false → HasDiskCause result earlier later) → Looks pages honest result old new before after earlier later
-  looks_by_index result old new before after earlier later told reads others fails cause = record {
-    told = λ trusted. part_errors old result (told trusted);
-    reads = reads;
-    others = others;
-    fails = fails;
-    cause = cause;
-  }
-
-  -- another answer of a look-up that found something, or failed
-  pub looks_found : {A B : Type 0} (value : A) (other : B) (old new : Store C) (before after : History) (earlier later : ℕ)
-      → Looks pages honest (Ok value) old new before after earlier later → Looks pages honest (Ok other) old new before after earlier later
-  looks_found value other old new before after earlier later looks = record {
-    told = λ trusted. tt;
-    reads = looks.reads;
-    others = looks.others;
-    fails = looks.fails;
-    cause = λ works. none_counted value other earlier later (looks.cause works);
-  }
-
-  pub looks_failed : {A B : Type 0} (why : StoreFault) (old new : Store C) (before after : History) (earlier later : ℕ)
-      → Looks {T = A} pages honest (Err why) old new before after earlier later
-      → Looks {T = B} pages honest (Err why) old new before after earlier later
-  looks_failed why old new before after earlier later looks = record {
-    told = looks.told;
-    reads = looks.reads;
-    others = looks.others;
-    fails = looks.fails;
-    cause = λ works. cause_alike why earlier later (looks.cause works);
-  }
-
-  -- the document under the number is read behind a look-up that found it
-  pub looks_then : {A B : Type 0} (value : A) (then : Bool) (same : then ≡ honest) (result : Result B StoreFault) (old mid new : Store C)
-      (before between after : History) (earlier middle later : ℕ) (number : ℕ)
-      → Looks pages honest (Ok value) old mid before between earlier middle
-      → (IsTrue then → IfErr result (TellsText mid number))
-      → ReadsStore pages then mid new between after middle later → store_slots new ≡ store_slots mid
-      → FailsBy result (store_failed mid) (store_failed new)
-      → (store_failed mid ≡ false → HasDiskCause result middle later) → Looks pages honest result old new before after earlier later
-  looks_then value then same result old mid new before between after earlier middle later number looks told reads slots fails cause = record {
-    told = λ trusted. errors_back old mid looks.reads.same.same result
-        (text_errors mid number result (told (subst IsTrue (sym same) trusted)));
-    reads = record {
-      same = unmoved_then old mid new looks.reads.same (record { same = reads.same; taken = ap (λ (f : Frames). f.taken) slots });
-      agrees = λ trusted. reads.agrees (subst IsTrue (sym same) trusted);
-      lists = λ trusted. idles_join before between after (looks.reads.lists trusted) (reads.lists (subst IsTrue (sym same) trusted));
-      never_falls = omega (arith, looks.reads.never_falls, reads.never_falls);
-    };
-    others = keeps_then (store_slots old) (store_slots mid) (store_slots new) looks.reads.same.taken looks.others
-        (keeps_same (store_slots mid) (store_slots new) slots);
-    fails = subst (λ was. FailsBy result was (store_failed new)) looks.fails fails;
-    cause = λ works. cause_behind value result earlier middle later (looks.cause works) (cause (looks.fails ∙ works));
-  }
-
-  -- ---- a write that ends with the look-up
-
+  -- it ends with the look-up
   module _ (old new : Store C) (before after : History) (earlier later : ℕ) where
     reads_readable : Reads pages honest old new before after earlier later → IsTrue honest → Rests before SaysReadable
         → Stays before after SaysReadable
@@ -242,8 +146,7 @@ module _ {C : Type 0} (pages : C → CachedPages) (honest : Bool) where
         never_falls = looks.reads.never_falls;
       }
 
-  -- ---- a write behind a look-up
-
+  -- it goes on behind it
   pub leaves_then : {T : Type 0} (value : T) (then : Bool) (same : then ≡ honest) (result : Result (Unit {0}) WriteFault) (old mid new : Store C)
       (before between after : History) (earlier middle later : ℕ)
       → Looks pages honest (Ok value) old mid before between earlier middle
@@ -252,7 +155,7 @@ module _ {C : Type 0} (pages : C → CachedPages) (honest : Bool) where
       let contents : store_contents mid ≡ store_contents old = same_contents old mid looks.reads.same.same in
       record {
         told = λ trusted. errors_back old mid looks.reads.same.same (of_store result) (leaves.told (subst IsTrue (sym same) trusted));
-        kept = on_error result (λ kept. kept ∙ contents) leaves.kept;
+        kept = on_err result (λ kept. kept ∙ contents) leaves.kept;
         readable = λ trusted works set index rests.
             stays_join before between after SaysReadable (idles_stay before between SaysReadable rests (looks.reads.lists trusted))
             (leaves.readable (subst IsTrue (sym same) trusted) (looks.fails ∙ works) set
@@ -317,26 +220,3 @@ module _ {C : Type 0} (pages : C → CachedPages) (old : Store C) (start mid : H
         → other ≡ made → TellsWrite before other result store ids mid end → TellsWrite before made result store ids start end
     tells_then made other result store ids same told =
         of_both made result store ids (subst (λ m. TellsWrite before m result store ids mid end) same told)
-
--- ---- the faults of one write and another
-
-pub upsert_creates : (result : Result (Unit {0}) WriteFault) → IfErr result IsOfUpsert → IfErr result IsOfCreation
-upsert_creates (Ok done) only = tt
-upsert_creates (Err fault.Conflict) only = absurd only
-upsert_creates (Err fault.Absent) only = absurd only
-upsert_creates (Err fault.Full) only = tt
-upsert_creates (Err (fault.Store why)) only = tt
-
-pub store_upserts : (result : Result (Unit {0}) WriteFault) → IfErr result IsOfStore → IfErr result IsOfUpsert
-store_upserts (Ok done) only = tt
-store_upserts (Err fault.Conflict) only = absurd only
-store_upserts (Err fault.Absent) only = absurd only
-store_upserts (Err fault.Full) only = absurd only
-store_upserts (Err (fault.Store why)) only = tt
-
-pub store_holds : (result : Result (Unit {0}) WriteFault) → IfErr result IsOfStore → IfErr result IsOfHeld
-store_holds (Ok done) only = tt
-store_holds (Err fault.Conflict) only = absurd only
-store_holds (Err fault.Absent) only = absurd only
-store_holds (Err fault.Full) only = absurd only
-store_holds (Err (fault.Store why)) only = tt

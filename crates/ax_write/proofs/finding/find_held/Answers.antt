@@ -3,8 +3,13 @@ use Rattle.std.proofs.Common.{sym, subst, ◌∙◌}
 use Rattle.std.specs.Prelude.{IsTrue}
 use Rattle.ax_index.proofs.Unmoved.{same_contents}
 use Rattle.ax_store.specs.Store.{store_contents}
-use Rattle.ax_write.proofs.FoundNumbers.{found_under, holds_still, never_absent, one_under}
+use Rattle.ax_write.proofs.FoundNumbers.{found_under, holds_still, never_absent, one_under, zero_absent}
 use Rattle.ax_write.proofs.finding.find_held.Goals as goal
+
+pub returns-then-number-eq0-clause-found : goal.returns-then-number-eq0-clause-found
+returns-then-number-eq0-clause-found g c = λ honest before holds.
+    zero_absent c.args.id.now before c.in-Ok-Some.number holds.contents.documents.show.sound c.if-number-eq0.true
+    (sym c.in-Ok-Some.field-0-is ∙ c.in-Ok-Some.ensures.number honest before holds)
 
 pub returns-in-Ok-Some-held-clause-found : goal.returns-in-Ok-Some-held-clause-found
 returns-in-Ok-Some-held-clause-found g c = λ honest before holds.
