@@ -8,16 +8,13 @@ use Rattle.ax_area.specs.Contents.{Contents, after_changes, has_room, is_given, 
 use Rattle.ax_image.specs.WriteChanges.{creating_changes, deleting_changes, document_change, meta_change, replacing_changes}
 use Rattle.ax_index.specs.Plans.{HasNoDeltas}
 use Rattle.ax_pages.specs.AfterPart.{most_documents}
-use Rattle.ax_policy.specs.Table.{Table}
 use Rattle.ax_tree.specs.declared.tree.Tree.{Tree}
 use Rattle.ax_write.specs.Batches.{creating_parts, deleting_parts, replacing_parts}
 use Rattle.ax_write.specs.Committed.{LeaveTerms}
-use Rattle.ax_write.specs.Exchanged.{ArePolicies}
-use Rattle.ax_write.specs.TableAgrees.{TableAgrees}
 use Rattle.ax_write.proofs.PartsSaid.{said_leads}
 use Rattle.ax_write.proofs.Saying.{creating_said, deleting_said, replacing_said}
 
-first_or : (a b : Bool) → a ≡ true → (a || b) ≡ true
+pub first_or : (a b : Bool) → a ≡ true → (a || b) ≡ true
 first_or a b x = ap (λ c. c || b) x
 
 second_or : (a b : Bool) → b ≡ true → (a || b) ≡ true
@@ -30,7 +27,7 @@ both a b x y = λ i. x i && y i
 plain_follows : (contents : Contents) → contents.versioned ≡ false → may_follow None contents ≡ true
 plain_follows contents plain = ap not plain
 
-put_leads : (number policy : ℕ) (tree : Tree) (contents : Contents) → contents.versioned ≡ false → is_given policy contents ≡ true
+pub put_leads : (number policy : ℕ) (tree : Tree) (contents : Contents) → contents.versioned ≡ false → is_given policy contents ≡ true
     → has_room number contents ≡ true
     → after_changes (replacing_changes number policy tree) contents ≡ Some (with_change (document_change number policy tree) contents)
 put_leads number policy tree contents plain given room =
@@ -48,22 +45,28 @@ replacing_beside number policy tree contents some plain given held = record {
   same = refl;
 }
 
-pub creating_beside : (number policy : ℕ) (tree : Tree) (contents : Contents) → 0 < number → number < 2 ^ 32 - 1 → policy ≤ 8
+pub create_leads : (number policy : ℕ) (tree : Tree) (contents : Contents) → contents.versioned ≡ false → is_given policy contents ≡ true
+    → finite.len contents.documents < most_documents
+    → after_changes (creating_changes number policy tree) contents
+    ≡ Some (with_change (document_change number policy tree) (with_change (meta_change (number + 1) policy) contents))
+create_leads number policy tree contents plain given few =
+    let meta = meta_change (number + 1) policy in
+    ap (λ b. option_and_then (after_changes (replacing_changes number policy tree)) (if b then Some (with_change meta contents) else None))
+    (both _ _ given (plain_follows contents plain))
+    ∙ put_leads number policy tree (with_change meta contents) plain given
+    (second_or (finite.contains_key contents.documents number) (nat_lt (finite.len contents.documents) most_documents)
+    (lt-ltb (finite.len contents.documents) most_documents few))
+
+pub creating_beside : (number policy : ℕ) (tree : Tree) (contents : Contents) → 0 < number → number < 2 ^ 32 - 1 → policy < 2 ^ 32
     → contents.versioned ≡ false → is_given policy contents ≡ true → finite.len contents.documents < most_documents
     → LeaveTerms (creating_parts number policy tree) contents
-creating_beside number policy tree contents some left small plain given few =
-    let meta = meta_change (number + 1) policy in
-    record {
-      new = with_change (document_change number policy tree) (with_change meta contents);
-      lead = said_leads (creating_parts number policy tree) (creating_changes number policy tree) contents
-          (creating_said number policy tree some left small)
-          ∙ ap (λ b. option_and_then (after_changes (replacing_changes number policy tree)) (if b then Some (with_change meta contents) else None))
-          (both _ _ given (plain_follows contents plain))
-          ∙ put_leads number policy tree (with_change meta contents) plain given
-          (second_or (finite.contains_key contents.documents number) (nat_lt (finite.len contents.documents) most_documents)
-          (lt-ltb (finite.len contents.documents) most_documents few));
-      same = refl;
-    }
+creating_beside number policy tree contents some left small plain given few = record {
+  new = with_change (document_change number policy tree) (with_change (meta_change (number + 1) policy) contents);
+  lead = said_leads (creating_parts number policy tree) (creating_changes number policy tree) contents
+      (creating_said number policy tree some left small)
+      ∙ create_leads number policy tree contents plain given few;
+  same = refl;
+}
 
 pub deleting_beside : (number : ℕ) (contents : Contents) → 0 < number → LeaveTerms (deleting_parts number) contents
 deleting_beside number contents some = record {
@@ -80,7 +83,3 @@ no_delta_creating number policy tree n = refl
 
 pub no_delta_deleting : (number : ℕ) → HasNoDeltas (deleting_parts number)
 no_delta_deleting number n = refl
-
--- the policies of a table that agrees are those of their own texts
-pub policies_of : (table : Table) (contents : Contents) → TableAgrees table contents → ArePolicies table
-policies_of table contents agrees number policy is = (agrees.texts number policy is).is_policy

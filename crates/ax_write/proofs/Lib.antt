@@ -1,4 +1,6 @@
 pub mod Calls
+pub mod FoundNumbers
+pub mod Passing
 pub mod PartsSaid
 mod PagesAlone
 mod PutReadable
@@ -6,9 +8,13 @@ pub mod Planned
 pub mod StayReadable
 pub mod Committing
 pub mod Holding
-pub mod Counting
-pub mod Agreeing
 pub mod ShortTerms
-pub mod Exchanging
+pub mod ShortExchanges
 pub mod Saying
 pub mod Fronts
+mod Unspoiled
+pub mod Writing
+mod Numbered
+mod Owned
+mod Fullness
+mod Tables

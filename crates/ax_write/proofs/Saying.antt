@@ -47,11 +47,11 @@ pub replacing_said : (number policy : ℕ) (tree : Tree) → 0 < number
     → changes_said (replacing_parts number policy tree) ≡ Some (replacing_changes number policy tree)
 replacing_said number policy tree some = ap (with_others []) (document_said number policy tree some)
 
-pub creating_said : (number policy : ℕ) (tree : Tree) → 0 < number → number < 2 ^ 32 - 1 → policy ≤ 8
+pub creating_said : (number policy : ℕ) (tree : Tree) → 0 < number → number < 2 ^ 32 - 1 → policy < 2 ^ 32
     → changes_said (creating_parts number policy tree) ≡ Some (creating_changes number policy tree)
 creating_said number policy tree some left small =
     ap (with_others (document_part number policy tree ∷ []))
-    (meta_said (number + 1) policy (omega arith) (omega (arith, left)) (omega (arith, small)))
+    (meta_said (number + 1) policy (omega arith) (omega (arith, left)) small)
     ∙ ap (option_map (λ changes. meta_change (number + 1) policy ∷ changes)) (replacing_said number policy tree some)
 
 gone_said : (number : ℕ) → 0 < number → change_said (gone_part number) ≡ Some (change.Gone number)

@@ -6,15 +6,9 @@ use Rattle.ax_delta.specs.declared.change.Change.{Change}
 use Rattle.ax_index.specs.DeltaSizes.{HaveShortTerms}
 use Rattle.ax_keep.specs.Exchanges.{Exchanges}
 use Rattle.ax_keep.specs.Owned.{Owns}
-use Rattle.ax_policy.specs.Normal.{normal_tree}
-use Rattle.ax_policy.specs.Policies.{policy_of}
 use Rattle.ax_policy.specs.Table.{Table, policy_at}
 use Rattle.ax_policy.specs.declared.policy.Policy.{Policy}
 use Rattle.ax_tree.specs.declared.tree.Tree.{Tree}
-
--- each policy of the table is that of its own normal text
-abbrev pub ArePolicies : Table → Type 0
-ArePolicies table = (number : ℕ) (policy : Policy) → policy_at table number ≡ Some policy → policy_of (normal_tree policy) ≡ Some policy
 
 pub record IsExchanged (table : Table) (number before : ℕ) (old : Option Tree) (after : ℕ) (new : Option Tree) (changes : List Change)
     : Type 0 where

@@ -1,5 +1,6 @@
 pub mod Committed
 pub mod Batches
 pub mod Held
-pub mod TableAgrees
 pub mod Exchanged
+pub mod Full
+pub mod Writes

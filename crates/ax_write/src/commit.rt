@@ -1,6 +1,6 @@
 //! A batch of documents is committed with the changes of the index behind them.
 
-ghost use Rattle.std.specs.Prelude.{◌≡◌, ◌≢◌, ◌≤◌, [], ℕ, List, Some, IsTrue, IfErr, OnOk, OnErr, false, length};
+ghost use Rattle.std.specs.Prelude.{◌≡◌, ◌≢◌, ◌≤◌, [], ℕ, List, Some, Err, IsTrue, IfErr, OnOk, OnErr, false, length};
 ghost use Rattle.std.specs.List.{AllByRecursion};
 ghost use Rattle.ax_area.specs.Changes.{Change};
 ghost use Rattle.ax_area.specs.Contents.{Contents, after_changes};
@@ -8,6 +8,7 @@ ghost use Rattle.ax_area.specs.Image.{Says};
 ghost use Rattle.ax_area.specs.Parts.{after_parts, changes_said};
 ghost use Rattle.ax_area.specs.Told.{Told};
 ghost use Rattle.ax_delta.specs.Changes.{changed_pairs};
+ghost use Rattle.ax_disk.specs.model.Calls.{Idles};
 ghost use Rattle.ax_disk.specs.model.Stays.{Rests, Stays, Turns};
 ghost use Rattle.ax_image.specs.Readable.{SaysReadable, newest};
 ghost use Rattle.ax_image_grammar.specs.Payloads.{IsReadable};
@@ -71,6 +72,10 @@ pub(crate) fn plan_and_commit<D: Disk, C: PageCache>(
         → changes_said (batch_parts batch) ≡ Some front
         → OnOk result (Rests (D.history disk.new (D.attached disk.new)) (SaysWith version told changes.now front (store_contents store.old))) }
 
+    // Where memory ran out no list has changed.
+    ensures untouched { IsTrue (D.is_honest disk.old) → result ≡ Err StoreFault.Memory
+        → Idles (D.history disk.old (D.attached disk.old)) (D.history disk.new (D.attached disk.new)) }
+
     // All that is told can be read, where the changes in front can and the term pages hold a set: what is put for the
     // index is in its grammar.
     ensures readable { IsTrue (D.is_honest disk.old) → store_failed store.old ≡ false
@@ -123,6 +128,8 @@ fn seal_and_commit<D: Disk, C: PageCache>(
         → changes_said (batch_parts batch) ≡ Some changes
         → after_changes changes (store_contents store.old) ≡ Some new
         → OnOk result (Rests (D.history disk.new (D.attached disk.new)) (SaysMore version told changes new)) }
+    ensures untouched { IsTrue (D.is_honest disk.old) → result ≡ Err StoreFault.Memory
+        → Idles (D.history disk.old (D.attached disk.old)) (D.history disk.new (D.attached disk.new)) }
     ensures only { IfErr result IsBrief }
     ensures fails { FailsBy result (store_failed store.old) (store_failed store.new) }
     ensures agrees { AgreesUnlessFailed C.pages (D.is_honest disk.old) store.new (D.history disk.new (D.attached disk.new)) }

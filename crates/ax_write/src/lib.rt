@@ -12,5 +12,14 @@
 
 mod batches;
 mod commit;
+mod creating;
+mod exchanging;
+mod fault;
+mod finding;
 mod held;
 mod pairs;
+mod writes;
+
+pub use fault::WriteFault;
+pub use finding::find_number;
+pub use writes::{create, delete, replace, upsert};

@@ -4,7 +4,8 @@ ghost use Rattle.std.specs.Prelude.{IfOk, IfSome, IsSome};
 ghost use Rattle.std.specs.Option.{option_copied};
 ghost use Rattle.ax_lines.specs.Asked.{IsStorable};
 ghost use Rattle.ax_policy.specs.Table.{policy_at};
-ghost use Rattle.ax_write.specs.Exchanged.{ArePolicies, IsExchanged};
+ghost use Rattle.ax_table.specs.TableAgrees.{ArePolicies};
+ghost use Rattle.ax_write.specs.Exchanged.{IsExchanged};
 
 use ax_index::Change;
 use ax_keep::{Memory, changes};

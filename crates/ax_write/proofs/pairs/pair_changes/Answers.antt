@@ -1,7 +1,7 @@
 -- The policies are those of the table, and the changes exchange the pairs under them.
 use Rattle.std.proofs.Common.{sym}
 use Rattle.std.proofs.lemmas.Result.{IfOk-weaker}
-use Rattle.ax_write.proofs.Exchanging.{exchanged}
+use Rattle.ax_write.proofs.ShortExchanges.{exchanged}
 use Rattle.ax_write.proofs.pairs.pair_changes.Goals as goal
 
 pub returns : goal.returns

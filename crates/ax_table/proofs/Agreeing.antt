@@ -1,19 +1,20 @@
 -- A table that agrees with the contents agrees with them after a write of a document, where its counts follow.
-use Rattle.std.proofs.Common.{◌≡◌, inl, inr, ⊎_elim, ℕ, ◌+◌, ◌-◌, ◌<◌, ◌≤◌, ◌==◌, Bool, cond, List, Some, None, refl, sym, ap, subst, ◌∙◌, arith}
+use Rattle.std.proofs.Common.{◌≡◌, inl, inr, ⊎_elim, ℕ, ◌+◌, ◌-◌, ◌<◌, ◌≤◌, ◌==◌, Bool, cond, List, length, Some, None, refl, sym, ap, subst, ◌∙◌, arith}
 use Rattle.std.specs.Prelude.{IsSome, is_some}
 use Rattle.std.proofs.lemmas.Bool.{cases_eq, eq-eqb, eqb-true, false_from_ne_true}
+use Rattle.std.proofs.lemmas.List.Sums.{count_by-le-length}
 use Rattle.std.specs.Cmp.{nat_cmp_total}
 use Rattle.std.specs.FinMap as map
 use Rattle.std.specs.Ordering.{nat_cmp}
 use Rattle.ax_area.proofs.OneTelling.{same_some, some_or_none}
-use Rattle.ax_area.specs.Contents.{Contents, Stored}
+use Rattle.ax_area.specs.Contents.{Contents, Stored, is_given}
 use Rattle.ax_image_grammar.specs.Payloads.{IsTextOf}
 use Rattle.ax_image_grammar.specs.Table.{IsTaken, policy_text}
 use Rattle.ax_pages.proofs.LastPart.{get_inserted, get_not_inserted, get_not_removed, get_removed}
 use Rattle.ax_pages.specs.AfterPart.{most_documents}
 use Rattle.ax_policy.specs.Table.{SetsCount, Table, count_at, policy_at}
-use Rattle.ax_write.specs.TableAgrees.{TableAgrees, documents_under}
-use Rattle.ax_write.proofs.Counting.{count, count_insert, count_remove}
+use Rattle.ax_table.specs.TableAgrees.{TableAgrees, documents_under}
+use Rattle.ax_table.proofs.Counting.{count, count_insert, count_remove}
 
 abbrev bit : Bool → ℕ
 bit b = cond b 1 0
@@ -58,7 +59,7 @@ one_more number old new sets n =
 abbrev under : ℕ → Stored → Bool
 under n document = document.policy == n
 
-module _ (table : Table) (contents : Contents) (agrees : TableAgrees table contents) where
+module _ (honest : Bool) (table : Table) (contents : Contents) (agrees : TableAgrees honest table contents) where
   -- a document that is held is counted
   pub is_counted : (number : ℕ) (old : Stored) → map.get contents.documents number ≡ Some old → 0 < count_at table old.policy
   is_counted number old held =
@@ -75,22 +76,55 @@ module _ (table : Table) (contents : Contents) (agrees : TableAgrees table conte
   module _ (after : Table) (new : Contents) (now : new.policy_now ≡ contents.policy_now) (policies : new.policies ≡ contents.policies)
       (current : after.current ≡ table.current) (there : (n : ℕ) → policy_at after n ≡ policy_at table n) where
     still : ((n : ℕ) → IsTaken n new → IsTaken n contents) → ((n : ℕ) → count_at after n ≡ documents_under n new)
-        → map.len new.documents ≤ most_documents → TableAgrees after new
+        → map.len new.documents ≤ most_documents → TableAgrees honest after new
     still taken counts few = record {
       now = current ∙ agrees.now ∙ sym now;
+      given = same_given ∙ agrees.given;
       known = λ n is. subst IsSome (sym (there n)) (agrees.known n (taken n is));
-      texts = λ n policy is.
-          subst (λ text. IsTextOf text policy) (sym (same_text n)) (agrees.texts n policy (sym (there n) ∙ is));
+      policies = λ n policy is. agrees.policies n policy (sym (there n) ∙ is);
+      texts = λ h n policy is.
+          subst (λ text. IsTextOf text policy) (sym (same_text n)) (agrees.texts h n policy (sym (there n) ∙ is));
       counts = counts;
       few = few;
     }
       where
+        same_given : is_given new.policy_now new ≡ is_given contents.policy_now contents
+        same_given =
+            ap (λ (p : map.FinMap nat_cmp (List ℕ)). is_given new.policy_now (record contents { policies = p })) policies
+            ∙ ap (λ n. is_given n contents) now
+
         same_text : (n : ℕ) → policy_text n new ≡ policy_text n contents
         same_text n = ap (λ (p : map.FinMap nat_cmp (List ℕ)). policy_text n (record contents { policies = p })) policies
 
+  -- ---- there is room for one more under each policy
+
+  under_most : (documents : map.FinMap nat_cmp Stored) (n : ℕ) → count (under n) (map.entries documents) ≤ map.len documents
+  under_most documents n =
+      let most : count (under n) (map.entries documents) ≤ length (map.entries documents) =
+      count_by-le-length (λ (document : ℕ × Stored). under n document.1) (map.entries documents) in
+      omega (arith, most, map.len-entries documents)
+
+  -- where one document less is held than may be
+  pub room_created : map.len contents.documents < most_documents → (n : ℕ) → count_at table n < most_documents
+  room_created few n = omega (arith, few, under_most contents.documents n, agrees.counts n)
+
+  -- where one that is held was counted out
+  pub room_replaced : (mid : Table) (number : ℕ) (old : Stored) → map.get contents.documents number ≡ Some old
+      → SetsCount old.policy (count_at table old.policy - 1) table mid → (n : ℕ) → count_at mid n < most_documents
+  room_replaced mid number old held out n =
+      let without : map.FinMap nat_cmp Stored = map.remove contents.documents number in
+      let less : count_at mid n + bit (old.policy == n) ≡ count_at table n =
+      one_less old.policy table mid out (is_counted number old held) n in
+      let moved : count (under n) (map.entries without) + bit (old.policy == n) ≡ count (under n) (map.entries contents.documents) =
+      count_remove (under n) contents.documents number old held in
+      let shorter : map.len without ≡ map.len contents.documents - 1 =
+      map.len-remove nat_cmp_total contents.documents number
+      ∙ ap (λ found. cond (is_some found) (map.len contents.documents - 1) (map.len contents.documents)) held in
+      omega (arith, agrees.few, less, moved, shorter, under_most without n, agrees.counts n)
+
 -- ---- a document takes the place of one, or is new
 
-module _ (table : Table) (contents new : Contents) (agrees : TableAgrees table contents)
+module _ (honest : Bool) (table : Table) (contents new : Contents) (agrees : TableAgrees honest table contents)
     (now : new.policy_now ≡ contents.policy_now) (policies : new.policies ≡ contents.policies) where
   -- where a document is put under the policy now, no other number comes into use
   put_taken : (number : ℕ) (made : Stored) → new.documents ≡ map.insert contents.documents number made → made.policy ≡ contents.policy_now
@@ -130,13 +164,13 @@ module _ (table : Table) (contents new : Contents) (agrees : TableAgrees table c
   pub agrees_replaced : (mid after : Table) (number : ℕ) (old made : Stored) → map.get contents.documents number ≡ Some old
       → new.documents ≡ map.insert contents.documents number made → made.policy ≡ contents.policy_now
       → SetsCount old.policy (count_at table old.policy - 1) table mid → SetsCount table.current (count_at mid table.current + 1) mid after
-      → TableAgrees after new
+      → TableAgrees honest after new
   agrees_replaced mid after number old made held put under_now out into =
-      still table contents agrees after new now policies (into.current ∙ out.current) (λ n. into.policies n ∙ out.policies n)
+      still honest table contents agrees after new now policies (into.current ∙ out.current) (λ n. into.policies n ∙ out.policies n)
       (put_taken number made put under_now) counts few
     where
       some : 0 < count_at table old.policy
-      some = is_counted table contents agrees number old held
+      some = is_counted honest table contents agrees number old held
 
       counts : (n : ℕ) → count_at after n ≡ documents_under n new
       counts n =
@@ -161,9 +195,9 @@ module _ (table : Table) (contents new : Contents) (agrees : TableAgrees table c
   pub agrees_created : (after : Table) (number : ℕ) (made : Stored) → map.get contents.documents number ≡ None
       → map.len contents.documents < most_documents
       → new.documents ≡ map.insert contents.documents number made → made.policy ≡ contents.policy_now
-      → SetsCount table.current (count_at table table.current + 1) table after → TableAgrees after new
+      → SetsCount table.current (count_at table table.current + 1) table after → TableAgrees honest after new
   agrees_created after number made none room put under_now into =
-      still table contents agrees after new now policies into.current into.policies (put_taken number made put under_now) counts few
+      still honest table contents agrees after new now policies into.current into.policies (put_taken number made put under_now) counts few
     where
       counts : (n : ℕ) → count_at after n ≡ documents_under n new
       counts n =
@@ -186,16 +220,16 @@ module _ (table : Table) (contents new : Contents) (agrees : TableAgrees table c
 
   pub agrees_deleted : (after : Table) (number : ℕ) (old : Stored) → map.get contents.documents number ≡ Some old
       → new.documents ≡ map.remove contents.documents number
-      → SetsCount old.policy (count_at table old.policy - 1) table after → TableAgrees after new
+      → SetsCount old.policy (count_at table old.policy - 1) table after → TableAgrees honest after new
   agrees_deleted after number old held gone out =
-      still table contents agrees after new now policies out.current out.policies (gone_taken number gone) counts few
+      still honest table contents agrees after new now policies out.current out.policies (gone_taken number gone) counts few
     where
       counts : (n : ℕ) → count_at after n ≡ documents_under n new
       counts n =
           let moved : count (under n) (map.entries (map.remove contents.documents number)) + bit (old.policy == n)
           ≡ count (under n) (map.entries contents.documents) = count_remove (under n) contents.documents number old held in
           let less : count_at after n + bit (old.policy == n) ≡ count_at table n =
-          one_less old.policy table after out (is_counted table contents agrees number old held) n in
+          one_less old.policy table after out (is_counted honest table contents agrees number old held) n in
           let were : count_at table n ≡ count (under n) (map.entries contents.documents) = agrees.counts n in
           let are : documents_under n new ≡ count (under n) (map.entries (map.remove contents.documents number)) = counted n _ gone in
           omega arith

@@ -13,7 +13,8 @@ use Rattle.ax_policy.specs.Table.{Table, policy_at}
 use Rattle.ax_policy.specs.declared.policy.Policy.{Policy}
 use Rattle.ax_tree.specs.Document.{IsDocument}
 use Rattle.ax_tree.specs.declared.tree.Tree.{Tree}
-use Rattle.ax_write.specs.Exchanged.{ArePolicies, IsExchanged}
+use Rattle.ax_table.specs.TableAgrees.{ArePolicies}
+use Rattle.ax_write.specs.Exchanged.{IsExchanged}
 use Rattle.ax_write.proofs.ShortTerms.{owned_short}
 
 -- whatever stands for what is not there

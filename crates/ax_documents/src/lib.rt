@@ -1,0 +1,15 @@
+//! The documents of an open store with its index: opening, the writes of documents, and reading one.
+//!
+//! Stands on `ax_write`, whose writes keep the index, on `ax_table`, which makes the table of policies at opening, and on
+//! `ax_recent`, which remembers ids that were lately found. Its one contract: what was opened holds the container that
+//! the store stands for with its index, and each call leaves the container that the call makes of it, or the same; a
+//! crash at any moment leaves the one or the other.
+#![tactic(auto)]
+
+mod documents;
+mod opening;
+mod writing;
+
+pub use ax_write::WriteFault;
+pub use documents::Documents;
+pub use opening::open_documents;

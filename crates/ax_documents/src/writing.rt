@@ -1,0 +1,171 @@
+//! The writes of documents, and READ.
+
+ghost use Rattle.std.specs.Prelude.{◌≡◌, ◌≤◌, ◌+◌, ℕ, List, Some, IsTrue, IfErr, IfOk, false, option_map};
+ghost use Rattle.ax_container.specs.Container.{Container, contains, tree_of};
+ghost use Rattle.ax_container.specs.Writes.{exchanged, inserted, removed, upserted};
+ghost use Rattle.ax_lines.specs.Asked.{IsStorable};
+ghost use Rattle.ax_tree.specs.CanonicalText.{canonical_text};
+ghost use Rattle.ax_tree.specs.Document.{document_id};
+ghost use Rattle.ax_write.specs.Writes.{IsOfCreation, IsOfHeld, IsOfUpsert, Looks, TellsWrite, WriteLeaves, of_store};
+ghost use Rattle.ax_documents.specs.Documents.{DocumentsHold, DocumentsWork, WorkUnlessDisk};
+
+use crate::documents::Documents;
+use ax_base::Steps;
+use ax_cache::PageCache;
+use ax_disk::Disk;
+use ax_store::StoreFault;
+use ax_tree::Tree;
+use ax_write::{WriteFault, create, delete, find_number, replace, upsert};
+use std::sync::ledger::Ledger;
+
+impl<C: PageCache> Documents<C> {
+    /// Creates a document behind all others. `Conflict` where its id is held, else `Full` where none can be created. No
+    /// document is fetched.
+    pub fn create<D: Disk>(
+        &mut self,
+        disk: &mut D,
+        tree: &Tree,
+    ) -> Result<(), WriteFault>
+        requires storable { IsStorable tree.now }
+        requires works { DocumentsWork C.pages (D.is_honest disk.old) self.old (D.history disk.old (D.attached disk.old)) }
+        ensures tells { IsTrue (D.is_honest disk.old) → (before : Container) → (id : List ℕ) → DocumentsHold self.old before
+            → document_id tree.now ≡ Some id
+            → TellsWrite before (inserted id tree.now before) result self.new.store self.new.ids
+            (D.history disk.old (D.attached disk.old)) (D.history disk.new (D.attached disk.new)) }
+        ensures only { IfErr result IsOfCreation }
+        ensures works { WorkUnlessDisk C.pages (D.is_honest disk.old) (of_store result) self.new
+            (D.history disk.new (D.attached disk.new)) }
+        ensures leaves { WriteLeaves C.pages (D.is_honest disk.old) result self.old.store self.new.store
+            (D.history disk.old (D.attached disk.old)) (D.history disk.new (D.attached disk.new))
+            (D.faults disk.old) (D.faults disk.new) }
+        ensures attached { D.attached disk.new ≡ D.attached disk.old }
+        ensures honest { D.is_honest disk.new ≡ D.is_honest disk.old }
+    {
+        create(self.alloc, &mut self.store, disk, &mut self.table, &mut self.ids, tree)
+    }
+
+    /// Replaces the tree of the document of its id, which keeps its number, or creates a document behind all others. `Full`
+    /// where none can be created. It counts one step where the id is held, else none.
+    pub fn upsert<D: Disk, L: Ledger>(
+        &mut self,
+        disk: &mut D,
+        tree: &Tree,
+        steps: &mut Steps<L>,
+    ) -> Result<(), WriteFault>
+        requires storable { IsStorable tree.now }
+        requires works { DocumentsWork C.pages (D.is_honest disk.old) self.old (D.history disk.old (D.attached disk.old)) }
+        ensures tells { IsTrue (D.is_honest disk.old) → (before : Container) → (id : List ℕ) → DocumentsHold self.old before
+            → document_id tree.now ≡ Some id
+            → TellsWrite before (upserted id tree.now before) result self.new.store self.new.ids
+            (D.history disk.old (D.attached disk.old)) (D.history disk.new (D.attached disk.new)) }
+        ensures only { IfErr result IsOfUpsert }
+        ensures works { WorkUnlessDisk C.pages (D.is_honest disk.old) (of_store result) self.new
+            (D.history disk.new (D.attached disk.new)) }
+        ensures one { steps.new ≤ steps.old + 1 }
+        ensures none { IsTrue (D.is_honest disk.old) → (before : Container) → (id : List ℕ) → DocumentsHold self.old before
+            → document_id tree.now ≡ Some id
+            → contains id before ≡ false → steps.new ≡ steps.old }
+        ensures never_falls { steps.old ≤ steps.new }
+        ensures leaves { WriteLeaves C.pages (D.is_honest disk.old) result self.old.store self.new.store
+            (D.history disk.old (D.attached disk.old)) (D.history disk.new (D.attached disk.new))
+            (D.faults disk.old) (D.faults disk.new) }
+        ensures attached { D.attached disk.new ≡ D.attached disk.old }
+        ensures honest { D.is_honest disk.new ≡ D.is_honest disk.old }
+    {
+        upsert(self.alloc, &mut self.store, disk, &mut self.table, &mut self.ids, tree, steps)
+    }
+
+    /// Replaces the tree of the document of its id, which keeps its number. `Absent` where the id is not held. It counts one
+    /// step where the id is held, else none.
+    pub fn replace<D: Disk, L: Ledger>(
+        &mut self,
+        disk: &mut D,
+        tree: &Tree,
+        steps: &mut Steps<L>,
+    ) -> Result<(), WriteFault>
+        requires storable { IsStorable tree.now }
+        requires works { DocumentsWork C.pages (D.is_honest disk.old) self.old (D.history disk.old (D.attached disk.old)) }
+        ensures tells { IsTrue (D.is_honest disk.old) → (before : Container) → (id : List ℕ) → DocumentsHold self.old before
+            → document_id tree.now ≡ Some id
+            → TellsWrite before (exchanged id tree.now before) result self.new.store self.new.ids
+            (D.history disk.old (D.attached disk.old)) (D.history disk.new (D.attached disk.new)) }
+        ensures only { IfErr result IsOfHeld }
+        ensures works { WorkUnlessDisk C.pages (D.is_honest disk.old) (of_store result) self.new
+            (D.history disk.new (D.attached disk.new)) }
+        ensures one { steps.new ≤ steps.old + 1 }
+        ensures none { IsTrue (D.is_honest disk.old) → (before : Container) → (id : List ℕ) → DocumentsHold self.old before
+            → document_id tree.now ≡ Some id
+            → contains id before ≡ false → steps.new ≡ steps.old }
+        ensures never_falls { steps.old ≤ steps.new }
+        ensures leaves { WriteLeaves C.pages (D.is_honest disk.old) result self.old.store self.new.store
+            (D.history disk.old (D.attached disk.old)) (D.history disk.new (D.attached disk.new))
+            (D.faults disk.old) (D.faults disk.new) }
+        ensures attached { D.attached disk.new ≡ D.attached disk.old }
+        ensures honest { D.is_honest disk.new ≡ D.is_honest disk.old }
+    {
+        replace(self.alloc, &mut self.store, disk, &mut self.table, &mut self.ids, tree, steps)
+    }
+
+    /// Deletes the document of an id. `Absent` where the id is not held. It counts one step where the id is held, else none.
+    pub fn delete<D: Disk, L: Ledger>(
+        &mut self,
+        disk: &mut D,
+        id: &[u8],
+        steps: &mut Steps<L>,
+    ) -> Result<(), WriteFault>
+        requires works { DocumentsWork C.pages (D.is_honest disk.old) self.old (D.history disk.old (D.attached disk.old)) }
+        ensures tells { IsTrue (D.is_honest disk.old) → (before : Container) → DocumentsHold self.old before
+            → TellsWrite before (removed id.now before) result self.new.store self.new.ids
+            (D.history disk.old (D.attached disk.old)) (D.history disk.new (D.attached disk.new)) }
+        ensures only { IfErr result IsOfHeld }
+        ensures works { WorkUnlessDisk C.pages (D.is_honest disk.old) (of_store result) self.new
+            (D.history disk.new (D.attached disk.new)) }
+        ensures one { steps.new ≤ steps.old + 1 }
+        ensures none { IsTrue (D.is_honest disk.old) → (before : Container) → DocumentsHold self.old before
+            → contains id.now before ≡ false → steps.new ≡ steps.old }
+        ensures never_falls { steps.old ≤ steps.new }
+        ensures leaves { WriteLeaves C.pages (D.is_honest disk.old) result self.old.store self.new.store
+            (D.history disk.old (D.attached disk.old)) (D.history disk.new (D.attached disk.new))
+            (D.faults disk.old) (D.faults disk.new) }
+        ensures attached { D.attached disk.new ≡ D.attached disk.old }
+        ensures honest { D.is_honest disk.new ≡ D.is_honest disk.old }
+    {
+        delete(self.alloc, &mut self.store, disk, &mut self.table, &mut self.ids, id, steps)
+    }
+
+    /// The text of the document of an id, as it is stored; `None` exactly where the id is not held. It counts one step
+    /// where the id is held, else none.
+    ///
+    /// `Disk` where a read failed, `Memory` where there is no room for the text or for what the index reads, `Damaged` where
+    /// a part of a term page that is read is outside its grammar, with its place. The text is read by nobody here, so it
+    /// is not judged.
+    pub fn read<D: Disk, L: Ledger>(
+        &mut self,
+        disk: &mut D,
+        id: &[u8],
+        steps: &mut Steps<L>,
+    ) -> Result<Option<Vec<u8>>, StoreFault>
+        requires works { DocumentsWork C.pages (D.is_honest disk.old) self.old (D.history disk.old (D.attached disk.old)) }
+        ensures text { IsTrue (D.is_honest disk.old) → (before : Container) → DocumentsHold self.old before
+            → IfOk result (λ found. option_map (λ text. text.items) found ≡ option_map canonical_text (tree_of id.now before)) }
+        ensures holds { IsTrue (D.is_honest disk.old) → (before : Container) → DocumentsHold self.old before
+            → DocumentsHold self.new before }
+        ensures works { WorkUnlessDisk C.pages (D.is_honest disk.old) result self.new (D.history disk.new (D.attached disk.new)) }
+        ensures one { steps.new ≤ steps.old + 1 }
+        ensures none { IsTrue (D.is_honest disk.old) → (before : Container) → DocumentsHold self.old before
+            → contains id.now before ≡ false → steps.new ≡ steps.old }
+        ensures never_falls { steps.old ≤ steps.new }
+        ensures leaves { Looks C.pages (D.is_honest disk.old) result self.old.store self.new.store
+            (D.history disk.old (D.attached disk.old)) (D.history disk.new (D.attached disk.new))
+            (D.faults disk.old) (D.faults disk.new) }
+        ensures attached { D.attached disk.new ≡ D.attached disk.old }
+        ensures honest { D.is_honest disk.new ≡ D.is_honest disk.old }
+    {
+        let number = match find_number(self.alloc, &mut self.store, disk, &mut self.ids, id) {
+            Ok(Some(number)) => number,
+            Ok(None) => return Ok(None),
+            Err(fault) => return Err(fault),
+        };
+        self.store.fetch_text(self.alloc, disk, number, steps)
+    }
+}

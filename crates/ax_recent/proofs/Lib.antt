@@ -1,0 +1,3 @@
+pub mod AtPlace
+pub mod Places
+pub mod Putting

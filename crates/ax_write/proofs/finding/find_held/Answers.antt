@@ -1,0 +1,56 @@
+-- What is held under the number of the container is the document of the id; and there is one.
+use Rattle.std.proofs.Common.{sym, subst, ◌∙◌}
+use Rattle.std.specs.Prelude.{IsTrue}
+use Rattle.ax_index.proofs.Unmoved.{same_contents}
+use Rattle.ax_store.specs.Store.{store_contents}
+use Rattle.ax_write.proofs.FoundNumbers.{found_under, holds_still, never_absent, one_under, zero_absent}
+use Rattle.ax_write.proofs.finding.find_held.Goals as goal
+
+pub returns-then-number-eq0-clause-found : goal.returns-then-number-eq0-clause-found
+returns-then-number-eq0-clause-found g c = λ honest before holds.
+    zero_absent c.args.id.now before c.in-Ok-Some.number holds.contents.documents.show.sound c.if-number-eq0.true
+    (sym c.in-Ok-Some.field-0-is ∙ c.in-Ok-Some.ensures.number honest before holds)
+
+pub returns-in-Ok-Some-held-clause-found : goal.returns-in-Ok-Some-held-clause-found
+returns-in-Ok-Some-held-clause-found g c = λ honest before holds.
+    found_under (store_contents c.find_number.new.store) before (c.find_number.ensures.ids honest before holds).contents.documents
+    c.args.id.now c.in-Ok-Some.number (sym c.in-Ok-Some.field-0-is ∙ c.in-Ok-Some.ensures.number honest before holds)
+    c.in-Ok-Some-held.field-0 c.in-Ok-Some-held.document c.in-Ok-Some-held.field-0-is
+    (c.in-Ok-Some-held.ensures.held (subst IsTrue (sym c.find_number.ensures.honest) honest))
+
+pub returns-in-Ok-Some-held-clause-ids : goal.returns-in-Ok-Some-held-clause-ids
+returns-in-Ok-Some-held-clause-ids g c = λ honest before holds.
+    holds_still c.find_number.new.store c.held.new.store c.find_number.new.ids before
+    (same_contents c.find_number.new.store c.held.new.store c.held.ensures.reads.same) (c.find_number.ensures.ids honest before holds)
+
+pub returns-in-Ok-Some-held-clause-none : goal.returns-in-Ok-Some-held-clause-none
+returns-in-Ok-Some-held-clause-none g c = λ honest before holds absent.
+    absurd (never_absent c.args.id.now before c.in-Ok-Some.number (sym c.in-Ok-Some.field-0-is ∙ c.in-Ok-Some.ensures.number honest before holds)
+    absent)
+
+pub returns-in-Ok-None-held-clause-found : goal.returns-in-Ok-None-held-clause-found
+returns-in-Ok-None-held-clause-found g c = λ honest before holds.
+    absurd (one_under (store_contents c.find_number.new.store) before (c.find_number.ensures.ids honest before holds).contents.documents
+    c.args.id.now c.in-Ok-Some.number (sym c.in-Ok-Some.field-0-is ∙ c.in-Ok-Some.ensures.number honest before holds)
+    c.in-Ok-None-held.field-0 c.in-Ok-None-held.field-0-is
+    (c.in-Ok-None-held.ensures.held (subst IsTrue (sym c.find_number.ensures.honest) honest)))
+
+pub returns-in-Ok-None-held-clause-ids : goal.returns-in-Ok-None-held-clause-ids
+returns-in-Ok-None-held-clause-ids g c = λ honest before holds.
+    holds_still c.find_number.new.store c.held.new.store c.find_number.new.ids before
+    (same_contents c.find_number.new.store c.held.new.store c.held.ensures.reads.same) (c.find_number.ensures.ids honest before holds)
+
+pub returns-in-Ok-None-held-clause-none : goal.returns-in-Ok-None-held-clause-none
+returns-in-Ok-None-held-clause-none g c = λ honest before holds absent.
+    absurd (never_absent c.args.id.now before c.in-Ok-Some.number (sym c.in-Ok-Some.field-0-is ∙ c.in-Ok-Some.ensures.number honest before holds)
+    absent)
+
+pub returns-in-Err-held-clause-ids : goal.returns-in-Err-held-clause-ids
+returns-in-Err-held-clause-ids g c = λ honest before holds.
+    holds_still c.find_number.new.store c.held.new.store c.find_number.new.ids before
+    (same_contents c.find_number.new.store c.held.new.store c.held.ensures.reads.same) (c.find_number.ensures.ids honest before holds)
+
+pub returns-in-Err-held-clause-none : goal.returns-in-Err-held-clause-none
+returns-in-Err-held-clause-none g c = λ honest before holds absent.
+    absurd (never_absent c.args.id.now before c.in-Ok-Some.number (sym c.in-Ok-Some.field-0-is ∙ c.in-Ok-Some.ensures.number honest before holds)
+    absent)

@@ -1,0 +1,27 @@
+-- The table tells the number of the container, and so does the index; then it is put into the table.
+use Rattle.std.proofs.Common.{Some, None, sym}
+use Rattle.ax_index.proofs.Unmoved.{same_contents}
+use Rattle.ax_write.proofs.FoundNumbers.{by_index, holds_put, holds_still}
+use Rattle.ax_write.proofs.finding.find_number.Goals as goal
+
+pub returns-in-Some-clause-number : goal.returns-in-Some-clause-number
+returns-in-Some-clause-number g c = λ honest before holds. sym (holds.recent c.args.id.now c.in-Some.number c.in-Some.ensures.found)
+
+pub returns-in-Ok-Some-clause-number : goal.returns-in-Ok-Some-clause-number
+returns-in-Ok-Some-clause-number g c = λ honest before holds.
+    by_index c.args.store.now c.args.ids.now before c.args.id.now c.in-Ok-Some.field-0 (Some c.in-Ok-Some.number)
+    c.in-Ok-Some.field-0-is holds (c.in-Ok-Some.ensures.number honest)
+
+pub returns-in-Ok-Some-clause-ids : goal.returns-in-Ok-Some-clause-ids
+returns-in-Ok-Some-clause-ids g c = λ honest before holds.
+    holds_still c.args.store.now c.number_of.new.store c.remember.new.ids before
+    (same_contents c.args.store.now c.number_of.new.store c.number_of.ensures.reads.same.same)
+    (holds_put c.args.store.now c.args.ids.now c.remember.new.ids before c.args.id.now c.in-Ok-Some.number c.remember.ensures
+    (by_index c.args.store.now c.args.ids.now before c.args.id.now c.in-Ok-Some.field-0 (Some c.in-Ok-Some.number)
+    c.in-Ok-Some.field-0-is holds (c.in-Ok-Some.ensures.number honest))
+    holds)
+
+pub returns-in-Ok-None-clause-number : goal.returns-in-Ok-None-clause-number
+returns-in-Ok-None-clause-number g c = λ honest before holds.
+    by_index c.args.store.now c.args.ids.now before c.args.id.now c.in-Ok-None.field-0 None c.in-Ok-None.field-0-is holds
+    (c.in-Ok-None.ensures.number honest)

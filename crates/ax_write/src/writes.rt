@@ -1,0 +1,197 @@
+//! The writes of documents.
+
+ghost use Rattle.std.specs.Prelude.{◌≡◌, ◌≤◌, ◌+◌, ℕ, List, Option, None, Some, Ok, Err, IsTrue, IfErr, IfOk, IfSome, true, false};
+ghost use Rattle.ax_container.specs.Container.{Container, contains};
+ghost use Rattle.ax_container.specs.Writes.{exchanged, inserted, removed, upserted};
+ghost use Rattle.ax_lines.specs.Asked.{IsStorable};
+ghost use Rattle.ax_pool.specs.Frames.{free_count};
+ghost use Rattle.ax_store.specs.Store.{AgreesUnlessFailed, store_contents, store_failed, store_slots};
+ghost use Rattle.ax_table.specs.TableAgrees.{TableAgrees};
+ghost use Rattle.ax_tree.specs.Document.{document_id};
+ghost use Rattle.ax_write.specs.Writes.{HoldsAll, IsOfCreation, IsOfHeld, IsOfUpsert, TellsWrite, WriteLeaves};
+
+use crate::creating::create_new;
+use crate::exchanging::{delete_held, replace_held};
+use crate::fault::WriteFault;
+use crate::finding::{find_held, find_number};
+use ax_base::Steps;
+use ax_cache::PageCache;
+use ax_disk::Disk;
+use ax_policy::PolicyTable;
+use ax_recent::RecentIds;
+use ax_store::Store;
+use ax_tree::{Tree, id_of};
+use std::alloc::Global;
+use std::sync::ledger::Ledger;
+
+/// Creates a document behind all others. `Conflict` where its id is held, else `Full` where none can be created. It counts
+/// no step: no document is fetched.
+pub fn create<D: Disk, C: PageCache>(
+    alloc: Global,
+    store: &mut Store<C>,
+    disk: &mut D,
+    table: &mut PolicyTable,
+    ids: &mut RecentIds,
+    tree: &Tree,
+) -> Result<(), WriteFault>
+    requires storable { IsStorable tree.now }
+    requires free { 2 ≤ free_count (store_slots store.old) }
+    requires agrees { AgreesUnlessFailed C.pages (D.is_honest disk.old) store.old (D.history disk.old (D.attached disk.old)) }
+    requires table { TableAgrees (D.is_honest disk.old) table.old (store_contents store.old) }
+    ensures tells { IsTrue (D.is_honest disk.old) → store_failed store.old ≡ false → (before : Container) → (id : List ℕ)
+        → HoldsAll store.old ids.old before → document_id tree.now ≡ Some id
+        → TellsWrite before (inserted id tree.now before) result store.new ids.new
+        (D.history disk.old (D.attached disk.old)) (D.history disk.new (D.attached disk.new)) }
+    ensures only { IfErr result IsOfCreation }
+    ensures table { TableAgrees (D.is_honest disk.old) table.new (store_contents store.new) }
+    ensures leaves { WriteLeaves C.pages (D.is_honest disk.old) result store.old store.new
+        (D.history disk.old (D.attached disk.old)) (D.history disk.new (D.attached disk.new))
+        (D.faults disk.old) (D.faults disk.new) }
+    ensures attached { D.attached disk.new ≡ D.attached disk.old }
+    ensures honest { D.is_honest disk.new ≡ D.is_honest disk.old }
+{
+    let Some(id) = id_of(tree) else {
+        unreachable!()
+    };
+    let id = id.as_str().as_bytes();
+    match find_number(alloc, store, disk, ids, id) {
+        Ok(None) => create_new(alloc, store, disk, table, ids, id, tree),
+        Ok(Some(_)) => Err(WriteFault::Conflict),
+        Err(fault) => Err(WriteFault::Store(fault)),
+    }
+}
+
+/// Replaces the tree of the document of its id, which keeps its number, or creates a document behind all others. `Full`
+/// where none can be created. It counts one step where the id is held, else none.
+pub fn upsert<D: Disk, C: PageCache, L: Ledger>(
+    alloc: Global,
+    store: &mut Store<C>,
+    disk: &mut D,
+    table: &mut PolicyTable,
+    ids: &mut RecentIds,
+    tree: &Tree,
+    steps: &mut Steps<L>,
+) -> Result<(), WriteFault>
+    requires storable { IsStorable tree.now }
+    requires free { 2 ≤ free_count (store_slots store.old) }
+    requires agrees { AgreesUnlessFailed C.pages (D.is_honest disk.old) store.old (D.history disk.old (D.attached disk.old)) }
+    requires table { TableAgrees (D.is_honest disk.old) table.old (store_contents store.old) }
+    ensures tells { IsTrue (D.is_honest disk.old) → store_failed store.old ≡ false → (before : Container) → (id : List ℕ)
+        → HoldsAll store.old ids.old before → document_id tree.now ≡ Some id
+        → TellsWrite before (upserted id tree.now before) result store.new ids.new
+        (D.history disk.old (D.attached disk.old)) (D.history disk.new (D.attached disk.new)) }
+    ensures only { IfErr result IsOfUpsert }
+    ensures table { TableAgrees (D.is_honest disk.old) table.new (store_contents store.new) }
+    ensures one { steps.new ≤ steps.old + 1 }
+    ensures none { IsTrue (D.is_honest disk.old) → (before : Container) → (id : List ℕ) → HoldsAll store.old ids.old before
+        → document_id tree.now ≡ Some id → contains id before ≡ false → steps.new ≡ steps.old }
+    ensures never_falls { steps.old ≤ steps.new }
+    ensures leaves { WriteLeaves C.pages (D.is_honest disk.old) result store.old store.new
+        (D.history disk.old (D.attached disk.old)) (D.history disk.new (D.attached disk.new))
+        (D.faults disk.old) (D.faults disk.new) }
+    ensures attached { D.attached disk.new ≡ D.attached disk.old }
+    ensures honest { D.is_honest disk.new ≡ D.is_honest disk.old }
+{
+    let Some(id) = id_of(tree) else {
+        unreachable!()
+    };
+    let id = id.as_str().as_bytes();
+    // What is held is replaced, and else one is created.
+    match find_held(alloc, store, disk, ids, id, steps) {
+        Ok(Some(found)) => {
+            let done = replace_held(alloc, store, disk, table, &found, tree);
+            drop(found);
+            done
+        }
+        Ok(None) => create_new(alloc, store, disk, table, ids, id, tree),
+        Err(fault) => Err(WriteFault::Store(fault)),
+    }
+}
+
+/// Replaces the tree of the document of its id, which keeps its number. `Absent` where the id is not held. It counts one
+/// step where the id is held, else none.
+pub fn replace<D: Disk, C: PageCache, L: Ledger>(
+    alloc: Global,
+    store: &mut Store<C>,
+    disk: &mut D,
+    table: &mut PolicyTable,
+    ids: &mut RecentIds,
+    tree: &Tree,
+    steps: &mut Steps<L>,
+) -> Result<(), WriteFault>
+    requires storable { IsStorable tree.now }
+    requires free { 2 ≤ free_count (store_slots store.old) }
+    requires agrees { AgreesUnlessFailed C.pages (D.is_honest disk.old) store.old (D.history disk.old (D.attached disk.old)) }
+    requires table { TableAgrees (D.is_honest disk.old) table.old (store_contents store.old) }
+    ensures tells { IsTrue (D.is_honest disk.old) → store_failed store.old ≡ false → (before : Container) → (id : List ℕ)
+        → HoldsAll store.old ids.old before → document_id tree.now ≡ Some id
+        → TellsWrite before (exchanged id tree.now before) result store.new ids.new
+        (D.history disk.old (D.attached disk.old)) (D.history disk.new (D.attached disk.new)) }
+    ensures only { IfErr result IsOfHeld }
+    ensures table { TableAgrees (D.is_honest disk.old) table.new (store_contents store.new) }
+    ensures one { steps.new ≤ steps.old + 1 }
+    ensures none { IsTrue (D.is_honest disk.old) → (before : Container) → (id : List ℕ) → HoldsAll store.old ids.old before
+        → document_id tree.now ≡ Some id → contains id before ≡ false → steps.new ≡ steps.old }
+    ensures never_falls { steps.old ≤ steps.new }
+    ensures leaves { WriteLeaves C.pages (D.is_honest disk.old) result store.old store.new
+        (D.history disk.old (D.attached disk.old)) (D.history disk.new (D.attached disk.new))
+        (D.faults disk.old) (D.faults disk.new) }
+    ensures attached { D.attached disk.new ≡ D.attached disk.old }
+    ensures honest { D.is_honest disk.new ≡ D.is_honest disk.old }
+{
+    let Some(id) = id_of(tree) else {
+        unreachable!()
+    };
+    let id = id.as_str().as_bytes();
+    // Nothing is created where the id is not held.
+    match find_held(alloc, store, disk, ids, id, steps) {
+        Ok(Some(found)) => {
+            let done = replace_held(alloc, store, disk, table, &found, tree);
+            drop(found);
+            done
+        }
+        Ok(None) => Err(WriteFault::Absent),
+        Err(fault) => Err(WriteFault::Store(fault)),
+    }
+}
+
+/// Deletes the document of an id. `Absent` where the id is not held. It counts one step where the id is held, else none.
+pub fn delete<D: Disk, C: PageCache, L: Ledger>(
+    alloc: Global,
+    store: &mut Store<C>,
+    disk: &mut D,
+    table: &mut PolicyTable,
+    ids: &mut RecentIds,
+    id: &[u8],
+    steps: &mut Steps<L>,
+) -> Result<(), WriteFault>
+    requires free { 2 ≤ free_count (store_slots store.old) }
+    requires agrees { AgreesUnlessFailed C.pages (D.is_honest disk.old) store.old (D.history disk.old (D.attached disk.old)) }
+    requires table { TableAgrees (D.is_honest disk.old) table.old (store_contents store.old) }
+    ensures tells { IsTrue (D.is_honest disk.old) → store_failed store.old ≡ false → (before : Container)
+        → HoldsAll store.old ids.old before
+        → TellsWrite before (removed id.now before) result store.new ids.new
+        (D.history disk.old (D.attached disk.old)) (D.history disk.new (D.attached disk.new)) }
+    ensures only { IfErr result IsOfHeld }
+    ensures table { TableAgrees (D.is_honest disk.old) table.new (store_contents store.new) }
+    ensures one { steps.new ≤ steps.old + 1 }
+    ensures none { IsTrue (D.is_honest disk.old) → (before : Container) → HoldsAll store.old ids.old before
+        → contains id.now before ≡ false → steps.new ≡ steps.old }
+    ensures never_falls { steps.old ≤ steps.new }
+    ensures leaves { WriteLeaves C.pages (D.is_honest disk.old) result store.old store.new
+        (D.history disk.old (D.attached disk.old)) (D.history disk.new (D.attached disk.new))
+        (D.faults disk.old) (D.faults disk.new) }
+    ensures attached { D.attached disk.new ≡ D.attached disk.old }
+    ensures honest { D.is_honest disk.new ≡ D.is_honest disk.old }
+{
+    // Its tree tells which pairs leave the index.
+    match find_held(alloc, store, disk, ids, id, steps) {
+        Ok(Some(found)) => {
+            let done = delete_held(alloc, store, disk, table, ids, id, &found);
+            drop(found);
+            done
+        }
+        Ok(None) => Err(WriteFault::Absent),
+        Err(fault) => Err(WriteFault::Store(fault)),
+    }
+}
