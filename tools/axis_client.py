@@ -33,7 +33,7 @@ import queue
 import re
 import subprocess
 import threading
-from typing import IO, Any, Callable, Deque, Dict, Iterable, Iterator, Optional, Tuple, TypeVar, Union
+from typing import Any, Callable, Deque, Dict, Iterable, Iterator, List, Optional, Tuple, TypeVar, Union
 
 Document = Dict[str, Any]
 ValuePath = Tuple[Union[str, int], ...]
@@ -41,9 +41,12 @@ Item = TypeVar("Item")
 
 ENDINGS = ("root", "a", "b")
 IN_FLIGHT = 1_000
+PIECE = 1 << 16
 LEAST_NUMBER = -(2**63)
 GREATEST_NUMBER = 2**63 - 1
 MOST_LEVELS = 100
+ENCODER = json.JSONEncoder(ensure_ascii=False, separators=(",", ":"))
+HELD = "another program holds the store"
 
 MEANINGS = {
     1: "a line has at most 262,144 bytes",
@@ -151,7 +154,8 @@ class ProgramEnded(AxisError):
         elif status in STATUSES:
             super().__init__(f"{lines[0]}: {STATUSES[status]}")
         elif status:
-            super().__init__(": ".join(lines))
+            way_out = "; end that one first" if lines[-1].endswith(HELD) else ""
+            super().__init__(": ".join(lines) + way_out)
         else:
             super().__init__("the program ended and left a line without its reply")
 
@@ -406,7 +410,7 @@ class Axis:
             raise ValueError("a line has no newline")
         self._read_answer()
         with self._alone():
-            self._write(sent)
+            self._write(sent + b"\n")
             reply = self._read_line()
             if reply.startswith((b"row ", b"end ")):
                 self._answer = Rows(self._read_row_line, reply)
@@ -428,15 +432,15 @@ class Axis:
         `in_flight` of them.
 
         `document_of` gives the document of an item; without it the items are the documents. `answered` is called for each
-        item, in their order, with what it was refused by, or None. Without it the first that is refused is raised, and
-        no more are sent; those already sent may have been upserted.
+        item, in their order, with what it was refused by, or None. Without it the first that is refused is raised. After
+        that, and after an exception of `items`, no more lines are sent; those that were have been answered.
 
         >>> axis.upsert_many({"id": str(number)} for number in range(5_000))
         5000
         """
         self._read_answer()
         with self._alone():
-            return _Ahead(self, answered or _raise_refusal).upsert(items, document_of, in_flight)
+            return _Ahead(self, answered or _raise_refusal, in_flight).upsert(items, document_of)
 
     def close(self) -> None:
         """Ends the program, which reads no more lines. The rest of an answer is left out.
@@ -457,6 +461,15 @@ class Axis:
             self._process.kill()
             self._finish()
 
+    @property
+    def is_open(self) -> bool:
+        """Whether calls can be made: false behind `close`, and where the program has ended.
+
+        >>> axis.is_open
+        True
+        """
+        return self._is_open
+
     @contextlib.contextmanager
     def _alone(self) -> Iterator[None]:
         """Around each use of the pipes: one at a time. What leaves a line or a reply in pieces ends the program."""
@@ -464,8 +477,8 @@ class Axis:
             raise AxisError("the store was closed, or its program has ended")
         if self._is_busy:
             raise AxisError("one call at a time: this one is made inside of another, or by another thread")
-        self._is_busy = True
         try:
+            self._is_busy = True
             yield
         except _NoReply:
             raise ProgramEnded(*self._finish()) from None
@@ -492,10 +505,10 @@ class Axis:
                 raise _unexpected(line)
             return line
 
-    def _write(self, line: bytes) -> None:
-        """Sends a line. A short one is handed on in one piece, so that a DELETE never arrives cut."""
+    def _write(self, lines: bytes) -> None:
+        """Sends lines. A short one that is alone is handed on in one piece, so that a DELETE never arrives cut."""
         try:
-            self._process.stdin.write(line + b"\n")
+            self._process.stdin.write(lines)
             self._process.stdin.flush()
         except BrokenPipeError:
             raise _NoReply from None
@@ -511,7 +524,7 @@ class Axis:
         with contextlib.suppress(BrokenPipeError):
             process.stdin.close()
         with process.stdout, process.stderr:
-            while process.stdout.read(1 << 16):
+            while process.stdout.read(PIECE):
                 pass
             words = process.stderr.read().decode("utf-8", "replace")
         return process.wait(), words
@@ -520,21 +533,29 @@ class Axis:
 class _Ahead:
     """Lines sent ahead of their replies. A thread reads the replies, so that full pipes never make both programs wait."""
 
-    def __init__(self, axis: Axis, answered: Callable[[Any, Optional[AxisError]], None]) -> None:
+    def __init__(self, axis: Axis, answered: Callable[[Any, Optional[AxisError]], None], in_flight: int) -> None:
         self._axis = axis
         self._answered = answered
+        self._in_flight = in_flight
+        self._enough = max(in_flight // 2, 1)
         # Items whose answer is to come, each with what it was refused by before it was sent.
         self._waiting: Deque[Tuple[Any, Optional[AxisError]]] = collections.deque()
-        # True for each line that is sent, and False at the end.
-        self._expected: queue.SimpleQueue[bool] = queue.SimpleQueue()
-        self._replies: queue.SimpleQueue[bytes] = queue.SimpleQueue()
+        self._unsent: List[bytes] = []
+        # How many lines were sent whose replies were not taken yet.
+        self._sent = 0
+        self._has_ended = False
+        # How many more replies the thread reads; 0 ends it.
+        self._expected: queue.SimpleQueue[int] = queue.SimpleQueue()
+        # Replies as the thread hands them on, many at once where they come so; None where the program has ended.
+        self._arrived: queue.SimpleQueue[List[Optional[bytes]]] = queue.SimpleQueue()
+        self._replies: Deque[Optional[bytes]] = collections.deque()
         self._upserted = 0
 
-    def upsert(self, items: Iterable[Any], document_of: Callable[[Any], Document], in_flight: int) -> int:
+    def upsert(self, items: Iterable[Any], document_of: Callable[[Any], Document]) -> int:
         reader = threading.Thread(target=self._read_replies, daemon=True)
         reader.start()
         try:
-            self._send_all(items, document_of, in_flight)
+            self._take_all(items, document_of)
         except Exception:
             raise
         except BaseException:
@@ -542,42 +563,74 @@ class _Ahead:
             self._axis.kill()
             raise
         finally:
-            self._expected.put(False)
+            self._expected.put(0)
             reader.join()
         return self._upserted
 
-    def _send_all(self, items: Iterable[Any], document_of: Callable[[Any], Document], in_flight: int) -> None:
+    def _take_all(self, items: Iterable[Any], document_of: Callable[[Any], Document]) -> None:
         for item in items:
-            while len(self._waiting) >= in_flight or (self._waiting and not self._replies.empty()):
-                self._answer_next()
+            self._answer_some()
             try:
-                line = _line("UPSERT", document_of(item))
+                self._unsent.append(_line("UPSERT", document_of(item)) + b"\n")
+                self._waiting.append((item, None))
             except AxisError as error:
                 self._waiting.append((item, error))
-                continue
-            self._waiting.append((item, None))
-            self._expected.put(True)
-            try:
-                self._axis._write(line)
-            except _NoReply:
+            if not self._sent or len(self._unsent) >= self._enough:
+                self._send()
+            if self._has_ended:
                 break
+        self._send()
         while self._waiting:
             self._answer_next()
+
+    def _send(self) -> None:
+        """Sends the lines that are ready, in one piece."""
+        count = len(self._unsent)
+        if count:
+            self._sent += count
+            self._expected.put(count)
+            lines, self._unsent = self._unsent, []
+            try:
+                self._axis._write(b"".join(lines))
+            except _NoReply:
+                self._has_ended = True  # The first line without a reply tells it.
+
+    def _answer_some(self) -> None:
+        """Tells the answers that are there; where too many lines are in flight, waits for half of them."""
+        while self._waiting and (self._waiting[0][1] is not None or self._replies or not self._arrived.empty()):
+            self._answer_next()
+        if len(self._waiting) >= self._in_flight:
+            self._send()
+            while len(self._waiting) > self._enough:
+                self._answer_next()
 
     def _answer_next(self) -> None:
         """Tells the oldest item its answer, as soon as it is there."""
         item, error = self._waiting.popleft()
         if error is None:
-            reply = _whole(self._replies.get())
+            while not self._replies:
+                self._replies.extend(self._arrived.get())
+            reply = self._replies.popleft()
+            if reply is None:
+                raise _NoReply
+            self._sent -= 1
             error = None if reply == b"ok" else _refusal(reply)
         if error is None:
             self._upserted += 1
         self._answered(item, error)
 
     def _read_replies(self) -> None:
-        with contextlib.suppress(ValueError):  # of an output that was closed, which nobody waits for
-            while self._expected.get():
-                self._replies.put(self._axis._process.stdout.readline())
+        missing, rest = 0, b""
+        with contextlib.suppress(ValueError):  # The output was closed, and nobody waits for replies.
+            for count in iter(self._expected.get, 0):
+                missing += count
+                while missing > 0:
+                    piece = self._axis._process.stdout.read1(PIECE)
+                    replies: List[Optional[bytes]] = [None] * missing
+                    if piece:
+                        *replies, rest = (rest + piece).split(b"\n")
+                    missing -= len(replies)
+                    self._arrived.put(replies)
 
 
 class _NoReply(Exception):
@@ -592,9 +645,8 @@ def _raise_refusal(item: Any, error: Optional[AxisError]) -> None:
 def _line(word: str, value: Any) -> bytes:
     """The line with that JSON."""
     check(value)
-    text = json.dumps(value, ensure_ascii=False, separators=(",", ":"))
     # A lone surrogate makes a text that is no UTF-8, which the program refuses as no JSON.
-    return f"{word} {text}".encode("utf-8", "surrogatepass")
+    return f"{word} {ENCODER.encode(value)}".encode("utf-8", "surrogatepass")
 
 
 def _id_line(word: str, id: str) -> bytes:

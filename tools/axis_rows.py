@@ -46,9 +46,7 @@ def read_rows(files: Sequence[str]) -> Iterator[Row]:
             pieces = iter(lambda: source.read1(PIECE), b"")
             begin = _begin(pieces)
             is_list = begin.lstrip().startswith(b"[")
-            rows = (_elements if is_list else _lines)(file, itertools.chain([begin], pieces))
-            for row in rows:
-                yield dataclasses.replace(row, end=before + row.end)
+            yield from (_elements if is_list else _lines)(file, itertools.chain([begin], pieces), before)
         before += size_of([file]) or 0
 
 
@@ -79,9 +77,8 @@ def _begin(pieces: Iterator[bytes]) -> bytes:
     return begin[len(codecs.BOM_UTF8) :] if begin.startswith(codecs.BOM_UTF8) else begin
 
 
-def _lines(file: str, pieces: Iterable[bytes]) -> Iterator[Row]:
-    """The rows of JSON lines. A line that is no JSON is a row with a defect, but for the first."""
-    end = 0
+def _lines(file: str, pieces: Iterable[bytes], end: int) -> Iterator[Row]:
+    """The rows of JSON lines, behind so many bytes. A line that is no JSON is a row with a defect, but for the first."""
     is_first = True
     for number, line in enumerate(_split(file, pieces), 1):
         end += len(line) + 1
@@ -111,20 +108,20 @@ def _split(file: str, pieces: Iterable[bytes]) -> Iterator[bytes]:
     yield rest
 
 
-def _elements(file: str, pieces: Iterable[bytes]) -> Iterator[Row]:
-    """The rows of a list. Behind an element that is no JSON nobody knows where the next begins, so nothing follows it."""
-    text = _ListText(file, pieces)
-    text.take("[", "there is no list")
+def _elements(file: str, pieces: Iterable[bytes], end: int) -> Iterator[Row]:
+    """The rows of a list, behind so many bytes. What follows an element that is no JSON is not read: nobody knows where the
+    next one begins."""
+    text = _ListText(file, pieces, end)
+    text.skip("[")
     is_more = text.peek() != "]"
     number = 0
     while is_more:
         number += 1
         source, value = text.take_element(number)
         yield Row(file, number, source, value, None, text.end)
-        is_more = text.peek() == ","
-        if is_more:
-            text.take(",", "")
-    text.take("]", f"behind row {number} of the list there is no , and no ]")
+        is_more = text.skip(",")
+    if not text.skip("]"):
+        raise ToolError(f"{file}: behind row {number} of the list stands no , and no ]")
     if text.peek():
         raise ToolError(f"{file}: more text stands behind its list; a file has one list, or one document on each line")
 
@@ -132,8 +129,8 @@ def _elements(file: str, pieces: Iterable[bytes]) -> Iterator[Row]:
 class _ListText:
     """The text of a list, read piece by piece, and a place in it."""
 
-    def __init__(self, file: str, pieces: Iterable[bytes]) -> None:
-        self.end = 0
+    def __init__(self, file: str, pieces: Iterable[bytes], end: int) -> None:
+        self.end = end
         self._file = file
         self._pieces = iter(pieces)
         self._decoder = codecs.getincrementaldecoder("utf-8")()
@@ -148,11 +145,11 @@ class _ListText:
             if self._at < len(self._text) or not self._read_more():
                 return self._text[self._at : self._at + 1]
 
-    def take(self, character: str, defect: str) -> None:
-        """Passes over a character, which is the next one; else the file has this defect."""
-        if self.peek() != character:
-            raise ToolError(f"{self._file}: {defect}")
-        self._at += 1
+    def skip(self, character: str) -> bool:
+        """Passes over the character where it is the next one; whether it is."""
+        is_next = self.peek() == character
+        self._at += is_next
+        return is_next
 
     def take_element(self, number: int) -> Tuple[str, Any]:
         """The next element: its text and its value."""
@@ -178,7 +175,7 @@ class _ListText:
         try:
             more = self._decoder.decode(piece, final=not piece)
         except UnicodeDecodeError:
-            raise ToolError(f"{self._file} is no UTF-8 before its byte {self.end}") from None
+            raise ToolError(f"{self._file} is no UTF-8, as JSON has to be") from None
         self._text = self._text[self._at :] + more
         self._at = 0
         return bool(piece)
