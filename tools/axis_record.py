@@ -47,7 +47,7 @@ class Record:
         # In JSON a newline stands between tokens alone, where a space does as well.
         document = row.text.replace("\n", " ").replace("\r", " ")
         name, text = ("text", json.dumps(row.text)) if row.defect else ("document", document)
-        self._file.write(f'{about[:-1]}, "{name}": {text}}}\n'.encode("utf-8", "surrogatepass"))
+        self._file.write(f'{about[:-1]}, "{name}": {text}}}\n'.encode("utf-8", "backslashreplace"))
 
     def save(self) -> None:
         """Keeps the count, whole: a load that is ended in the middle leaves the one before."""
@@ -70,6 +70,8 @@ class Record:
         try:
             state = json.loads(self._count_path.read_text(encoding="utf-8"))
             load, self.rows, self.refused, size = (state[name] for name in ("load", "rows", "refused", "bytes"))
+            if not all(isinstance(count, int) and count >= 0 for count in (self.rows, self.refused, size)):
+                raise ValueError
         except (ValueError, KeyError, TypeError):
             raise ToolError(f"{self._count_path} is no count of a load: {begin_anew}") from None
         if load != self._load:

@@ -50,6 +50,9 @@ class Parser(argparse.ArgumentParser):
 
 def run(parser: Parser, work: Callable[[argparse.Namespace], int]) -> NoReturn:
     """Runs a tool on its words, and ends with the exit code that it gives."""
+    if None in (sys.stdin, sys.stdout, sys.stderr):
+        sys.exit(f"{parser.prog}: standard input, output and error have to be open")
+    sys.stdout.reconfigure(errors="backslashreplace")
     try:
         code = work(parser.parse_args())
         sys.stdout.flush()
