@@ -1,0 +1,10 @@
+pub mod Atoms
+pub mod Conjuncts
+pub mod Constants
+pub mod KeptWhole
+pub mod Operands
+pub mod Passing
+pub mod Recognised
+pub mod Silent
+pub mod Spans
+pub mod Wanted
