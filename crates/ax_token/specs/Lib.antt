@@ -1,0 +1,3 @@
+pub mod TokenBytes
+pub mod Reading
+pub mod Words
