@@ -131,3 +131,49 @@ fn a_text_that_is_none_is_damage(rt: HostRuntime) -> Result<(), Fail> {
     }
     Ok(())
 }
+
+/// What stands in front of the ten bytes of a document's text, and behind them, in an area whose part of a document begins
+/// at 9.
+const IN_FRONT: &[u8] =
+    b"\x01\x25\x00\x00\x00\x00\x00\x00\x00\x03\x01\x00\x00\x00\x0B\x00\x00\x00\x00";
+
+const BEHIND: &[u8] = b"\x01\x00\x00\x00\x00\x08\x00\x00\x00\x02\x00\x00\x00\x00\x00\x00\x00\x00";
+
+/// Ten bytes each that are JSON and the text of no document: a map without an id, a list, a text, and a map that is not
+/// written as a store writes it.
+const NO_DOCUMENTS: [&[u8]; 4] = [
+    b"{\"a\":1234}",
+    b"[12345678]",
+    b"\"abcdefgh\"",
+    b"{\"id\": \"\"}",
+];
+
+/// A store that has this as the text of a document.
+fn disk_with(alloc: Global, text: &[u8]) -> Result<MemDisk, Fail> {
+    let mut area = Vec::new(alloc);
+    area.extend_from_slice(IN_FRONT)?;
+    area.extend_from_slice(text)?;
+    area.extend_from_slice(BEHIND)?;
+    disk_of(alloc, ROOT, area.as_slice())
+}
+
+// A query that reads such a text whole ends the run; one that reads a part of it answers.
+#[test]
+fn a_text_of_no_document_is_damage(rt: HostRuntime) -> Result<(), Fail> {
+    let alloc = rt.alloc();
+    let damaged = Status::Damaged { extent: 1, at: 9 };
+    for text in NO_DOCUMENTS {
+        let mut disk = disk_with(alloc, text)?;
+        let whole = b"QUERY {\"query\":\"SELECT VALUE {\\\"d\\\":c} FROM c\"}\n";
+        let (status, written) = output_over(alloc, &mut disk, whole)?;
+        assert_eq!(rt; status, damaged);
+        assert_eq!(rt; written.as_slice(), b"".as_slice());
+    }
+    let mut disk = disk_with(alloc, b"{\"a\":1234}")?;
+    let lines =
+        b"QUERY {\"query\":\"SELECT VALUE c.a FROM c\"}\nQUERY {\"query\":\"SELECT VALUE {\\\"d\\\":c} FROM c WHERE c.a > 1\"}\n";
+    let (status, written) = output_over(alloc, &mut disk, lines)?;
+    assert_eq!(rt; status, damaged);
+    assert_eq!(rt; written.as_slice(), b"row 1234\nend 1\n".as_slice());
+    Ok(())
+}
