@@ -14,6 +14,10 @@ onto_onto xs x None = refl
 onto_onto xs x (Some p) = ap (λ ys. Some (ys, p.1)) (sym (append_assoc xs (x ∷ []) p.0))
 
 module _ {X : Type 0} (first : First X) where
+  -- so many more behind one that was read
+  abbrev later : ℕ → Option (X × List ℕ) → Option (List X × List ℕ)
+  later m = option_and_then (λ (y : X × List ℕ). option_map (λ (r : List X × List ℕ). (y.0 ∷ r.0, r.1)) (many first m y.1))
+
   pub begun : (n m : ℕ) (bytes rest : List ℕ) (xs : List X) → m ≡ n → rest ≡ bytes → xs ≡ []
       → onto xs (many first m rest) ≡ many first n bytes
   begun n m bytes rest xs e f none =
@@ -22,7 +26,7 @@ module _ {X : Type 0} (first : First X) where
   one_more : (m : ℕ) (rest : List ℕ) (x : X) (after : List ℕ) (xs : List X) → first rest ≡ Some (x, after)
       → onto xs (many first (suc m) rest) ≡ onto (xs ++ x ∷ []) (many first m after)
   one_more m rest x after xs e =
-      ap (λ (o : Option (X × List ℕ)). onto xs (option_and_then (λ (y : X × List ℕ). option_map (λ (r : List X × List ℕ). (y.0 ∷ r.0, r.1)) (many first m y.1)) o)) e
+      ap (λ (o : Option (X × List ℕ)). onto xs (later m o)) e
       ∙ onto_onto xs x (many first m after)
 
   pub goes_on : (n turn : ℕ) (rest : List ℕ) (x : X) (after : List ℕ) (xs ys : List X) (whole : Option (List X × List ℕ))
@@ -39,7 +43,7 @@ module _ {X : Type 0} (first : First X) where
       → turn < n → None ≡ first rest → onto xs (many first (n - turn) rest) ≡ whole → None ≡ whole
   breaks_off n turn rest xs whole low e known =
       let left : n - turn ≡ suc (n - (turn + 1)) = omega arith in
-      ap (λ (o : Option (X × List ℕ)). onto xs (option_and_then (λ (y : X × List ℕ). option_map (λ (r : List X × List ℕ). (y.0 ∷ r.0, r.1)) (many first (n - (turn + 1)) y.1)) o)) e
+      ap (λ (o : Option (X × List ℕ)). onto xs (later (n - (turn + 1)) o)) e
       ∙ sym (ap (λ (m : ℕ). onto xs (many first m rest)) left) ∙ known
 
   pub all_read : (n turn : ℕ) (rest : List ℕ) (xs : List X) (whole : Option (List X × List ℕ))

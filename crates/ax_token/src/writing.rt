@@ -15,7 +15,9 @@ pub fn write_token(alloc: Global, token: &PageToken) -> Result<Vec<u8>, Memory>
     requires { Fits token.now }
     ensures { IfOk result (λ word. IsWordOf token.now word.items) }
 {
-    let mut bytes = Vec::new(alloc);
+    // Room for all but order values and positions.
+    let room = token.text.as_slice().len() + token.params.as_slice().len() + 27;
+    let mut bytes = Vec::with_capacity(alloc, room)?;
     put_token(&mut bytes, token)?;
     word_of(alloc, bytes.as_slice())
 }
