@@ -100,11 +100,15 @@ def _lines(file: str, pieces: Iterable[bytes], end: int) -> Iterator[Row]:
 def _split(file: str, pieces: Iterable[bytes]) -> Iterator[bytes]:
     """The lines of bytes that come in pieces."""
     rest = b""
+    before = 0
     for piece in pieces:
         *lines, rest = (rest + piece).split(b"\n")
         yield from lines
+        before += len(lines)
         if len(rest) > LONGEST_ROW:
-            raise ToolError(f"{file} has a line of more than {LONGEST_ROW:,} bytes: write one document of JSON on each line")
+            raise ToolError(
+                f"{file}, line {before + 1} has more than {LONGEST_ROW:,} bytes; a file has one document of JSON on each line"
+            )
     yield rest
 
 
