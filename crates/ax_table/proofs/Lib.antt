@@ -7,3 +7,4 @@ mod Fitting
 mod Passing
 mod TableLaws
 mod Telling
+mod Answering

@@ -3,7 +3,7 @@
 use Rattle.std.proofs.Common.{◌≡◌, ℕ, ◌+◌, ◌-◌, ◌<◌, ◌≤◌, ◌==◌, Bool, true, false, cond, List, [], ◌∷◌, length, Option, Some, None, inl, inr, ◌⊎◌}
 use Rattle.std.proofs.Common.{refl, sym, ap, subst, ◌∙◌, ⊎_elim, arith}
 use Rattle.std.specs.Prelude.{IsSome, IsTrue, IfSome, IfNone, nat_le, is_some}
-use Rattle.std.proofs.lemmas.Bool.{cases_eq, cases_lt, eq-eqb, eqb-true, false_from_ne_true, le-leb, leb-false, leb-true, lt-leb}
+use Rattle.std.proofs.lemmas.Bool.{cases_Bool, cases_eq, cases_lt, eq-eqb, eqb-true, false_from_ne_true, le-leb, leb-false, leb-true, lt-leb}
 use Rattle.std.proofs.lemmas.List.Sums.{sum_by-cons}
 use Rattle.std.specs.Cmp.{nat_cmp_total}
 use Rattle.std.specs.FinMap as map
@@ -53,6 +53,50 @@ none_before : (all : Documents) (next : Option ℕ) → IsFirst all next → (nu
 none_before all None first number behind = first number
 none_before all (Some next) first number behind = first.1 number (leb-false next number behind)
 
+cases_order : (other number : ℕ) → (number < other) ⊎ ((other ≡ number) ⊎ (other < number))
+cases_order other number =
+    ⊎_elim (λ (less : number < other). inl less)
+    (λ (le : other ≤ number).
+    ⊎_elim (λ (more : other < number). inr (inr more)) (λ (ge : number ≤ other). inr (inl (omega (arith, le, ge)))) (cases_lt other number))
+    (cases_lt number other)
+
+-- how many are to come
+abbrev pub ahead_count : Option ℕ → Documents → ℕ
+ahead_count next all = map.len (map.retain_keys all (is_ahead next))
+
+kept_left : (next : Option ℕ) (all : Documents) → AreLeft next all (map.retain_keys all (is_ahead next))
+kept_left next all = record {
+  ahead = λ number is. kept number ∙ ap (λ b. cond b (map.get all number) None) is;
+  behind = λ number is. kept number ∙ ap (λ b. cond b (map.get all number) None) is;
+}
+  where
+    kept : (number : ℕ) → map.get (map.retain_keys all (is_ahead next)) number ≡ cond (is_ahead next number) (map.get all number) None
+    kept number =
+        map.get-retain_keys all (is_ahead next) number (λ other same. ap (is_ahead next) (sym (map.nat_cmp-IsAntisymmetric number other same)))
+
+one_left : (next : Option ℕ) (all a b : Documents) → AreLeft next all a → AreLeft next all b → a ≡ b
+one_left next all a b of_a of_b =
+    map.same_map nat_cmp_total map.nat_cmp-IsAntisymmetric a b
+    (λ number.
+    ⊎_elim (λ (ahead : is_ahead next number ≡ true). of_a.ahead number ahead ∙ sym (of_b.ahead number ahead))
+    (λ (behind : is_ahead next number ≡ false). of_a.behind number behind ∙ sym (of_b.behind number behind))
+    (cases_Bool (is_ahead next number)))
+
+some_len : (left : Documents) (number : ℕ) → map.contains_key left number ≡ true → 0 < map.len left
+some_len left number there =
+    ⊎_elim
+    (λ (none : map.len left ≡ 0).
+    absurd (not_there (map.get left number) (ap (λ m. map.get m number) (map.empty_of_len left none) ∙ map.get-empty nat_cmp number) there))
+    (λ (some : map.len left ≡ 0 → ⊥). positive (map.len left) some)
+    (cases_eq (map.len left) 0)
+  where
+    not_there : (found : Option Stored) → found ≡ None → is_some found ≡ true → ⊥
+    not_there None is there = cc
+    not_there (Some document) is there = cc
+
+    positive : (n : ℕ) → (n ≡ 0 → ⊥) → 0 < n
+    positive n some = ⊎_elim (λ (is : n ≡ 0). absurd (some is)) (λ (is : n ≡ 0 → ⊥). omega (arith, is)) (cases_eq n 0)
+
 module _ (all : Documents) (number : ℕ) (next : Option ℕ) (found : IfSome next (IsNextAfter all number))
     (none : IfNone next ((other : ℕ) → number < other → map.get all other ≡ None)) where
   above : (other : ℕ) → is_ahead next other ≡ true → number < other
@@ -69,6 +113,41 @@ module _ (all : Documents) (number : ℕ) (next : Option ℕ) (found : IfSome ne
           → is_ahead next other ≡ false → map.get all other ≡ None
       by_next None found none behind = none other less
       by_next (Some k) found none behind = found.least other less (leb-false k other behind)
+
+  still_ahead : (other : ℕ) → number < other → is_ahead (Some number) other ≡ true
+  still_ahead other less = le-leb number other (omega (arith, less))
+
+  -- what is to come behind a number is what was to come from it on, without it
+  pub left_next : (left : Documents) → AreLeft (Some number) all left → AreLeft next all (map.remove left number)
+  left_next left are = record {
+    ahead = λ other ahead.
+        let less : number < other = above other ahead in
+        get_not_removed left number other (λ e. omega (arith, less, e)) ∙ are.ahead other (still_ahead other less);
+    behind = λ other behind. gone other behind (cases_order other number);
+  }
+    where
+      gone : (other : ℕ) → is_ahead next other ≡ false → (number < other) ⊎ ((other ≡ number) ⊎ (other < number))
+          → map.get (map.remove left number) other ≡ None
+      gone other behind (inl less) =
+          get_not_removed left number other (λ e. omega (arith, less, e)) ∙ are.ahead other (still_ahead other less) ∙ between other less behind
+      gone other behind (inr (inl same)) = ap (map.get (map.remove left number)) same ∙ get_removed left number
+      gone other behind (inr (inr more)) =
+          get_not_removed left number other (λ e. omega (arith, more, e)) ∙ are.behind other (lt-leb number other more)
+
+  -- and it has one less
+  pub fewer_left : map.contains_key all number ≡ true → ahead_count next all < ahead_count (Some number) all
+  fewer_left held =
+      let left : Documents = map.retain_keys all (is_ahead (Some number)) in
+      let there : map.contains_key left number ≡ true =
+      ap is_some ((kept_left (Some number) all).ahead number (le-leb number number (omega arith))) ∙ held in
+      let same : map.remove left number ≡ map.retain_keys all (is_ahead next) =
+      one_left next all (map.remove left number) (map.retain_keys all (is_ahead next)) (left_next left (kept_left (Some number) all)) (kept_left next all)
+      in
+      let removed : map.len (map.remove left number) ≡ map.len left - 1 =
+      map.len-remove nat_cmp_total left number ∙ ap (λ b. cond b (map.len left - 1) (map.len left)) there in
+      let is : ahead_count next all ≡ map.len left - 1 = sym (ap map.len same) ∙ removed in
+      let some : 0 < map.len left = some_len left number there in
+      omega (arith, is, some)
 
 -- ---- counting
 
@@ -93,6 +172,12 @@ no_entries left none =
     let empty : left ≡ map.empty =
     map.same_map nat_cmp_total map.nat_cmp-IsAntisymmetric left map.empty (λ number. none number ∙ sym (map.get-empty nat_cmp number)) in
     no_element (map.entries left) (sym (map.len-entries left) ∙ ap map.len empty ∙ map.len-empty nat_cmp Stored)
+
+-- where no number is the first, there are no documents
+pub few_of_none : (all : Documents) (first : Option ℕ) → first ≡ None → IsFirst all first → map.len all ≤ most_documents
+few_of_none all first is none =
+    let empty : map.entries all ≡ [] = no_entries all (subst (IsFirst all) is none) in
+    omega (arith, map.len-entries all, ap length empty)
 
 module _ (honest : Bool) (contents : Contents) where
   pub pass_none : (next : Option ℕ) (table : Table) → IsFirst contents.documents next → IsStarted honest table contents
@@ -130,47 +215,23 @@ module _ (honest : Bool) (contents : Contents) where
     module _ (new : Table) (takes : TakesIn honest document.policy contents table new) (next : Option ℕ)
         (found : IfSome next (IsNextAfter contents.documents number))
         (none : IfNone next ((other : ℕ) → number < other → map.get contents.documents other ≡ None)) where
-      still_ahead : (other : ℕ) → number < other → is_ahead (Some number) other ≡ true
-      still_ahead other less = le-leb number other (omega (arith, less))
-
       pub pass_one : IsPassed honest contents next new
       pass_one = record {
         left = map.remove passed.left number;
-        are = record {
-          ahead = λ other ahead.
-              let less : number < other = above contents.documents number next found none other ahead in
-              get_not_removed passed.left number other (λ e. omega (arith, less, e)) ∙ passed.are.ahead other (still_ahead other less);
-          behind = λ other behind. gone other behind (cases_order other);
-        };
+        are = left_next contents.documents number next found none passed.left passed.are;
         counts = λ n.
             let removed : count (under n) (map.entries (map.remove passed.left number)) + bit (document.policy == n)
             ≡ count (under n) (map.entries passed.left) = count_remove (under n) passed.left number document still_left in
             let more : count_at new n ≡ count_at table n + bit (document.policy == n) = takes.counts n in
             let were : count_at table n + count (under n) (map.entries passed.left) ≡ documents_under n contents = passed.counts n in
             omega arith;
-        known = λ other found_there is behind. known_here other found_there is behind (cases_order other);
+        known = λ other found_there is behind. known_here other found_there is behind (cases_order other number);
         used = λ n some. used_here n some (cases_eq document.policy n);
         now = takes.current ∙ passed.now;
         there = takes.still contents.policy_now passed.there;
         given = takes.given passed.given;
       }
         where
-          cases_order : (other : ℕ) → (number < other) ⊎ ((other ≡ number) ⊎ (other < number))
-          cases_order other =
-              ⊎_elim (λ (less : number < other). inl less)
-              (λ (le : other ≤ number).
-              ⊎_elim (λ (more : other < number). inr (inr more)) (λ (ge : number ≤ other). inr (inl (omega (arith, le, ge)))) (cases_lt other number))
-              (cases_lt number other)
-
-          gone : (other : ℕ) → is_ahead next other ≡ false → (number < other) ⊎ ((other ≡ number) ⊎ (other < number))
-              → map.get (map.remove passed.left number) other ≡ None
-          gone other behind (inl less) =
-              get_not_removed passed.left number other (λ e. omega (arith, less, e)) ∙ passed.are.ahead other (still_ahead other less)
-              ∙ between contents.documents number next found none other less behind
-          gone other behind (inr (inl same)) = ap (map.get (map.remove passed.left number)) same ∙ get_removed passed.left number
-          gone other behind (inr (inr more)) =
-              get_not_removed passed.left number other (λ e. omega (arith, more, e)) ∙ passed.are.behind other (lt-leb number other more)
-
           known_here : (other : ℕ) (there : Stored) → map.get contents.documents other ≡ Some there → is_ahead next other ≡ false
               → (number < other) ⊎ ((other ≡ number) ⊎ (other < number)) → IsSome (policy_at new there.policy)
           known_here other there is behind (inl less) =

@@ -129,6 +129,11 @@ module _ {C : Type 0} (pages : C → CachedPages) (honest : Bool) (slot : ℕ) w
     };
   }
 
+  -- and one that is Ok
+  pub same_ok : {T U : Type 0} (value : T) (other : U) (a b : Store C) (x y : History) (l m : ℕ)
+      → ReadsBy {T = T} pages honest (Ok value) slot a b x y l m → ReadsBy {T = U} pages honest (Ok other) slot a b x y l m
+  same_ok value other a b x y l m reads = read_only value (Ok other) a b x y l m reads (λ fails. fails)
+
   -- ---- a part that was read
 
   fails_by : {T : Type 0} (result : Result T StoreFault) (old new : Bool) (l m : ℕ) → FailsAlone result old new l m → FailsBy result old new

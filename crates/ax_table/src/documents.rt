@@ -13,7 +13,7 @@ ghost use Rattle.ax_table.specs.Filling.{IsFilled, IsFirst, IsStarted, TakesIn};
 ghost use Rattle.ax_table.specs.Reads.{ReadsBy};
 
 use crate::damage::damaged_at;
-use crate::given::given_number;
+use crate::given::given_by;
 use crate::policies::give_policy;
 use ax_base::Steps;
 use ax_cache::PageCache;
@@ -131,7 +131,7 @@ fn take_document<D: Disk, C: PageCache, L: Ledger>(
     let Some(head) = store.head_of(number) else {
         unreachable!()
     };
-    let Some(policy) = given_number(store, u32::from(head.policy)) else {
+    let Some(policy) = given_by(store, head) else {
         return Err(damaged_document(store, number));
     };
     match give_policy(alloc, store, disk, slot, steps, table, policy) {

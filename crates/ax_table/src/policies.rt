@@ -1,8 +1,13 @@
 //! The policies of a store, read from their parts and put into a table.
 
-ghost use Rattle.std.specs.Prelude.{◌≡◌, ◌≤◌, ℕ, List, IsTrue, IfOk, IfErr, OnOk, is_some};
+ghost use Rattle.std.specs.Prelude.{◌≡◌, ◌≤◌, ℕ, List, Some, IsTrue, IfOk, IfErr, OnOk, is_some};
+ghost use Rattle.std.specs.FinMap as map;
+ghost use Rattle.ax_image_grammar.specs.Payloads.{IsTextOf};
 ghost use Rattle.ax_policy.specs.Default.{default_policy as the_default};
+ghost use Rattle.ax_policy.specs.Normal.{normal_tree};
+ghost use Rattle.ax_policy.specs.Policies.{policy_of};
 ghost use Rattle.ax_policy.specs.Table.{policy_at};
+ghost use Rattle.ax_store.specs.Faults.{IsDiskFault};
 ghost use Rattle.ax_store.specs.Slots.{IsRead, IsSlotOf};
 ghost use Rattle.ax_store.specs.Store.{AgreesUnlessFailed, store_contents, store_slots};
 ghost use Rattle.ax_table.specs.Damage.{TellsPolicy};
@@ -113,17 +118,43 @@ fn policy_under<D: Disk, C: PageCache, L: Ledger>(
     ensures attached { D.attached disk.new ≡ D.attached disk.old }
     ensures honest { D.is_honest disk.new ≡ D.is_honest disk.old }
 {
-    let page = Page::Policy(number);
-    if store.parts(page) == 0 {
+    if !has_part(store, number) {
         return by_default(alloc);
     }
-    let len = match store.read_part(disk, page, 0, slot, steps) {
+    let len = match store.read_part(disk, Page::Policy(number), 0, slot, steps) {
         Ok(len) => len,
         Err(fault) => return Err(fault),
     };
+    policy_read(alloc, store, slot, len, number)
+}
+
+/// Whether a part gave a policy this number.
+fn has_part<C>(store: &Store<C>, number: u8) -> bool
+    ensures { result ≡ map.contains_key (store_contents store.now).policies number }
+{
+    store.has_policy(u32::from(number))
+}
+
+/// The policy of a number whose part was read into the front of a slot, by its length.
+fn policy_read<C>(
+    alloc: Global,
+    store: &Store<C>,
+    slot: &StoreSlot,
+    len: usize,
+    number: u8,
+) -> Result<Policy, StoreFault>
+    requires part { IsTrue (map.contains_key (store_contents store.now).policies number) }
+    requires slot { IsSlotOf store.now slot.now }
+    requires room { len ≤ 65536 }
+    ensures policy { IfOk result (λ policy. policy_of (normal_tree policy) ≡ Some policy) }
+    ensures text { (text : List ℕ) → IsRead text (store_slots store.now) slot.now.number len → IfOk result (IsTextOf text) }
+    ensures told { (text : List ℕ) → map.get (store_contents store.now).policies number ≡ Some text
+        → IsRead text (store_slots store.now) slot.now.number len → IfErr result (TellsPolicy number store.now) }
+    ensures fault { IfErr result (λ fault. IsDiskFault fault → ⊥) }
+{
     match read_policy_text(alloc, text_in(store, slot, len)) {
         Ok(policy) => Ok(policy),
-        Err(PolicyTextFault::Outside) => Err(damaged_at(store, page)),
+        Err(PolicyTextFault::Outside) => Err(damaged_at(store, Page::Policy(number))),
         Err(PolicyTextFault::Memory) => Err(StoreFault::Memory),
     }
 }

@@ -29,7 +29,14 @@ pub fn read_policy_text(alloc: Global, text: &[u8]) -> Result<Policy, PolicyText
     ensures outside { result ≡ Err PolicyTextFault.Outside → (policy : PolicyOf) → IsTextOf text.now policy → ⊥ }
 {
     let tree = tree_in(alloc, text)?;
-    let policy = policy_in(alloc, &tree)?;
+    let policy = match policy_in(alloc, &tree) {
+        Ok(policy) => policy,
+        Err(fault) => {
+            drop(tree);
+            return Err(fault);
+        }
+    };
+    drop(tree);
     match is_normal(alloc, &policy, text) {
         Ok(true) => Ok(policy),
         Ok(false) => {
@@ -52,8 +59,9 @@ fn tree_in(alloc: Global, text: &[u8]) -> Result<Tree, PolicyTextFault>
     canonical_text_reads_back();
     let tree = match read_tree(alloc, text) {
         Ok(tree) => tree,
+        Err(TextFault::Json) => return Err(PolicyTextFault::Outside),
+        Err(TextFault::Number) => return Err(PolicyTextFault::Outside),
         Err(TextFault::Memory) => return Err(PolicyTextFault::Memory),
-        Err(_) => return Err(PolicyTextFault::Outside),
     };
     match is_spelled(alloc, &tree, text) {
         Ok(true) => Ok(tree),
