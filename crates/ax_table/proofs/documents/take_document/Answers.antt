@@ -1,4 +1,4 @@
-use Rattle.std.proofs.Common.{inl, inr, sym, ap, subst, ◌∙◌}
+use Rattle.std.proofs.Common.{◌<◌, Some, inl, inr, sym, ap, subst, ◌∙◌}
 use Rattle.ax_area.specs.Contents.{Stored}
 use Rattle.ax_policy.specs.Table.{count_at}
 use Rattle.ax_pages.specs.AfterPart.{most_documents}
@@ -10,13 +10,13 @@ use Rattle.ax_table.proofs.TableLaws.{taken_in}
 use Rattle.ax_table.proofs.Telling.{needed_told}
 use Rattle.ax_table.proofs.documents.take_document.Goals as goal
 
-pub returns-in_default-clause-told : goal.returns-in_default-clause-told
-returns-in_default-clause-told g c = λ honest works.
+pub returns-in_default-given_by-clause-told : goal.returns-in_default-given_by-clause-told
+returns-in_default-given_by-clause-told g c = λ honest works.
     absurd (document_refuted g.C.PageCache.pages _ c.args.store.now _ c.requires.agrees honest works c.args.number c.in-Some.head.policy
-    c.in-Some.ensures.policy c.in_default.ensures.none)
+    c.in-Some.ensures.policy c.in_default-given_by.ensures.none)
 
-pub returns-in_default-clause-reads : goal.returns-in_default-clause-reads
-returns-in_default-clause-reads g c =
+pub returns-in_default-given_by-clause-reads : goal.returns-in_default-given_by-clause-reads
+returns-in_default-given_by-clause-reads g c =
     nothing_read g.C.PageCache.pages _ _ _ c.args.store.now _ _ c.requires.agrees (λ fails. c.damaged_document.ensures fails)
 
 pub returns-in-Err-clause-told : goal.returns-in-Err-clause-told
@@ -39,6 +39,6 @@ pub returns-clause-takes : goal.returns-clause-takes
 returns-clause-takes g c = λ document held.
     let documents = (store_contents c.args.store.now).documents in
     let head = ap (λ n. Some n) c.in-Some-given_by.ensures.same ∙ c.in-Some.ensures.policy in
-    subst (λ n. TakesIn _ n (store_contents c.args.store.now) c.args.table.now c.count_in.new.self)
+    subst (λ n. TakesIn (g.D.Disk.is_honest c.args.disk.now) n (store_contents c.args.store.now) c.args.table.now c.count_in.new.self)
     (head_of documents c.args.number c.in-Some-given_by.policy head document held)
-    (taken_in _ c.in-Some-given_by.policy _ _ _ _ c.in-Ok.ensures.gives c.count_in.ensures)
+    (taken_in (g.D.Disk.is_honest c.args.disk.now) c.in-Some-given_by.policy _ _ _ _ c.in-Ok.ensures.gives c.count_in.ensures)
