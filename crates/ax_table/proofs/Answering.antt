@@ -1,12 +1,12 @@
 -- What calls answer, told as the calls above them answer it.
-use Rattle.std.proofs.Common.{◌≡◌, ℕ, ◌+◌, ◌<◌, ◌≤◌, Bool, true, false, List, [], ◌∷◌, length, Option, Some, None, Result, Ok, Err, inl, inr}
+use Rattle.std.proofs.Common.{◌≡◌, ℕ, ◌+◌, ◌<◌, ◌≤◌, Bool, true, false, List, [], length, Option, Some, None, Result, Ok, Err}
 use Rattle.std.proofs.Common.{refl, sym, ap, subst, ◌∙◌, ⊎_elim, arith}
-use Rattle.std.specs.Prelude.{IfErr, IfNone, IfOk, IfSome, IsSome, IsTrue, OnOk, is_some, option_map, slice_index_or, ◌==◌, ◌||◌}
+use Rattle.std.specs.Prelude.{IfErr, IfNone, IfOk, IfSome, IsTrue, OnOk, is_some, option_map, slice_index_or}
 use Rattle.std.specs.Option.{option_to_list, unwrap_or}
 use Rattle.std.specs.FinMap as map
 use Rattle.std.specs.Ordering.{nat_cmp}
 use Rattle.std.proofs.lemmas.Bool.{cases_eq}
-use Rattle.std.proofs.lemmas.Result.{IfErr-weaker, IfOk-weaker}
+use Rattle.std.proofs.lemmas.Result.{IfErr-weaker}
 use Rattle.ax_area.proofs.OneTelling.{same_some, some_or_none}
 use Rattle.ax_area.specs.Contents.{Contents, Stored}
 use Rattle.ax_area_laws.specs.Risen.{risen}
@@ -21,16 +21,16 @@ use Rattle.ax_policy.specs.declared.policy.Policy.{Policy}
 use Rattle.ax_policy.specs.Default.{default_policy}
 use Rattle.ax_policy.specs.Normal.{normal_text, normal_tree}
 use Rattle.ax_policy.specs.Policies.{policy_of}
-use Rattle.ax_policy.specs.Table.{Table, count_at, policy_at}
+use Rattle.ax_policy.specs.Table.{Table, count_at}
 use Rattle.ax_pool.specs.Frames.{Frames}
 use Rattle.ax_pool.specs.declared.slot.Slot.{Slot}
 use Rattle.ax_store.specs.declared.fault.StoreFault.{StoreFault}
-use Rattle.ax_store.specs.declared.fault.StoreFault.TheVariants.{Disk, Damaged, Newer, Memory}
+use Rattle.ax_store.specs.declared.fault.StoreFault.TheVariants.{Memory}
 use Rattle.ax_store.specs.declared.store.Store.{Store}
 use Rattle.ax_store.specs.declared.store.StoreFrames.{StoreFrames}
 use Rattle.ax_store.specs.Faults.{FailsByDisk, IsDiskFault}
 use Rattle.ax_store.specs.Slots.{AreOthersSame, IsRead, IsSlotOf}
-use Rattle.ax_store.specs.Store.{Agrees, AgreesUnlessFailed, SameButReads, SameButSlots, store_contents, store_failed, store_slots}
+use Rattle.ax_store.specs.Store.{AgreesUnlessFailed, SameButReads, SameButSlots, store_contents, store_failed, store_slots}
 use Rattle.ax_table.specs.Damage.{HaveTwins, TellsPolicy, TellsTable}
 use Rattle.ax_store.specs.Listed.{IsNextAfter}
 use Rattle.ax_table.specs.Filling.{AreApartBelow, Gives, HasBelow, HasNoneBelow, IsFilled, IsFirst, IsGivenNumber, IsPolicyOf, IsStarted, IsTwin}

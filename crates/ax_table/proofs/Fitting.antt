@@ -1,7 +1,7 @@
 -- What holds of the contents of a store that agrees with its disk: the policy now and that of each document was given,
 -- policies have no number above the last, and there are no more documents than a store holds.
-use Rattle.std.proofs.Common.{◌≡◌, ◌≤◌, ◌⊎◌, ℕ, Bool, true, false, List, [], ◌∷◌, Option, Some, None, inl, inr, refl, sym, ap, subst, ◌∙◌, ⊎_elim, arith}
-use Rattle.std.specs.Prelude.{IsTrue, is_some, nat_le, option_and_then, ◌==◌, ◌||◌}
+use Rattle.std.proofs.Common.{◌≡◌, ◌≤◌, ℕ, true, List, [], ◌∷◌, Option, Some, None, sym, ap, subst, ◌∙◌, ⊎_elim, arith}
+use Rattle.std.specs.Prelude.{is_some, ◌==◌}
 use Rattle.std.proofs.lemmas.Bool.{cases_eq, eqb-true, leb-true, or_cases}
 use Rattle.std.specs.FinMap as map
 use Rattle.std.specs.Ordering.{nat_cmp}
@@ -13,9 +13,9 @@ use Rattle.ax_area_laws.proofs.Rising.{told_risen}
 use Rattle.ax_cache.specs.Pages.{CachedPages}
 use Rattle.ax_disk.specs.model.Moments.{History}
 use Rattle.ax_frame.specs.Part.{PartValue}
-use Rattle.ax_pages.proofs.LastPart.{get_inserted, get_not_inserted, held, passed}
+use Rattle.ax_pages.proofs.LastPart.{get_not_inserted, held, passed}
 use Rattle.ax_pages.proofs.OneContents.{first_step, same_some}
-use Rattle.ax_pages.specs.AfterPart.{after_kind, after_parts, is_base, is_delta, is_document, is_gone, is_meta, kind_of, last_policy}
+use Rattle.ax_pages.specs.AfterPart.{after_kind, after_parts, kind_of, last_policy}
 use Rattle.ax_pages.specs.AfterPart.{after_base, after_delta, most_documents}
 use Rattle.ax_pages.specs.Contents as log
 use Rattle.ax_pages.specs.Leads.{LeadOn}

@@ -1,5 +1,5 @@
 -- A normal tree nests little and has no numbers, so that its text is that of no other tree.
-use Rattle.std.proofs.Common.{◌≡◌, ◌+◌, ◌≤◌, ℕ, List, [], ◌∷◌, map, max, Bool, true, false, ◌&&◌, refl, ap, ap₂, sym, subst, ◌∙◌, arith, rules}
+use Rattle.std.proofs.Common.{◌≡◌, ◌+◌, ◌≤◌, ℕ, List, [], ◌∷◌, map, Bool, true, false, ◌&&◌, refl, ap₂, ◌∙◌, arith, rules}
 use Rattle.std.specs.Prelude.{codes}
 use Rattle.std.specs.List.{list_all}
 use Rattle.ax_mean.specs.declared.query.Order.{Order}
@@ -119,8 +119,7 @@ plain_normal policy =
     ∷ record { name = codes "compositeIndexes"; value = trees.List (map composite_tree policy.composites) }
     ∷ record { name = codes "excludedPaths"; value = trees.List (path_trees false policy.rules) }
     ∷ record { name = codes "includedPaths"; value = trees.List (path_trees true policy.rules) }
-    ∷ record { name = codes "indexingMode"; value = trees.Text (mode_word policy.mode) } ∷ [])
-    (
+    ∷ record { name = codes "indexingMode"; value = trees.Text (mode_word policy.mode) } ∷ []) (
       plain_truth 3 policy.automatic,
       (
         plain_list 2 composite_tree policy.composites plain_composite,

@@ -2,7 +2,7 @@
 -- come, and what the table has of those before.
 use Rattle.std.proofs.Common.{◌≡◌, ℕ, ◌+◌, ◌-◌, ◌<◌, ◌≤◌, ◌==◌, Bool, true, false, cond, List, [], ◌∷◌, length, Option, Some, None, inl, inr, ◌⊎◌}
 use Rattle.std.proofs.Common.{refl, sym, ap, subst, ◌∙◌, ⊎_elim, arith}
-use Rattle.std.specs.Prelude.{IsSome, IsTrue, IfSome, IfNone, nat_le, is_some}
+use Rattle.std.specs.Prelude.{IsSome, IfSome, IfNone, nat_le, is_some}
 use Rattle.std.proofs.lemmas.Bool.{cases_Bool, cases_eq, cases_lt, eq-eqb, eqb-true, false_from_ne_true, le-leb, leb-false, leb-true, lt-leb}
 use Rattle.std.proofs.lemmas.List.Sums.{sum_by-cons}
 use Rattle.std.specs.Cmp.{nat_cmp_total}
@@ -10,13 +10,13 @@ use Rattle.std.specs.FinMap as map
 use Rattle.std.specs.Ordering.{nat_cmp}
 use Rattle.ax_area.proofs.OneTelling.{same_some, some_or_none}
 use Rattle.ax_area.specs.Contents.{Contents, Stored}
-use Rattle.ax_image_grammar.specs.Table.{IsTaken, IsUsed, policy_text}
+use Rattle.ax_image_grammar.specs.Table.{IsTaken, IsUsed}
 use Rattle.ax_pages.proofs.LastPart.{get_not_removed, get_removed}
 use Rattle.ax_pages.specs.AfterPart.{most_documents}
 use Rattle.ax_policy.specs.Table.{Table, count_at, policy_at}
 use Rattle.ax_store.specs.Listed.{IsNextAfter}
 use Rattle.ax_table.specs.Filling.{AreGiven, IsFilled, IsFirst, IsStarted, TakesIn}
-use Rattle.ax_table.specs.TableAgrees.{TableAgrees, documents_under}
+use Rattle.ax_table.specs.TableAgrees.{documents_under}
 use Rattle.ax_table.proofs.Counting.{Documents, count, count_remove}
 
 abbrev bit : Bool → ℕ

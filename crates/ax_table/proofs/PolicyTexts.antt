@@ -1,11 +1,11 @@
 -- Which policy a text is of, by the tree whose canonical text it is.
-use Rattle.std.proofs.Common.{◌≡◌, ◌≤◌, ℕ, List, Option, Some, None, refl, sym, ap, subst, ◌∙◌}
+use Rattle.std.proofs.Common.{◌≡◌, ◌≤◌, ℕ, List, Some, None, sym, ap, subst, ◌∙◌}
 use Rattle.ax_area.proofs.OneTelling.{same_some, some_or_none}
 use Rattle.ax_image_grammar.specs.Payloads.{IsTextOf}
 use Rattle.ax_policy.specs.declared.policy.Policy.{Policy}
 use Rattle.ax_policy.specs.Normal.{normal_text, normal_tree}
 use Rattle.ax_policy.specs.Policies.{policy_of}
-use Rattle.ax_text.specs.Reading.{Reading, reading, Stands, NotJson, NotWhole}
+use Rattle.ax_text.specs.Reading.{reading, Stands, NotJson, NotWhole}
 use Rattle.ax_tree.proofs.Fitting.{numbers_fit-well_formed}
 use Rattle.ax_tree.proofs.OneText.{one_text}
 use Rattle.ax_tree.specs.CanonicalText.{canonical_text}

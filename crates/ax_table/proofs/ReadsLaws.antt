@@ -1,7 +1,6 @@
 -- Calls that read, one after another, and what they leave by their answers.
-use Rattle.std.proofs.Common.{◌≡◌, ◌≤◌, ℕ, zero, suc, Bool, true, false, List, [], ◌∷◌, Result, Ok, Err, refl, sym, ap, subst, ◌∙◌, arith}
-use Rattle.std.specs.Prelude.{IsTrue, IfErr, OnErr, OnOk, slice_index_or, slice_set}
-use Rattle.ax_faults.specs.Faults.{Rose}
+use Rattle.std.proofs.Common.{◌≡◌, ℕ, zero, suc, Bool, true, false, List, [], ◌∷◌, Result, Ok, Err, refl, sym, ap, subst, ◌∙◌, arith}
+use Rattle.std.specs.Prelude.{IsTrue, slice_index_or, slice_set}
 use Rattle.ax_disk.specs.laws.StaysLaws.{idles_start, idles_join}
 use Rattle.ax_disk.specs.model.Moments.{History}
 use Rattle.ax_cache.specs.Pages.{CachedPages}
@@ -10,11 +9,11 @@ use Rattle.ax_store.proofs.StoreLemmas.{agrees_slots}
 use Rattle.ax_store.specs.declared.fault.StoreFault.{StoreFault}
 use Rattle.ax_store.specs.declared.fault.StoreFault.TheVariants.{Disk, Damaged, Newer, Memory}
 use Rattle.ax_store.specs.declared.store.Store.{Store}
-use Rattle.ax_store.specs.Faults.{FailsByDisk, HasDiskCause, IsDiskFault, UnlessDisk, unless_disk}
+use Rattle.ax_store.specs.Faults.{FailsByDisk, HasDiskCause, UnlessDisk}
 use Rattle.ax_store.specs.Reads.{FailsAlone, ReadsStore}
 use Rattle.ax_store.specs.Slots.{AreOthersSame}
 use Rattle.ax_store.specs.Store.{AgreesUnlessFailed, SameButReads, SameButSlots, store_failed, store_slots}
-use Rattle.ax_table.specs.Reads.{FailsBy, FailsWith, KeepsTaken, ReadsBy}
+use Rattle.ax_table.specs.Reads.{FailsBy, KeepsTaken, ReadsBy}
 
 -- ---- the bytes of other slots
 

@@ -1,21 +1,20 @@
 -- Tables that are filled policy by policy, and what their numbers say of the contents.
-use Rattle.std.proofs.Common.{◌≡◌, ℕ, zero, suc, ◌+◌, ◌<◌, ◌≤◌, ◌==◌, Bool, true, false, cond, List, [], ◌∷◌, length, Option, Some, None, inl, inr, ◌⊎◌}
+use Rattle.std.proofs.Common.{◌≡◌, ℕ, zero, suc, ◌+◌, ◌<◌, ◌≤◌, ◌==◌, Bool, true, false, cond, List, length, Option, Some, None, inl, inr, ◌⊎◌}
 use Rattle.std.proofs.Common.{refl, sym, ap, subst, ◌∙◌, ⊎_elim, arith}
-use Rattle.std.specs.Prelude.{◌≢◌, IsSome, IsTrue, is_some, option_map, replicate, slice_index_or, nat_lt, ◌||◌, if◌then◌else◌}
+use Rattle.std.specs.Prelude.{◌≢◌, IsSome, IsTrue, is_some, option_map, replicate, slice_index_or, nat_lt, if◌then◌else◌}
 use Rattle.std.specs.Option.{option_to_list}
 use Rattle.std.specs.FinMap as map
 use Rattle.std.proofs.lemmas.Bool.{cases_eq, cases_lt, eq-eqb, eqb-true, lt-ltb, ltb-true, or_cases, or_left, or_right}
 use Rattle.ax_area.proofs.OneTelling.{same_some, some_or_none}
-use Rattle.ax_area.specs.Contents.{Contents, is_given}
-use Rattle.ax_image_grammar.specs.Payloads.{IsTextOf}
-use Rattle.ax_image_grammar.specs.Table.{IsTaken, AreApart, policy_text}
+use Rattle.ax_area.specs.Contents.{Contents}
+use Rattle.ax_image_grammar.specs.Table.{IsTaken, AreApart}
 use Rattle.ax_policy.specs.declared.policy.Policy.{Policy}
 use Rattle.ax_policy.specs.declared.slot.Slot.{Slot}
 use Rattle.ax_policy.specs.Normal.{normal_text}
 use Rattle.ax_policy.specs.Table as table
 use Rattle.ax_policy.specs.Table.{SetsCount, Table, count_at, fresh, is_taken, no_slot, policy_at}
 use Rattle.ax_table.specs.Damage.{HaveTwins}
-use Rattle.ax_table.specs.Filling.{AreApartBelow, AreGiven, AreNumbersGiven, Gives, HasBelow, IsBegun, IsFilled, IsGivenNumber, IsPolicyOf, IsStarted, IsTwin}
+use Rattle.ax_table.specs.Filling.{AreApartBelow, AreGiven, AreNumbersGiven, Gives, IsBegun, IsFilled, IsGivenNumber, IsPolicyOf, IsStarted, IsTwin}
 use Rattle.ax_table.specs.Filling.{PutsGiven, TakesIn, taken_text}
 use Rattle.ax_table.proofs.Agreeing.{is_counted, one_more}
 

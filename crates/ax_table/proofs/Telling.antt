@@ -1,12 +1,10 @@
 -- What faults say of a table, and of which calls they are.
-use Rattle.std.proofs.Common.{◌≡◌, ℕ, List, Option, Some, None, Result, Ok, Err, inl, inr, refl, sym, ap, subst, ◌∙◌}
-use Rattle.std.specs.Prelude.{IfErr, slice_get}
+use Rattle.std.proofs.Common.{◌≡◌, ℕ, List, Option, Some, None, inl, inr, sym, ap, subst, ◌∙◌}
+use Rattle.std.specs.Prelude.{slice_get}
 use Rattle.std.specs.Option.{option_to_list}
 use Rattle.std.specs.FinMap as map
-use Rattle.std.specs.Ordering.{nat_cmp}
-use Rattle.ax_area.specs.Contents.{Contents}
 use Rattle.ax_area_laws.specs.Risen.{risen}
-use Rattle.ax_image_grammar.specs.Payloads.{IsPolicyText, IsTextOf}
+use Rattle.ax_image_grammar.specs.Payloads.{IsTextOf}
 use Rattle.ax_log.specs.Log.{log_area}
 use Rattle.ax_pages.specs.Area.{extent_number}
 use Rattle.ax_pages.specs.declared.page.Page.{Page}
@@ -16,7 +14,7 @@ use Rattle.ax_policy.specs.Table.{Table}
 use Rattle.ax_store.specs.declared.fault.StoreFault.{StoreFault}
 use Rattle.ax_store.specs.declared.fault.StoreFault.TheVariants.{Disk, Damaged, Newer, Memory}
 use Rattle.ax_store.specs.declared.store.Store.{Store}
-use Rattle.ax_store.specs.Faults.{FailsByDisk, IsDiskFault}
+use Rattle.ax_store.specs.Faults.{IsDiskFault}
 use Rattle.ax_store.specs.Kept.{Kept}
 use Rattle.ax_store.specs.Store.{SameButReads, store_area, store_contents, store_offsets}
 use Rattle.ax_table.specs.Damage.{HaveTwins, IsNeeded, IsPlacedAt, IsPolicySpoiled, TellsPolicy, TellsTable}

@@ -2,7 +2,7 @@
 -- the place of its part, or where two numbers that are in use or now have one text. These are the words of
 -- `HasNoTable`, of a store in place of an image.
 -- It is this project's own; it comes from no public document.
-use Rattle.std.specs.Prelude.{◌≡◌, ◌≢◌, ◌⊎◌, ◌<◌, ℕ, List, slice_get, Some}
+use Rattle.std.specs.Prelude.{◌≡◌, ◌≢◌, ◌⊎◌, ℕ, List, slice_get, Some}
 use Rattle.std.specs.FinMap as map
 use Rattle.ax_area.specs.Contents.{Contents}
 use Rattle.ax_image_grammar.specs.Payloads.{IsPolicyText}

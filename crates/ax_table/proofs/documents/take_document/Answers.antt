@@ -1,5 +1,4 @@
 use Rattle.std.proofs.Common.{◌<◌, Some, inl, inr, sym, ap, subst, ◌∙◌}
-use Rattle.ax_area.specs.Contents.{Stored}
 use Rattle.ax_policy.specs.Table.{count_at}
 use Rattle.ax_pages.specs.AfterPart.{most_documents}
 use Rattle.ax_store.specs.Store.{store_contents}

@@ -1,9 +1,9 @@
-use Rattle.std.proofs.Common.{◌≡◌, ℕ, Option, refl, sym, ap, subst, ◌∙◌}
+use Rattle.std.proofs.Common.{ℕ, Option, refl, sym, ap, subst, ◌∙◌}
 use Rattle.std.specs.Prelude.{IsTrue}
 use Rattle.ax_pool.specs.declared.slot.Slot.{Slot}
 use Rattle.ax_store.specs.declared.store.StoreFrames.{StoreFrames}
 use Rattle.ax_store.specs.Store.{store_contents}
-use Rattle.ax_table.proofs.Answering.{count_refuted, first_held, held_here, next_held, next_less, no_fault, pass_on, room_here, still_slot}
+use Rattle.ax_table.proofs.Answering.{count_refuted, first_held, held_here, next_held, next_less, pass_on, room_here, still_slot}
 use Rattle.ax_table.proofs.Passing.{IsPassed, pass_all, pass_none}
 use Rattle.ax_table.proofs.ReadsLaws.{agrees_told, nothing_read, read_on}
 use Rattle.ax_table.proofs.Telling.{table_back}
