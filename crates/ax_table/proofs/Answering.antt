@@ -193,18 +193,6 @@ meta_there parts now is none = by_meta parts.meta refl
 
 -- ---- twins
 
-pub none_more : (table : Table) (text : List ℕ) (n : ℕ) → HasNoneBelow table text n → (taken_text table n ≡ Some text → ⊥) → HasNoneBelow table text (n + 1)
-none_more table text n below here other less is =
-    ⊎_elim (λ (same : other ≡ n). here (ap (taken_text table) (sym same) ∙ is))
-    (λ (apart : other ≡ n → ⊥). below other (omega (arith, less, apart)) is) (cases_eq other n)
-
-pub apart_more : (table : Table) (n : ℕ) → AreApartBelow table n → ((text : List ℕ) → taken_text table n ≡ Some text → HasNoneBelow table text n)
-    → AreApartBelow table (n + 1)
-apart_more table n below here other text less is =
-    ⊎_elim
-    (λ (same : other ≡ n). subst (HasNoneBelow table text) (sym same) (here text (ap (taken_text table) (sym same) ∙ is)))
-    (λ (apart : other ≡ n → ⊥). below other text (omega (arith, less, apart)) is) (cases_eq other n)
-
 pub twin_by : {E : Type 0} (table : Table) (number : ℕ) (text : List ℕ) (result : Result Bool E) → number ≤ 8 → Some text ≡ taken_text table number
     → IfOk result (λ has. has ≡ true → HasBelow table text number) → IfOk result (λ yes. yes ≡ true → IsTwin table number)
 twin_by table number text (Ok found) few is has = λ e. record { few = few; text = text; here = sym is; below = has e }
@@ -268,7 +256,8 @@ module _ {C : Type 0} (now then : Bool) (same : now ≡ then) (old here new : St
       subst (λ c. TakesIn then there.0.policy c table more) here_is
       (subst (λ h. TakesIn h there.0.policy (store_contents here) table more) same
       (takes there.0 (ap (λ (c : Contents). map.get c.documents number) here_is ∙ there.1))) in
-      pass_one then (store_contents old) number there.0 table there.1 (subst (λ (o : Option ℕ). IsPassed then (store_contents old) o table) is passed) more taken
+      pass_one then (store_contents old) number there.0 table there.1 (subst (λ (o : Option ℕ). IsPassed then (store_contents old) o table) is passed) more
+      taken
       next (subst (λ (c : Contents). IfSome next (IsNextAfter c.documents number)) new_is found)
       (subst (λ (c : Contents). IfNone next ((other : ℕ) → number < other → map.get c.documents other ≡ None)) new_is none)
     where

@@ -181,13 +181,6 @@ module _ {C : Type 0} (pages : C → CachedPages) (now then : Bool) (same : now 
   read_on value result a b c x y z l m n first second =
       read_then pages then there value result a b c x y z l m n first (told_so result b c y z m n second)
 
-  -- and the call before passes the fault on
-  pub fault_on : {T U V : Type 0} (value : U) (fault : StoreFault) (a b c : Store C) (x y z : History) (l m n : ℕ)
-      → ReadsBy {T = U} pages then (Ok value) there a b x y l m → ReadsBy {T = T} pages now (Err fault) here b c y z m n
-      → ReadsBy {T = V} pages then (Err fault) there a c x z l n
-  fault_on {T = T} {V = V} value fault a b c x y z l m n first second =
-      same_fault pages then there {T = T} {U = V} fault a c x z l n (read_on value (Err fault) a b c x y z l m n first second)
-
 -- ---- between a slot that is taken and given back
 
 module _ {C : Type 0} (pages : C → CachedPages) (honest : Bool) where
@@ -225,6 +218,7 @@ module _ {C : Type 0} (pages : C → CachedPages) (honest : Bool) where
           ∙ given_back (store_slots old).taken slot free;
       bytes = λ other taken.
           ap (λ (frames : List (List ℕ)). slice_index_or frames other []) new_bytes
-          ∙ reads.others.bytes other (λ e. not_both (store_slots old).taken slot (subst (λ (n : ℕ). slice_index_or (store_slots old).taken n false ≡ true) e taken) free)
+          ∙ reads.others.bytes other (λ e. not_both (store_slots old).taken slot (subst (λ (n : ℕ). slice_index_or (store_slots old).taken n false ≡ true) e
+          taken) free)
           ∙ ap (λ (frames : List (List ℕ)). slice_index_or frames other []) took_bytes;
     }

@@ -82,9 +82,6 @@ module _ {C : Type 0} where
   pub disk_told : (number : ℕ) (store : Store C) (fault : StoreFault) → fault ≡ Disk → TellsPolicy number store fault
   disk_told number store fault is = let P : StoreFault → Type 0 = λ f. TellsPolicy number store f in subst P (sym is) tt
 
-  pub memory_told : (number : ℕ) (store : Store C) (fault : StoreFault) → fault ≡ Memory → TellsPolicy number store fault
-  memory_told number store fault is = let P : StoreFault → Type 0 = λ f. TellsPolicy number store f in subst P (sym is) tt
-
   -- the text of a part was read and is that of no policy
   pub spoiled_told : (number : ℕ) (store : Store C) (text : List ℕ) (fault : StoreFault) → map.get (store_contents store).policies number ≡ Some text
       → ((policy : PolicyOf) → IsTextOf text policy → ⊥) → IsPlacedAt store (Policy number) fault → TellsPolicy number store fault

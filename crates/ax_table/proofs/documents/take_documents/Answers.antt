@@ -31,11 +31,13 @@ loop-next-init g c = record {
 
 pub take_document-requires-clause-held : goal.take_document-requires-clause-held
 take_document-requires-clause-held g c =
-    held_here (g.D.Disk.is_honest c.args.disk.now) c.args.store.now c.loop-next.store c.loop-next.invariant.reads.reads.same c.in-Some.number _ c.in-Some.is c.loop-next.invariant.held
+    held_here (g.D.Disk.is_honest c.args.disk.now) c.args.store.now c.loop-next.store c.loop-next.invariant.reads.reads.same c.in-Some.number _ c.in-Some.is
+    c.loop-next.invariant.held
 
 pub take_document-requires-clause-room : goal.take_document-requires-clause-room
 take_document-requires-clause-room g c =
-    room_here (g.D.Disk.is_honest c.args.disk.now) c.args.store.now c.loop-next.store c.loop-next.invariant.reads.reads.same c.in-Some.number _ c.in-Some.is _ c.loop-next.invariant.passed
+    room_here (g.D.Disk.is_honest c.args.disk.now) c.args.store.now c.loop-next.store c.loop-next.invariant.reads.reads.same c.in-Some.number _ c.in-Some.is
+    _ c.loop-next.invariant.passed
     c.loop-next.invariant.few
 
 pub take_document-requires-clause-slot : goal.take_document-requires-clause-slot
@@ -58,7 +60,8 @@ returns-in-Err-take_document-clause-reads g c =
 
 pub loop-next-smaller : goal.loop-next-smaller
 loop-next-smaller g c =
-    next_less _ _ c.loop-next.invariant.honest c.args.store.now c.loop-next.store c.take_document.new.store c.loop-next.invariant.reads.reads.same c.in-Ok-take_document.ensures.reads.reads.same
+    next_less _ _ c.loop-next.invariant.honest c.args.store.now c.loop-next.store c.take_document.new.store c.loop-next.invariant.reads.reads.same
+    c.in-Ok-take_document.ensures.reads.reads.same
     c.in-Some.number c.next_document-next.result _ c.in-Some.is c.next_document-next.ensures.found c.next_document-next.ensures.none
     c.loop-next.invariant.held
 
@@ -67,10 +70,12 @@ loop-next-preserved g c =
     let inv = c.loop-next.invariant in
     let more = c.in-Ok-take_document.ensures in
     record {
-      passed = pass_on _ _ inv.honest c.args.store.now c.loop-next.store c.take_document.new.store inv.reads.reads.same more.reads.reads.same c.in-Some.number _ _
+      passed = pass_on _ _ inv.honest c.args.store.now c.loop-next.store c.take_document.new.store inv.reads.reads.same more.reads.reads.same
+          c.in-Some.number _ _
           c.next_document-next.result _ c.in-Some.is inv.held inv.passed more.takes c.next_document-next.ensures.found c.next_document-next.ensures.none;
       few = inv.few;
-      held = next_held _ _ inv.honest c.args.store.now c.loop-next.store c.take_document.new.store inv.reads.reads.same more.reads.reads.same c.in-Some.number c.next_document-next.result
+      held = next_held _ _ inv.honest c.args.store.now c.loop-next.store c.take_document.new.store inv.reads.reads.same more.reads.reads.same
+          c.in-Some.number c.next_document-next.result
           c.next_document-next.ensures.found;
       reads = read_on g.C.PageCache.pages _ _ inv.honest _ _ (ap (λ (slot : Slot StoreFrames). slot.number) inv.slot) _ _ _ _ _ _ _ _ _ _ _
           inv.reads more.reads;
@@ -83,4 +88,5 @@ loop-next-preserved g c =
 pub returns-clause-filled : goal.returns-clause-filled
 returns-clause-filled g c =
     pass_all (g.D.Disk.is_honest c.args.disk.now) (store_contents c.args.store.now) c.loop-next.table c.loop-next.invariant.few
-    (subst (λ (o : Option ℕ). IsPassed (g.D.Disk.is_honest c.args.disk.now) (store_contents c.args.store.now) o c.loop-next.table) c.in_default.is c.loop-next.invariant.passed)
+    (subst (λ (o : Option ℕ). IsPassed (g.D.Disk.is_honest c.args.disk.now) (store_contents c.args.store.now) o c.loop-next.table) c.in_default.is
+    c.loop-next.invariant.passed)

@@ -14,7 +14,8 @@ returns-in-Ok-clause-text g c = λ text read. subst (λ t. IsTextOf t c.in-Ok.po
 pub returns-in-Err-Outside-clause-told : goal.returns-in-Err-Outside-clause-told
 returns-in-Err-Outside-clause-told g c = λ text held read.
     spoiled_told c.args.number c.args.store.now text c.damaged_at.result held
-    (λ policy of. c.in-Err-Outside.ensures.outside (ap (λ fault. Err fault) c.in-Err-Outside.field-0-is) policy (subst (λ t. IsTextOf t policy) (sym (c.text_in.ensures text read)) of)) c.damaged_at.ensures
+    (λ policy of. c.in-Err-Outside.ensures.outside (ap (λ fault. Err fault) c.in-Err-Outside.field-0-is) policy (subst (λ t. IsTextOf t policy) (sym
+    (c.text_in.ensures text read)) of)) c.damaged_at.ensures
 
 pub returns-in-Err-Outside-clause-fault : goal.returns-in-Err-Outside-clause-fault
 returns-in-Err-Outside-clause-fault g c = placed_apart c.args.store.now (Policy c.args.number) c.damaged_at.result c.damaged_at.ensures

@@ -43,7 +43,8 @@ policy_read-requires-clause-part g c =
     ∙ sym c.has_part.ensures ∙ c.if-not-has_part.false
 
 pub policy_read-requires-clause-slot : goal.policy_read-requires-clause-slot
-policy_read-requires-clause-slot g c = still_slot c.args.store.now c.read_part.new.self c.args.slot.now.number _ _ c.in-Ok.ensures.others c.in-Ok.ensures.slot c.requires.slot
+policy_read-requires-clause-slot g c =
+    still_slot c.args.store.now c.read_part.new.self c.args.slot.now.number _ _ c.in-Ok.ensures.others c.in-Ok.ensures.slot c.requires.slot
 
 pub returns-clause-policy : goal.returns-clause-policy
 returns-clause-policy g c =

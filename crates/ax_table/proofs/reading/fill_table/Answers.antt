@@ -17,7 +17,8 @@ take_documents-requires-clause-started g c =
     started_told _ _ c.in-Ok.ensures.honest c.args.store.now _ c.in-Ok.ensures.reads.reads.same _ c.in-Ok.ensures.started
 
 pub take_documents-requires-clause-slot : goal.take_documents-requires-clause-slot
-take_documents-requires-clause-slot g c = still_slot c.args.store.now c.take_now.new.store _ _ _ c.in-Ok.ensures.reads.others c.in-Ok.ensures.slot c.requires.slot
+take_documents-requires-clause-slot g c =
+    still_slot c.args.store.now c.take_now.new.store _ _ _ c.in-Ok.ensures.reads.others c.in-Ok.ensures.slot c.requires.slot
 
 pub take_documents-requires-clause-agrees : goal.take_documents-requires-clause-agrees
 take_documents-requires-clause-agrees g c =

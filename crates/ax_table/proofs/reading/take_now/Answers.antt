@@ -37,7 +37,8 @@ give_policy-requires-clause-given g c =
     given_told c.args.store.now _ c.in-Some.now c.in-Ok.ensures.reads.reads.same c.in-Some.ensures.given
 
 pub give_policy-requires-clause-slot : goal.give_policy-requires-clause-slot
-give_policy-requires-clause-slot g c = still_slot c.args.store.now c.put_policy.new.store _ _ _ c.in-Ok.ensures.reads.others c.in-Ok.ensures.slot c.requires.slot
+give_policy-requires-clause-slot g c =
+    still_slot c.args.store.now c.put_policy.new.store _ _ _ c.in-Ok.ensures.reads.others c.in-Ok.ensures.slot c.requires.slot
 
 pub give_policy-requires-clause-agrees : goal.give_policy-requires-clause-agrees
 give_policy-requires-clause-agrees g c =
@@ -61,7 +62,8 @@ pub returns-clause-started : goal.returns-clause-started
 returns-clause-started g c =
     started (g.D.Disk.is_honest c.args.disk.now) c.in-Some.now (store_contents c.args.store.now) _ _ _ (c.in-Some.ensures.same ∙ c.meta.ensures.now)
     (begun (g.D.Disk.is_honest c.args.disk.now) (store_contents c.args.store.now) _
-    (subst (λ (t : Table). PutsGiven (g.D.Disk.is_honest c.args.disk.now) 0 (store_contents c.args.store.now) t c.put_policy.new.table) c.requires.fresh c.in-Ok.ensures.puts))
+    (subst (λ (t : Table). PutsGiven (g.D.Disk.is_honest c.args.disk.now) 0 (store_contents c.args.store.now) t c.put_policy.new.table) c.requires.fresh
+    c.in-Ok.ensures.puts))
     (gives_told _ _ c.in-Ok.ensures.honest c.args.store.now _ c.in-Ok.ensures.reads.reads.same c.in-Some.now _ _ c.in-Ok-give_policy.ensures.gives)
     c.start.ensures
 
