@@ -106,7 +106,7 @@ module _ (old mid : History) where
       contents = subst (λ (kept : Kept). ContentsHoldAll (risen kept.contents) before) (sym same) opened_hold;
       recent = λ id number is.
           let there = subst (λ l. Contains l (id, number)) none is in
-          let not : ⊥ = omega (arith, there.1.0) in
+          let not : ⊥ = omega (arith, there.1) in
           absurd not;
     }
 

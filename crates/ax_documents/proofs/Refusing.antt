@@ -45,7 +45,7 @@ taken_is_zero number (inr used) =
 -- what a store that agrees with the disk says, the image tells
 module _ {C : Type 0} (pages : C → CachedPages) (store : Store C) (history : History) (agrees : Agrees pages store history)
     (may : MayLeave history.unsynced history.reads) where
-  live_by : (told : List Told) → TellOn newest agrees.frames 0 told → Lead told no_contents (store_contents store)
+  abbrev live_by : (told : List Told) → TellOn newest agrees.frames 0 told → Lead told no_contents (store_contents store)
       → IsLiveWith newest newest told (store_contents store) history.reads
   live_by told tell lead =
       let logged = agrees.logged in
@@ -121,7 +121,7 @@ table_refuses old mid new store opened unchanged may idles fault.Disk tells = tt
 table_refuses old mid new store opened unchanged may idles (fault.Newer version) tells = absurd tells
 table_refuses old mid new store opened unchanged may idles fault.Memory tells = tt
 table_refuses old mid new store opened unchanged may idles (fault.Damaged extent at) tells =
-    ((store_area store, (tells.0, inr (by_cause tells.1))), keeps_idle old mid new keeps idles)
+    ((store_area store, tells.0, inr (by_cause tells.1)), keeps_idle old mid new keeps idles)
   where
     keeps : Keeps old mid
     keeps = unchanged (not_fresh old.reads store extent at opened.has tells)

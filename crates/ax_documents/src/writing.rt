@@ -172,7 +172,10 @@ impl<C: PageCache> Documents<C> {
             Ok(None) => return Ok(None),
             Err(fault) => return Err(fault),
         };
-        text_under(self.alloc, &mut self.store, disk, number, steps)
+        match text_under(self.alloc, &mut self.store, disk, number, steps) {
+            Ok(text) => Ok(text),
+            Err(fault) => Err(fault),
+        }
     }
 }
 
