@@ -1,21 +1,21 @@
--- Documents that work give the calls of the store what these ask for, and work again where nothing but reads came.
-use Rattle.std.proofs.Common.{◌≡◌, ◌≤◌, ℕ, List, Bool, true, false, Result, Ok, Err, refl, sym, ap, subst, ◌∙◌, arith}
-use Rattle.std.specs.Prelude.{count_by, not, replicate}
-use Rattle.ax_cache.specs.Pages.{CachedPages}
-use Rattle.ax_disk.specs.model.Moments.{History}
-use Rattle.ax_pool.specs.Frames.{free_count}
-use Rattle.ax_store.specs.Slots.{HasAllFree, slot_count}
-use Rattle.ax_store.specs.Store.{AgreesUnlessFailed, store_slots}
-use Rattle.ax_store.specs.declared.store.Store.{Store}
-use Rattle.ax_documents.specs.Documents.{DocumentsWork}
-use Rattle.ax_documents.specs.declared.documents.Documents.{Documents}
+-- The text of the document of an id.
+use Rattle.std.proofs.Common.{◌≡◌, ℕ, List, Option, Some, sym, ap, ◌∙◌}
+use Rattle.std.specs.Prelude.{option_map}
+use Rattle.std.specs.FinMap as finite
+use Rattle.ax_area.specs.Contents.{Contents, Stored}
+use Rattle.ax_container.specs.Container.{Container, Entry, tree_of}
+use Rattle.ax_image.specs.Documents.{ContentsHold}
+use Rattle.ax_image_pairs.specs.Found.{number_in}
+use Rattle.ax_tree.specs.CanonicalText.{canonical_text}
+use Rattle.ax_write.proofs.FoundNumbers.{number_there, text_of}
 
--- of 64 free slots two are free
-pub two_free : {C : Type 0} (store : Store C) → HasAllFree store → 2 ≤ free_count (store_slots store)
-two_free store free =
-    let all : free_count (store_slots store) ≡ 64 = ap (count_by not) free in
-    omega (arith, all)
-
-pub agrees_at_work : {C : Type 0} (pages : C → CachedPages) (honest : Bool) (documents : Documents C) (history : History)
-    → DocumentsWork pages honest documents history → AgreesUnlessFailed pages honest documents.store history
-agrees_at_work pages honest documents history works = λ h unfailed. works.agrees h
+-- the text under the number that a container has for an id is that of the document of the id
+pub text_of_id : (contents : Contents) (before : Container) → ContentsHold contents before → (id : List ℕ) (number : ℕ)
+    → Some number ≡ number_in id before
+    → option_map (λ (document : Stored). document.text) (finite.get contents.documents number)
+    ≡ option_map canonical_text (tree_of id before)
+text_of_id contents before hold id number is =
+    let there = number_there id before number is in
+    ap (λ n. option_map (λ (document : Stored). document.text) (finite.get contents.documents n)) there.2
+    ∙ text_of contents before id there.0 hold there.1
+    ∙ sym (ap (λ (o : Option Entry). option_map canonical_text (option_map (λ (entry : Entry). entry.tree) o)) there.1)

@@ -1,21 +1,27 @@
 //! The writes of documents, and READ.
 
 ghost use Rattle.std.specs.Prelude.{◌≡◌, ◌≤◌, ◌+◌, ℕ, List, Some, IsTrue, IfErr, IfOk, false, option_map};
+ghost use Rattle.std.specs.FinMap as map;
 ghost use Rattle.ax_container.specs.Container.{Container, contains, tree_of};
 ghost use Rattle.ax_container.specs.Writes.{exchanged, inserted, removed, upserted};
+ghost use Rattle.ax_index.specs.Damage.{FailsBy};
 ghost use Rattle.ax_lines.specs.Asked.{IsStorable};
+ghost use Rattle.ax_store.specs.Faults.{HasDiskCause};
+ghost use Rattle.ax_store.specs.Reads.{ReadsStore};
+ghost use Rattle.ax_store.specs.Store.{AgreesUnlessFailed, store_contents, store_failed, store_slots};
 ghost use Rattle.ax_tree.specs.CanonicalText.{canonical_text};
 ghost use Rattle.ax_tree.specs.Document.{document_id};
-ghost use Rattle.ax_write.specs.Writes.{IsOfCreation, IsOfHeld, IsOfUpsert, Looks, TellsWrite, WriteLeaves, of_store};
+ghost use Rattle.ax_write.specs.Writes.{IsOfCreation, IsOfHeld, IsOfUpsert, Looks, TellsDamage, TellsWrite, WriteLeaves, of_store};
 ghost use Rattle.ax_documents.specs.Documents.{DocumentsHold, DocumentsWork, WorkUnlessDisk};
 
 use crate::documents::Documents;
 use ax_base::Steps;
 use ax_cache::PageCache;
 use ax_disk::Disk;
-use ax_store::StoreFault;
+use ax_store::{Store, StoreFault};
 use ax_tree::Tree;
 use ax_write::{WriteFault, create, delete, find_number, replace, upsert};
+use std::alloc::Global;
 use std::sync::ledger::Ledger;
 
 impl<C: PageCache> Documents<C> {
@@ -166,6 +172,37 @@ impl<C: PageCache> Documents<C> {
             Ok(None) => return Ok(None),
             Err(fault) => return Err(fault),
         };
-        self.store.fetch_text(self.alloc, disk, number, steps)
+        match text_under(self.alloc, &mut self.store, disk, number, steps) {
+            Ok(text) => Ok(text),
+            Err(fault) => Err(fault),
+        }
+    }
+}
+
+/// The text of the document of a number; `None` exactly where none is held. It counts one step.
+fn text_under<D: Disk, C: PageCache, L: Ledger>(
+    alloc: Global,
+    store: &mut Store<C>,
+    disk: &mut D,
+    number: u32,
+    steps: &mut Steps<L>,
+) -> Result<Option<Vec<u8>>, StoreFault>
+    requires agrees { AgreesUnlessFailed C.pages (D.is_honest disk.old) store.old (D.history disk.old (D.attached disk.old)) }
+    ensures text { IsTrue (D.is_honest disk.old) → IfOk result (λ found. option_map (λ text. text.items) found
+        ≡ option_map (λ document. document.text) (map.get (store_contents store.old).documents number)) }
+    ensures told { IfErr result (TellsDamage store.old) }
+    ensures reads { ReadsStore C.pages (D.is_honest disk.old) store.old store.new
+        (D.history disk.old (D.attached disk.old)) (D.history disk.new (D.attached disk.new))
+        (D.faults disk.old) (D.faults disk.new) }
+    ensures slots { store_slots store.new ≡ store_slots store.old }
+    ensures ticked { steps.new ≡ steps.old + 1 }
+    ensures fails { FailsBy result (store_failed store.old) (store_failed store.new) }
+    ensures cause { store_failed store.old ≡ false → HasDiskCause result (D.faults disk.old) (D.faults disk.new) }
+    ensures attached { D.attached disk.new ≡ D.attached disk.old }
+    ensures honest { D.is_honest disk.new ≡ D.is_honest disk.old }
+{
+    match store.fetch_text(alloc, disk, number, steps) {
+        Ok(text) => Ok(text),
+        Err(fault) => Err(fault),
     }
 }

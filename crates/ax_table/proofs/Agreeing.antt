@@ -42,7 +42,7 @@ one_less number old new sets some n =
     omega arith)
     (cases_eq n number)
 
-one_more : (number : ℕ) (old new : Table) → SetsCount number (count_at old number + 1) old new
+pub one_more : (number : ℕ) (old new : Table) → SetsCount number (count_at old number + 1) old new
     → (n : ℕ) → count_at new n ≡ count_at old n + bit (number == n)
 one_more number old new sets n =
     ⊎_elim

@@ -14,7 +14,7 @@ use Rattle.std.specs.FinMap.Entries.{by_order, below_all}
 use Rattle.ax_area.specs.Contents.{Stored}
 use Rattle.ax_pages.proofs.LastPart.{get_inserted, get_not_inserted, get_not_removed, get_removed}
 
-abbrev Documents : Type 0
+abbrev pub Documents : Type 0
 Documents = finite.FinMap nat_cmp Stored
 
 both : (a b : Bool) → T (a && b) → T a × T b

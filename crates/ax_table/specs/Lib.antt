@@ -1,1 +1,4 @@
 pub mod TableAgrees
+pub mod Reads
+pub mod Damage
+pub mod Filling

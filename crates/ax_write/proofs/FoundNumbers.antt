@@ -180,7 +180,7 @@ stored_of id (e ∷ es) found is all =
     ] is
 
 -- the text under the number of an entry is that of its tree
-text_of : (contents : Contents) (before : Container) (id : List ℕ) (entry : Entry) → ContentsHold contents before
+pub text_of : (contents : Contents) (before : Container) (id : List ℕ) (entry : Entry) → ContentsHold contents before
     → entry_of id before ≡ Some entry
     → option_map (λ (document : Stored). document.text) (finite.get contents.documents entry.number) ≡ Some (canonical_text entry.tree)
 text_of contents before id entry hold is =

@@ -1,0 +1,138 @@
+-- Where no table of policies can be made, the image that was opened is damaged at that place.
+use Rattle.std.proofs.Common.{◌≡◌, ◌⊎◌, inl, inr, ℕ, List, Some, refl, sym, subst, ◌∙◌, arith}
+use Rattle.std.specs.FinMap as finite
+use Rattle.std.specs.Ordering.{nat_cmp}
+use Rattle.ax_area.proofs.OneRoot.{counts_from, fresh_counts}
+use Rattle.ax_area.proofs.OneTelling.{some_or_none}
+use Rattle.ax_area.specs.Contents.{Contents, no_contents}
+use Rattle.ax_area.specs.Image.{IsFresh, IsLiveWith}
+use Rattle.ax_area.specs.Places.{no_places, places_after}
+use Rattle.ax_area.specs.Told.{Lead, Told, TellOn}
+use Rattle.ax_area_laws.proofs.Rising.{told_risen}
+use Rattle.ax_cache.specs.PageLaws.{no_pages}
+use Rattle.ax_cache.specs.Pages.{CachedPages}
+use Rattle.ax_cache.specs.declared.no_pages.NoPages.{NoPages}
+use Rattle.ax_disk.specs.model.Calls.{Idles}
+use Rattle.ax_disk.specs.model.Image.{Image}
+use Rattle.ax_disk.specs.model.Moments.{History}
+use Rattle.ax_disk.specs.model.Pending.{MayLeave}
+use Rattle.ax_image.specs.Readable.{newest}
+use Rattle.ax_image_grammar.specs.Grammar.{HasTwins}
+use Rattle.ax_image_grammar.specs.Met.{IsMetAt}
+use Rattle.ax_image_grammar.specs.Table.{IsTaken}
+use Rattle.ax_log.specs.Log.{log_slot}
+use Rattle.ax_log.specs.Opening.{Keeps}
+use Rattle.ax_store.proofs.LoadLemmas.{lead_on_of}
+use Rattle.ax_store.proofs.OpenLemmas.{keeps_idle}
+use Rattle.ax_store.specs.Loading.{nothing_kept}
+use Rattle.ax_store.specs.Store.{Agrees, Has, IsOpened, store_area, store_contents}
+use Rattle.ax_store.specs.declared.fault.StoreFault.{StoreFault}
+use Rattle.ax_store.specs.declared.fault.StoreFault.TheVariants as fault
+use Rattle.ax_store.specs.declared.store.Store.{Store}
+use Rattle.ax_table.specs.Damage.{HaveTwins, IsNeeded, IsPolicySpoiled, TellsTable}
+use Rattle.ax_documents.specs.Opening.{RefusesBy}
+use Rattle.ax_documents.proofs.PolicyPlaces.{alike_on, begins_at, nothing_alike}
+
+-- of no contents nothing is needed that a part gave, and no two policies are taken
+no_text : (number : ℕ) (text : List ℕ) → finite.get no_contents.policies number ≡ Some text → ⊥
+no_text number text held = absurd (some_or_none text (sym (finite.get-empty nat_cmp number) ∙ held))
+
+taken_is_zero : (number : ℕ) → IsTaken number no_contents → number ≡ 0
+taken_is_zero number (inl is) = is
+taken_is_zero number (inr used) =
+    absurd (some_or_none used.document (sym (finite.get-empty nat_cmp used.number) ∙ used.held))
+
+-- what a store that agrees with the disk says, the image tells
+module _ {C : Type 0} (pages : C → CachedPages) (store : Store C) (history : History) (agrees : Agrees pages store history)
+    (may : MayLeave history.unsynced history.reads) where
+  abbrev live_by : (told : List Told) → TellOn newest agrees.frames 0 told → Lead told no_contents (store_contents store)
+      → IsLiveWith newest newest told (store_contents store) history.reads
+  live_by told tell lead =
+      let logged = agrees.logged in
+      let there = logged.rests.each history.reads may in
+      let slot = log_slot store.log in
+      record {
+        slot = slot;
+        version_is = omega (arith, counts_from history.reads.root slot logged.counts, logged.known.known);
+        frames = agrees.frames;
+        live = record { counts = logged.counts; known = logged.known; has = there.has };
+        tell = tell;
+        lead = lead;
+      }
+
+  pub spoiled_met : (number at : ℕ) → IsPolicySpoiled number store at → IsMetAt newest (store_area store) at history.reads
+  spoiled_met number at spoiled =
+      let (told, tell, lead) = told_risen agrees.frames store.pages.contents
+      (lead_on_of agrees.frames 0 nothing_kept store.pages agrees.takes) in
+      record {
+        version = newest;
+        told = told;
+        contents = store_contents store;
+        live = live_by told tell lead;
+        area_is = refl;
+        met = inr (inl (number, record {
+          text = spoiled.text;
+          held = spoiled.held;
+          begin = begins_at store.pages.offsets (places_after told no_places) number at
+              (alike_on agrees.frames 0 told nothing_kept store.pages no_places tell agrees.takes nothing_alike) spoiled.placed;
+          bad = spoiled.bad;
+        }));
+      }
+
+  pub twins_there : HaveTwins (store_contents store) → HasTwins newest (store_area store) 0 history.reads
+  twins_there twins =
+      let (told, tell, lead) = told_risen agrees.frames store.pages.contents
+      (lead_on_of agrees.frames 0 nothing_kept store.pages agrees.takes) in
+      record {
+        version = newest;
+        told = told;
+        contents = store_contents store;
+        live = live_by told tell lead;
+        area_is = refl;
+        place = refl;
+        a = twins.a;
+        b = twins.b;
+        taken = twins.taken;
+        taken_too = twins.taken_too;
+        same = twins.same;
+        two = twins.two;
+      }
+
+-- of a store that was fresh a table can be made
+none_of_fresh : (store : Store NoPages) (extent at : ℕ) → store_contents store ≡ no_contents
+    → TellsTable store (fault.Damaged extent at) → ⊥
+none_of_fresh store extent at all (list, inl (number, needed, spoiled)) =
+    no_text number spoiled.text (subst (λ (c : Contents). finite.get c.policies number ≡ Some spoiled.text) all spoiled.held)
+none_of_fresh store extent at all (list, inr (zero, twins)) =
+    twins.two
+    (taken_is_zero twins.a (subst (IsTaken twins.a) all twins.taken)
+    ∙ sym (taken_is_zero twins.b (subst (IsTaken twins.b) all twins.taken_too)))
+
+not_fresh : (image : Image) (store : Store NoPages) (extent at : ℕ) → Has (store_contents store) image
+    → TellsTable store (fault.Damaged extent at) → IsFresh image → ⊥
+not_fresh image store extent at (version, told, inl was) tells fresh = none_of_fresh store extent at was.contents_is tells
+not_fresh image store extent at (version, told, inr live) tells fresh = fresh_counts image.root live.slot fresh live.live.counts
+
+-- why a store that was opened is refused
+pub table_refuses : (old mid new : History) (store : Store NoPages) → IsOpened (λ _. no_pages) store old.reads mid
+    → ((IsFresh old.reads → ⊥) → Keeps old mid) → MayLeave mid.unsynced mid.reads → Idles mid new
+    → (why : StoreFault) → TellsTable store why → RefusesBy why old new
+table_refuses old mid new store opened unchanged may idles fault.Disk tells = tt
+table_refuses old mid new store opened unchanged may idles (fault.Newer version) tells = absurd tells
+table_refuses old mid new store opened unchanged may idles fault.Memory tells = tt
+table_refuses old mid new store opened unchanged may idles (fault.Damaged extent at) tells =
+    ((store_area store, tells.0, inr (by_cause tells.1)), keeps_idle old mid new keeps idles)
+  where
+    keeps : Keeps old mid
+    keeps = unchanged (not_fresh old.reads store extent at opened.has tells)
+
+    by_cause : (((number : ℕ) × IsNeeded number (store_contents store) × IsPolicySpoiled number store at)
+        ⊎ ((at ≡ 0) × HaveTwins (store_contents store)))
+        → IsMetAt newest (store_area store) at old.reads ⊎ HasTwins newest (store_area store) at old.reads
+    by_cause (inl (number, needed, spoiled)) =
+        inl (subst (IsMetAt newest (store_area store) at) keeps.reads
+        (spoiled_met (λ (c : NoPages). no_pages) store mid opened.agrees may number at spoiled))
+    by_cause (inr (zero, twins)) =
+        inr (subst (λ n. HasTwins newest (store_area store) n old.reads) (sym zero)
+        (subst (HasTwins newest (store_area store) 0) keeps.reads
+        (twins_there (λ (c : NoPages). no_pages) store mid opened.agrees may twins)))

@@ -1,0 +1,36 @@
+-- The text of the document of an id is that under the number which the container has for it.
+use Rattle.std.proofs.Common.{sym, subst, ◌∙◌}
+use Rattle.std.specs.Prelude.{IsTrue}
+use Rattle.ax_index.proofs.Unmoved.{same_contents}
+use Rattle.ax_store.specs.Store.{store_contents}
+use Rattle.ax_write.proofs.FoundNumbers.{holds_still, never_absent}
+use Rattle.ax_documents.proofs.Working.{text_of_id}
+use Rattle.ax_documents.proofs.documents.Documents.read.Goals as goal
+
+pub returns-in-Ok-text_under-clause-text : goal.returns-in-Ok-text_under-clause-text
+returns-in-Ok-text_under-clause-text g c = λ honest before holds.
+    c.in-Ok-text_under.ensures.text (subst IsTrue (sym c.find_number.ensures.honest) honest)
+    ∙ text_of_id (store_contents c.find_number.new.store) before (c.find_number.ensures.ids honest before holds).contents.documents
+    c.args.id.now c.in-Ok-Some.number (sym c.in-Ok-Some.field-0-is ∙ c.in-Ok-Some.ensures.number honest before holds)
+
+pub returns-in-Ok-text_under-clause-holds : goal.returns-in-Ok-text_under-clause-holds
+returns-in-Ok-text_under-clause-holds g c = λ honest before holds.
+    holds_still c.find_number.new.store c.text_under.new.store c.find_number.new.ids before
+    (same_contents c.find_number.new.store c.text_under.new.store c.text_under.ensures.reads.same)
+    (c.find_number.ensures.ids honest before holds)
+
+pub returns-in-Ok-text_under-clause-none : goal.returns-in-Ok-text_under-clause-none
+returns-in-Ok-text_under-clause-none g c = λ honest before holds absent.
+    absurd (never_absent c.args.id.now before c.in-Ok-Some.number (sym c.in-Ok-Some.field-0-is ∙ c.in-Ok-Some.ensures.number honest before holds)
+    absent)
+
+pub returns-in-Err-text_under-clause-holds : goal.returns-in-Err-text_under-clause-holds
+returns-in-Err-text_under-clause-holds g c = λ honest before holds.
+    holds_still c.find_number.new.store c.text_under.new.store c.find_number.new.ids before
+    (same_contents c.find_number.new.store c.text_under.new.store c.text_under.ensures.reads.same)
+    (c.find_number.ensures.ids honest before holds)
+
+pub returns-in-Err-text_under-clause-none : goal.returns-in-Err-text_under-clause-none
+returns-in-Err-text_under-clause-none g c = λ honest before holds absent.
+    absurd (never_absent c.args.id.now before c.in-Ok-Some.number (sym c.in-Ok-Some.field-0-is ∙ c.in-Ok-Some.ensures.number honest before holds)
+    absent)
