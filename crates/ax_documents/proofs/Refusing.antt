@@ -70,13 +70,16 @@ module _ {C : Type 0} (pages : C → CachedPages) (store : Store C) (history : H
         contents = store_contents store;
         live = live_by told tell lead;
         area_is = refl;
-        met = inr (inl (number, record {
-          text = spoiled.text;
-          held = spoiled.held;
-          begin = begins_at store.pages.offsets (places_after told no_places) number at
-              (alike_on agrees.frames 0 told nothing_kept store.pages no_places tell agrees.takes nothing_alike) spoiled.placed;
-          bad = spoiled.bad;
-        }));
+        met = inr (inl (
+          number,
+          record {
+            text = spoiled.text;
+            held = spoiled.held;
+            begin = begins_at store.pages.offsets (places_after told no_places) number at
+                (alike_on agrees.frames 0 told nothing_kept store.pages no_places tell agrees.takes nothing_alike) spoiled.placed;
+            bad = spoiled.bad;
+          },
+        ));
       }
 
   pub twins_there : HaveTwins (store_contents store) → HasTwins newest (store_area store) 0 history.reads

@@ -27,11 +27,7 @@ use std::sync::ledger::Ledger;
 impl<C: PageCache> Documents<C> {
     /// Creates a document behind all others. `Conflict` where its id is held, else `Full` where none can be created. No
     /// document is fetched.
-    pub fn create<D: Disk>(
-        &mut self,
-        disk: &mut D,
-        tree: &Tree,
-    ) -> Result<(), WriteFault>
+    pub fn create<D: Disk>(&mut self, disk: &mut D, tree: &Tree) -> Result<(), WriteFault>
         requires storable { IsStorable tree.now }
         requires works { DocumentsWork C.pages (D.is_honest disk.old) self.old (D.history disk.old (D.attached disk.old)) }
         ensures tells { IsTrue (D.is_honest disk.old) → (before : Container) → (id : List ℕ) → DocumentsHold self.old before
@@ -47,7 +43,14 @@ impl<C: PageCache> Documents<C> {
         ensures attached { D.attached disk.new ≡ D.attached disk.old }
         ensures honest { D.is_honest disk.new ≡ D.is_honest disk.old }
     {
-        create(self.alloc, &mut self.store, disk, &mut self.table, &mut self.ids, tree)
+        create(
+            self.alloc,
+            &mut self.store,
+            disk,
+            &mut self.table,
+            &mut self.ids,
+            tree,
+        )
     }
 
     /// Replaces the tree of the document of its id, which keeps its number, or creates a document behind all others. `Full`
@@ -78,7 +81,15 @@ impl<C: PageCache> Documents<C> {
         ensures attached { D.attached disk.new ≡ D.attached disk.old }
         ensures honest { D.is_honest disk.new ≡ D.is_honest disk.old }
     {
-        upsert(self.alloc, &mut self.store, disk, &mut self.table, &mut self.ids, tree, steps)
+        upsert(
+            self.alloc,
+            &mut self.store,
+            disk,
+            &mut self.table,
+            &mut self.ids,
+            tree,
+            steps,
+        )
     }
 
     /// Replaces the tree of the document of its id, which keeps its number. `Absent` where the id is not held. It counts one
@@ -109,7 +120,15 @@ impl<C: PageCache> Documents<C> {
         ensures attached { D.attached disk.new ≡ D.attached disk.old }
         ensures honest { D.is_honest disk.new ≡ D.is_honest disk.old }
     {
-        replace(self.alloc, &mut self.store, disk, &mut self.table, &mut self.ids, tree, steps)
+        replace(
+            self.alloc,
+            &mut self.store,
+            disk,
+            &mut self.table,
+            &mut self.ids,
+            tree,
+            steps,
+        )
     }
 
     /// Deletes the document of an id. `Absent` where the id is not held. It counts one step where the id is held, else none.
@@ -136,7 +155,15 @@ impl<C: PageCache> Documents<C> {
         ensures attached { D.attached disk.new ≡ D.attached disk.old }
         ensures honest { D.is_honest disk.new ≡ D.is_honest disk.old }
     {
-        delete(self.alloc, &mut self.store, disk, &mut self.table, &mut self.ids, id, steps)
+        delete(
+            self.alloc,
+            &mut self.store,
+            disk,
+            &mut self.table,
+            &mut self.ids,
+            id,
+            steps,
+        )
     }
 
     /// The text of the document of an id, as it is stored; `None` exactly where the id is not held. It counts one step
