@@ -1,6 +1,6 @@
 -- When no document can be created: as the store tells it, and as the container does.
-use Rattle.std.proofs.Common.{◌≡◌, ℕ, ◌+◌, ◌<◌, ◌≤◌, ◌^◌, Bool, true, false, List, [], ◌∷◌, length, Option, Some, None, is_eq, is_some, refl, sym}
-use Rattle.std.proofs.Common.{ap, ◌∙◌, Result, Ok, Err, arith, ⊎_elim}
+use Rattle.std.proofs.Common.{◌≡◌, ℕ, ◌<◌, ◌≤◌, Bool, true, false, List, [], ◌∷◌, length, Option, Some, None, is_eq, is_some, refl, sym}
+use Rattle.std.proofs.Common.{ap, ◌∙◌, Ok, Err, arith, ⊎_elim}
 use Rattle.std.specs.Prelude.{◌&&◌, ◌||◌, if◌then◌else◌, nat_le, nat_lt, not}
 use Rattle.std.specs.FinMap as finite
 use Rattle.std.specs.Cmp.{nat_cmp_is}
@@ -9,7 +9,7 @@ use Rattle.std.specs.declared.cmp.Ordering.TheVariants.{Greater}
 use Rattle.std.proofs.lemmas.Bool.{cases_lt, le-leb, le-ltb, leb-false, lt-leb, lt-ltb, ltb-true}
 use Rattle.ax_area.specs.Contents.{Contents, Stored}
 use Rattle.ax_container.specs.Container.{Container, Entry, NumbersRise, last_number, most_documents}
-use Rattle.ax_container.specs.Writes.{created, creation, is_full, Full, WriteRefusal}
+use Rattle.ax_container.specs.Writes.{created, creation, is_full, Full}
 use Rattle.ax_container.proofs.Soundness.{or_none}
 use Rattle.ax_image.specs.Documents.{ContentsHold}
 use Rattle.ax_image.specs.StandsFor.{ShowEntries}

@@ -1,5 +1,5 @@
 -- The table of policies agrees with the contents after a write of a document, where its counts follow.
-use Rattle.std.proofs.Common.{◌≡◌, ℕ, ◌+◌, ◌-◌, ◌<◌, Bool, true, false, List, ◌++◌, Option, Some, None, refl, sym, ap, subst, ◌∙◌}
+use Rattle.std.proofs.Common.{◌≡◌, ℕ, ◌+◌, ◌-◌, ◌<◌, Bool, true, false, List, Some, None, refl, sym, ap, subst, ◌∙◌}
 use Rattle.std.proofs.Common.{◌^◌, arith}
 use Rattle.std.specs.Prelude.{IsSome, option_and_then, is_some}
 use Rattle.std.specs.FinMap as finite
@@ -12,7 +12,6 @@ use Rattle.ax_delta.specs.declared.change.Change.{Change as PairChange}
 use Rattle.ax_image_grammar.specs.Table.{IsTaken}
 use Rattle.ax_image.specs.WriteChanges.{creating_changes, deleting_changes, document_change, meta_change, replacing_changes}
 use Rattle.ax_pages.specs.AfterPart.{most_documents}
-use Rattle.ax_pages.specs.Contents.{TermPage}
 use Rattle.ax_policy.specs.Table.{SetsCount, Table, count_at, policy_at}
 use Rattle.ax_table.specs.TableAgrees.{TableAgrees}
 use Rattle.ax_table.proofs.Agreeing.{agrees_created, agrees_deleted, agrees_replaced, is_counted, is_taken, room_replaced}
@@ -95,7 +94,9 @@ module _ (honest : Bool) (table : Table) (old : Contents) (agrees : TableAgrees 
 module _ (honest : Bool) (table : Table) (old : Contents) (agrees : TableAgrees honest table old) (found : FoundDocument)
     (held : IsHeldAs old found) where
   pub is_known : IsSome (policy_at table found.document.policy)
-  is_known = agrees.known found.document.policy (subst (λ n. IsTaken n old) (sym held.policy) (is_taken honest table old agrees found.number held.stored held.held))
+  is_known =
+      agrees.known found.document.policy
+      (subst (λ n. IsTaken n old) (sym held.policy) (is_taken honest table old agrees found.number held.stored held.held))
 
   pub is_used : 0 < count_at table found.document.policy
   is_used = subst (λ n. 0 < count_at table n) (sym held.policy) (is_counted honest table old agrees found.number held.stored held.held)

@@ -1,6 +1,6 @@
 -- What a write of a document tells, by the commit of its changes with those of the index behind them; and what one tells
 -- that committed nothing.
-use Rattle.std.proofs.Common.{◌≡◌, ◌≤◌, ℕ, Bool, true, false, List, ◌++◌, Result, Ok, Err, refl, sym, ap, subst, ◌∙◌, inr, arith}
+use Rattle.std.proofs.Common.{◌≡◌, ◌≤◌, ℕ, Bool, true, false, List, ◌++◌, Result, Ok, Err, refl, sym, subst, ◌∙◌, inr, arith}
 use Rattle.std.specs.Prelude.{IsTrue, IfErr, OnErr, Some}
 use Rattle.std.specs.List.{Contains}
 use Rattle.ax_area.proofs.OneTelling.{same_some}
@@ -31,7 +31,7 @@ use Rattle.ax_store.specs.declared.fault.StoreFault.{StoreFault}
 use Rattle.ax_store.specs.declared.fault.StoreFault.TheVariants as store_fault
 use Rattle.ax_store.specs.declared.store.Store.{Store}
 use Rattle.ax_write.specs.Committed.{LeadWith, SaysWith}
-use Rattle.ax_write.specs.Writes.{HoldsAll, IsKept, TellsDamage, TellsWrite, WriteLeaves, left_by, of_store}
+use Rattle.ax_write.specs.Writes.{TellsDamage, TellsWrite, WriteLeaves, left_by, of_store}
 use Rattle.ax_write.specs.declared.fault.WriteFault.{WriteFault}
 use Rattle.ax_write.specs.declared.fault.WriteFault.TheVariants as fault
 use Rattle.ax_write.proofs.Unspoiled.{never_spoiled}

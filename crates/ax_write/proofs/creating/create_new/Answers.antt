@@ -74,7 +74,8 @@ returns-in-Ok-plan_and_commit-clause-tells g c = λ honest works before holds ow
     let front = creating_changes number now tree in
     let said = ap changes_said c.in-Ok.ensures
     ∙ creating_said number now tree (omega (arith, can.some, next)) (omega (arith, can.left, next)) (omega arith) in
-    let exchanged = subst (IsExchanged table number table.current None table.current (Some tree)) (sym c.as_slice.ensures.value) c.in-Ok-created_pairs.ensures in
+    let exchanged = subst (IsExchanged table number table.current None table.current (Some tree)) (sym c.as_slice.ensures.value)
+    c.in-Ok-created_pairs.ensures in
     let of = agrees_says g.C.PageCache.pages store _ (c.requires.agrees honest works) in
     let may = g.met.D.Disk.reads_may_stay c.args.disk.now (g.D.Disk.attached c.args.disk.now) honest in
     told_made store before _ of holds.contents _ (created id tree before) c.as_slice.result.now front
@@ -138,7 +139,8 @@ returns-clause-tells g c = λ honest works before holds own absent.
     let front = creating_changes number now tree in
     let said = ap changes_said c.in-Ok.ensures
     ∙ creating_said number now tree (omega (arith, can.some, next)) (omega (arith, can.left, next)) (omega arith) in
-    let exchanged = subst (IsExchanged table number table.current None table.current (Some tree)) (sym c.as_slice.ensures.value) c.in-Ok-created_pairs.ensures in
+    let exchanged = subst (IsExchanged table number table.current None table.current (Some tree)) (sym c.as_slice.ensures.value)
+    c.in-Ok-created_pairs.ensures in
     let of = agrees_says g.C.PageCache.pages store _ (c.requires.agrees honest works) in
     let may = g.met.D.Disk.reads_may_stay c.args.disk.now (g.D.Disk.attached c.args.disk.now) honest in
     told_unmade store before _ of holds.contents _ (created id tree before) c.as_slice.result.now front

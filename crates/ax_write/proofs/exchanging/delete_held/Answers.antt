@@ -1,5 +1,5 @@
 -- The changes of a deletion are committed with those of the index behind them.
-use Rattle.std.proofs.Common.{◌≡◌, Some, None, Ok, Err, refl, sym, ap, subst, ◌∙◌, arith}
+use Rattle.std.proofs.Common.{Some, None, Ok, Err, refl, sym, ap, subst, ◌∙◌}
 use Rattle.ax_area.specs.Parts.{changes_said}
 use Rattle.ax_container.specs.Writes.{deleted}
 use Rattle.ax_image.proofs.ReadableWrites.{deleting_readable}

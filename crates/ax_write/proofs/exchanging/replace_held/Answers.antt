@@ -1,5 +1,5 @@
 -- The changes of a document that gets another tree are committed with those of the index behind them.
-use Rattle.std.proofs.Common.{◌≡◌, Some, None, Ok, Err, refl, sym, ap, subst, ◌∙◌, arith}
+use Rattle.std.proofs.Common.{Some, Ok, Err, refl, sym, ap, subst, ◌∙◌}
 use Rattle.ax_area.specs.Parts.{changes_said}
 use Rattle.ax_container.specs.Writes.{replaced}
 use Rattle.ax_image.proofs.ReadableWrites.{replacing_readable}
