@@ -6,10 +6,9 @@ use Rattle.ax_area.specs.Contents.{Contents}
 use Rattle.ax_area.specs.Image.{Says}
 use Rattle.ax_cache.specs.Pages.{CachedPages}
 use Rattle.ax_container.specs.Container.{Container}
-use Rattle.ax_container.specs.Writes.{WriteRefusal, Absent, Conflict, Full}
+use Rattle.ax_container.specs.Writes.{WriteRefusal}
 use Rattle.ax_disk.specs.laws.StaysLaws.{idles_rest, idles_stay, rests_weaken, stays_join, stays_turn}
 use Rattle.ax_disk.specs.model.Calls.{Idles}
-use Rattle.ax_disk.specs.model.Image.{Image}
 use Rattle.ax_disk.specs.model.Moments.{History}
 use Rattle.ax_disk.specs.model.Stays.{Rests, Stays, Turns}
 use Rattle.ax_image.specs.Readable.{SaysReadable, newest}

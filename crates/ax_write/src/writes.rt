@@ -55,8 +55,8 @@ pub fn create<D: Disk, C: PageCache>(
     };
     let id = id.as_str().as_bytes();
     match find_number(alloc, store, disk, ids, id) {
-        Ok(None) => create_new(alloc, store, disk, table, ids, id, tree),
         Ok(Some(_)) => Err(WriteFault::Conflict),
+        Ok(None) => create_new(alloc, store, disk, table, ids, id, tree),
         Err(fault) => Err(WriteFault::Store(fault)),
     }
 }

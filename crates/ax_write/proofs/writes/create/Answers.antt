@@ -1,5 +1,5 @@
 -- A number that was found is that of a document of the id; else the creation is behind a look-up that only read.
-use Rattle.std.proofs.Common.{None, sym, subst, ◌∙◌}
+use Rattle.std.proofs.Common.{sym, subst, ◌∙◌}
 use Rattle.std.specs.Prelude.{IsTrue}
 use Rattle.ax_container.specs.Writes.{creation, inserted}
 use Rattle.ax_write.proofs.FoundNumbers.{conflict_is, insertion_is, number_absent, own_document, own_id}
