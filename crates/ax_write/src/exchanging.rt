@@ -131,10 +131,10 @@ fn replaced_pairs(
     ensures { IfOk result (λ changes. IsExchanged table.now found.now.number
         found.now.document.policy (Some found.now.document.tree) table.now.current (Some tree.now) changes.items) }
 {
-    let before = found.document.policy;
-    let old = Some(&found.document.tree);
-    let now = table.now();
-    pair_changes(alloc, table, found.number, before, old, now, Some(tree))
+    let number = found.number;
+    let (before, now) = (found.document.policy, table.now());
+    let old = &found.document.tree;
+    pair_changes(alloc, table, number, before, Some(old), now, Some(tree))
 }
 
 /// The changes of the index by which a document that is held is deleted.
@@ -149,10 +149,10 @@ fn deleted_pairs(
     ensures { IfOk result (λ changes. IsExchanged table.now found.now.number
         found.now.document.policy (Some found.now.document.tree) table.now.current None changes.items) }
 {
-    let before = found.document.policy;
-    let old = Some(&found.document.tree);
-    let now = table.now();
-    pair_changes(alloc, table, found.number, before, old, now, None)
+    let number = found.number;
+    let (before, now) = (found.document.policy, table.now());
+    let old = &found.document.tree;
+    pair_changes(alloc, table, number, before, Some(old), now, None)
 }
 
 /// Counts a document that was deleted no more, and forgets the number of its id.
