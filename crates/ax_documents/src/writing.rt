@@ -1,6 +1,6 @@
 //! The writes of documents, and READ.
 
-ghost use Rattle.std.specs.Prelude.{◌≡◌, ◌≤◌, ◌+◌, ℕ, List, Some, IsTrue, IfErr, IfOk, false, option_map};
+ghost use Rattle.std.specs.Prelude.{◌≡◌, ◌≤◌, ◌+◌, ◌⊎◌, ℕ, List, Some, IsTrue, IfErr, IfOk, false, option_map};
 ghost use Rattle.std.specs.FinMap as map;
 ghost use Rattle.ax_container.specs.Container.{Container, contains, tree_of};
 ghost use Rattle.ax_container.specs.Writes.{exchanged, inserted, removed, upserted};
@@ -11,7 +11,7 @@ ghost use Rattle.ax_store.specs.Reads.{ReadsStore};
 ghost use Rattle.ax_store.specs.Store.{AgreesUnlessFailed, store_contents, store_failed, store_slots};
 ghost use Rattle.ax_tree.specs.CanonicalText.{canonical_text};
 ghost use Rattle.ax_tree.specs.Document.{document_id};
-ghost use Rattle.ax_write.specs.Writes.{IsOfCreation, IsOfHeld, IsOfUpsert, Looks, TellsDamage, TellsWrite, WriteLeaves, of_store};
+ghost use Rattle.ax_write.specs.Writes.{IsOfCreation, IsOfHeld, IsOfUpsert, Looks, TellsWrite, WriteLeaves, of_store};
 ghost use Rattle.ax_documents.specs.Documents.{DocumentsHold, DocumentsWork, WorkUnlessDisk};
 
 use crate::documents::Documents;
@@ -217,7 +217,7 @@ fn text_under<D: Disk, C: PageCache, L: Ledger>(
     requires agrees { AgreesUnlessFailed C.pages (D.is_honest disk.old) store.old (D.history disk.old (D.attached disk.old)) }
     ensures text { IsTrue (D.is_honest disk.old) → IfOk result (λ found. option_map (λ text. text.items) found
         ≡ option_map (λ document. document.text) (map.get (store_contents store.old).documents number)) }
-    ensures told { IfErr result (TellsDamage store.old) }
+    ensures only { IfErr result (λ fault. (fault ≡ StoreFault.Disk) ⊎ (fault ≡ StoreFault.Memory)) }
     ensures reads { ReadsStore C.pages (D.is_honest disk.old) store.old store.new
         (D.history disk.old (D.attached disk.old)) (D.history disk.new (D.attached disk.new))
         (D.faults disk.old) (D.faults disk.new) }

@@ -4,23 +4,23 @@ use Rattle.std.specs.Prelude.{IsTrue}
 use Rattle.ax_index.proofs.Unmoved.{same_contents}
 use Rattle.ax_store.specs.Store.{store_contents}
 use Rattle.ax_write.proofs.FoundNumbers.{holds_still, never_absent}
-use Rattle.ax_documents.proofs.Working.{text_of_id}
+use Rattle.ax_documents.proofs.Working.{looks_behind, text_of_id}
 use Rattle.ax_documents.proofs.documents.Documents.read.Goals as goal
 
-pub returns-in-Ok-text_under-clause-text : goal.returns-in-Ok-text_under-clause-text
-returns-in-Ok-text_under-clause-text g c = λ honest before holds.
-    c.in-Ok-text_under.ensures.text (subst IsTrue (sym c.find_number.ensures.honest) honest)
+pub returns-in-Ok-clause-text : goal.returns-in-Ok-clause-text
+returns-in-Ok-clause-text g c = λ honest before holds.
+    c.in-Ok.ensures.text (subst IsTrue (sym c.find_number.ensures.honest) honest)
     ∙ text_of_id (store_contents c.find_number.new.store) before (c.find_number.ensures.ids honest before holds).contents.documents
     c.args.id.now c.in-Ok-Some.number (sym c.in-Ok-Some.field-0-is ∙ c.in-Ok-Some.ensures.number honest before holds)
 
-pub returns-in-Ok-text_under-clause-holds : goal.returns-in-Ok-text_under-clause-holds
-returns-in-Ok-text_under-clause-holds g c = λ honest before holds.
+pub returns-in-Ok-clause-holds : goal.returns-in-Ok-clause-holds
+returns-in-Ok-clause-holds g c = λ honest before holds.
     holds_still c.find_number.new.store c.text_under.new.store c.find_number.new.ids before
     (same_contents c.find_number.new.store c.text_under.new.store c.text_under.ensures.reads.same)
     (c.find_number.ensures.ids honest before holds)
 
-pub returns-in-Ok-text_under-clause-none : goal.returns-in-Ok-text_under-clause-none
-returns-in-Ok-text_under-clause-none g c = λ honest before holds absent.
+pub returns-in-Ok-clause-none : goal.returns-in-Ok-clause-none
+returns-in-Ok-clause-none g c = λ honest before holds absent.
     absurd (never_absent c.args.id.now before c.in-Ok-Some.number (sym c.in-Ok-Some.field-0-is ∙ c.in-Ok-Some.ensures.number honest before holds)
     absent)
 
@@ -34,3 +34,15 @@ pub returns-in-Err-text_under-clause-none : goal.returns-in-Err-text_under-claus
 returns-in-Err-text_under-clause-none g c = λ honest before holds absent.
     absurd (never_absent c.args.id.now before c.in-Ok-Some.number (sym c.in-Ok-Some.field-0-is ∙ c.in-Ok-Some.ensures.number honest before holds)
     absent)
+
+pub returns-in-Ok-clause-leaves : goal.returns-in-Ok-clause-leaves
+returns-in-Ok-clause-leaves g c =
+    looks_behind g.C.PageCache.pages (g.D.Disk.is_honest c.args.disk.now) (g.D.Disk.is_honest c.find_number.new.disk) c.find_number.ensures.honest
+    c.in-Ok-Some.field-0 _ c.args.self.now.store c.find_number.new.store c.text_under.new.store _ _ _ _ _ _
+    c.in-Ok-Some.ensures.leaves c.in-Ok.ensures.only c.in-Ok.ensures.reads c.in-Ok.ensures.slots c.in-Ok.ensures.fails c.in-Ok.ensures.cause
+
+pub returns-in-Err-text_under-clause-leaves : goal.returns-in-Err-text_under-clause-leaves
+returns-in-Err-text_under-clause-leaves g c =
+    looks_behind g.C.PageCache.pages (g.D.Disk.is_honest c.args.disk.now) (g.D.Disk.is_honest c.find_number.new.disk) c.find_number.ensures.honest
+    c.in-Ok-Some.field-0 _ c.args.self.now.store c.find_number.new.store c.text_under.new.store _ _ _ _ _ _
+    c.in-Ok-Some.ensures.leaves c.in-Err-text_under.ensures.only c.in-Err-text_under.ensures.reads c.in-Err-text_under.ensures.slots c.in-Err-text_under.ensures.fails c.in-Err-text_under.ensures.cause
