@@ -18,7 +18,6 @@ use Rattle.ax_disk.specs.model.Moments.{History}
 use Rattle.ax_disk.specs.model.Pending.{MayLeave}
 use Rattle.ax_image.specs.Readable.{newest}
 use Rattle.ax_image_grammar.specs.Grammar.{HasTwins}
-use Rattle.ax_image_grammar.specs.Met.{IsMetAt}
 use Rattle.ax_image_grammar.specs.Table.{IsTaken}
 use Rattle.ax_log.specs.Log.{log_slot}
 use Rattle.ax_log.specs.Opening.{Keeps}
@@ -30,7 +29,7 @@ use Rattle.ax_store.specs.declared.fault.StoreFault.{StoreFault}
 use Rattle.ax_store.specs.declared.fault.StoreFault.TheVariants as fault
 use Rattle.ax_store.specs.declared.store.Store.{Store}
 use Rattle.ax_table.specs.Damage.{HaveTwins, IsNeeded, IsPolicySpoiled, TellsTable}
-use Rattle.ax_documents.specs.Opening.{RefusesBy}
+use Rattle.ax_documents.specs.Opening.{IsNeededMetAt, RefusesBy}
 use Rattle.ax_documents.proofs.PolicyPlaces.{alike_on, begins_at, nothing_alike}
 
 -- of no contents nothing is needed that a part gave, and no two policies are taken
@@ -60,8 +59,9 @@ module _ {C : Type 0} (pages : C → CachedPages) (store : Store C) (history : H
         lead = lead;
       }
 
-  pub spoiled_met : (number at : ℕ) → IsPolicySpoiled number store at → IsMetAt newest (store_area store) at history.reads
-  spoiled_met number at spoiled =
+  pub spoiled_met : (number at : ℕ) → IsNeeded number (store_contents store) → IsPolicySpoiled number store at
+      → IsNeededMetAt (store_area store) at history.reads
+  spoiled_met number at needed spoiled =
       let (told, tell, lead) = told_risen agrees.frames store.pages.contents
       (lead_on_of agrees.frames 0 nothing_kept store.pages agrees.takes) in
       record {
@@ -70,16 +70,15 @@ module _ {C : Type 0} (pages : C → CachedPages) (store : Store C) (history : H
         contents = store_contents store;
         live = live_by told tell lead;
         area_is = refl;
-        met = inr (inl (
-          number,
-          record {
-            text = spoiled.text;
-            held = spoiled.held;
-            begin = begins_at store.pages.offsets (places_after told no_places) number at
-                (alike_on agrees.frames 0 told nothing_kept store.pages no_places tell agrees.takes nothing_alike) spoiled.placed;
-            bad = spoiled.bad;
-          },
-        ));
+        number = number;
+        needed = needed;
+        met = record {
+          text = spoiled.text;
+          held = spoiled.held;
+          begin = begins_at store.pages.offsets (places_after told no_places) number at
+              (alike_on agrees.frames 0 told nothing_kept store.pages no_places tell agrees.takes nothing_alike) spoiled.placed;
+          bad = spoiled.bad;
+        };
       }
 
   pub twins_there : HaveTwins (store_contents store) → HasTwins newest (store_area store) 0 history.reads
@@ -131,10 +130,10 @@ table_refuses old mid new store opened unchanged may idles (fault.Damaged extent
 
     by_cause : (((number : ℕ) × IsNeeded number (store_contents store) × IsPolicySpoiled number store at)
         ⊎ ((at ≡ 0) × HaveTwins (store_contents store)))
-        → IsMetAt newest (store_area store) at old.reads ⊎ HasTwins newest (store_area store) at old.reads
+        → IsNeededMetAt (store_area store) at old.reads ⊎ HasTwins newest (store_area store) at old.reads
     by_cause (inl (number, needed, spoiled)) =
-        inl (subst (IsMetAt newest (store_area store) at) keeps.reads
-        (spoiled_met (λ (c : NoPages). no_pages) store mid opened.agrees may number at spoiled))
+        inl (subst (IsNeededMetAt (store_area store) at) keeps.reads
+        (spoiled_met (λ (c : NoPages). no_pages) store mid opened.agrees may number at needed spoiled))
     by_cause (inr (zero, twins)) =
         inr (subst (λ n. HasTwins newest (store_area store) n old.reads) (sym zero)
         (subst (HasTwins newest (store_area store) 0) keeps.reads

@@ -1,7 +1,9 @@
 //! The documents of an open store.
 
 ghost use Rattle.std.specs.Prelude.{◌≡◌};
-ghost use Rattle.ax_documents.specs.Documents.{SameDocuments};
+ghost use Rattle.std.specs.FinMap as map;
+ghost use Rattle.ax_container.specs.Container.{Container};
+ghost use Rattle.ax_documents.specs.Documents.{DocumentsHold, SameDocuments};
 
 use ax_cache::PageCache;
 use ax_policy::PolicyTable;
@@ -22,10 +24,13 @@ pub struct Documents<C> {
 }
 
 impl<C: PageCache + Drop> Documents<C> {
-    /// The documents over another cache.
+    /// The documents over another cache, which holds nothing yet. That they work over each history over which they did is
+    /// the law `work_still` of `proofs/Recaching.antt`.
     pub fn with_cache<E: PageCache>(self, cache: E) -> Documents<E>
+        requires empty { E.pages cache ≡ map.empty }
         ensures same { SameDocuments self result }
         ensures cache { result.store.cache ≡ cache }
+        ensures holds { (container : Container) → DocumentsHold self container → DocumentsHold result container }
     {
         let Documents {
             store,

@@ -1,6 +1,6 @@
 -- When reading a table answers that the store is damaged: where a text that the table needs is that of no policy, with
 -- the place of its part, or where two numbers that are in use or now have one text. These are the words of
--- `HasNoTable`, of a store in place of an image.
+-- `HasNoTable`, of a store in place of an image, but that the text of number 0 is needed, too: each table has a policy there.
 -- It is this project's own; it comes from no public document.
 use Rattle.std.specs.Prelude.{◌≡◌, ◌≢◌, ◌⊎◌, ℕ, List, slice_get, Some}
 use Rattle.std.specs.FinMap as map

@@ -1,13 +1,14 @@
-//! What writes of documents are made of, each in one batch with the changes of the index that belong to it.
+//! The writes of documents, each in one batch with the changes of the index that belong to it.
 //!
 //! Stands on `ax_store` for documents and their batches, on `ax_index`, which plans the changes of term pages, on
-//! `ax_keep` and `ax_policy` for the pairs of a document under its policy, and on `ax_lines`, which reads a document
-//! from its stored text. What changes of the index make of term pages is said by `ax_image_pairs`, and what can be read
-//! by `ax_image_grammar`.
+//! `ax_keep` and `ax_policy` for the pairs of a document under its policy, on `ax_table`, whose table of policies the
+//! writes keep, on `ax_recent`, which remembers numbers of ids, and on `ax_lines`, which reads a document from its stored
+//! text. What changes of the index make of term pages is said by `ax_image_pairs`, and what can be read by
+//! `ax_image_grammar`.
 //!
-//! It has the fronts of batches, the document that is held under a number, the changes of pairs that a write makes, and
-//! the commit of a batch with them. Its one contract: such a commit makes the changes of documents, and behind them
-//! exactly those of the pairs, or it changes nothing; so does a crash at any moment, and all that is told can be read.
+//! Its one contract: over an honest disk and a store that holds a container with its index, each write makes of it what the
+//! container says, or is refused as the container says, or changes nothing; so does a crash at any moment, and all that
+//! is told can be read. `find_number` gives the number of the document of an id.
 #![tactic(auto)]
 
 mod batches;
