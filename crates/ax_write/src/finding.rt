@@ -1,10 +1,8 @@
 //! The document of an id: under which number it stands, and what it is.
 
-ghost use Rattle.std.specs.Prelude.{◌≡◌, ◌≢◌, ◌<◌, ◌≤◌, ◌⊎◌, ◌+◌, ℕ, List, [], ◌∷◌, IsTrue, IfOk, OnOk, IfSome, false};
+ghost use Rattle.std.specs.Prelude.{◌≡◌, ◌≢◌, ◌<◌, ◌≤◌, ◌⊎◌, ◌+◌, ℕ, List, IsTrue, IfOk, IfSome, false};
 ghost use Rattle.std.specs.List.{Contains};
 ghost use Rattle.ax_container.specs.Container.{Container, contains};
-ghost use Rattle.ax_index.specs.ById.{id_range};
-ghost use Rattle.ax_index.specs.Grammar.{AreInGrammar};
 ghost use Rattle.ax_lines.specs.Asked.{IsStorable};
 ghost use Rattle.ax_pool.specs.Frames.{free_count};
 ghost use Rattle.ax_store.specs.Store.{AgreesUnlessFailed, store_contents, store_slots};
@@ -31,7 +29,7 @@ pub(crate) struct FoundDocument {
 /// The number of the document of an id; `None` exactly where none is held. An id that was lately found is told by the table
 /// of these and reads nothing; any other by the index, and is put into the table.
 ///
-/// `Damaged` where a part of a term page that is read is outside its grammar, with its place, and never anything else there.
+/// `Damaged` where a part of a term page that is read is outside its grammar, with its place.
 /// `Disk` where a read failed, or the store has failed before and the table does not tell the id. `Memory` where there is
 /// no room for what is read.
 pub fn find_number<D: Disk, C: PageCache>(
@@ -45,8 +43,6 @@ pub fn find_number<D: Disk, C: PageCache>(
     requires agrees { AgreesUnlessFailed C.pages (D.is_honest disk.old) store.old (D.history disk.old (D.attached disk.old)) }
     ensures number { IsTrue (D.is_honest disk.old) → (before : Container) → HoldsAll store.old ids.old before
         → IfOk result (λ found. found ≡ number_in id.now before) }
-    ensures met { IsTrue (D.is_honest disk.old) → ((number : ℕ) → Contains ids.old (id.now, number) → ⊥)
-        → OnOk result (AreInGrammar (id_range id.now ∷ []) (store_contents store.old).terms) }
     ensures ids { IsTrue (D.is_honest disk.old) → (before : Container) → HoldsAll store.old ids.old before
         → HoldsAll store.new ids.new before }
     ensures leaves { Looks C.pages (D.is_honest disk.old) result store.old store.new
@@ -91,8 +87,6 @@ pub(crate) fn find_held<D: Disk, C: PageCache, L: Ledger>(
     requires agrees { AgreesUnlessFailed C.pages (D.is_honest disk.old) store.old (D.history disk.old (D.attached disk.old)) }
     ensures found { IsTrue (D.is_honest disk.old) → (before : Container) → HoldsAll store.old ids.old before
         → IfOk result (IsFoundIn id.now before) }
-    ensures met { IsTrue (D.is_honest disk.old) → ((number : ℕ) → Contains ids.old (id.now, number) → ⊥)
-        → OnOk result (AreInGrammar (id_range id.now ∷ []) (store_contents store.old).terms) }
     ensures ids { IsTrue (D.is_honest disk.old) → (before : Container) → HoldsAll store.old ids.old before
         → HoldsAll store.new ids.new before }
     ensures held { IfOk result (λ found. IfSome found (IsHeldAs (store_contents store.old))) }
