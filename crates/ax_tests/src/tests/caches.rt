@@ -4,7 +4,7 @@ ghost use Rattle.std.specs.FinMap as map;
 ghost use Rattle.ax_disk.specs.mem_disk.MemDisk.{disk_history};
 ghost use Rattle.ax_engine.specs.Engine.{Works};
 
-use crate::tests::script::{ROOM, fresh_disk, output_over};
+use crate::tests::script::{ROOM, fresh_disk};
 use ax_base::{MemSink, Steps};
 use ax_cache::{LruPages, NoPages, PageCache};
 use ax_disk::MemDisk;
@@ -115,74 +115,5 @@ fn each_cache_answers_alike(rt: HostRuntime) -> Result<(), Fail> {
     assert_eq!(rt; small.as_slice(), expected.as_slice());
     let large = answers(alloc, LruPages::make(alloc, 256)?)?;
     assert_eq!(rt; large.as_slice(), expected.as_slice());
-    Ok(())
-}
-
-/// The lines by which the store is made over which reads are counted.
-const MADE: &str = "CREATE {\"id\":\"a\",\"n\":1}\nCREATE {\"id\":\"b\",\"n\":2}\n";
-
-/// How often the disk is read for a line by an open engine with this cache: when the line comes first, and when it comes
-/// again.
-fn reads_by<C: PageCache + Drop, L: Ledger>(
-    alloc: Global,
-    cache: C,
-    line: &str,
-    blank: Blank,
-) -> Result<(u64, u64), Fail>
-    requires empty { C.pages cache ≡ map.empty }
-    requires name { blank.name ≡ L.name }
-    requires parts { blank.parts ≡ L.parts }
-    requires some { 0 < blank.parts }
-{
-    let mut disk = fresh_disk(alloc)?;
-    let _made = output_over(alloc, &mut disk, MADE.as_bytes())?;
-    let mut sink = MemSink::make(alloc, ROOM, Vec::new(alloc))?;
-    let mut steps = Steps::<L>::begin(blank);
-    let mut engine = engine_over(alloc, &mut disk, cache)?;
-    let opened = disk.reads();
-    serve_line(
-        alloc,
-        &mut engine,
-        &mut disk,
-        line.as_bytes(),
-        &mut sink,
-        &mut steps,
-    )?;
-    let once = disk.reads();
-    serve_line(
-        alloc,
-        &mut engine,
-        &mut disk,
-        line.as_bytes(),
-        &mut sink,
-        &mut steps,
-    )?;
-    Ok((once.abs_diff(opened), disk.reads().abs_diff(once)))
-}
-
-fn reads<C: PageCache + Drop>(alloc: Global, cache: C, line: &str) -> Result<(u64, u64), Fail>
-    requires { C.pages cache ≡ map.empty }
-{
-    reads_by::<C, Brand>(alloc, cache, line, Blank::new(1))
-}
-
-/// Without a cache a line that comes again reads the disk as often as before, at least once; with one that has room, not
-/// at all for a document that was read.
-#[test]
-fn a_cache_spares_reads(rt: HostRuntime) -> Result<(), Fail> {
-    let alloc = rt.alloc();
-    let lines = [
-        "READ a",
-        "QUERY {\"query\":\"SELECT VALUE c.id FROM c WHERE c.n = 1\"}",
-        "QUERY {\"query\":\"SELECT * FROM c\"}",
-    ];
-    for line in lines {
-        let (first, again) = reads(alloc, NoPages, line)?;
-        assert!(rt; first > 0);
-        assert_eq!(rt; first, again);
-    }
-    let (first, again) = reads(alloc, LruPages::make(alloc, 4)?, "READ a")?;
-    assert!(rt; first > 0);
-    assert_eq!(rt; again, 0);
     Ok(())
 }
