@@ -1,7 +1,9 @@
 -- The documents of an open store with its index: which container they are those of, when they are at work, and what
 -- their calls leave.
 -- It is this project's own; it comes from no public document.
-use Rattle.std.specs.Prelude.{◌≡◌, ℕ, List, Bool, false, Option, Result, Ok, Err, IsTrue}
+use Rattle.std.specs.Prelude.{◌≡◌, ℕ, List, Bool, false, Option, Some, None, Result, Ok, Err, IsTrue, option_map}
+use Rattle.std.specs.FinMap as map
+use Rattle.ax_area.specs.Contents.{Contents, Stored}
 use Rattle.ax_cache.specs.Pages.{CachedPages}
 use Rattle.ax_container.specs.Container.{Container}
 use Rattle.ax_disk.specs.model.Moments.{History}
@@ -10,7 +12,7 @@ use Rattle.ax_store.specs.Store.{Agrees, SameButCache, store_contents, store_fai
 use Rattle.ax_store.specs.declared.fault.StoreFault.{StoreFault}
 use Rattle.ax_store.specs.declared.fault.StoreFault.TheVariants as store_fault
 use Rattle.ax_table.specs.TableAgrees.{TableAgrees}
-use Rattle.ax_write.specs.Writes.{HoldsAll, of_store}
+use Rattle.ax_write.specs.Writes.{FindsNone, HoldsAll, IsLookedUp, of_store}
 use Rattle.ax_documents.specs.declared.documents.Documents.{Documents}
 
 -- the documents are those of the container, and so is the index, and each id lately found stands under its number
@@ -38,3 +40,10 @@ pub record SameDocuments {C E : Type 0} (old : Documents C) (new : Documents E) 
   pub store : SameButCache old.store new.store
   pub table : new.table ≡ old.table
   pub ids : new.ids ≡ old.ids
+
+-- What READ has met that answers the text of a document, or that there is none: a number was told for the id, and the text is
+-- that of a document under it; or none was told, or one under which no document is held.
+abbrev pub IsReadOf : List (List ℕ × ℕ) → List ℕ → Contents → Option (Vec ℕ) → Type 0
+IsReadOf ids id contents None = FindsNone ids id contents
+IsReadOf ids id contents (Some text) = (number : ℕ) × IsLookedUp ids id contents (Some number)
+    × (option_map (λ (document : Stored). document.text) (map.get contents.documents number) ≡ Some text.items)

@@ -1,2 +1,3 @@
+pub mod Damage
 pub mod Documents
 pub mod Opening

@@ -11,8 +11,9 @@ ghost use Rattle.ax_store.specs.Reads.{ReadsStore};
 ghost use Rattle.ax_store.specs.Store.{AgreesUnlessFailed, store_contents, store_failed, store_slots};
 ghost use Rattle.ax_tree.specs.CanonicalText.{canonical_text};
 ghost use Rattle.ax_tree.specs.Document.{document_id};
-ghost use Rattle.ax_write.specs.Writes.{IsOfCreation, IsOfHeld, IsOfUpsert, Looks, TellsWrite, WriteLeaves, of_store};
-ghost use Rattle.ax_documents.specs.Documents.{DocumentsHold, DocumentsWork, WorkUnlessDisk};
+ghost use Rattle.ax_write.specs.Writes.{IsOfCreation, IsOfHeld, IsOfUpsert, Looks, MeetsCreation, MeetsHeld, MeetsUpsert, TellsWrite, WriteLeaves, of_store};
+ghost use Rattle.ax_documents.specs.Damage.{MeetsBy};
+ghost use Rattle.ax_documents.specs.Documents.{DocumentsHold, DocumentsWork, IsReadOf, WorkUnlessDisk};
 
 use crate::documents::Documents;
 use ax_base::Steps;
@@ -34,6 +35,9 @@ impl<C: PageCache> Documents<C> {
             → document_id tree.now ≡ Some id
             → TellsWrite before (inserted id tree.now before) result self.new.store self.new.ids
             (D.history disk.old (D.attached disk.old)) (D.history disk.new (D.attached disk.new)) }
+        ensures met { IsTrue (D.is_honest disk.old) → (id : List ℕ) → document_id tree.now ≡ Some id
+            → MeetsCreation result self.old.ids id (store_contents self.old.store) }
+        ensures damage { IsTrue (D.is_honest disk.old) → IfErr (of_store result) (λ why. MeetsBy why (D.history disk.new (D.attached disk.new)).reads) }
         ensures only { IfErr result IsOfCreation }
         ensures works { WorkUnlessDisk C.pages (D.is_honest disk.old) (of_store result) self.new
             (D.history disk.new (D.attached disk.new)) }
@@ -67,6 +71,9 @@ impl<C: PageCache> Documents<C> {
             → document_id tree.now ≡ Some id
             → TellsWrite before (upserted id tree.now before) result self.new.store self.new.ids
             (D.history disk.old (D.attached disk.old)) (D.history disk.new (D.attached disk.new)) }
+        ensures met { IsTrue (D.is_honest disk.old) → (id : List ℕ) → document_id tree.now ≡ Some id
+            → MeetsUpsert result self.old.ids id (store_contents self.old.store) }
+        ensures damage { IsTrue (D.is_honest disk.old) → IfErr (of_store result) (λ why. MeetsBy why (D.history disk.new (D.attached disk.new)).reads) }
         ensures only { IfErr result IsOfUpsert }
         ensures works { WorkUnlessDisk C.pages (D.is_honest disk.old) (of_store result) self.new
             (D.history disk.new (D.attached disk.new)) }
@@ -106,6 +113,9 @@ impl<C: PageCache> Documents<C> {
             → document_id tree.now ≡ Some id
             → TellsWrite before (exchanged id tree.now before) result self.new.store self.new.ids
             (D.history disk.old (D.attached disk.old)) (D.history disk.new (D.attached disk.new)) }
+        ensures met { IsTrue (D.is_honest disk.old) → (id : List ℕ) → document_id tree.now ≡ Some id
+            → MeetsHeld result self.old.ids id (store_contents self.old.store) }
+        ensures damage { IsTrue (D.is_honest disk.old) → IfErr (of_store result) (λ why. MeetsBy why (D.history disk.new (D.attached disk.new)).reads) }
         ensures only { IfErr result IsOfHeld }
         ensures works { WorkUnlessDisk C.pages (D.is_honest disk.old) (of_store result) self.new
             (D.history disk.new (D.attached disk.new)) }
@@ -142,6 +152,8 @@ impl<C: PageCache> Documents<C> {
         ensures tells { IsTrue (D.is_honest disk.old) → (before : Container) → DocumentsHold self.old before
             → TellsWrite before (removed id.now before) result self.new.store self.new.ids
             (D.history disk.old (D.attached disk.old)) (D.history disk.new (D.attached disk.new)) }
+        ensures met { IsTrue (D.is_honest disk.old) → MeetsHeld result self.old.ids id.now (store_contents self.old.store) }
+        ensures damage { IsTrue (D.is_honest disk.old) → IfErr (of_store result) (λ why. MeetsBy why (D.history disk.new (D.attached disk.new)).reads) }
         ensures only { IfErr result IsOfHeld }
         ensures works { WorkUnlessDisk C.pages (D.is_honest disk.old) (of_store result) self.new
             (D.history disk.new (D.attached disk.new)) }
@@ -181,6 +193,8 @@ impl<C: PageCache> Documents<C> {
         requires works { DocumentsWork C.pages (D.is_honest disk.old) self.old (D.history disk.old (D.attached disk.old)) }
         ensures text { IsTrue (D.is_honest disk.old) → (before : Container) → DocumentsHold self.old before
             → IfOk result (λ found. option_map (λ text. text.items) found ≡ option_map canonical_text (tree_of id.now before)) }
+        ensures met { IsTrue (D.is_honest disk.old) → IfOk result (IsReadOf self.old.ids id.now (store_contents self.old.store)) }
+        ensures damage { IsTrue (D.is_honest disk.old) → IfErr result (λ why. MeetsBy why (D.history disk.new (D.attached disk.new)).reads) }
         ensures holds { IsTrue (D.is_honest disk.old) → (before : Container) → DocumentsHold self.old before
             → DocumentsHold self.new before }
         ensures works { WorkUnlessDisk C.pages (D.is_honest disk.old) result self.new (D.history disk.new (D.attached disk.new)) }

@@ -7,7 +7,9 @@ use Rattle.ax_area.specs.Leading.{LeadTo}
 use Rattle.ax_area.specs.Parts.{after_parts}
 use Rattle.ax_area.specs.Told.{Told}
 use Rattle.ax_delta.specs.declared.change.Change.{Change as PairChange}
+use Rattle.ax_disk.specs.model.Calls.{Idles}
 use Rattle.ax_disk.specs.model.Image.{Image}
+use Rattle.ax_disk.specs.model.Moments.{History}
 use Rattle.ax_frame.specs.Part.{PartValue}
 use Rattle.ax_image_pairs.specs.Carrying.{MakeChanges}
 use Rattle.ax_pages.specs.Contents.{TermPage}
@@ -43,3 +45,10 @@ IsBrief Disk = Unit {0}
 IsBrief (Damaged extent at) = ⊥
 IsBrief (Newer version) = ⊥
 IsBrief Memory = Unit {0}
+
+-- unless it is the disk that failed, its lists are as they were
+abbrev pub IdlesUnlessDisk : StoreFault → History → History → Type 0
+IdlesUnlessDisk Disk before after = Unit {0}
+IdlesUnlessDisk (Damaged extent at) before after = Idles before after
+IdlesUnlessDisk (Newer version) before after = Idles before after
+IdlesUnlessDisk Memory before after = Idles before after

@@ -3,4 +3,5 @@ pub mod Batches
 pub mod Held
 pub mod Exchanged
 pub mod Full
+pub mod LookedUp
 pub mod Writes

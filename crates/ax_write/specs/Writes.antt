@@ -8,6 +8,7 @@ use Rattle.ax_area.specs.Contents.{Contents, Stored}
 use Rattle.ax_cache.specs.Pages.{CachedPages}
 use Rattle.ax_container.specs.Container.{Container, Entry, entry_of}
 use Rattle.ax_container.specs.Writes.{WriteRefusal, Conflict, Absent, Full}
+use Rattle.ax_disk.specs.model.Calls.{Idles}
 use Rattle.ax_disk.specs.model.Moments.{History}
 use Rattle.ax_disk.specs.model.Stays.{Rests, Stays, Turns}
 use Rattle.ax_image.specs.Readable.{SaysReadable}
@@ -15,6 +16,7 @@ use Rattle.ax_image_pairs.specs.Found.{number_in}
 use Rattle.ax_image_pairs.specs.Indexed.{ContentsHoldAll, HasAll}
 use Rattle.ax_index.specs.Damage.{FailsBy, TellsPart}
 use Rattle.ax_index.specs.Reads.{KeepsTaken, Reads}
+use Rattle.ax_lines.specs.StoredTexts.{IsStoredText}
 use Rattle.ax_pairs.specs.Index.{IsIndex}
 use Rattle.ax_pairs.specs.PairSets.{PairSet}
 use Rattle.ax_store.specs.Faults.{HasDiskCause}
@@ -22,7 +24,10 @@ use Rattle.ax_store.specs.Store.{AgreesUnlessFailed, store_area, store_contents,
 use Rattle.ax_store.specs.declared.fault.StoreFault.{StoreFault}
 use Rattle.ax_store.specs.declared.fault.StoreFault.TheVariants as store_fault
 use Rattle.ax_store.specs.declared.store.Store.{Store}
+use Rattle.ax_tree.specs.declared.tree.Tree.{Tree}
+use Rattle.ax_write.specs.Committed.{IdlesUnlessDisk}
 use Rattle.ax_write.specs.Held.{HasNone, IsPlaced}
+use Rattle.ax_write.specs.LookedUp.{TellsIndex}
 use Rattle.ax_write.specs.declared.fault.WriteFault.{WriteFault}
 use Rattle.ax_write.specs.declared.fault.WriteFault.TheVariants as fault
 use Rattle.ax_write.specs.declared.finding.FoundDocument.{FoundDocument}
@@ -136,11 +141,20 @@ pub record Looks {C T : Type 0} (pages : C → CachedPages) (honest : Bool) (res
   pub fails : FailsBy result (store_failed old) (store_failed new)
   pub cause : store_failed old ≡ false → HasDiskCause result earlier later
 
+-- a write that is neither made nor met by a fault of the disk leaves the disk's lists as they are
+abbrev pub IdlesUnlessMade : Result (Unit {0}) WriteFault → History → History → Type 0
+IdlesUnlessMade (Ok done) before after = Unit {0}
+IdlesUnlessMade (Err fault.Conflict) before after = Idles before after
+IdlesUnlessMade (Err fault.Absent) before after = Idles before after
+IdlesUnlessMade (Err fault.Full) before after = Idles before after
+IdlesUnlessMade (Err (fault.Store why)) before after = IdlesUnlessDisk why before after
+
 -- of a write
 pub record WriteLeaves {C : Type 0} (pages : C → CachedPages) (honest : Bool) (result : Result (Unit {0}) WriteFault)
     (old new : Store C) (before after : History) (earlier later : ℕ) : Type 0 where
   pub told : IsTrue honest → IfErr (of_store result) (TellsDamage old)
   pub kept : OnErr result (store_contents new ≡ store_contents old)
+  pub idle : IsTrue honest → IdlesUnlessMade result before after
   -- all that is told can be read, where it could before and the term pages hold a set
   pub readable : IsTrue honest → store_failed old ≡ false → (set : PairSet) → IsIndex (store_contents old).terms set
       → Rests before SaysReadable → Stays before after SaysReadable
@@ -151,3 +165,62 @@ pub record WriteLeaves {C : Type 0} (pages : C → CachedPages) (honest : Bool) 
   pub area : store_area new ≡ store_area old
   pub cause : store_failed old ≡ false → HasDiskCause (of_store result) earlier later
   pub never_falls : earlier ≤ later
+
+-- ---- what was met before it is answered
+
+-- The number was told by the table of ids lately found; or by the index, and then each part of the pages to which the id's
+-- term can belong is in its grammar, and where the pages hold a set it is the number of that set. The index alone tells that
+-- there is none.
+abbrev pub IsLookedUp : List (List ℕ × ℕ) → List ℕ → Contents → Option ℕ → Type 0
+IsLookedUp ids id contents None = TellsIndex id contents None
+IsLookedUp ids id contents (Some number) = Contains ids (id, number) ⊎ TellsIndex id contents (Some number)
+
+-- the text of the document that is held is that of one that a store can hold
+abbrev pub HasDocument : Option Stored → Type 0
+HasDocument None = ⊥
+HasDocument (Some stored) = (tree : Tree) × IsStoredText stored.text tree
+
+-- a number was told for the id, and the text of the document under it is that of a document
+pub record FindsHeld (ids : List (List ℕ × ℕ)) (id : List ℕ) (contents : Contents) : Type 0 where
+  pub number : ℕ
+  pub told : IsLookedUp ids id contents (Some number)
+  pub read : HasDocument (finite.get contents.documents number)
+
+-- a number was told for the id, under which no document is held
+pub record FindsUnheld (ids : List (List ℕ × ℕ)) (id : List ℕ) (contents : Contents) : Type 0 where
+  pub number : ℕ
+  pub told : IsLookedUp ids id contents (Some number)
+  pub none : (number ≡ 0) ⊎ (finite.get contents.documents number ≡ None)
+
+-- no number was told for the id, or one under which no document is held
+abbrev pub FindsNone : List (List ℕ × ℕ) → List ℕ → Contents → Type 0
+FindsNone ids id contents = IsLookedUp ids id contents None ⊎ FindsUnheld ids id contents
+
+-- what was found
+abbrev pub Finds : List (List ℕ × ℕ) → List ℕ → Contents → Option FoundDocument → Type 0
+Finds ids id contents (Some found) = FindsHeld ids id contents
+Finds ids id contents None = FindsNone ids id contents
+
+-- what a creation has met that is made, or refused by what is held
+abbrev pub MeetsCreation : Result (Unit {0}) WriteFault → List (List ℕ × ℕ) → List ℕ → Contents → Type 0
+MeetsCreation (Ok done) ids id contents = IsLookedUp ids id contents None
+MeetsCreation (Err fault.Conflict) ids id contents = (number : ℕ) × IsLookedUp ids id contents (Some number)
+MeetsCreation (Err fault.Absent) ids id contents = ⊥
+MeetsCreation (Err fault.Full) ids id contents = IsLookedUp ids id contents None
+MeetsCreation (Err (fault.Store why)) ids id contents = Unit {0}
+
+-- the same of an upsert
+abbrev pub MeetsUpsert : Result (Unit {0}) WriteFault → List (List ℕ × ℕ) → List ℕ → Contents → Type 0
+MeetsUpsert (Ok done) ids id contents = FindsHeld ids id contents ⊎ FindsNone ids id contents
+MeetsUpsert (Err fault.Conflict) ids id contents = ⊥
+MeetsUpsert (Err fault.Absent) ids id contents = ⊥
+MeetsUpsert (Err fault.Full) ids id contents = FindsNone ids id contents
+MeetsUpsert (Err (fault.Store why)) ids id contents = Unit {0}
+
+-- the same of a write that wants the id held
+abbrev pub MeetsHeld : Result (Unit {0}) WriteFault → List (List ℕ × ℕ) → List ℕ → Contents → Type 0
+MeetsHeld (Ok done) ids id contents = FindsHeld ids id contents
+MeetsHeld (Err fault.Conflict) ids id contents = ⊥
+MeetsHeld (Err fault.Absent) ids id contents = FindsNone ids id contents
+MeetsHeld (Err fault.Full) ids id contents = ⊥
+MeetsHeld (Err (fault.Store why)) ids id contents = Unit {0}

@@ -24,7 +24,7 @@ ghost use Rattle.ax_store.specs.Batch.{AreAllowed, batch_parts};
 ghost use Rattle.ax_store.specs.Faults.{HasDiskCause};
 ghost use Rattle.ax_store.specs.Kept.{deltas_of};
 ghost use Rattle.ax_store.specs.Store.{AgreesUnlessFailed, SaysMore, store_area, store_contents, store_failed, store_room, store_slots, store_spare};
-ghost use Rattle.ax_write.specs.Committed.{IsBrief, LeadWith, LeaveTerms, SaysWith};
+ghost use Rattle.ax_write.specs.Committed.{IdlesUnlessDisk, IsBrief, LeadWith, LeaveTerms, SaysWith};
 
 use ax_cache::PageCache;
 use ax_disk::Disk;
@@ -72,9 +72,9 @@ pub(crate) fn plan_and_commit<D: Disk, C: PageCache>(
         → changes_said (batch_parts batch) ≡ Some front
         → OnOk result (Rests (D.history disk.new (D.attached disk.new)) (SaysWith version told changes.now front (store_contents store.old))) }
 
-    // Where memory ran out no list has changed.
-    ensures untouched { IsTrue (D.is_honest disk.old) → result ≡ Err StoreFault.Memory
-        → Idles (D.history disk.old (D.attached disk.old)) (D.history disk.new (D.attached disk.new)) }
+    // Unless it is the disk that failed, no list has changed where it is not Ok.
+    ensures untouched { IsTrue (D.is_honest disk.old) → IfErr result (λ why. IdlesUnlessDisk why
+        (D.history disk.old (D.attached disk.old)) (D.history disk.new (D.attached disk.new))) }
 
     // All that is told can be read, where the changes in front can and the term pages hold a set: what is put for the
     // index is in its grammar.

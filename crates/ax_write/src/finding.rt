@@ -7,7 +7,7 @@ ghost use Rattle.ax_lines.specs.Asked.{IsStorable};
 ghost use Rattle.ax_pool.specs.Frames.{free_count};
 ghost use Rattle.ax_store.specs.Store.{AgreesUnlessFailed, store_contents, store_slots};
 ghost use Rattle.ax_image_pairs.specs.Found.{number_in};
-ghost use Rattle.ax_write.specs.Writes.{HoldsAll, IsFoundIn, IsHeldAs, Looks};
+ghost use Rattle.ax_write.specs.Writes.{Finds, HoldsAll, IsFoundIn, IsHeldAs, IsLookedUp, Looks};
 
 use crate::held::{HeldDocument, held};
 use ax_base::Steps;
@@ -27,7 +27,8 @@ pub(crate) struct FoundDocument {
 }
 
 /// The number of the document of an id; `None` exactly where none is held. An id that was lately found is told by the table
-/// of these and reads nothing; any other by the index, and is put into the table.
+/// of these and reads nothing; any other by the index, and is put into the table. Over an honest disk the index tells
+/// it, or that there is none, only where each part of a term page that is read is in its grammar.
 ///
 /// `Damaged` where a part of a term page that is read is outside its grammar, with its place.
 /// `Disk` where a read failed, or the store has failed before and the table does not tell the id. `Memory` where there is
@@ -43,6 +44,7 @@ pub fn find_number<D: Disk, C: PageCache>(
     requires agrees { AgreesUnlessFailed C.pages (D.is_honest disk.old) store.old (D.history disk.old (D.attached disk.old)) }
     ensures number { IsTrue (D.is_honest disk.old) → (before : Container) → HoldsAll store.old ids.old before
         → IfOk result (λ found. found ≡ number_in id.now before) }
+    ensures met { IsTrue (D.is_honest disk.old) → IfOk result (IsLookedUp ids.old id.now (store_contents store.old)) }
     ensures ids { IsTrue (D.is_honest disk.old) → (before : Container) → HoldsAll store.old ids.old before
         → HoldsAll store.new ids.new before }
     ensures leaves { Looks C.pages (D.is_honest disk.old) result store.old store.new
@@ -74,7 +76,8 @@ fn remember(ids: &mut RecentIds, id: &[u8], number: u32)
 
 /// The document of an id; `None` exactly where none is held. It counts one step where a number was found, else none.
 ///
-/// As `find_number`, and `Damaged` also where the text of the document is that of none, with the place of its part.
+/// As `find_number`, and `Damaged` also where the text of the document is that of none, with the place of its part: over an
+/// honest disk such a document is not told as one that is not held.
 pub(crate) fn find_held<D: Disk, C: PageCache, L: Ledger>(
     alloc: Global,
     store: &mut Store<C>,
@@ -87,6 +90,7 @@ pub(crate) fn find_held<D: Disk, C: PageCache, L: Ledger>(
     requires agrees { AgreesUnlessFailed C.pages (D.is_honest disk.old) store.old (D.history disk.old (D.attached disk.old)) }
     ensures found { IsTrue (D.is_honest disk.old) → (before : Container) → HoldsAll store.old ids.old before
         → IfOk result (IsFoundIn id.now before) }
+    ensures met { IsTrue (D.is_honest disk.old) → IfOk result (Finds ids.old id.now (store_contents store.old)) }
     ensures ids { IsTrue (D.is_honest disk.old) → (before : Container) → HoldsAll store.old ids.old before
         → HoldsAll store.new ids.new before }
     ensures held { IfOk result (λ found. IfSome found (IsHeldAs (store_contents store.old))) }

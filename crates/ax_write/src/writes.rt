@@ -1,4 +1,7 @@
 //! The writes of documents.
+//!
+//! Over an honest disk each is made, or refused by what is held, only where the parts of the index that tell the id are in
+//! their grammar, and the text of the document that it finds is that of a document.
 
 ghost use Rattle.std.specs.Prelude.{◌≡◌, ◌≤◌, ◌+◌, ℕ, List, Option, None, Some, Ok, Err, IsTrue, IfErr, IfOk, IfSome, true, false};
 ghost use Rattle.ax_container.specs.Container.{Container, contains};
@@ -8,7 +11,7 @@ ghost use Rattle.ax_pool.specs.Frames.{free_count};
 ghost use Rattle.ax_store.specs.Store.{AgreesUnlessFailed, store_contents, store_failed, store_slots};
 ghost use Rattle.ax_table.specs.TableAgrees.{TableAgrees};
 ghost use Rattle.ax_tree.specs.Document.{document_id};
-ghost use Rattle.ax_write.specs.Writes.{HoldsAll, IsOfCreation, IsOfHeld, IsOfUpsert, TellsWrite, WriteLeaves};
+ghost use Rattle.ax_write.specs.Writes.{HoldsAll, IsOfCreation, IsOfHeld, IsOfUpsert, MeetsCreation, MeetsHeld, MeetsUpsert, TellsWrite, WriteLeaves};
 
 use crate::creating::create_new;
 use crate::exchanging::{delete_held, replace_held};
@@ -42,6 +45,8 @@ pub fn create<D: Disk, C: PageCache>(
         → HoldsAll store.old ids.old before → document_id tree.now ≡ Some id
         → TellsWrite before (inserted id tree.now before) result store.new ids.new
         (D.history disk.old (D.attached disk.old)) (D.history disk.new (D.attached disk.new)) }
+    ensures met { IsTrue (D.is_honest disk.old) → (id : List ℕ) → document_id tree.now ≡ Some id
+        → MeetsCreation result ids.old id (store_contents store.old) }
     ensures only { IfErr result IsOfCreation }
     ensures table { TableAgrees (D.is_honest disk.old) table.new (store_contents store.new) }
     ensures leaves { WriteLeaves C.pages (D.is_honest disk.old) result store.old store.new
@@ -80,6 +85,8 @@ pub fn upsert<D: Disk, C: PageCache, L: Ledger>(
         → HoldsAll store.old ids.old before → document_id tree.now ≡ Some id
         → TellsWrite before (upserted id tree.now before) result store.new ids.new
         (D.history disk.old (D.attached disk.old)) (D.history disk.new (D.attached disk.new)) }
+    ensures met { IsTrue (D.is_honest disk.old) → (id : List ℕ) → document_id tree.now ≡ Some id
+        → MeetsUpsert result ids.old id (store_contents store.old) }
     ensures only { IfErr result IsOfUpsert }
     ensures table { TableAgrees (D.is_honest disk.old) table.new (store_contents store.new) }
     ensures one { steps.new ≤ steps.old + 1 }
@@ -127,6 +134,8 @@ pub fn replace<D: Disk, C: PageCache, L: Ledger>(
         → HoldsAll store.old ids.old before → document_id tree.now ≡ Some id
         → TellsWrite before (exchanged id tree.now before) result store.new ids.new
         (D.history disk.old (D.attached disk.old)) (D.history disk.new (D.attached disk.new)) }
+    ensures met { IsTrue (D.is_honest disk.old) → (id : List ℕ) → document_id tree.now ≡ Some id
+        → MeetsHeld result ids.old id (store_contents store.old) }
     ensures only { IfErr result IsOfHeld }
     ensures table { TableAgrees (D.is_honest disk.old) table.new (store_contents store.new) }
     ensures one { steps.new ≤ steps.old + 1 }
@@ -172,6 +181,7 @@ pub fn delete<D: Disk, C: PageCache, L: Ledger>(
         → HoldsAll store.old ids.old before
         → TellsWrite before (removed id.now before) result store.new ids.new
         (D.history disk.old (D.attached disk.old)) (D.history disk.new (D.attached disk.new)) }
+    ensures met { IsTrue (D.is_honest disk.old) → MeetsHeld result ids.old id.now (store_contents store.old) }
     ensures only { IfErr result IsOfHeld }
     ensures table { TableAgrees (D.is_honest disk.old) table.new (store_contents store.new) }
     ensures one { steps.new ≤ steps.old + 1 }
