@@ -3,6 +3,7 @@
 -- It is this project's own; it comes from no public document.
 use Rattle.std.specs.Prelude.{◌≡◌, ℕ, List, Bool, false, Option, Some, None, Result, Ok, Err, IsTrue, option_map}
 use Rattle.std.specs.FinMap as map
+use Rattle.std.specs.Global.{Vec}
 use Rattle.ax_area.specs.Contents.{Contents, Stored}
 use Rattle.ax_cache.specs.Pages.{CachedPages}
 use Rattle.ax_container.specs.Container.{Container}
