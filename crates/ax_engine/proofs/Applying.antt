@@ -1,65 +1,69 @@
 -- What an engine answers to a line, from what its documents tell.
-use Rattle.std.proofs.Common.{◌≡◌, ℕ, ◌≤◌, ◌+◌, Bool, false, List, Option, Some, None, option_map, Result, Ok, Err, OnOk, inl, inr, refl, sym, ap, subst, ◌∙◌, arith}
-use Rattle.std.specs.Prelude.{IfOk, IfErr, IsSome, IsTrue, if◌then◌else◌}
+use Rattle.std.proofs.Common.{◌≡◌, ℕ, ◌≤◌, ◌+◌, Bool, true, false, List, Option, Some, None, option_map, Result, Ok, Err, OnOk, inl, inr, refl, sym, ap, subst, ◌∙◌, arith}
+use Rattle.std.specs.Prelude.{IfOk, IfErr, IsSome, IsTrue, if◌then◌else◌, replicate}
 use Rattle.std.proofs.lemmas.Bool.{false≢true}
+use Rattle.std.specs.declared.alloc.Global.{Global}
+use Rattle.std.specs.declared.vec.Vec.{Vec}
 use Rattle.ax_area.specs.Contents.{Contents}
 use Rattle.ax_area.specs.Image.{Says}
 use Rattle.ax_area.specs.Told.{Told}
 use Rattle.ax_cache.specs.Pages.{CachedPages}
+use Rattle.ax_container.specs.Container.{Container, contains, tree_of}
+use Rattle.ax_container.specs.Writes.{WriteRefusal, Conflict, Absent, Full, exchanged, inserted, upserted}
+use Rattle.ax_disk.specs.laws.StaysLaws.{idles_rest, stays_start, stays_turn}
 use Rattle.ax_disk.specs.model.Calls.{Idles}
 use Rattle.ax_disk.specs.model.Image.{Image}
 use Rattle.ax_disk.specs.model.Moments.{History}
 use Rattle.ax_disk.specs.model.Pending.{MayLeave}
 use Rattle.ax_disk.specs.model.Stays.{Rests, Stays, Turns}
-use Rattle.ax_disk.specs.laws.StaysLaws.{idles_stay, stays_start, stays_turn}
-use Rattle.ax_store.specs.declared.fault.StoreFault.{StoreFault}
-use Rattle.ax_store.specs.declared.fault.StoreFault.TheVariants as store_fault
-use Rattle.ax_store.specs.declared.read_ahead.ReadAhead.{ReadAhead}
-use Rattle.ax_store.specs.declared.store.Store.{Store}
-use Rattle.ax_tree.specs.Document.{document_id}
-use Rattle.ax_tree.specs.declared.tree.Tree.{Tree}
-use Rattle.ax_tree.specs.CanonicalText.{canonical_text}
-use Rattle.std.specs.FinMap as map
-use Rattle.std.specs.declared.alloc.Global.{Global}
-use Rattle.std.specs.declared.vec.Vec.{Vec}
-use Rattle.ax_area.specs.Contents.{Stored}
-use Rattle.ax_container.specs.Container.{Container, Entry, entry_at, entry_of}
-use Rattle.ax_container.proofs.Writing.{entry_there}
-use Rattle.ax_image.specs.Documents.{ContentsHold}
-use Rattle.ax_image.proofs.Shown.{text_there}
-use Rattle.ax_machine.specs.Needs.{held_need}
-use Rattle.ax_store.specs.Reads.{ReadsStore}
-use Rattle.ax_store.specs.Store.{store_failed}
-use Rattle.ax_container.specs.Writes.{WriteRefusal, Conflict, Absent, Full, inserted, exchanged, upserted}
 use Rattle.ax_grammar.specs.Query.{query_in}
+use Rattle.ax_image.specs.Readable.{SaysReadable, newest}
+use Rattle.ax_image_grammar.proofs.MetThere.{nothing_met}
+use Rattle.ax_image_pairs.specs.Indexed.{ContentsHoldAll, HasAll}
 use Rattle.ax_lines.specs.Asked.{IsAsked}
 use Rattle.ax_lines.specs.declared.body.Body.{Body}
 use Rattle.ax_lines.specs.declared.line.Line.{Line}
 use Rattle.ax_lines.specs.declared.line.Line.TheVariants as line
 use Rattle.ax_lines.specs.declared.refusal.Refusal.TheVariants as refusal
-use Rattle.ax_mean.specs.declared.query.Query.{Query}
+use Rattle.ax_machine.specs.Needs.{held_need}
 use Rattle.ax_machine.specs.Querying.{query_reply}
 use Rattle.ax_machine.specs.Reply as reply
-use Rattle.ax_machine.specs.Run.{Served, OutOfMemory}
+use Rattle.ax_machine.specs.Run.{OutOfMemory, Served}
 use Rattle.ax_machine.specs.Step.{doc_reply, read_reply, served, write_by, write_refusal, written}
+use Rattle.ax_mean.specs.declared.query.Query.{Query}
+use Rattle.ax_pool.specs.Frames.{Frames}
+use Rattle.ax_store.specs.Faults.{HasDiskCause}
+use Rattle.ax_store.specs.Store.{store_contents, store_slots}
+use Rattle.ax_store.specs.Kept.{Kept}
+use Rattle.ax_store.specs.Slots.{slot_count}
+use Rattle.ax_store.specs.declared.fault.StoreFault.{StoreFault}
+use Rattle.ax_store.specs.declared.fault.StoreFault.TheVariants as store_fault
+use Rattle.ax_store.specs.declared.read_ahead.ReadAhead.{ReadAhead}
+use Rattle.ax_store.specs.declared.store.Store.{Store}
+use Rattle.ax_table.specs.TableAgrees.{TableAgrees}
+use Rattle.ax_tree.specs.CanonicalText.{canonical_text}
+use Rattle.ax_tree.specs.Document.{document_id}
+use Rattle.ax_tree.specs.declared.tree.Tree.{Tree}
+use Rattle.ax_write.proofs.FoundNumbers.{undamaged}
+use Rattle.ax_write.specs.Writes.{IdlesUnlessMade, IsKept, TellsDamage, TellsWrite, left_by, of_store}
+use Rattle.ax_write.specs.declared.fault.WriteFault.{WriteFault}
+use Rattle.ax_write.specs.declared.fault.WriteFault.TheVariants as write
+use Rattle.ax_documents.specs.Damage.{IsMetIn, MeetsBy}
+use Rattle.ax_documents.specs.Documents.{DocumentsHold, DocumentsWork, WorkUnlessDisk}
+use Rattle.ax_documents.specs.Opening.{IsImageOf}
+use Rattle.ax_documents.specs.declared.documents.Documents.{Documents}
 use Rattle.ax_engine.specs.Damage.{Meets, MeetsDocuments, PassesOverNone}
-use Rattle.ax_engine.specs.Documents.{AreKept, CountsWrite, DocumentsHold, DocumentsWork, TellsWrite, WorksAfterWrite, fault_of, number_in}
-use Rattle.ax_engine.specs.Engine.{Applies, CountsAnswer, HoldsOver, IsWrite, MayFail, Tells, Works, by_document, made_by, made_of}
-use Rattle.ax_image.specs.Readable.{SaysReadable, newest}
-use Rattle.ax_engine.specs.Replies.{FitsRefusal, IsOfReading, IsReply, MayReply, OnRows, own_refusal, read_answer, write_answer}
+use Rattle.ax_engine.specs.Engine.{Applies, CountsAnswer, HoldsOver, IdlesUnlessDone, IsWrite, MayFail, Tells, Works, by_document, made_by, made_of}
+use Rattle.ax_engine.specs.Replies.{FitsRead, FitsRefusal, IsOfReading, IsReply, MayReply, OnRows, look_up_answer, own_refusal, read_answer, write_answer}
 use Rattle.ax_engine.specs.Scans.{Scanned, Scans}
-use Rattle.ax_engine.specs.Stores.{IsImageOf, Shows}
-use Rattle.ax_engine.specs.declared.documents.Documents.{Documents}
-use Rattle.ax_engine.specs.declared.documents.WriteFault.{WriteFault}
-use Rattle.ax_engine.specs.declared.documents.WriteFault.TheVariants as write
+use Rattle.ax_engine.specs.StoreSays.{kept_says}
 use Rattle.ax_engine.specs.declared.engine.Engine.{Engine}
 use Rattle.ax_engine.specs.declared.engine.Fault.{Fault}
 use Rattle.ax_engine.specs.declared.engine.Fault.TheVariants as fault
 use Rattle.ax_engine.specs.declared.reply.Reply.{Reply}
 use Rattle.ax_engine.specs.declared.reply.Reply.TheVariants as given
-use Rattle.ax_engine.proofs.Damaging.{met_outside, none_outside, on_rows}
-use Rattle.ax_engine.proofs.Holding.{holds_read, idled, images_rest, images_turn, rests_of}
-use Rattle.ax_engine.proofs.Writing.{is_there, no_entry, not_refused, some_entry}
+use Rattle.ax_engine.proofs.Damaging.{met_outside, on_rows}
+use Rattle.ax_engine.proofs.Holding.{holds_read, idled, image_of, images_rest, images_turn, rests_of}
 
 -- ---- a write
 
@@ -78,100 +82,130 @@ write_is (line.Delete id) before write asked = refl
 write_is (line.Read id) before write asked = absurd write
 write_is (line.Query body) before write asked = absurd write
 
+-- the container behind a write is the one that was made of it, or the one before
+left_is : (before : Container) (made : Result Container WriteRefusal) → (written before made).0 ≡ left_by before made
+left_is before (Ok after) = refl
+left_is before (Err why) = refl
+
 module _ {C : Type 0} (honest : Type 0) (before : Container) (asked : Line) (made : Result Container WriteRefusal)
     (is : served before (Ok asked) ≡ written before made) (documents : Documents C) (old new : History) where
   -- the step ends so
   ends : (end : Result Container WriteRefusal) → made ≡ end → served before (Ok asked) ≡ written before end
   ends end same = is ∙ ap (written before) same
 
-  tells_made : TellsWrite honest before made (Ok tt) documents old new
+  tells_made : TellsWrite before made (Ok tt) documents.store documents.ids old new
       → Tells honest before asked (Ok given.Ok) documents old new
   tells_made told =
       let same : served before (Ok asked) ≡ (told.0, reply.Ok) = ends (Ok told.0) told.1 in (
         Served,
         ap (λ (m : Container × reply.Reply). m.1) same,
         subst (λ (m : Container × reply.Reply). DocumentsHold documents m.0) (sym same) told.2,
-        subst (λ (m : Container × reply.Reply). honest → Turns old new (Shows before) (Shows m.0)) (sym same) told.3,
+        λ h. subst (λ (m : Container × reply.Reply). Turns old new (HasAll before) (HasAll m.0)) (sym same) told.3,
       )
 
-  tells_refused : (why : WriteRefusal) → made ≡ Err why → AreKept honest before documents old new
+  tells_refused : (why : WriteRefusal) → made ≡ Err why → IsKept before documents.store documents.ids old new
       → Tells honest before asked (Ok (given.Refused (write_refusal why))) documents old new
   tells_refused why at kept =
       let same : served before (Ok asked) ≡ (before, reply.Refused (write_refusal why)) = ends (Err why) at in (
         Served,
         ap (λ (m : Container × reply.Reply). m.1) same,
         subst (λ (m : Container × reply.Reply). DocumentsHold documents m.0) (sym same) kept.0,
-        subst (λ (m : Container × reply.Reply). honest → Turns old new (Shows before) (Shows m.0)) (sym same) kept.1,
+        λ h. subst (λ (m : Container × reply.Reply). Turns old new (HasAll before) (HasAll m.0)) (sym same) kept.1,
       )
 
+  tells_disk : Turns old new (HasAll before) (HasAll (left_by before made)) → Turns old new (HasAll before) (HasAll (served before (Ok asked)).0)
+  tells_disk turns =
+      subst (λ (c : Container). Turns old new (HasAll before) (HasAll c))
+      (sym (ap (λ (m : Container × reply.Reply). m.0) is ∙ left_is before made)) turns
+
   -- by what the write came to
-  pub tells_written : (result : Result (Unit {0}) WriteFault) → TellsWrite honest before made result documents old new
+  pub tells_written : (result : Result (Unit {0}) WriteFault) → TellsWrite before made result documents.store documents.ids old new
       → Tells honest before asked (write_answer result) documents old new
   tells_written (Ok done) told = tells_made told
   tells_written (Err write.Conflict) told = tells_refused Conflict told.0 told.1
   tells_written (Err write.Absent) told = tells_refused Absent told.0 told.1
   tells_written (Err write.Full) told = tells_refused Full told.0 told.1
+  tells_written (Err (write.Store store_fault.Disk)) told = λ h. tells_disk told
+  tells_written (Err (write.Store (store_fault.Damaged extent at))) told = told
+  tells_written (Err (write.Store (store_fault.Newer version))) told = absurd told
   -- want of memory changes nothing
-  tells_written (Err write.Memory) told = (OutOfMemory, refl, told.0, told.1)
-  tells_written (Err write.Disk) told =
-      subst (λ (m : Container × reply.Reply). honest → Turns old new (Shows before) (Shows m.0))
-      (sym (ends (Ok told.0) told.1)) told.2
+  tells_written (Err (write.Store store_fault.Memory)) told = (OutOfMemory, refl, told.0, λ h. told.1)
 
-pub works_written : {C : Type 0} (pages : C → CachedPages) (honest : Type 0) (documents : Documents C) (new : History)
-    (result : Result (Unit {0}) WriteFault) → WorksAfterWrite pages honest result documents new
+pub works_written : {C : Type 0} (pages : C → CachedPages) (honest : Bool) (documents : Documents C) (new : History)
+    (result : Result (Unit {0}) WriteFault) → WorkUnlessDisk pages honest (of_store result) documents new
     → OnOk (write_answer result) (DocumentsWork pages honest documents new)
 works_written pages honest documents new (Ok done) works = works
 works_written pages honest documents new (Err write.Conflict) works = works
 works_written pages honest documents new (Err write.Absent) works = works
 works_written pages honest documents new (Err write.Full) works = works
-works_written pages honest documents new (Err write.Memory) works = works
-works_written pages honest documents new (Err write.Disk) works = tt
+works_written pages honest documents new (Err (write.Store store_fault.Disk)) works = tt
+works_written pages honest documents new (Err (write.Store (store_fault.Damaged extent at))) works = tt
+works_written pages honest documents new (Err (write.Store (store_fault.Newer version))) works = works
+works_written pages honest documents new (Err (write.Store store_fault.Memory)) works = works
 
-pub counted_written : (result : Result (Unit {0}) WriteFault) (l m : ℕ) → CountsWrite result l m
+pub counted_written : (result : Result (Unit {0}) WriteFault) (l m : ℕ) → HasDiskCause (of_store result) l m
     → CountsAnswer (write_answer result) l m
-counted_written (Ok done) l m counted = counted
-counted_written (Err write.Conflict) l m counted = counted
-counted_written (Err write.Absent) l m counted = counted
-counted_written (Err write.Full) l m counted = counted
-counted_written (Err write.Memory) l m counted = counted
-counted_written (Err write.Disk) l m counted = counted
+counted_written (Ok done) l m cause = cause.uncounted
+counted_written (Err write.Conflict) l m cause = cause.uncounted
+counted_written (Err write.Absent) l m cause = cause.uncounted
+counted_written (Err write.Full) l m cause = cause.uncounted
+counted_written (Err (write.Store store_fault.Disk)) l m cause = cause.failed tt
+counted_written (Err (write.Store (store_fault.Damaged extent at))) l m cause = cause.uncounted
+counted_written (Err (write.Store (store_fault.Newer version))) l m cause = cause.uncounted
+counted_written (Err (write.Store store_fault.Memory)) l m cause = cause.uncounted
 
-pub only_disk : (result : Result (Unit {0}) WriteFault) → IfErr (write_answer result) (λ why. why ≡ fault.Disk)
-only_disk (Ok done) = tt
-only_disk (Err write.Conflict) = tt
-only_disk (Err write.Absent) = tt
-only_disk (Err write.Full) = tt
-only_disk (Err write.Memory) = tt
-only_disk (Err write.Disk) = refl
+pub met_written : (result : Result (Unit {0}) WriteFault) (image : Image) → IfErr (of_store result) (λ why. MeetsBy why image)
+    → IfErr (write_answer result) (λ why. Meets why image)
+met_written (Ok done) image met = tt
+met_written (Err write.Conflict) image met = tt
+met_written (Err write.Absent) image met = tt
+met_written (Err write.Full) image met = tt
+met_written (Err (write.Store store_fault.Disk)) image met = tt
+met_written (Err (write.Store (store_fault.Damaged extent at))) image met = met
+met_written (Err (write.Store (store_fault.Newer version))) image met = tt
+met_written (Err (write.Store store_fault.Memory)) image met = tt
 
-pub refused_written : (why : WriteRefusal) → write_answer (Err (fault_of why)) ≡ Ok (given.Refused (write_refusal why))
-refused_written Conflict = refl
-refused_written Absent = refl
-refused_written Full = refl
+pub idle_written : (result : Result (Unit {0}) WriteFault) (old new : History) → IdlesUnlessMade result old new
+    → IdlesUnlessDone (write_answer result) old new
+idle_written (Ok done) old new idle = tt
+idle_written (Err write.Conflict) old new idle = idle
+idle_written (Err write.Absent) old new idle = idle
+idle_written (Err write.Full) old new idle = idle
+idle_written (Err (write.Store store_fault.Disk)) old new idle = tt
+idle_written (Err (write.Store (store_fault.Damaged extent at))) old new idle = idle
+idle_written (Err (write.Store (store_fault.Newer version))) old new idle = idle
+idle_written (Err (write.Store store_fault.Memory)) old new idle = idle
 
-may_refuse : (asked : Line) (why : WriteFault) → MayFail asked why → IfOk (write_answer (Err why)) (λ reply. MayReply asked reply)
-may_refuse (line.Create tree) write.Conflict may = inl refl
-may_refuse (line.Create tree) write.Absent may = absurd may
-may_refuse (line.Create tree) write.Full may = inr (inl refl)
-may_refuse (line.Create tree) write.Memory may = inr (inr refl)
-may_refuse (line.Create tree) write.Disk may = tt
-may_refuse (line.Upsert tree) write.Conflict may = absurd may
-may_refuse (line.Upsert tree) write.Absent may = absurd may
-may_refuse (line.Upsert tree) write.Full may = inl refl
-may_refuse (line.Upsert tree) write.Memory may = inr refl
-may_refuse (line.Upsert tree) write.Disk may = tt
-may_refuse (line.Replace tree) write.Conflict may = absurd may
-may_refuse (line.Replace tree) write.Absent may = inl refl
-may_refuse (line.Replace tree) write.Full may = absurd may
-may_refuse (line.Replace tree) write.Memory may = inr refl
-may_refuse (line.Replace tree) write.Disk may = tt
-may_refuse (line.Delete id) write.Conflict may = absurd may
-may_refuse (line.Delete id) write.Absent may = inl refl
-may_refuse (line.Delete id) write.Full may = absurd may
-may_refuse (line.Delete id) write.Memory may = inr refl
-may_refuse (line.Delete id) write.Disk may = tt
-may_refuse (line.Read id) why may = absurd may
-may_refuse (line.Query body) why may = absurd may
+may_want : (asked : Line) → IsWrite asked → MayReply asked (given.Refused refusal.Memory)
+may_want (line.Create tree) is = inr (inr refl)
+may_want (line.Upsert tree) is = inr refl
+may_want (line.Replace tree) is = inr refl
+may_want (line.Delete id) is = inr refl
+may_want (line.Read id) is = absurd is
+may_want (line.Query body) is = absurd is
+
+may_store : (asked : Line) (why : StoreFault) → IsWrite asked → IfOk (write_answer (Err (write.Store why))) (λ reply. MayReply asked reply)
+may_store asked store_fault.Disk is = tt
+may_store asked (store_fault.Damaged extent at) is = tt
+may_store asked (store_fault.Newer version) is = may_want asked is
+may_store asked store_fault.Memory is = may_want asked is
+
+may_refuse : (asked : Line) (why : WriteFault) → IsWrite asked → MayFail asked why → IfOk (write_answer (Err why)) (λ reply. MayReply asked reply)
+may_refuse asked (write.Store why) is may = may_store asked why is
+may_refuse (line.Create tree) write.Conflict is may = inl refl
+may_refuse (line.Create tree) write.Absent is may = absurd may
+may_refuse (line.Create tree) write.Full is may = inr (inl refl)
+may_refuse (line.Upsert tree) write.Conflict is may = absurd may
+may_refuse (line.Upsert tree) write.Absent is may = absurd may
+may_refuse (line.Upsert tree) write.Full is may = inl refl
+may_refuse (line.Replace tree) write.Conflict is may = absurd may
+may_refuse (line.Replace tree) write.Absent is may = inl refl
+may_refuse (line.Replace tree) write.Full is may = absurd may
+may_refuse (line.Delete id) write.Conflict is may = absurd may
+may_refuse (line.Delete id) write.Absent is may = inl refl
+may_refuse (line.Delete id) write.Full is may = absurd may
+may_refuse (line.Read id) why is may = absurd is
+may_refuse (line.Query body) why is may = absurd is
 
 may_be_made : (asked : Line) → IsWrite asked → MayReply asked given.Ok
 may_be_made (line.Create tree) is = tt
@@ -184,84 +218,130 @@ may_be_made (line.Query body) is = absurd is
 pub may_write : (asked : Line) (result : Result (Unit {0}) WriteFault) → IsWrite asked → IfErr result (MayFail asked)
     → IfOk (write_answer result) (λ reply. MayReply asked reply)
 may_write asked (Ok done) is may = may_be_made asked is
-may_write asked (Err why) is may = may_refuse asked why may
+may_write asked (Err why) is may = may_refuse asked why is may
+
+-- ---- the steps of a line for an id
+
+pub steps_of_held : (id : List ℕ) (before : Container) (steps now : ℕ) → now ≤ steps + 1 → (contains id before ≡ false → now ≡ steps)
+    → now ≤ steps + held_need (Some id) before
+steps_of_held id before steps now one none = by (contains id before) none
+  where
+    by : (is : Bool) → (is ≡ false → now ≡ steps) → now ≤ steps + (if is then 1 else 0)
+    by true none = one
+    by false none = omega (arith, none refl)
+
+-- the same of a line for a document with its id
+pub steps_of_document : (id : Option (List ℕ)) (before : Container) (steps now : ℕ) → IsSome id → now ≤ steps + 1
+    → ((own : List ℕ) → id ≡ Some own → contains own before ≡ false → now ≡ steps)
+    → now ≤ steps + held_need id before
+steps_of_document (Some id) before steps now some one none = steps_of_held id before steps now one (none id refl)
+steps_of_document None before steps now some one none = absurd (false≢true some)
+
+-- ---- the id of a line
+
+pub some_id : (o : Option (List ℕ)) → IsSome o → (id : List ℕ) × (o ≡ Some id)
+some_id (Some id) is = (id, refl)
+some_id None is = absurd (false≢true is)
+
+-- what is made by the document's own id
+pub made_by_id : (write : List ℕ → Tree → Container → Result Container WriteRefusal) (tree : Tree) (before : Container) (id : List ℕ)
+    → document_id tree ≡ Some id → write id tree before ≡ by_document write (document_id tree) tree before
+made_by_id write tree before id is = sym (ap (λ own. by_document write own tree before) is)
+
+-- of an image that has a container, all of which can be read, nothing is outside its grammar
+pub none_met : (image : Image) (container : Container) (extent at : ℕ) → HasAll container image → SaysReadable image
+    → IsMetIn image extent at → ⊥
+none_met image container extent at has readable (area, is, met) =
+    let stand = image_of container image has readable in
+    nothing_met newest stand.version stand.told stand.contents area at image stand.grammatical met
 
 -- ---- a read changes nothing
 
-pub read_absent : (id : List ℕ) (before : Container) → number_in id before ≡ None
-    → served before (Ok (line.Read id)) ≡ (before, reply.Refused refusal.Absent)
-read_absent id before at =
-    ap (λ found. (before, doc_reply (option_map (λ (e : Entry). e.tree) found))) (no_entry (entry_of id before) at)
+found_reply : (text : List ℕ) (tree : Option Tree) → Some text ≡ option_map canonical_text tree → doc_reply tree ≡ reply.Doc text
+found_reply text (Some tree) is = let same : canonical_text tree ≡ text = cc in ap reply.Doc same
+found_reply text None is = absurd cc
 
--- the document of an id that is held, by the number under which it stands
-pub read_found : (contents : Contents) (before : Container) (id text : List ℕ) (number : ℕ) → ContentsHold contents before
-    → number_in id before ≡ Some number
-    → Some text ≡ option_map (λ (document : Stored). document.text) (map.get contents.documents number)
-    → read_reply id before ≡ reply.Doc text
-read_found contents before id text number hold at found =
-    let e = some_entry (entry_of id before) number at in
-    let there : entry_at number before.entries ≡ Some e.0 =
-    subst (λ n. entry_at n before.entries ≡ Some e.0) e.2 (entry_there before id e.0 hold.show.sound e.1) in
-    let same : Some text ≡ Some (canonical_text e.0.tree) =
-    found ∙ ap (option_map (λ (document : Stored). document.text)) (map.get-entries contents.documents number)
-    ∙ text_there (map.entries contents.documents) before.entries number e.0 hold.show.shown there in
-    let text_is : text ≡ canonical_text e.0.tree = cc in
-    ap (λ entry. doc_reply (option_map (λ (e : Entry). e.tree) entry)) e.1 ∙ ap reply.Doc (sym text_is)
+none_reply : (tree : Option Tree) → None ≡ option_map canonical_text tree → doc_reply tree ≡ reply.Refused refusal.Absent
+none_reply (Some tree) is = absurd cc
+none_reply None is = refl
 
-module _ {C : Type 0} (pages : C → CachedPages) (honest : Bool) (documents : Documents C) (store : Store C)
-    (old new : History) (l m : ℕ) (reads : ReadsStore pages honest documents.store store old new l m) where
-  abbrev looked : Documents C
-  looked = record documents { store = store }
+abbrev pub LookedUp : Type 0
+LookedUp = Result (Option (Vec ℕ Global)) StoreFault
 
-  pub works_then : store_failed store ≡ false → DocumentsWork pages (IsTrue honest) looked new
-  works_then works = record { unfailed = works; agrees = λ h. reads.agrees h works }
+pub works_looked : {C : Type 0} (pages : C → CachedPages) (honest : Bool) (documents : Documents C) (new : History)
+    (found : LookedUp) → WorkUnlessDisk pages honest found documents new
+    → OnOk (look_up_answer found) (DocumentsWork pages honest documents new)
+works_looked pages honest documents new (Ok (Some text)) works = works
+works_looked pages honest documents new (Ok None) works = works
+works_looked pages honest documents new (Err store_fault.Disk) works = tt
+works_looked pages honest documents new (Err (store_fault.Damaged extent at)) works = tt
+works_looked pages honest documents new (Err (store_fault.Newer version)) works = works
+works_looked pages honest documents new (Err store_fault.Memory) works = works
 
-  pub readable_then : IsTrue honest → Rests old SaysReadable → Stays old new SaysReadable
-  readable_then h rests = idles_stay old new SaysReadable rests (reads.lists h)
+pub counted_looked : (found : LookedUp) (l m : ℕ) → HasDiskCause found l m → CountsAnswer (look_up_answer found) l m
+counted_looked (Ok (Some text)) l m cause = cause.uncounted
+counted_looked (Ok None) l m cause = cause.uncounted
+counted_looked (Err store_fault.Disk) l m cause = cause.failed tt
+counted_looked (Err (store_fault.Damaged extent at)) l m cause = cause.uncounted
+counted_looked (Err (store_fault.Newer version)) l m cause = cause.uncounted
+counted_looked (Err store_fault.Memory) l m cause = cause.uncounted
 
-  module _ (before : Container) (works : DocumentsWork pages (IsTrue honest) documents old) (holds : DocumentsHold documents before) where
-    turns_then : IsTrue honest → Turns old new (Shows before) (Shows before)
-    turns_then h = idled pages (IsTrue honest) documents old new before works holds (reads.lists h) h
+pub met_looked : (found : LookedUp) (image : Image) → IfErr found (λ why. MeetsBy why image) → IfErr (look_up_answer found) (λ why. Meets why image)
+met_looked (Ok (Some text)) image met = tt
+met_looked (Ok None) image met = tt
+met_looked (Err store_fault.Disk) image met = tt
+met_looked (Err (store_fault.Damaged extent at)) image met = met
+met_looked (Err (store_fault.Newer version)) image met = tt
+met_looked (Err store_fault.Memory) image met = tt
 
-    pub tells_doc : (id : List ℕ) (text : Vec ℕ Global) → read_reply id before ≡ reply.Doc text.items
-        → Tells (IsTrue honest) before (line.Read id) (Ok (given.Doc text)) looked old new
-    tells_doc id text is = (Served, is, holds_read documents store before reads.same holds, turns_then)
+pub may_look : (found : LookedUp) → IfOk (look_up_answer found) FitsRead
+may_look (Ok (Some text)) = tt
+may_look (Ok None) = inl refl
+may_look (Err store_fault.Disk) = tt
+may_look (Err (store_fault.Damaged extent at)) = tt
+may_look (Err (store_fault.Newer version)) = inr refl
+may_look (Err store_fault.Memory) = inr refl
 
-    pub tells_want : (id : List ℕ) → Tells (IsTrue honest) before (line.Read id) (Ok (given.Refused refusal.Memory)) looked old new
-    tells_want id = (OutOfMemory, refl, holds_read documents store before reads.same holds, turns_then)
-
-    pub tells_fault : (id : List ℕ) → Tells (IsTrue honest) before (line.Read id) (Err fault.Disk) looked old new
-    tells_fault id = turns_then
-
--- a read of an id that is held is refused by nothing, and counts one step at the most
-pub read_refused : {P : Type 0} → (id : List ℕ) (before : Container) (number : ℕ) (why : WriteRefusal)
-    → number_in id before ≡ Some number → made_of (line.Read id) before ≡ Err why → P
-read_refused id before number why at is =
-    not_refused (made_of (line.Read id) before)
-    (ap (λ b. if b then Ok before else Err Absent) (is_there id before number at)) is
-
-pub read_steps : (id : List ℕ) (before : Container) (number steps now : ℕ) → number_in id before ≡ Some number
-    → now ≡ steps + 1 → now ≤ steps + held_need (Some id) before
-read_steps id before number steps now at is =
-    let one : held_need (Some id) before ≡ 1 = ap (λ b. if b then 1 else 0) (is_there id before number at) in
-    omega (arith, one, is)
+pub tells_looked : {C : Type 0} (honest : Type 0) (was : Store C) (documents : Documents C) (old new : History) (before : Container)
+    (id bytes : List ℕ) (found : LookedUp) → bytes ≡ id → ContentsHoldAll (store_contents was) before
+    → DocumentsHold documents before → Turns old new (HasAll before) (HasAll before) → IfErr found (TellsDamage was)
+    → IfOk found (λ found. option_map (λ (text : Vec ℕ Global). text.items) found ≡ option_map canonical_text (tree_of bytes before))
+    → Tells honest before (line.Read id) (look_up_answer found) documents old new
+tells_looked honest was documents old new before id bytes (Ok (Some text)) same hold holds turns told is =
+    (Served, found_reply text.items (tree_of id before) (is ∙ of_id), holds, λ h. turns)
+  where
+    of_id : option_map canonical_text (tree_of bytes before) ≡ option_map canonical_text (tree_of id before)
+    of_id = ap (λ i. option_map canonical_text (tree_of i before)) same
+tells_looked honest was documents old new before id bytes (Ok None) same hold holds turns told is =
+    (Served, none_reply (tree_of id before) (is ∙ of_id), holds, λ h. turns)
+  where
+    of_id : option_map canonical_text (tree_of bytes before) ≡ option_map canonical_text (tree_of id before)
+    of_id = ap (λ i. option_map canonical_text (tree_of i before)) same
+tells_looked honest was documents old new before id bytes (Err store_fault.Disk) same hold holds turns told is = λ h. turns
+tells_looked honest was documents old new before id bytes (Err (store_fault.Damaged extent at)) same hold holds turns told is =
+    undamaged was before extent at hold told
+tells_looked honest was documents old new before id bytes (Err (store_fault.Newer version)) same hold holds turns told is = absurd told
+tells_looked honest was documents old new before id bytes (Err store_fault.Memory) same hold holds turns told is =
+    (OutOfMemory, refl, holds, λ h. turns)
 
 -- ---- a query changes nothing
 
 -- what reading left, and answered
 module _ {C : Type 0} (pages : C → CachedPages) (honest : Bool) (documents : Documents C) (store : Store C)
-    (ahead : ReadAhead) (old new : History) (l m : ℕ) where
+    (ahead : ReadAhead) (old new : History) (l m : ℕ) (works : DocumentsWork pages honest documents old) where
   abbrev after : Documents C
   after = record documents { store = store }
 
-  works_scanned : Scanned pages honest documents.store store ahead old new l m → DocumentsWork pages (IsTrue honest) after new
+  works_scanned : Scanned pages honest documents.store store ahead old new l m → DocumentsWork pages honest after new
   works_scanned scanned = record {
     unfailed = scanned.ready.works;
     agrees = λ h. (scanned.ready.agrees h).agrees;
+    table = subst (λ (kept : Kept). TableAgrees honest documents.table (kept_says kept)) (sym scanned.same.pages) works.table;
+    free = subst (λ (frames : Frames). frames.taken ≡ replicate slot_count false) (sym scanned.slots) works.free;
   }
 
   pub works_read : (read : Result Reply StoreFault) → Scans pages honest read documents.store store ahead old new l m
-      → OnOk (read_answer read) (DocumentsWork pages (IsTrue honest) after new)
+      → OnOk (read_answer read) (DocumentsWork pages honest after new)
   works_read (Ok reply) scans = works_scanned scans
   works_read (Err store_fault.Disk) scans = tt
   works_read (Err (store_fault.Damaged extent at)) scans = tt
@@ -301,26 +381,28 @@ module _ {C : Type 0} (pages : C → CachedPages) (honest : Bool) (documents : D
   met_read (Err (store_fault.Newer version)) scans may h = absurd scans
   met_read (Err store_fault.Memory) scans may h = tt
 
-  module _ (before : Container) (body : Body) (works : DocumentsWork pages (IsTrue honest) documents old) (holds : DocumentsHold documents before) where
-    turns_scanned : Scanned pages honest documents.store store ahead old new l m
-        → IsTrue honest → Turns old new (Shows before) (Shows before)
-    turns_scanned scanned h = idled pages (IsTrue honest) documents old new before works holds (scanned.lists h) h
+  module _ (before : Container) (body : Body) (holds : DocumentsHold documents before) where
+    turns_scanned : Idles old new → IsTrue honest → Turns old new (HasAll before) (HasAll before)
+    turns_scanned idles h = idled pages honest documents old before works holds new idles h
 
     stands_scanned : Scanned pages honest documents.store store ahead old new l m → DocumentsHold after before
     stands_scanned scanned = holds_read documents store before scanned.same holds
+
+    has_then : Idles old new → MayLeave new.unsynced new.reads → IsTrue honest → HasAll before new.reads
+    has_then idles may h =
+        (idles_rest old new (HasAll before) (rests_of pages honest documents old before works holds h) idles).each new.reads may
 
     pub tells_read : (read : Result Reply StoreFault) → Scans pages honest read documents.store store ahead old new l m
         → MayLeave new.unsynced new.reads → SaysReadable new.reads
         → IfOk read (λ reply. IsReply reply (query_reply body before)) → IsTrue honest
         → Tells (IsTrue honest) before (line.Query body) (read_answer read) after old new
-    tells_read (Ok made) scans may readable is h = (Served, is, stands_scanned scans, turns_scanned scans)
-    tells_read (Err store_fault.Disk) scans may readable is h =
-        λ _. idled pages (IsTrue honest) documents old new before works holds (scans.lists h) h
+    tells_read (Ok made) scans may readable is h = (Served, is, stands_scanned scans, turns_scanned (scans.lists h))
+    tells_read (Err store_fault.Disk) scans may readable is h = turns_scanned (scans.lists h)
     tells_read (Err (store_fault.Damaged extent at)) scans may readable is h =
-        none_outside new.reads extent at readable
+        none_met new.reads before extent at (has_then (scans.0.lists h) may h) readable
         (met_outside pages store ahead new extent at (scans.0.ready.agrees h) may (scans.1 h))
     tells_read (Err (store_fault.Newer version)) scans may readable is h = absurd scans
-    tells_read (Err store_fault.Memory) scans may readable is h = (OutOfMemory, refl, stands_scanned scans, turns_scanned scans)
+    tells_read (Err store_fault.Memory) scans may readable is h = (OutOfMemory, refl, stands_scanned scans, turns_scanned (scans.lists h))
 
 -- rows over documents among which the query meets none are so over the image that has them
 pub passes_read : (version : ℕ) (told : List Told) (contents : Contents) (body : Body) (image : Image)
@@ -359,17 +441,17 @@ of_reading pages honest (Err store_fault.Memory) old new ahead entry exit l m sc
 
 -- ---- an engine
 
-pub rests_over : {C : Type 0} (pages : C → CachedPages) (honest : Type 0) (engine : Engine C) (history : History) (before : Container)
-    → Works pages honest engine history → HoldsOver engine history before → honest → Rests history (IsImageOf before)
+pub rests_over : {C : Type 0} (pages : C → CachedPages) (honest : Bool) (engine : Engine C) (history : History) (before : Container)
+    → Works pages honest engine history → HoldsOver engine history before → IsTrue honest → Rests history (IsImageOf before)
 rests_over pages honest engine history before works over h =
     images_rest history before
     (rests_of pages honest engine.documents history before (works.documents over.holds.unfaulted) over.holds.documents h)
     over.readable
 
 -- nothing has happened
-pub still_over : {C : Type 0} (pages : C → CachedPages) (honest : Type 0) (engine : Engine C) (history : History) (before other : Container)
+pub still_over : {C : Type 0} (pages : C → CachedPages) (honest : Bool) (engine : Engine C) (history : History) (before other : Container)
     → Works pages honest engine history → HoldsOver engine history before
-    → honest → Turns history history (IsImageOf before) (IsImageOf other)
+    → IsTrue honest → Turns history history (IsImageOf before) (IsImageOf other)
 still_over pages honest engine history before other works over h =
     stays_turn history history (IsImageOf before) (IsImageOf other)
     (stays_start history (IsImageOf before) (rests_over pages honest engine history before works over h))

@@ -38,7 +38,9 @@ use Rattle.ax_tree.specs.CanonicalText.{canonical_text}
 use Rattle.ax_tree.specs.declared.tree.Tree.{Tree}
 use Rattle.ax_store.specs.Listed.{IsNextAfter}
 use Rattle.ax_store.specs.Store.{store_contents}
-use Rattle.ax_engine.specs.Damage.{AreDocuments, IsMetOutside, MeetsDocuments}
+use Rattle.ax_documents.proofs.Meeting.{document_met}
+use Rattle.ax_documents.specs.Damage.{IsMetIn}
+use Rattle.ax_engine.specs.Damage.{AreDocuments, MeetsDocuments}
 use Rattle.ax_engine.specs.InPages.{HasOutside, IsOutsideAt, IsPlaced}
 use Rattle.ax_engine.specs.StoreSays.{kept_says, text_of}
 use Rattle.ax_engine.proofs.Placing.{alike_on, begins_at, nothing_alike}
@@ -64,16 +66,6 @@ some_is a b e = cc
 document_of : (held : Option Stored) → IsTrue (is_some held) → (document : Stored) × (held ≡ Some document)
 document_of None is = absurd cc
 document_of (Some document) is = (document, refl)
-
--- ---- where all that is told can be read, each document has a text
-
--- of an image all of which can be read no document has a text outside the grammar
-pub none_outside : (image : Image) (extent at : ℕ) → SaysReadable image → IsMetOutside image extent at → ⊥
-none_outside image extent at readable met =
-    let holds = told_so (IsReadableChange newest) (changes_of met.told) met.contents met.live.lead
-    (readable met.version met.told met.contents (inr met.live)) in
-    let written = holds.documents met.number met.met.document met.met.held in
-    met.met.bad (subst (λ (d : Stored). IsDocumentText newest d.text) (sym written.is) written.so)
 
 -- ---- the texts by which a store holds documents are those of the format
 
@@ -147,38 +139,11 @@ text_fails pages honest text_fault.Outside given old store ahead before after l 
 
 pub met_outside : {C : Type 0} (pages : C → CachedPages) (store : Store C) (ahead : ReadAhead) (history : History) (extent at : ℕ)
     → AgreesAhead pages store ahead history → MayLeave history.unsynced history.reads → IsOutsideAt store extent at
-    → IsMetOutside history.reads extent at
+    → IsMetIn history.reads extent at
 met_outside pages store ahead history extent at agrees may outside =
-    let logged = agrees.agrees.logged in
-    let frames = agrees.agrees.frames in
-    let takes = agrees.agrees.takes in
-    let there = logged.rests.each history.reads may in
-    let slot = log_slot store.log in
-    let first : slot.version ≡ newest = omega (arith, counts_from history.reads.root slot logged.counts, logged.known.known) in
-    let (told, tell, lead) = told_risen frames store.pages.contents (lead_on_of frames 0 nothing_kept store.pages takes) in
-    let begins = begins_at store.pages.offsets (places_after told no_places) outside.1.number at
-    (alike_on frames 0 told nothing_kept store.pages no_places tell takes nothing_alike) outside.1.placed in
-    record {
-      version = newest;
-      told = told;
-      contents = store_contents store;
-      live = record {
-        slot = slot;
-        version_is = first;
-        frames = frames;
-        live = record { counts = logged.counts; known = logged.known; has = there.has };
-        tell = tell;
-        lead = lead;
-      };
-      list = outside.0;
-      number = outside.1.number;
-      met = record {
-        document = outside.1.document;
-        held = outside.1.held;
-        begin = begins;
-        bad = outside.1.outside;
-      };
-    }
+    subst (λ e. IsMetIn history.reads e at) (sym outside.0)
+    (document_met pages store history agrees.agrees may outside.1.number at outside.1.document outside.1.held outside.1.placed
+    outside.1.outside)
 
 -- what was read ahead of a document that has this text is this text
 pub text_ahead : (document : Option Stored) (found : Bool) (text meant : List ℕ) → IsAhead document found text

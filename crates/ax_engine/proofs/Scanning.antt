@@ -8,7 +8,7 @@ use Rattle.ax_disk.specs.model.Moments.{History}
 use Rattle.ax_faults.specs.FaultLaws.{rose_since}
 use Rattle.ax_store.specs.Faults.{HasDiskCause}
 use Rattle.ax_store.specs.ReadAhead.{AgreesAheadUnlessFailed}
-use Rattle.ax_store.specs.Store.{SameButReads, store_failed}
+use Rattle.ax_store.specs.Store.{SameButReads, store_failed, store_slots}
 use Rattle.ax_store.specs.declared.fault.StoreFault.{StoreFault}
 use Rattle.ax_store.specs.declared.fault.StoreFault.TheVariants as fault
 use Rattle.ax_store.specs.declared.read_ahead.ReadAhead.{ReadAhead}
@@ -25,6 +25,7 @@ pub nothing_scanned : {C : Type 0} (pages : C → CachedPages) (honest : Bool) (
     (faults : ℕ) → IsReady pages honest store ahead history → Scanned pages honest store store ahead history history faults faults
 nothing_scanned pages honest store ahead history faults ready = record {
   same = unread store;
+  slots = refl;
   ready = ready;
   lists = λ _. idles_start history;
   uncounted = refl;
@@ -41,6 +42,7 @@ module _ {C : Type 0} (pages : C → CachedPages) (now then : Bool) (a b c : Sto
   on : Scanned pages then b c later y z m n → Scanned pages then a c later x z l n
   on second = record {
     same = reads_on a b c first.same second.same;
+    slots = second.slots ∙ first.slots;
     ready = second.ready;
     lists = λ h. idles_join x y z (first.lists h) (second.lists h);
     uncounted = second.uncounted ∙ first.uncounted;
@@ -71,30 +73,32 @@ module _ {C : Type 0} (pages : C → CachedPages) (now then : Bool) (a b c : Sto
 -- what the store's call answers
 pub scans_of : {T C : Type 0} (pages : C → CachedPages) (honest : Bool) (result : Result T StoreFault) (old new : Store C)
     (ahead : ReadAhead) (before after : History) (earlier later : ℕ) → store_failed old ≡ false → SameButReads old new
-    → AgreesAheadUnlessFailed pages honest new ahead after → OnOk result (store_failed new ≡ false)
+    → store_slots new ≡ store_slots old → AgreesAheadUnlessFailed pages honest new ahead after → OnOk result (store_failed new ≡ false)
     → (result ≡ Err fault.Memory → store_failed new ≡ store_failed old)
     → IfErr result (λ why. (why ≡ fault.Disk) ⊎ (why ≡ fault.Memory)) → (IsTrue honest → Idles before after)
     → (store_failed old ≡ false → HasDiskCause result earlier later) → Scans pages honest result old new ahead before after earlier later
-scans_of pages honest (Ok value) old new ahead before after earlier later works same agrees ok memory only lists cause = record {
+scans_of pages honest (Ok value) old new ahead before after earlier later works same slots agrees ok memory only lists cause = record {
   same = same;
+  slots = slots;
   ready = record { works = ok; agrees = λ h. agrees h ok };
   lists = lists;
   uncounted = (cause works).uncounted;
 }
-scans_of pages honest (Err fault.Disk) old new ahead before after earlier later works same agrees ok memory only lists cause = record {
+scans_of pages honest (Err fault.Disk) old new ahead before after earlier later works same slots agrees ok memory only lists cause = record {
   same = same;
   lists = lists;
   never_falls = (cause works).never_falls;
   rose = (cause works).failed tt;
 }
-scans_of pages honest (Err (fault.Damaged extent at)) old new ahead before after earlier later works same agrees ok memory (inl is) lists cause = absurd cc
-scans_of pages honest (Err (fault.Damaged extent at)) old new ahead before after earlier later works same agrees ok memory (inr is) lists cause = absurd cc
-scans_of pages honest (Err (fault.Newer version)) old new ahead before after earlier later works same agrees ok memory (inl is) lists cause = absurd cc
-scans_of pages honest (Err (fault.Newer version)) old new ahead before after earlier later works same agrees ok memory (inr is) lists cause = absurd cc
-scans_of pages honest (Err fault.Memory) old new ahead before after earlier later works same agrees ok memory only lists cause =
+scans_of pages honest (Err (fault.Damaged extent at)) old new ahead before after earlier later works same slots agrees ok memory (inl is) lists cause = absurd cc
+scans_of pages honest (Err (fault.Damaged extent at)) old new ahead before after earlier later works same slots agrees ok memory (inr is) lists cause = absurd cc
+scans_of pages honest (Err (fault.Newer version)) old new ahead before after earlier later works same slots agrees ok memory (inl is) lists cause = absurd cc
+scans_of pages honest (Err (fault.Newer version)) old new ahead before after earlier later works same slots agrees ok memory (inr is) lists cause = absurd cc
+scans_of pages honest (Err fault.Memory) old new ahead before after earlier later works same slots agrees ok memory only lists cause =
     let still : store_failed new ≡ false = memory refl ∙ works in
     record {
       same = same;
+      slots = slots;
       ready = record { works = still; agrees = λ h. agrees h still };
       lists = lists;
       uncounted = (cause works).uncounted;

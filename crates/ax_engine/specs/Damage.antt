@@ -1,23 +1,21 @@
--- Documents whose stored text is none that a document can have: the store is damaged there. And which texts a
--- query without a limit has met before it answers rows.
+-- What damage a line tells, and which texts a query without a limit has met before it answers rows.
 -- It is this project's own; it comes from no public document.
 use Rattle.std.specs.Prelude.{◌≡◌, ◌⊎◌, ℕ, ◌<◌, List, Some, None}
 use Rattle.std.specs.FinMap as map
 use Rattle.ax_answer_text.specs.Parts.{IsKept}
 use Rattle.ax_area.specs.Contents.{Contents, Stored}
-use Rattle.ax_area.specs.Image.{IsLiveWith, Says}
+use Rattle.ax_area.specs.Image.{Says}
 use Rattle.ax_area.specs.Told.{Told}
 use Rattle.ax_disk.specs.model.Image.{Image}
+use Rattle.ax_documents.specs.Damage.{IsMetIn}
 use Rattle.ax_excerpt.specs.Needs.{NeedsAll}
 use Rattle.ax_excerpt_text.specs.Wholes.{IsNoMap}
 use Rattle.ax_grammar.specs.Query.{query_in}
 use Rattle.ax_image.specs.Readable.{newest}
-use Rattle.ax_image_grammar.specs.Met.{IsDocumentMet}
 use Rattle.ax_image_grammar.specs.Payloads.{IsDocumentText}
 use Rattle.ax_lines.specs.declared.line.Line.{Line}
 use Rattle.ax_lines.specs.declared.line.Line.TheVariants as line
 use Rattle.ax_mean.specs.declared.query.Query.{Query}
-use Rattle.ax_pages.specs.Area.{extent_number}
 use Rattle.ax_engine.specs.Printing.{IsPrinted}
 use Rattle.ax_engine.specs.Replies.{OnRows}
 use Rattle.ax_engine.specs.declared.engine.Fault.{Fault}
@@ -26,21 +24,10 @@ use Rattle.ax_engine.specs.declared.reply.Reply.{Reply}
 
 -- ---- damage, and its place
 
--- The image is live, and a document that it has begins at this place of this list, and its text is none
--- of a document.
-pub record IsMetOutside (image : Image) (extent at : ℕ) : Type 0 where
-  pub version : ℕ
-  pub told : List Told
-  pub contents : Contents
-  pub live : IsLiveWith newest version told contents image
-  pub list : extent ≡ extent_number live.slot.area
-  pub number : ℕ
-  pub met : IsDocumentMet newest number told contents at
-
--- where the fault is that a text is outside, it is so at that place of the image
+-- where a fault is damage, there stands what is outside its grammar: the text of a document, or a part of a term page
 abbrev pub Meets : Fault → Image → Type 0
 Meets fault.Disk image = Unit {0}
-Meets (fault.Damaged extent at) image = IsMetOutside image extent at
+Meets (fault.Damaged extent at) image = IsMetIn image extent at
 
 -- ---- what a query has met
 

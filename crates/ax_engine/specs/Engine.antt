@@ -1,5 +1,5 @@
 -- An engine at work: which container it has, and what it answers to a line.
-use Rattle.std.specs.Prelude.{◌≡◌, ℕ, List, Option, None, Some, Result, Ok, Err, if◌then◌else◌}
+use Rattle.std.specs.Prelude.{◌≡◌, ℕ, List, Bool, Option, None, Some, Result, Ok, Err, if◌then◌else◌}
 use Rattle.ax_cache.specs.Pages.{CachedPages}
 use Rattle.ax_disk.specs.model.Calls.{Idles}
 use Rattle.ax_disk.specs.model.Image.{Image}
@@ -9,6 +9,7 @@ use Rattle.ax_faults.specs.Faults.{Rose}
 use Rattle.ax_container.specs.Container.{Container, contains}
 use Rattle.ax_container.specs.Writes.{WriteRefusal, Absent, inserted, exchanged, removed, upserted}
 use Rattle.ax_image.specs.Readable.{SaysReadable}
+use Rattle.ax_image_pairs.specs.Indexed.{HasAll}
 use Rattle.ax_lines.specs.declared.line.Line.{Line}
 use Rattle.ax_lines.specs.declared.line.Line.TheVariants as line
 use Rattle.ax_machine.specs.Reply as reply
@@ -16,17 +17,19 @@ use Rattle.ax_machine.specs.Run.{Outcome, Served, OutOfMemory}
 use Rattle.ax_machine.specs.Step.{served}
 use Rattle.ax_tree.specs.declared.tree.Tree.{Tree}
 use Rattle.ax_tree.specs.Document.{document_id}
-use Rattle.ax_engine.specs.Documents.{DocumentsHold, DocumentsWork, IsOfCreation, IsOfUpsert, IsOfHeld}
+use Rattle.ax_write.specs.Writes.{IsOfCreation, IsOfHeld, IsOfUpsert}
+use Rattle.ax_write.specs.declared.fault.WriteFault.{WriteFault}
+use Rattle.ax_documents.specs.Documents.{DocumentsHold, DocumentsWork}
+use Rattle.ax_documents.specs.Opening.{IsImageOf}
+use Rattle.ax_documents.specs.declared.documents.Documents.{Documents}
 use Rattle.ax_engine.specs.Replies.{IsReply}
-use Rattle.ax_engine.specs.Stores.{IsImageOf, Shows}
-use Rattle.ax_engine.specs.declared.documents.Documents.{Documents}
-use Rattle.ax_engine.specs.declared.documents.WriteFault.{WriteFault}
 use Rattle.ax_engine.specs.declared.engine.Engine.{Engine}
 use Rattle.ax_engine.specs.declared.engine.Fault.{Fault}
 use Rattle.ax_engine.specs.declared.engine.Fault.TheVariants as fault
 use Rattle.ax_engine.specs.declared.reply.Reply.{Reply}
+use Rattle.ax_engine.specs.declared.reply.Reply.TheVariants as given
 
--- it has answered no fault, and its documents are those of the container
+-- it has answered no fault, and its documents are those of the container, and so is their index
 pub record Holds {C : Type 0} (engine : Engine C) (container : Container) : Type 0 where
   pub unfaulted : engine.fault ≡ None
   pub documents : DocumentsHold engine.documents container
@@ -36,8 +39,8 @@ pub record HoldsOver {C : Type 0} (engine : Engine C) (history : History) (conta
   pub holds : Holds engine container
   pub readable : Rests history SaysReadable
 
--- until it answers a fault its store has not failed, and agrees with the disk where that is honest
-pub record Works {C : Type 0} (pages : C → CachedPages) (honest : Type 0) (engine : Engine C) (history : History) : Type 0 where
+-- until it answers a fault its documents work: the store has not failed, and agrees with the disk where that is honest
+pub record Works {C : Type 0} (pages : C → CachedPages) (honest : Bool) (engine : Engine C) (history : History) : Type 0 where
   pub documents : engine.fault ≡ None → DocumentsWork pages honest engine.documents history
 
 -- the container after a line that was read, and its reply: by its step, or unchanged for want of memory
@@ -60,7 +63,7 @@ TellsOf honest before line (Err (fault.Damaged extent at)) Has Leaves old new = 
 -- the same of documents
 abbrev pub Tells : {C : Type 0} → Type 0 → Container → Line → Result Reply Fault → Documents C → History → History → Type 0
 Tells honest before line result held old new =
-    TellsOf honest before line result (DocumentsHold held) Shows old new
+    TellsOf honest before line result (DocumentsHold held) HasAll old new
 
 -- the same of an engine, whose images can be read
 abbrev pub Applies : {C : Type 0} → Type 0 → Container → Line → Result Reply Fault → Engine C → History → History → Type 0
@@ -104,23 +107,23 @@ MayFail (line.Delete id) why = IsOfHeld why
 MayFail (line.Read id) why = ⊥
 MayFail (line.Query body) why = ⊥
 
--- a read and a query leave the disk's lists as they are
-abbrev pub LeavesLists : Line → History → History → Type 0
-LeavesLists (line.Create tree) old new = Unit {0}
-LeavesLists (line.Upsert tree) old new = Unit {0}
-LeavesLists (line.Replace tree) old new = Unit {0}
-LeavesLists (line.Delete id) old new = Unit {0}
-LeavesLists (line.Read id) old new = Idles old new
-LeavesLists (line.Query body) old new = Idles old new
+-- unless a write was made, or the disk failed, its lists are as they were
+abbrev pub IdlesUnlessDone : Result Reply Fault → History → History → Type 0
+IdlesUnlessDone (Ok given.Ok) old new = Unit {0}
+IdlesUnlessDone (Ok (given.Doc text)) old new = Idles old new
+IdlesUnlessDone (Ok (given.Rows rows)) old new = Idles old new
+IdlesUnlessDone (Ok (given.Refused why)) old new = Idles old new
+IdlesUnlessDone (Err fault.Disk) old new = Unit {0}
+IdlesUnlessDone (Err (fault.Damaged extent at)) old new = Idles old new
 
--- only a query meets a text that is none of a document
-abbrev pub IsOfLine : Line → Fault → Type 0
-IsOfLine (line.Create tree) why = why ≡ fault.Disk
-IsOfLine (line.Upsert tree) why = why ≡ fault.Disk
-IsOfLine (line.Replace tree) why = why ≡ fault.Disk
-IsOfLine (line.Delete id) why = why ≡ fault.Disk
-IsOfLine (line.Read id) why = why ≡ fault.Disk
-IsOfLine (line.Query body) why = Unit {0}
+-- a read and a query leave the disk's lists as they are, and so does a write that is not made
+abbrev pub LeavesLists : Line → Result Reply Fault → History → History → Type 0
+LeavesLists (line.Create tree) result old new = IdlesUnlessDone result old new
+LeavesLists (line.Upsert tree) result old new = IdlesUnlessDone result old new
+LeavesLists (line.Replace tree) result old new = IdlesUnlessDone result old new
+LeavesLists (line.Delete id) result old new = IdlesUnlessDone result old new
+LeavesLists (line.Read id) result old new = Idles old new
+LeavesLists (line.Query body) result old new = Idles old new
 
 -- the disk's count of faults rises where the disk failed, and nowhere else
 abbrev pub CountsAnswer : Result Reply Fault → ℕ → ℕ → Type 0

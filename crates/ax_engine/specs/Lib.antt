@@ -1,11 +1,7 @@
-pub mod Batches
 pub mod Damage
-pub mod Documents
 pub mod Engine
 pub mod InPages
-pub mod Opening
 pub mod Printing
 pub mod Replies
 pub mod Scans
 pub mod StoreSays
-pub mod Stores

@@ -1,6 +1,7 @@
 -- The reply that the engine gives as data is one of the definition; and what a line may be answered, whatever
 -- the store holds.
 use Rattle.std.specs.Prelude.{◌≡◌, ◌⊎◌, ℕ, List, length, Option, None, Some, Result, Ok, Err}
+use Rattle.std.specs.Global.{Vec}
 use Rattle.std.specs.List.{flat_map}
 use Rattle.ax_grammar.specs.Query.{query_in}
 use Rattle.ax_lines.specs.Causes.{unless}
@@ -14,8 +15,8 @@ use Rattle.ax_machine.specs.ReplyTexts.{row_text}
 use Rattle.ax_mean.specs.declared.query.Query.{Query}
 use Rattle.ax_store.specs.declared.fault.StoreFault.{StoreFault}
 use Rattle.ax_store.specs.declared.fault.StoreFault.TheVariants as store_fault
-use Rattle.ax_engine.specs.declared.documents.WriteFault.{WriteFault}
-use Rattle.ax_engine.specs.declared.documents.WriteFault.TheVariants as write
+use Rattle.ax_write.specs.declared.fault.WriteFault.{WriteFault}
+use Rattle.ax_write.specs.declared.fault.WriteFault.TheVariants as write
 use Rattle.ax_engine.specs.declared.engine.Fault.{Fault}
 use Rattle.ax_engine.specs.declared.engine.Fault.TheVariants as fault
 use Rattle.ax_engine.specs.declared.reply.Reply.{Reply}
@@ -119,11 +120,22 @@ read_answer (Err (store_fault.Damaged extent at)) = Err (fault.Damaged extent at
 read_answer (Err (store_fault.Newer version)) = Ok (given.Refused refusal.Memory)
 read_answer (Err store_fault.Memory) = Ok (given.Refused refusal.Memory)
 
--- what a write came to, as the answer to its line: a refusal of the store, and want of memory
+-- what looking up the text of a document answered, as the answer to a READ line: that there is none is a refusal
+abbrev pub look_up_answer : Result (Option (Vec ℕ)) StoreFault → Result Reply Fault
+look_up_answer (Ok (Some text)) = Ok (given.Doc text)
+look_up_answer (Ok None) = Ok (given.Refused refusal.Absent)
+look_up_answer (Err store_fault.Disk) = Err fault.Disk
+look_up_answer (Err (store_fault.Damaged extent at)) = Err (fault.Damaged extent at)
+look_up_answer (Err (store_fault.Newer version)) = Ok (given.Refused refusal.Memory)
+look_up_answer (Err store_fault.Memory) = Ok (given.Refused refusal.Memory)
+
+-- what a write came to, as the answer to its line: a refusal of the container, and want of memory
 abbrev pub write_answer : Result (Unit {0}) WriteFault → Result Reply Fault
 write_answer (Ok made) = Ok given.Ok
 write_answer (Err write.Conflict) = Ok (given.Refused refusal.Conflict)
 write_answer (Err write.Absent) = Ok (given.Refused refusal.Absent)
 write_answer (Err write.Full) = Ok (given.Refused refusal.Full)
-write_answer (Err write.Memory) = Ok (given.Refused refusal.Memory)
-write_answer (Err write.Disk) = Err fault.Disk
+write_answer (Err (write.Store store_fault.Disk)) = Err fault.Disk
+write_answer (Err (write.Store (store_fault.Damaged extent at))) = Err (fault.Damaged extent at)
+write_answer (Err (write.Store (store_fault.Newer version))) = Ok (given.Refused refusal.Memory)
+write_answer (Err (write.Store store_fault.Memory)) = Ok (given.Refused refusal.Memory)

@@ -7,7 +7,7 @@ use Rattle.ax_disk.specs.model.Calls.{Idles}
 use Rattle.ax_disk.specs.model.Moments.{History}
 use Rattle.ax_faults.specs.Faults.{Rose}
 use Rattle.ax_store.specs.ReadAhead.{AgreesAhead}
-use Rattle.ax_store.specs.Store.{SameButReads, store_failed}
+use Rattle.ax_store.specs.Store.{SameButReads, store_failed, store_slots}
 use Rattle.ax_store.specs.declared.fault.StoreFault.{StoreFault}
 use Rattle.ax_store.specs.declared.fault.StoreFault.TheVariants as fault
 use Rattle.ax_store.specs.declared.read_ahead.ReadAhead.{ReadAhead}
@@ -24,6 +24,7 @@ pub record IsReady {C : Type 0} (pages : C → CachedPages) (honest : Bool) (sto
 pub record Scanned {C : Type 0} (pages : C → CachedPages) (honest : Bool) (old new : Store C) (ahead : ReadAhead)
     (before after : History) (earlier later : ℕ) : Type 0 where
   pub same : SameButReads old new
+  pub slots : store_slots new ≡ store_slots old
   pub ready : IsReady pages honest new ahead after
   pub lists : IsTrue honest → Idles before after
   pub uncounted : later ≡ earlier

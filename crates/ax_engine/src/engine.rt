@@ -1,6 +1,6 @@
 //! An engine over an open store.
 
-ghost use Rattle.std.specs.Prelude.{◌≡◌, ◌≤◌, ◌+◌, ℕ, Ok, Err, Some, None, IsTrue, IfOk, IfErr, OnOk};
+ghost use Rattle.std.specs.Prelude.{◌≡◌, ◌≤◌, ◌+◌, ℕ, Ok, Err, Some, None, IsTrue, IfOk, IfErr, OnOk, false};
 ghost use Rattle.std.specs.FinMap as map;
 ghost use Rattle.ax_cache.specs.PageLaws.{no_pages};
 ghost use Rattle.ax_disk.specs.model.Calls.{Idles};
@@ -9,28 +9,27 @@ ghost use Rattle.ax_area.specs.Image.{IsDamaged, IsFresh, IsNewer};
 ghost use Rattle.ax_pages.specs.Area.{extent_number};
 ghost use Rattle.ax_disk.specs.declared.extent.Extent.TheVariants.{Root};
 ghost use Rattle.ax_store.specs.Faults.{HasDiskCause};
-ghost use Rattle.ax_container.specs.Container.{Container};
-ghost use Rattle.ax_container.specs.Writes.{WriteRefusal};
+ghost use Rattle.ax_container.specs.Container.{Container, contains};
+ghost use Rattle.ax_container.specs.Writes.{removed};
 ghost use Rattle.ax_log.specs.Opening.{Keeps};
 ghost use Rattle.ax_lines.specs.Asked.{IsAsked};
 ghost use Rattle.ax_lines.specs.declared.line.Line.TheVariants as line;
 ghost use Rattle.ax_image.specs.Readable.{SaysReadable, newest};
 ghost use Rattle.ax_machine.specs.Needs.{most_steps_of};
-ghost use Rattle.ax_machine.specs.Step.{write_refusal};
+ghost use Rattle.ax_write.specs.Writes.{IsOfHeld, TellsWrite, WriteLeaves, of_store};
+ghost use Rattle.ax_documents.specs.Damage.{MeetsBy};
+ghost use Rattle.ax_documents.specs.Documents.{DocumentsHold, DocumentsWork, SameDocuments, WorkUnlessDisk};
+ghost use Rattle.ax_documents.specs.Opening.{IsAnswerUnlessDisk, IsImageOf, IsStore, IsWithin, RefusesBy};
 ghost use Rattle.ax_engine.specs.Damage.{Meets, PassesOverNone};
-ghost use Rattle.ax_engine.specs.Documents.{fault_of, DocumentsHold, DocumentsWork, SameDocuments, TellsWrite, WriteLeaves};
-ghost use Rattle.ax_engine.specs.Engine.{made_of, Applies, CountsAnswer, Holds, HoldsOver, IsOfLine, IsWrite, LeavesLists, MayFail, Tells, Works};
-ghost use Rattle.ax_engine.specs.Opening.{IsAnswerUnlessDisk, RefusesBy};
-ghost use Rattle.ax_engine.specs.Replies.{FitsRead, IsOfReading, MayReply, read_answer, write_answer};
-ghost use Rattle.ax_engine.specs.Stores.{IsImageOf, IsStore, IsWithin};
+ghost use Rattle.ax_engine.specs.Engine.{Applies, CountsAnswer, Holds, HoldsOver, IdlesUnlessDone, IsWrite, LeavesLists, MayFail, Tells, Works, made_of};
+ghost use Rattle.ax_engine.specs.Replies.{FitsRead, IsOfReading, MayReply, look_up_answer, read_answer, write_answer};
 
-use crate::documents::{Documents, WriteFault};
-use crate::opening::open_documents;
 use crate::querying::reply_to_query;
 use crate::reply::Reply;
 use ax_base::Steps;
 use ax_cache::PageCache;
 use ax_disk::Disk;
+use ax_documents::{Documents, WriteFault, open_documents};
 use ax_lines::{Body, Line, Refusal};
 use ax_store::{NoPages, ReadAhead, StoreFault};
 use ax_tree::Text;
@@ -42,9 +41,9 @@ use std::sync::ledger::Ledger;
 pub enum Fault {
     /// A call on the disk failed, and its count of faults rose.
     Disk,
-    /// The text of a document is outside the format.
+    /// The text of a document, or a part of a term page, is outside the format.
     Damaged {
-        /// The list in which its part stands: 1 area A, 2 area B.
+        /// The list in which the part stands: 1 area A, 2 area B.
         extent: u8,
         /// The offset of the part in that list.
         at: u64,
@@ -55,6 +54,7 @@ pub enum Fault {
 #[derive(Drop)]
 pub struct Engine<C> {
     pub(crate) documents: Documents<C>,
+    pub(crate) alloc: Global,
     /// The fault that was answered first.
     pub(crate) fault: Option<Fault>,
 }
@@ -63,13 +63,18 @@ impl Engine<NoPages> {
     /// Opens the store attached, or forms one where it is fresh. It has no cache yet: `with_cache` gives it one.
     ///
     /// It begins with a sync, the barrier: until that succeeds a crash leaves what it might have left
-    /// before, and from then on the documents that reads gave. The errors are those of the store:
+    /// before, and from then on the documents that reads gave, with their index. The errors are those of the store:
     /// `Disk` only where a call on the disk failed, `Damaged` and `Newer` only where the store is
-    /// outside the format at that offset, or of that later version, and it is as it was; `Memory`. Over
+    /// outside the format at that offset, or of that later version, and it is as it was; `Memory`. `Damaged` is also
+    /// a text of a policy in use or now, or of number 0, that is none, and that two of them have one text. Over
     /// an honest disk only a store with contents is opened, and a damaged root or a later version is
-    /// refused as that unless the disk fails, whatever memory there is.
-    pub fn open_engine<D: Disk>(alloc: Global, disk: &mut D) -> Result<Engine<NoPages>, StoreFault>
-        ensures works { IfOk result (λ engine. Works (λ _. no_pages) (IsTrue (D.is_honest disk.old)) engine
+    /// refused as that unless the disk fails, whatever memory there is. No step is counted.
+    pub fn open_engine<D: Disk, L: Ledger>(
+        alloc: Global,
+        disk: &mut D,
+        steps: &mut Steps<L>,
+    ) -> Result<Engine<NoPages>, StoreFault>
+        ensures works { IfOk result (λ engine. Works (λ _. no_pages) (D.is_honest disk.old) engine
             (D.history disk.new (D.attached disk.new))) }
         ensures unfaulted { IfOk result (λ engine. engine.fault ≡ None) }
         ensures holds { IsTrue (D.is_honest disk.old) → (before : Container)
@@ -92,12 +97,14 @@ impl Engine<NoPages> {
             → IsNewer newest version (D.history disk.old (D.attached disk.old)).reads
             → IsAnswerUnlessDisk (StoreFault.Newer version) result }
         ensures cause { HasDiskCause result (D.faults disk.old) (D.faults disk.new) }
+        ensures steps { steps.new ≡ steps.old }
         ensures attached { D.attached disk.new ≡ D.attached disk.old }
         ensures honest { D.is_honest disk.new ≡ D.is_honest disk.old }
     {
-        match open_documents(alloc, disk) {
+        match open_documents(alloc, disk, steps) {
             Ok(documents) => Ok(Engine {
                 documents,
+                alloc,
                 fault: None,
             }),
             Err(fault) => Err(fault),
@@ -116,9 +123,14 @@ impl<C: PageCache + Drop> Engine<C> {
         ensures cache { result.documents.store.cache ≡ cache }
         ensures holds { (container : Container) → Holds self container → Holds result container }
     {
-        let Engine { documents, fault } = self;
+        let Engine {
+            documents,
+            alloc,
+            fault,
+        } = self;
         Engine {
             documents: documents.with_cache(cache),
+            alloc,
             fault,
         }
     }
@@ -136,12 +148,13 @@ impl<C> Engine<C> {
 impl<C: PageCache> Engine<C> {
     /// Makes the step of a line, durable where the disk is honest, and answers with its reply; or is
     /// refused for want of memory, with no change. What the container refuses (an id that is held, or is
-    /// not; no room for a document) is answered as that, and never for want of memory. After a fault every
+    /// not; no room for a document) is answered as that, unless memory ran out before it was known. After a fault every
     /// line is answered by it.
     ///
-    /// `Disk` where a call on the disk failed, and nowhere else does the disk count a fault. `Damaged` where the text of a document is none that a
-    /// document can have, over an honest disk with the place at which its part stands; only a query
-    /// answers it, and it leaves the disk's lists as they were. A query without LIMIT answers no rows over such
+    /// `Disk` where a call on the disk failed, and nowhere else does the disk count a fault. `Damaged` where the text of a
+    /// document is none that a document can have, or a part of the index is outside its grammar, over an honest disk with
+    /// the place at which its part stands; the disk's lists are then as they were, and so they are at a refusal. A
+    /// query without LIMIT answers no rows over such
     /// a text that it reads whole, where it has no WHERE, or the text is that of a tree that has rows in it.
     ///
     /// Whatever the store holds, a query is answered rows only where it has no refusal of its own (of its text
@@ -155,22 +168,19 @@ impl<C: PageCache> Engine<C> {
         steps: &mut Steps<L>,
     ) -> Result<Reply, Fault>
         requires asked { IsAsked line }
-        requires works { Works C.pages (IsTrue (D.is_honest disk.old)) self.old (D.history disk.old (D.attached disk.old)) }
+        requires works { Works C.pages (D.is_honest disk.old) self.old (D.history disk.old (D.attached disk.old)) }
         ensures applies { IsTrue (D.is_honest disk.old) → (before : Container)
             → HoldsOver self.old (D.history disk.old (D.attached disk.old)) before
             → Applies (IsTrue (D.is_honest disk.old)) before line result self.new
             (D.history disk.old (D.attached disk.old)) (D.history disk.new (D.attached disk.new)) }
-        ensures refused { (before : Container) → (why : WriteRefusal) → Holds self.old before
-            → made_of line before ≡ Err why → result ≡ Ok (Reply.Refused (write_refusal why)) }
         ensures may_reply { IfOk result (λ reply. MayReply line reply) }
         ensures met { IsTrue (D.is_honest disk.old) → self.old.fault ≡ None
             → IfErr result (λ fault. Meets fault (D.history disk.new (D.attached disk.new)).reads) }
         ensures passes_over_none { IsTrue (D.is_honest disk.old) → self.old.fault ≡ None
             → IfOk result (λ reply. PassesOverNone line reply (D.history disk.new (D.attached disk.new)).reads) }
         ensures lists { IsTrue (D.is_honest disk.old) → self.old.fault ≡ None
-            → LeavesLists line (D.history disk.old (D.attached disk.old)) (D.history disk.new (D.attached disk.new)) }
-        ensures of_line { self.old.fault ≡ None → IfErr result (λ fault. IsOfLine line fault) }
-        ensures works { Works C.pages (IsTrue (D.is_honest disk.old)) self.new (D.history disk.new (D.attached disk.new)) }
+            → LeavesLists line result (D.history disk.old (D.attached disk.old)) (D.history disk.new (D.attached disk.new)) }
+        ensures works { Works C.pages (D.is_honest disk.old) self.new (D.history disk.new (D.attached disk.new)) }
 
         // A fault that was answered is kept, and answered again, with no call on the disk.
         ensures keeps { IfErr result (λ fault. self.new.fault ≡ Some fault) }
@@ -182,14 +192,14 @@ impl<C: PageCache> Engine<C> {
         ensures never_falls { D.faults disk.old ≤ D.faults disk.new }
         ensures attached { D.attached disk.new ≡ D.attached disk.old }
         ensures honest { D.is_honest disk.new ≡ D.is_honest disk.old }
-        ensures bound { (before : Container) → Holds self.old before
+        ensures bound { IsTrue (D.is_honest disk.old) → (before : Container) → Holds self.old before
             → steps.new ≤ steps.old + most_steps_of before (Ok line) }
         ensures steps { steps.old ≤ steps.new }
     {
         if let Some(fault) = self.fault {
             return Err(fault);
         }
-        let answered = answer(&mut self.documents, disk, &line, steps);
+        let answered = answer(self.alloc, &mut self.documents, disk, &line, steps);
         self.fault = kept_fault(&answered);
         answered
     }
@@ -208,108 +218,146 @@ fn kept_fault(answered: &Result<Reply, Fault>) -> Option<Fault>
 
 /// The reply to a line, and its change to the documents.
 fn answer<D: Disk, C: PageCache, L: Ledger>(
+    alloc: Global,
     documents: &mut Documents<C>,
     disk: &mut D,
     line: &Line,
     steps: &mut Steps<L>,
 ) -> Result<Reply, Fault>
     requires asked { IsAsked line.now }
-    requires works { DocumentsWork C.pages (IsTrue (D.is_honest disk.old)) documents.old (D.history disk.old (D.attached disk.old)) }
+    requires works { DocumentsWork C.pages (D.is_honest disk.old) documents.old (D.history disk.old (D.attached disk.old)) }
     ensures tells { IsTrue (D.is_honest disk.old)
         → Rests (D.history disk.old (D.attached disk.old)) SaysReadable
         → (before : Container) → DocumentsHold documents.old before
         → Tells (IsTrue (D.is_honest disk.old)) before line.now result documents.new
         (D.history disk.old (D.attached disk.old)) (D.history disk.new (D.attached disk.new)) }
-    ensures refused { (before : Container) → (why : WriteRefusal) → DocumentsHold documents.old before
-        → made_of line.now before ≡ Err why → result ≡ Ok (Reply.Refused (write_refusal why)) }
     ensures may_reply { IfOk result (λ reply. MayReply line.now reply) }
     ensures lists { IsTrue (D.is_honest disk.old)
-        → LeavesLists line.now (D.history disk.old (D.attached disk.old)) (D.history disk.new (D.attached disk.new)) }
-    ensures of_line { IfErr result (λ fault. IsOfLine line.now fault) }
+        → LeavesLists line.now result (D.history disk.old (D.attached disk.old)) (D.history disk.new (D.attached disk.new)) }
     ensures met { IsTrue (D.is_honest disk.old)
         → IfErr result (λ fault. Meets fault (D.history disk.new (D.attached disk.new)).reads) }
     ensures passes_over_none { IsTrue (D.is_honest disk.old)
         → IfOk result (λ reply. PassesOverNone line.now reply (D.history disk.new (D.attached disk.new)).reads) }
-    ensures works { OnOk result (DocumentsWork C.pages (IsTrue (D.is_honest disk.old)) documents.new (D.history disk.new (D.attached disk.new))) }
-    ensures readable { IsTrue (D.is_honest disk.old)
+    ensures works { OnOk result (DocumentsWork C.pages (D.is_honest disk.old) documents.new (D.history disk.new (D.attached disk.new))) }
+    ensures readable { IsTrue (D.is_honest disk.old) → (before : Container) → DocumentsHold documents.old before
         → Rests (D.history disk.old (D.attached disk.old)) SaysReadable
         → Stays (D.history disk.old (D.attached disk.old)) (D.history disk.new (D.attached disk.new)) SaysReadable }
     ensures counted { CountsAnswer result (D.faults disk.old) (D.faults disk.new) }
     ensures never_falls { D.faults disk.old ≤ D.faults disk.new }
     ensures attached { D.attached disk.new ≡ D.attached disk.old }
     ensures honest { D.is_honest disk.new ≡ D.is_honest disk.old }
-    ensures bound { (before : Container) → DocumentsHold documents.old before
+    ensures bound { IsTrue (D.is_honest disk.old) → (before : Container) → DocumentsHold documents.old before
         → steps.new ≤ steps.old + most_steps_of before (Ok line.now) }
     ensures steps { steps.old ≤ steps.new }
 {
     match line {
-        Line::Create(_) => write(documents, disk, line),
-        Line::Upsert(_) => write(documents, disk, line),
-        Line::Replace(_) => write(documents, disk, line),
-        Line::Delete(_) => write(documents, disk, line),
+        Line::Create(_) => write(documents, disk, line, steps),
+        Line::Upsert(_) => write(documents, disk, line, steps),
+        Line::Replace(_) => write(documents, disk, line, steps),
+        Line::Delete(_) => write(documents, disk, line, steps),
         Line::Read(id) => read(documents, disk, id, steps),
-        Line::Query(body) => query(documents, disk, body, steps),
+        Line::Query(body) => query(alloc, documents, disk, body, steps),
     }
 }
 
 /// The reply to a write.
-fn write<D: Disk, C: PageCache>(
+fn write<D: Disk, C: PageCache, L: Ledger>(
     documents: &mut Documents<C>,
     disk: &mut D,
     line: &Line,
+    steps: &mut Steps<L>,
 ) -> Result<Reply, Fault>
     requires writes { IsWrite line.now }
     requires asked { IsAsked line.now }
-    requires works { DocumentsWork C.pages (IsTrue (D.is_honest disk.old)) documents.old (D.history disk.old (D.attached disk.old)) }
-    ensures tells { (before : Container) → DocumentsHold documents.old before
+    requires works { DocumentsWork C.pages (D.is_honest disk.old) documents.old (D.history disk.old (D.attached disk.old)) }
+    ensures tells { IsTrue (D.is_honest disk.old) → (before : Container) → DocumentsHold documents.old before
         → Tells (IsTrue (D.is_honest disk.old)) before line.now result documents.new
         (D.history disk.old (D.attached disk.old)) (D.history disk.new (D.attached disk.new)) }
-    ensures refused { (before : Container) → (why : WriteRefusal) → DocumentsHold documents.old before
-        → made_of line.now before ≡ Err why → result ≡ Ok (Reply.Refused (write_refusal why)) }
     ensures may_reply { IfOk result (λ reply. MayReply line.now reply) }
-    ensures only { IfErr result (λ fault. fault ≡ Fault.Disk) }
-    ensures works { OnOk result (DocumentsWork C.pages (IsTrue (D.is_honest disk.old)) documents.new (D.history disk.new (D.attached disk.new))) }
-    ensures readable { IsTrue (D.is_honest disk.old)
+    ensures lists { IsTrue (D.is_honest disk.old) → IdlesUnlessDone result (D.history disk.old (D.attached disk.old)) (D.history disk.new (D.attached disk.new)) }
+    ensures met { IsTrue (D.is_honest disk.old)
+        → IfErr result (λ fault. Meets fault (D.history disk.new (D.attached disk.new)).reads) }
+    ensures works { OnOk result (DocumentsWork C.pages (D.is_honest disk.old) documents.new (D.history disk.new (D.attached disk.new))) }
+    ensures readable { IsTrue (D.is_honest disk.old) → (before : Container) → DocumentsHold documents.old before
         → Rests (D.history disk.old (D.attached disk.old)) SaysReadable
         → Stays (D.history disk.old (D.attached disk.old)) (D.history disk.new (D.attached disk.new)) SaysReadable }
     ensures counted { CountsAnswer result (D.faults disk.old) (D.faults disk.new) }
     ensures never_falls { D.faults disk.old ≤ D.faults disk.new }
     ensures attached { D.attached disk.new ≡ D.attached disk.old }
     ensures honest { D.is_honest disk.new ≡ D.is_honest disk.old }
+    ensures bound { IsTrue (D.is_honest disk.old) → (before : Container) → DocumentsHold documents.old before
+        → steps.new ≤ steps.old + most_steps_of before (Ok line.now) }
+    ensures steps { steps.old ≤ steps.new }
 {
-    let made = make(documents, disk, line);
+    let made = make(documents, disk, line, steps);
     answer_of_write(made)
 }
 
 /// Makes a write.
-fn make<D: Disk, C: PageCache>(
+fn make<D: Disk, C: PageCache, L: Ledger>(
     documents: &mut Documents<C>,
     disk: &mut D,
     line: &Line,
+    steps: &mut Steps<L>,
 ) -> Result<(), WriteFault>
     requires writes { IsWrite line.now }
     requires asked { IsAsked line.now }
-    requires works { DocumentsWork C.pages (IsTrue (D.is_honest disk.old)) documents.old (D.history disk.old (D.attached disk.old)) }
-    ensures tells { (before : Container) → DocumentsHold documents.old before
-        → TellsWrite (IsTrue (D.is_honest disk.old)) before (made_of line.now before) result documents.new
+    requires works { DocumentsWork C.pages (D.is_honest disk.old) documents.old (D.history disk.old (D.attached disk.old)) }
+    ensures tells { IsTrue (D.is_honest disk.old) → (before : Container) → DocumentsHold documents.old before
+        → TellsWrite before (made_of line.now before) result documents.new.store documents.new.ids
         (D.history disk.old (D.attached disk.old)) (D.history disk.new (D.attached disk.new)) }
-    ensures refused { (before : Container) → (why : WriteRefusal) → DocumentsHold documents.old before
-        → made_of line.now before ≡ Err why → result ≡ Err (fault_of why) }
     ensures only { IfErr result (MayFail line.now) }
-    ensures leaves { WriteLeaves C.pages (D.is_honest disk.old) result documents.new
+    ensures damage { IsTrue (D.is_honest disk.old)
+        → IfErr (of_store result) (λ why. MeetsBy why (D.history disk.new (D.attached disk.new)).reads) }
+    ensures works { WorkUnlessDisk C.pages (D.is_honest disk.old) (of_store result) documents.new
+        (D.history disk.new (D.attached disk.new)) }
+    ensures leaves { WriteLeaves C.pages (D.is_honest disk.old) result documents.old.store documents.new.store
         (D.history disk.old (D.attached disk.old)) (D.history disk.new (D.attached disk.new))
         (D.faults disk.old) (D.faults disk.new) }
     ensures attached { D.attached disk.new ≡ D.attached disk.old }
     ensures honest { D.is_honest disk.new ≡ D.is_honest disk.old }
+    ensures bound { IsTrue (D.is_honest disk.old) → (before : Container) → DocumentsHold documents.old before
+        → steps.new ≤ steps.old + most_steps_of before (Ok line.now) }
+    ensures steps { steps.old ≤ steps.new }
 {
     match line {
         Line::Create(tree) => documents.create(disk, tree),
-        Line::Upsert(tree) => documents.upsert(disk, tree),
-        Line::Replace(tree) => documents.replace(disk, tree),
-        Line::Delete(id) => documents.delete(disk, id),
+        Line::Upsert(tree) => documents.upsert(disk, tree, steps),
+        Line::Replace(tree) => documents.replace(disk, tree, steps),
+        Line::Delete(id) => delete(documents, disk, id, steps),
         Line::Read(_) => unreachable!(),
         Line::Query(_) => unreachable!(),
     }
+}
+
+/// Deletes the document of an id.
+fn delete<D: Disk, C: PageCache, L: Ledger>(
+    documents: &mut Documents<C>,
+    disk: &mut D,
+    id: &Text,
+    steps: &mut Steps<L>,
+) -> Result<(), WriteFault>
+    requires works { DocumentsWork C.pages (D.is_honest disk.old) documents.old (D.history disk.old (D.attached disk.old)) }
+    ensures tells { IsTrue (D.is_honest disk.old) → (before : Container) → DocumentsHold documents.old before
+        → TellsWrite before (removed id.now before) result documents.new.store documents.new.ids
+        (D.history disk.old (D.attached disk.old)) (D.history disk.new (D.attached disk.new)) }
+    ensures only { IfErr result IsOfHeld }
+    ensures damage { IsTrue (D.is_honest disk.old)
+        → IfErr (of_store result) (λ why. MeetsBy why (D.history disk.new (D.attached disk.new)).reads) }
+    ensures works { WorkUnlessDisk C.pages (D.is_honest disk.old) (of_store result) documents.new
+        (D.history disk.new (D.attached disk.new)) }
+    ensures leaves { WriteLeaves C.pages (D.is_honest disk.old) result documents.old.store documents.new.store
+        (D.history disk.old (D.attached disk.old)) (D.history disk.new (D.attached disk.new))
+        (D.faults disk.old) (D.faults disk.new) }
+    ensures one { steps.new ≤ steps.old + 1 }
+    ensures none { IsTrue (D.is_honest disk.old) → (before : Container) → DocumentsHold documents.old before
+        → contains id.now before ≡ false → steps.new ≡ steps.old }
+    ensures attached { D.attached disk.new ≡ D.attached disk.old }
+    ensures honest { D.is_honest disk.new ≡ D.is_honest disk.old }
+    ensures steps { steps.old ≤ steps.new }
+{
+    let id = id.as_str().as_bytes();
+    documents.delete(disk, id, steps)
 }
 
 /// What a write came to, as the answer to its line.
@@ -321,8 +369,13 @@ fn answer_of_write(made: Result<(), WriteFault>) -> Result<Reply, Fault>
         Err(WriteFault::Conflict) => Ok(Reply::Refused(Refusal::Conflict)),
         Err(WriteFault::Absent) => Ok(Reply::Refused(Refusal::Absent)),
         Err(WriteFault::Full) => Ok(Reply::Refused(Refusal::Full)),
-        Err(WriteFault::Memory) => Ok(Reply::Refused(Refusal::Memory)),
-        Err(WriteFault::Disk) => Err(Fault::Disk),
+        Err(WriteFault::Store(StoreFault::Memory)) => Ok(Reply::Refused(Refusal::Memory)),
+        Err(WriteFault::Store(StoreFault::Disk)) => Err(Fault::Disk),
+        Err(WriteFault::Store(StoreFault::Damaged { extent, at })) => {
+            Err(Fault::Damaged { extent, at })
+        }
+        // No allocation: a store that is open is of no later version.
+        Err(WriteFault::Store(StoreFault::Newer { .. })) => Ok(Reply::Refused(Refusal::Memory)),
     }
 }
 
@@ -333,17 +386,16 @@ fn read<D: Disk, C: PageCache, L: Ledger>(
     id: &Text,
     steps: &mut Steps<L>,
 ) -> Result<Reply, Fault>
-    requires works { DocumentsWork C.pages (IsTrue (D.is_honest disk.old)) documents.old (D.history disk.old (D.attached disk.old)) }
+    requires works { DocumentsWork C.pages (D.is_honest disk.old) documents.old (D.history disk.old (D.attached disk.old)) }
     ensures tells { IsTrue (D.is_honest disk.old)
         → (before : Container) → DocumentsHold documents.old before
         → Tells (IsTrue (D.is_honest disk.old)) before (line.Read id.now) result documents.new
         (D.history disk.old (D.attached disk.old)) (D.history disk.new (D.attached disk.new)) }
-    ensures refused { (before : Container) → (why : WriteRefusal) → DocumentsHold documents.old before
-        → made_of (line.Read id.now) before ≡ Err why → result ≡ Ok (Reply.Refused (write_refusal why)) }
     ensures may_reply { IfOk result FitsRead }
-    ensures only { IfErr result (λ fault. fault ≡ Fault.Disk) }
     ensures lists { IsTrue (D.is_honest disk.old) → Idles (D.history disk.old (D.attached disk.old)) (D.history disk.new (D.attached disk.new)) }
-    ensures works { OnOk result (DocumentsWork C.pages (IsTrue (D.is_honest disk.old)) documents.new (D.history disk.new (D.attached disk.new))) }
+    ensures met { IsTrue (D.is_honest disk.old)
+        → IfErr result (λ fault. Meets fault (D.history disk.new (D.attached disk.new)).reads) }
+    ensures works { OnOk result (DocumentsWork C.pages (D.is_honest disk.old) documents.new (D.history disk.new (D.attached disk.new))) }
     ensures readable { IsTrue (D.is_honest disk.old)
         → Rests (D.history disk.old (D.attached disk.old)) SaysReadable
         → Stays (D.history disk.old (D.attached disk.old)) (D.history disk.new (D.attached disk.new)) SaysReadable }
@@ -351,46 +403,51 @@ fn read<D: Disk, C: PageCache, L: Ledger>(
     ensures never_falls { D.faults disk.old ≤ D.faults disk.new }
     ensures attached { D.attached disk.new ≡ D.attached disk.old }
     ensures honest { D.is_honest disk.new ≡ D.is_honest disk.old }
-    ensures bound { (before : Container) → DocumentsHold documents.old before
+    ensures bound { IsTrue (D.is_honest disk.old) → (before : Container) → DocumentsHold documents.old before
         → steps.new ≤ steps.old + most_steps_of before (Ok (line.Read id.now)) }
     ensures steps { steps.old ≤ steps.new }
 {
-    let Some(number) = documents.number(id.as_str()) else {
-        return Ok(Reply::Refused(Refusal::Absent));
-    };
-    let alloc = documents.alloc;
-    match documents.store.fetch_text(alloc, disk, number, steps) {
+    let id = id.as_str().as_bytes();
+    let found = documents.read(disk, id, steps);
+    answer_of_look_up(found)
+}
+
+/// What looking up a document answered, as the answer to a READ line.
+fn answer_of_look_up(found: Result<Option<Vec<u8>>, StoreFault>) -> Result<Reply, Fault>
+    ensures { result ≡ look_up_answer found }
+{
+    match found {
         Ok(Some(text)) => Ok(Reply::Doc(text)),
-        // No allocation: an id stands under the number of a document that is held.
-        Ok(None) => Ok(Reply::Refused(Refusal::Memory)),
+        Ok(None) => Ok(Reply::Refused(Refusal::Absent)),
         Err(StoreFault::Memory) => Ok(Reply::Refused(Refusal::Memory)),
         Err(StoreFault::Disk) => Err(Fault::Disk),
-        Err(StoreFault::Damaged { .. }) => unreachable!(),
-        Err(StoreFault::Newer { .. }) => unreachable!(),
+        Err(StoreFault::Damaged { extent, at }) => Err(Fault::Damaged { extent, at }),
+        // No allocation: a store that is open is of no later version.
+        Err(StoreFault::Newer { .. }) => Ok(Reply::Refused(Refusal::Memory)),
     }
 }
 
 /// The reply to a query, which changes nothing.
 fn query<D: Disk, C: PageCache, L: Ledger>(
+    alloc: Global,
     documents: &mut Documents<C>,
     disk: &mut D,
     body: &Body,
     steps: &mut Steps<L>,
 ) -> Result<Reply, Fault>
-    requires works { DocumentsWork C.pages (IsTrue (D.is_honest disk.old)) documents.old (D.history disk.old (D.attached disk.old)) }
+    requires works { DocumentsWork C.pages (D.is_honest disk.old) documents.old (D.history disk.old (D.attached disk.old)) }
     ensures tells { IsTrue (D.is_honest disk.old)
         → Rests (D.history disk.old (D.attached disk.old)) SaysReadable
         → (before : Container) → DocumentsHold documents.old before
         → Tells (IsTrue (D.is_honest disk.old)) before (line.Query body.now) result documents.new
         (D.history disk.old (D.attached disk.old)) (D.history disk.new (D.attached disk.new)) }
     ensures may_reply { IfOk result (λ reply. MayReply (line.Query body.now) reply) }
-    ensures lists { IsTrue (D.is_honest disk.old)
-        → Idles (D.history disk.old (D.attached disk.old)) (D.history disk.new (D.attached disk.new)) }
+    ensures lists { IsTrue (D.is_honest disk.old) → Idles (D.history disk.old (D.attached disk.old)) (D.history disk.new (D.attached disk.new)) }
     ensures met { IsTrue (D.is_honest disk.old)
         → IfErr result (λ fault. Meets fault (D.history disk.new (D.attached disk.new)).reads) }
     ensures passes_over_none { IsTrue (D.is_honest disk.old)
         → IfOk result (λ reply. PassesOverNone (line.Query body.now) reply (D.history disk.new (D.attached disk.new)).reads) }
-    ensures works { OnOk result (DocumentsWork C.pages (IsTrue (D.is_honest disk.old)) documents.new
+    ensures works { OnOk result (DocumentsWork C.pages (D.is_honest disk.old) documents.new
         (D.history disk.new (D.attached disk.new))) }
     ensures readable { IsTrue (D.is_honest disk.old)
         → Rests (D.history disk.old (D.attached disk.old)) SaysReadable
@@ -399,11 +456,10 @@ fn query<D: Disk, C: PageCache, L: Ledger>(
     ensures never_falls { D.faults disk.old ≤ D.faults disk.new }
     ensures attached { D.attached disk.new ≡ D.attached disk.old }
     ensures honest { D.is_honest disk.new ≡ D.is_honest disk.old }
-    ensures bound { (before : Container) → DocumentsHold documents.old before
+    ensures bound { IsTrue (D.is_honest disk.old) → (before : Container) → DocumentsHold documents.old before
         → steps.new ≤ steps.old + most_steps_of before (Ok (line.Query body.now)) }
     ensures steps { steps.old ≤ steps.new }
 {
-    let alloc = documents.alloc;
     let mut ahead = ReadAhead::new(alloc);
     let read = reply_to_query(alloc, &mut documents.store, disk, &mut ahead, body, steps);
     answer_of_read(read)

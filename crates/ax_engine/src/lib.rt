@@ -5,25 +5,20 @@
 //! command line. Once it has answered a fault it answers the same one to every line, and calls the disk
 //! no more, until it is opened again.
 //!
-//! Stands on `ax_machine`, whose definitions say what a line's step is, on `ax_image`, which says what a
-//! disk image stands for, on `ax_store` for the pages on a disk, and on `ax_parse` and `ax_answer_text`
-//! for queries. What opening and applying say is in the words of all versions, in private calls too;
-//! where the store is called, `ax_area_laws` leads over from its own. No text is kept in memory: a scan reads texts
-//! ahead, window by window. A text that is none of a document is answered as damage, with its place.
+//! Stands on `ax_documents`, whose documents are those of an image with its index, on `ax_machine`, whose definitions say what a
+//! line's step is, on `ax_store` for the texts on a disk, and on `ax_parse` and `ax_answer_text`
+//! for queries. What opening and applying say is in the words of all versions. No text is kept in memory: a scan reads texts
+//! ahead, window by window. A text that is none of a document, and a part of the index outside its grammar, are answered as
+//! damage, with their place.
 #![tactic(auto)]
 
-mod batches;
-mod documents;
 mod engine;
-mod opening;
 mod querying;
 mod reading;
 mod reply;
 mod rows;
 mod shown_documents;
-mod writes;
 
-pub use documents::{Documents, WriteFault};
 pub use engine::{Engine, Fault};
 pub use reply::Reply;
 pub use rows::Rows;

@@ -13,9 +13,9 @@ use Rattle.ax_store.specs.declared.fault.StoreFault.{StoreFault}
 use Rattle.ax_store.specs.declared.fault.StoreFault.TheVariants as fault
 use Rattle.ax_container.specs.Container.{Container}
 use Rattle.ax_image.specs.Readable.{newest}
-use Rattle.ax_image.specs.StandsFor.{StandsFor}
-use Rattle.ax_engine.specs.Opening.{IsAnswerUnlessDisk, IsDamagedIn, RefusesBy}
-use Rattle.ax_engine.specs.Stores.{IsStore, IsImageOf, IsWithin}
+use Rattle.ax_image_pairs.specs.Indexed.{StandsForAll}
+use Rattle.ax_documents.specs.Opening.{IsAnswerUnlessDisk, IsRefusedAt, RefusesBy}
+use Rattle.ax_documents.specs.Opening.{IsStore, IsImageOf, IsWithin}
 use Rattle.ax_script.specs.Opening.{IsEndUnlessDisk}
 use Rattle.ax_script.specs.declared.status.Status.{Status}
 use Rattle.ax_script.specs.declared.status.Status.TheVariants as status
@@ -64,7 +64,7 @@ module _ (old mid new : List ℕ → History) (name there now : List ℕ) (is : 
       each = λ image may. store.each.each image
           (subst (λ (u : Unsynced). MayLeave u image) unsynced_are may);
     };
-    reads = subst (λ (image : Image). StandsFor image before) (sym reads_are) store.reads;
+    reads = subst (λ (image : Image). StandsForAll image before) (sym reads_are) store.reads;
   }
 
   -- and so is its image
@@ -84,7 +84,7 @@ module _ (old mid new : List ℕ → History) (name there now : List ℕ) (is : 
   pub refuses_named : (why : StoreFault) → RefusesBy why (mid there) (new now)
       → RefusesBy why (old name) (new name)
   refuses_named (fault.Damaged extent at) refused = (
-    subst (λ (image : Image). IsDamagedIn image extent at) reads_are refused.0,
+    subst (λ (image : Image). IsRefusedAt image extent at) reads_are refused.0,
     keeps_since (old name) (mid name) (new name) idle
         (of_name Keeps mid new name there now is still refused.1),
   )

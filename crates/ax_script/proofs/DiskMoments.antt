@@ -11,14 +11,14 @@ use Rattle.ax_disk.specs.laws.MomentLaws.{progress_within, progress_join}
 use Rattle.ax_disk.specs.laws.StageLaws.{progress_weaken}
 use Rattle.ax_disk.specs.laws.StaysLaws.{rests_weaken}
 use Rattle.ax_container.specs.Container.{Container}
-use Rattle.ax_image.specs.StandsFor.{StandsFor}
+use Rattle.ax_image_pairs.specs.Indexed.{StandsForAll}
 use Rattle.ax_machine.specs.Reply as reply
 use Rattle.std.specs.Prelude.{codes, decimal}
 use Rattle.ax_lines.specs.Refusals.{number_of, word_of}
 use Rattle.ax_machine.specs.ReplyTexts.{reply_text, row_text, end_text}
 use Rattle.ax_machine.specs.Run.{Outcome, Exchange, after_line, after_lines, reply_to, after, texts, text_of}
 use Rattle.ax_script.specs.DiskScript.{StandsAfter, KeepsAcknowledged}
-use Rattle.ax_engine.specs.Stores.{IsImageOf}
+use Rattle.ax_documents.specs.Opening.{IsImageOf}
 use Rattle.ax_script.specs.Progress.{Reaches, Passes, BreaksOff}
 
 up_to_or_after : (t m : ℕ) → (t ≤ m) ⊎ (m < t)
@@ -107,13 +107,13 @@ some_text b (x ∷ xs) (suc m) some there =
 stands_longer : (a : Container) (run later : List Exchange) (n : ℕ) (image : Image) → 0 ≤ n
     → n ≤ length run → StandsAfter a run n image → StandsAfter a (run ++ later) n image
 stands_longer a run later n image from to (inl stands) =
-    inl (subst (StandsFor image) (sym (after_within a run later n to)) stands)
+    inl (subst (StandsForAll image) (sym (after_within a run later n to)) stands)
 stands_longer a run later n image from to (inr stands) =
     ⊎_elim
     (λ (within : suc n ≤ length run).
-    inr (subst (StandsFor image) (sym (after_within a run later (suc n) within)) stands))
+    inr (subst (StandsForAll image) (sym (after_within a run later (suc n) within)) stands))
     (λ (at_end : length run < suc n).
-    inl (subst (StandsFor image)
+    inl (subst (StandsForAll image)
     (after_all a run (suc n) (omega (arith, at_end)) ∙ sym (after_all a run n (omega (arith, at_end)))
     ∙ sym (after_within a run later n to)) stands))
     (up_to_or_after (suc n) (length run))
@@ -121,10 +121,10 @@ stands_longer a run later n image from to (inr stands) =
 stands_past : (a : Container) (run later : List Exchange) (n : ℕ) (image : Image)
     → StandsAfter (after a run) later n image → StandsAfter a (run ++ later) (length run + n) image
 stands_past a run later n image (inl stands) =
-    inl (subst (StandsFor image) (sym (after_past a run later n)) stands)
+    inl (subst (StandsForAll image) (sym (after_past a run later n)) stands)
 stands_past a run later n image (inr stands) =
     let next : length run + suc n ≡ suc (length run + n) = omega arith in
-    inr (subst (StandsFor image)
+    inr (subst (StandsForAll image)
     (sym (after_past a run later (suc n)) ∙ ap (λ k. after_lines k a (run ++ later)) next) stands)
 
 pub moments_longer : (a : Container) (run later : List Exchange) (old new : History)
@@ -209,7 +209,7 @@ pub reaches_all : (a now : Container) (run : List Exchange) (text : List ℕ) (i
 reaches_all a now run text image stands shows = record {
   count = length run;
   within = omega arith;
-  stands = subst (StandsFor image) (stands ∙ sym (after_all a run (length run) (omega arith))) shows;
+  stands = subst (StandsForAll image) (stands ∙ sym (after_all a run (length run) (omega arith))) shows;
   enough = λ lines le _. le;
 }
 
@@ -238,7 +238,7 @@ pub reaches_longer : (a : Container) (run later : List Exchange) (text : List �
 reaches_longer a run later text image prefix r = record {
   count = r.count;
   within = omega (arith, r.within, length-append run later);
-  stands = subst (StandsFor image) (sym (after_within a run later r.count r.within)) r.stands;
+  stands = subst (StandsForAll image) (sym (after_within a run later r.count r.within)) r.stands;
   enough = enough_longer a run later text r.count prefix r.enough;
 }
 
@@ -269,7 +269,7 @@ reaches_past a b run later text other image stands whole reached =
     record {
       count = length run + r.count;
       within = omega (arith, r.within, length-append run later);
-      stands = subst (StandsFor image) (sym (after_past a run later r.count)) r.stands;
+      stands = subst (StandsForAll image) (sym (after_past a run later r.count)) r.stands;
       enough = enough_past a run later text other r.count whole r.enough;
     }
 

@@ -10,18 +10,18 @@ use Rattle.ax_disk.specs.laws.StageLaws.{barrier_progress}
 use Rattle.ax_disk.specs.laws.StaysLaws.{idles_start, rests_weaken}
 use Rattle.ax_store.proofs.StoreLemmas.{barrier_weaken}
 use Rattle.ax_container.specs.Container.{Container}
-use Rattle.ax_image.specs.StandsFor.{StandsFor}
+use Rattle.ax_image_pairs.specs.Indexed.{StandsForAll}
 use Rattle.ax_machine.specs.Run.{Exchange, after_lines}
 use Rattle.ax_script.specs.declared.status.Status.{Status}
 use Rattle.ax_script.specs.declared.status.Status.TheVariants as status
-use Rattle.ax_engine.specs.Stores.{IsStore, IsImageOf, IsWithin}
+use Rattle.ax_documents.specs.Opening.{IsStore, IsImageOf, IsWithin}
 use Rattle.ax_script.specs.DiskScript.{StandsAfter, KeepsAcknowledged, RunsOnDisk}
 use Rattle.ax_script.specs.Opening.{Refuses, RefusesOpening, TellsServed}
 use Rattle.ax_script.specs.Progress.{Reaches, EndsEarly, Ends, EndsServing}
 use Rattle.ax_script.specs.Streams.{Streams}
 use Rattle.ax_script.proofs.DiskMoments.{reaches_keeps}
 use Rattle.ax_script.proofs.Endings.{EarlyRun}
-use Rattle.ax_engine.proofs.Opened.{idle_since, not_damaged, not_newer}
+use Rattle.ax_engine.proofs.Opened.{idle_since, not_refused, not_newer}
 use Rattle.ax_script.proofs.Attached.{of_name}
 
 -- ---- no line was served
@@ -31,8 +31,8 @@ none_served before [] = refl
 none_served before (x ∷ xs) = refl
 
 begins : (before : Container) (run : List Exchange) (image : Image) → IsImageOf before image
-    → StandsFor image (after_lines 0 before run)
-begins before run image shows = subst (StandsFor image) (sym (none_served before run)) shows
+    → StandsForAll image (after_lines 0 before run)
+begins before run image shows = subst (StandsForAll image) (sym (none_served before run)) shows
 
 begins_after : (before : Container) (run : List Exchange) (image : Image) → IsImageOf before image
     → StandsAfter before run 0 image
@@ -184,7 +184,7 @@ pub early_complete : (DiskRose : Type 0) (before : Container) (ended : Status) (
 early_complete D before status.DiskFault old new store refuses early disk no_disk =
     absurd (no_disk (disk refl))
 early_complete D before (status.Damaged extent at) old new store refuses early disk no_disk =
-    absurd (not_damaged old.reads before extent at store.reads refuses.0)
+    absurd (not_refused old.reads before extent at store.reads refuses.0)
 early_complete D before (status.Newer version) old new store refuses early disk no_disk =
     absurd (not_newer old.reads before version store.reads refuses.0)
 early_complete D before status.Memory old new store refuses early disk no_disk = inr (inl refl)

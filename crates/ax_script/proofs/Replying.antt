@@ -16,7 +16,7 @@ use Rattle.ax_lines.specs.Lines.{line_of}
 use Rattle.ax_engine.specs.Damage.{Meets}
 use Rattle.ax_engine.specs.Engine.{Applies, HoldsOver, Works, made_by}
 use Rattle.ax_engine.specs.Replies.{IsReply}
-use Rattle.ax_engine.specs.Stores.{IsImageOf}
+use Rattle.ax_documents.specs.Opening.{IsImageOf}
 use Rattle.ax_engine.specs.declared.engine.Engine.{Engine}
 use Rattle.ax_engine.specs.declared.engine.Fault.{Fault}
 use Rattle.ax_engine.specs.declared.engine.Fault.TheVariants as fault
@@ -79,8 +79,11 @@ text_meant (given.Rows rows) meant is =
     (λ i. is.1.lines i ++ end_text reply.End (is.1.count i)) ∙ sym (ap reply_text is.2)
 text_meant (given.Refused why) meant is = sym (ap reply_text is)
 
-module _ {C : Type 0} (pages : C → CachedPages) (honest : Type 0) (before : Container) (line : List ℕ) (engine : Engine C)
+module _ {C : Type 0} (pages : C → CachedPages) (trusted : Bool) (before : Container) (line : List ℕ) (engine : Engine C)
     (written now : Option (List ℕ)) (old new : History) (steps later : ℕ) where
+  abbrev honest : Type 0
+  honest = IsTrue trusted
+
   by_text : (made : Reply) (text : List ℕ) → IsTextOf made text
       → TellsLine honest before line (Ok made) engine old new
       → (outcome : Outcome) × (text ≡ reply_text (reply_to before line outcome))
@@ -98,7 +101,7 @@ module _ {C : Type 0} (pages : C → CachedPages) (honest : Type 0) (before : Co
 
   pub whole_of : (result : Result (Unit {0}) Status) (answered : Result Reply Fault)
       → TellsLine honest before line answered engine old new
-      → Works pages honest engine new → later ≤ steps + most_steps before line
+      → Works pages trusted engine new → later ≤ steps + most_steps before line
       → OnOk result (WritesWhole answered written now)
       → OnOk result ((after : Container) × HoldsOver engine new after
       × Serves honest before line after (outlets written old steps) (outlets now new later))
@@ -106,7 +109,7 @@ module _ {C : Type 0} (pages : C → CachedPages) (honest : Type 0) (before : Co
       (λ added. (let by = by_text made added.0 added.1 told in (
         after_line before line by.0,
         by.2,
-        serves_by pages honest engine before line by.0 (outlets written old steps) (outlets now new later)
+        serves_by pages trusted engine before line by.0 (outlets written old steps) (outlets now new later)
             added.0 by.1 added.2 works by.2 by.3 bounded,
       ))) whole
   whole_of result (Err fault.Disk) told works bounded whole = OnOk-map result (λ none. absurd none) whole
@@ -114,12 +117,12 @@ module _ {C : Type 0} (pages : C → CachedPages) (honest : Type 0) (before : Co
 
   pub part_of : (result : Result (Unit {0}) Status) (answered : Result Reply Fault)
       → TellsLine honest before line answered engine old new
-      → Works pages honest engine new → later ≤ steps + most_steps before line
+      → Works pages trusted engine new → later ≤ steps + most_steps before line
       → OnErr result (WritesPart answered written now)
       → OnErr result (BeginsToServe honest before line (outlets written old steps) (outlets now new later))
   part_of result (Ok made) told works bounded part = OnErr-map result
       (λ added. (let by = by_text made added.0 added.1 told in
-      begins_by pages honest engine before line by.0 (outlets written old steps) (outlets now new later)
+      begins_by pages trusted engine before line by.0 (outlets written old steps) (outlets now new later)
       added.0 by.1 added.2 works by.2 by.3 bounded)) part
   part_of result (Err fault.Disk) told works bounded part = OnErr-map result
       (λ same. subst (λ w. BeginsToServe honest before line (outlets written old steps)

@@ -13,7 +13,7 @@ use Rattle.ax_machine.proofs.Runs.{text_of-one}
 use Rattle.ax_disk.specs.model.Stays.{Rests, Turns}
 use Rattle.ax_script.specs.Script.{Answers, BeginsToAnswer}
 use Rattle.ax_script.specs.Progress.{Serves, BeginsToServe, ServesLines, BeginsLines, ServesLast}
-use Rattle.ax_engine.specs.Stores.{IsImageOf}
+use Rattle.ax_documents.specs.Opening.{IsImageOf}
 use Rattle.ax_script.specs.Progress.{BeginsLast, Passes, BreaksOff}
 use Rattle.ax_script.specs.Streams.{Outlets}
 use Rattle.ax_script.proofs.Answering.{Answers-nil, answers_some, Answers-append}

@@ -1,6 +1,7 @@
 -- A line whose reply was written, or begun.
 use Rattle.std.proofs.Common.{◌≡◌, ◌==◌, ◌⊎◌, inl, inr, ℕ, ◌+◌, ◌≤◌, true, List, [], ◌∷◌, length, take}
-use Rattle.std.proofs.Common.{Option, refl, subst, arith}
+use Rattle.std.proofs.Common.{Bool, Option, refl, subst, arith}
+use Rattle.std.specs.Prelude.{IsTrue}
 use Rattle.std.specs.Io.KnownBytes.{Appends}
 use Rattle.std.proofs.KnownBytes.{Appends-nil}
 use Rattle.ax_base.specs.Appends.{AppendsPrefix}
@@ -11,7 +12,7 @@ use Rattle.ax_disk.specs.model.Stays.{Turns}
 use Rattle.ax_disk.specs.laws.StaysLaws.{rests_weaken}
 use Rattle.ax_container.specs.Container.{Container}
 use Rattle.ax_engine.specs.Engine.{HoldsOver, Works}
-use Rattle.ax_engine.specs.Stores.{IsImageOf}
+use Rattle.ax_documents.specs.Opening.{IsImageOf}
 use Rattle.ax_engine.specs.declared.engine.Engine.{Engine}
 use Rattle.ax_engine.proofs.Applying.{rests_over}
 use Rattle.ax_machine.specs.Needs.{most_steps}
@@ -21,8 +22,11 @@ use Rattle.ax_script.specs.Streams.{Outlets}
 use Rattle.ax_script.specs.Progress.{Reaches, Serves, BeginsToServe, outlets}
 use Rattle.ax_script.proofs.DiskMoments.{reaches_served, reaches_unserved}
 
-module _ {C : Type 0} (pages : C → CachedPages) (honest : Type 0) (engine : Engine C) (before : Container) (line : List ℕ)
+module _ {C : Type 0} (pages : C → CachedPages) (trusted : Bool) (engine : Engine C) (before : Container) (line : List ℕ)
     (outcome : Outcome) (old new : Outlets) where
+  abbrev honest : Type 0
+  honest = IsTrue trusted
+
   abbrev after : Container
   after = after_line before line outcome
 
@@ -30,7 +34,7 @@ module _ {C : Type 0} (pages : C → CachedPages) (honest : Type 0) (engine : En
   answered = reply_text (reply_to before line outcome)
 
   pub serves_by : (bytes : List ℕ) → bytes ≡ answered → Appends old.written new.written bytes
-      → Works pages honest engine new.history → HoldsOver engine new.history after
+      → Works pages trusted engine new.history → HoldsOver engine new.history after
       → (honest → Turns old.history new.history (IsImageOf before) (IsImageOf after))
       → new.steps ≤ old.steps + most_steps before line
       → Serves honest before line after old new
@@ -39,12 +43,12 @@ module _ {C : Type 0} (pages : C → CachedPages) (honest : Type 0) (engine : En
     made = refl;
     replied = subst (Appends old.written new.written) is added;
     turns = turns;
-    rests = rests_over pages honest engine new.history after works holds;
+    rests = rests_over pages trusted engine new.history after works holds;
     bounded = bounded;
   }
 
   pub begins_by : (bytes : List ℕ) → bytes ≡ answered → AppendsPrefix old.written new.written bytes
-      → Works pages honest engine new.history → HoldsOver engine new.history after
+      → Works pages trusted engine new.history → HoldsOver engine new.history after
       → (honest → Turns old.history new.history (IsImageOf before) (IsImageOf after))
       → new.steps ≤ old.steps + most_steps before line
       → BeginsToServe honest before line old new
@@ -57,7 +61,7 @@ module _ {C : Type 0} (pages : C → CachedPages) (honest : Type 0) (engine : En
         rests = λ h. rests_weaken new.history (IsImageOf after)
             (Reaches before (record { line = line; outcome = outcome } ∷ []) (take prefix.0 answered))
             (λ image shows. reaches_served before line outcome (take prefix.0 answered) image shows)
-            (rests_over pages honest engine new.history after works holds h);
+            (rests_over pages trusted engine new.history after works holds h);
         bounded = bounded;
       }
 

@@ -7,7 +7,7 @@ use Rattle.ax_disk.specs.model.Pending.{MayLeave}
 use Rattle.ax_disk.specs.model.Moments.{History, Progresses}
 use Rattle.ax_disk.specs.model.Stays.{Rests, BarrierStage}
 use Rattle.ax_container.specs.Container.{Container}
-use Rattle.ax_image.specs.StandsFor.{StandsFor}
+use Rattle.ax_image_pairs.specs.Indexed.{StandsForAll}
 use Rattle.ax_machine.specs.Run.{Exchange, after_lines, texts}
 use Rattle.ax_script.specs.Script.{Runs}
 use Rattle.ax_script.specs.Streams.{Streams}
@@ -16,8 +16,8 @@ use Rattle.ax_script.specs.declared.status.Status.{Status}
 -- the image stands for the container after so many lines of the run, or after one more
 abbrev pub StandsAfter : Container → List Exchange → ℕ → Image → Type 0
 StandsAfter before run count image =
-    StandsFor image (after_lines count before run)
-    ⊎ StandsFor image (after_lines (suc count) before run)
+    StandsForAll image (after_lines count before run)
+    ⊎ StandsForAll image (after_lines (suc count) before run)
 
 -- the first so many lines of the run are acknowledged: their replies are whole in the text
 pub record AreAcknowledged (count : ℕ) (before : Container) (run : List Exchange)
@@ -31,7 +31,7 @@ pub record KeepsAcknowledged (before : Container) (run : List Exchange) (text : 
     (image : Image) : Type 0 where
   pub count : ℕ
   pub within : count ≤ length run
-  pub stands : StandsFor image (after_lines count before run)
+  pub stands : StandsForAll image (after_lines count before run)
   pub acknowledged : (lines : ℕ) → AreAcknowledged lines before run text → lines ≤ count
 
 -- Opening begins with a sync, the barrier. Until it has succeeded a crash leaves what it might have

@@ -8,9 +8,9 @@ use Rattle.ax_disk.specs.model.Image.{Image}
 use Rattle.ax_disk.specs.model.Moments.{History, Progresses}
 use Rattle.ax_disk.specs.model.Stays.{Rests, Turns}
 use Rattle.ax_container.specs.Container.{Container}
-use Rattle.ax_image.specs.StandsFor.{StandsFor}
-use Rattle.ax_engine.specs.Damage.{IsMetOutside}
-use Rattle.ax_engine.specs.Stores.{IsImageOf}
+use Rattle.ax_image_pairs.specs.Indexed.{StandsForAll}
+use Rattle.ax_documents.specs.Damage.{IsMetIn}
+use Rattle.ax_documents.specs.Opening.{IsImageOf}
 use Rattle.ax_lines.specs.ScriptLines.{AreLines, last_line}
 use Rattle.ax_machine.specs.Needs.{most_steps, most_steps_in}
 use Rattle.ax_machine.specs.ReplyTexts.{reply_text}
@@ -57,13 +57,13 @@ abbrev pub StopsBy : Bool → Status → History → Type 0
 StopsBy honest status.WriteFault history = Unit {0}
 StopsBy honest status.DiskFault history = Unit {0}
 StopsBy honest status.Memory history = Unit {0}
-StopsBy honest (status.Damaged extent at) history = IsTrue honest → IsMetOutside history.reads extent at
+StopsBy honest (status.Damaged extent at) history = IsTrue honest → IsMetIn history.reads extent at
 StopsBy honest other history = ⊥
 
 -- the status of a run over a store that was opened, with any documents
 abbrev pub EndsServing : Bool → Status → History → Type 0
 EndsServing honest status.Words history = ⊥
-EndsServing honest (status.Damaged extent at) history = IsTrue honest → IsMetOutside history.reads extent at
+EndsServing honest (status.Damaged extent at) history = IsTrue honest → IsMetIn history.reads extent at
 EndsServing honest (status.Newer version) history = ⊥
 EndsServing honest other history = Unit {0}
 
@@ -76,7 +76,7 @@ pub record Reaches (before : Container) (run : List Exchange) (text : List ℕ)
     (image : Image) : Type 0 where
   pub count : ℕ
   pub within : count ≤ length run
-  pub stands : StandsFor image (after_lines count before run)
+  pub stands : StandsForAll image (after_lines count before run)
   pub enough : (lines : ℕ) → lines ≤ length run
       → length (concat (take lines (texts before run))) ≤ length text → lines ≤ count
 

@@ -8,7 +8,7 @@ use Rattle.ax_disk.specs.model.Stays.{Turns}
 use Rattle.ax_container.specs.Container.{Container}
 use Rattle.ax_engine.specs.Engine.{HoldsOver}
 use Rattle.ax_engine.specs.Replies.{IsReply, MayReply}
-use Rattle.ax_engine.specs.Stores.{IsImageOf}
+use Rattle.ax_documents.specs.Opening.{IsImageOf}
 use Rattle.ax_engine.specs.declared.engine.Engine.{Engine}
 use Rattle.ax_engine.specs.declared.engine.Fault.{Fault}
 use Rattle.ax_engine.specs.declared.engine.Fault.TheVariants as fault

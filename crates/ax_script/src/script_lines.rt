@@ -36,7 +36,7 @@ pub fn serve_source<D: Disk, C: PageCache, S: Source, K: Sink, L: Ledger>(
 ) -> Status
     requires some { 0 < length buffer.old }
     requires few { length buffer.old ≤ 2 ^ 20 }
-    requires works { Works C.pages (IsTrue (D.is_honest disk.old)) engine.old (D.history disk.old (D.attached disk.old)) }
+    requires works { Works C.pages (D.is_honest disk.old) engine.old (D.history disk.old (D.attached disk.old)) }
     requires unfaulted { engine.old.fault ≡ None }
     ensures script { IsTrue (D.is_honest disk.old) → (before : Container) → HoldsOver engine.old (D.history disk.old (D.attached disk.old)) before
         → Ends (IsTrue (D.is_honest disk.old)) before result
@@ -101,7 +101,7 @@ fn serve_piece<D: Disk, C: PageCache, K: Sink, L: Ledger>(
     steps: &mut Steps<L>,
 ) -> Result<(), Status>
     requires line { IsOneLine pending.old.items }
-    requires works { Works C.pages (IsTrue (D.is_honest disk.old)) engine.old (D.history disk.old (D.attached disk.old)) }
+    requires works { Works C.pages (D.is_honest disk.old) engine.old (D.history disk.old (D.attached disk.old)) }
     requires unfaulted { engine.old.fault ≡ None }
     ensures ok { IsTrue (D.is_honest disk.old) → (before : Container) → HoldsOver engine.old (D.history disk.old (D.attached disk.old)) before
         → OnOk result ((now : Container) × HoldsOver engine.new (D.history disk.new (D.attached disk.new)) now
@@ -112,7 +112,7 @@ fn serve_piece<D: Disk, C: PageCache, K: Sink, L: Ledger>(
         → OnErr result (BeginsLines (IsTrue (D.is_honest disk.old)) before (pending.old.items ++ piece.now)
         (outlets (K.written sink.old) (D.history disk.old (D.attached disk.old)) steps.old)
         (outlets (K.written sink.new) (D.history disk.new (D.attached disk.new)) steps.new)) }
-    ensures works { OnOk result (Works C.pages (IsTrue (D.is_honest disk.old)) engine.new (D.history disk.new (D.attached disk.new))) }
+    ensures works { OnOk result (Works C.pages (D.is_honest disk.old) engine.new (D.history disk.new (D.attached disk.new))) }
     ensures unfaulted { OnOk result (engine.new.fault ≡ None) }
     ensures kept { (fault : Fault) → engine.new.fault ≡ Some fault → result ≡ Err (fault_status fault) }
     ensures line { OnOk result (IsOneLine pending.new.items) }
@@ -160,7 +160,7 @@ fn serve_head<D: Disk, C: PageCache, K: Sink, L: Ledger>(
     sink: &mut K,
     steps: &mut Steps<L>,
 ) -> Result<(), Status>
-    requires works { Works C.pages (IsTrue (D.is_honest disk.old)) engine.old (D.history disk.old (D.attached disk.old)) }
+    requires works { Works C.pages (D.is_honest disk.old) engine.old (D.history disk.old (D.attached disk.old)) }
     requires unfaulted { engine.old.fault ≡ None }
     ensures ok { IsTrue (D.is_honest disk.old) → (before : Container) → HoldsOver engine.old (D.history disk.old (D.attached disk.old)) before
         → OnOk result ((now : Container) × HoldsOver engine.new (D.history disk.new (D.attached disk.new)) now
@@ -173,7 +173,7 @@ fn serve_head<D: Disk, C: PageCache, K: Sink, L: Ledger>(
         → OnErr result (BeginsToServe (IsTrue (D.is_honest disk.old)) before (pending.old.items ++ head.now)
         (outlets (K.written sink.old) (D.history disk.old (D.attached disk.old)) steps.old)
         (outlets (K.written sink.new) (D.history disk.new (D.attached disk.new)) steps.new)) }
-    ensures works { OnOk result (Works C.pages (IsTrue (D.is_honest disk.old)) engine.new (D.history disk.new (D.attached disk.new))) }
+    ensures works { OnOk result (Works C.pages (D.is_honest disk.old) engine.new (D.history disk.new (D.attached disk.new))) }
     ensures unfaulted { OnOk result (engine.new.fault ≡ None) }
     ensures kept { (fault : Fault) → engine.new.fault ≡ Some fault → result ≡ Err (fault_status fault) }
     ensures sound { IsTrue (D.is_honest disk.old) → (before : Container) → HoldsOver engine.old (D.history disk.old (D.attached disk.old)) before → IfErr result BreaksOffWith }
@@ -210,7 +210,7 @@ fn serve_last<D: Disk, C: PageCache, K: Sink, L: Ledger>(
     sink: &mut K,
     steps: &mut Steps<L>,
 ) -> Status
-    requires works { Works C.pages (IsTrue (D.is_honest disk.old)) engine.old (D.history disk.old (D.attached disk.old)) }
+    requires works { Works C.pages (D.is_honest disk.old) engine.old (D.history disk.old (D.attached disk.old)) }
     requires unfaulted { engine.old.fault ≡ None }
     ensures done { IsTrue (D.is_honest disk.old) → (before : Container) → HoldsOver engine.old (D.history disk.old (D.attached disk.old)) before
         → result ≡ Status.Done → ServesLast (IsTrue (D.is_honest disk.old)) before pending.now

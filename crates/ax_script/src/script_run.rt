@@ -6,7 +6,7 @@ ghost use Rattle.ax_faults.specs.Faults.{Rose};
 ghost use Rattle.ax_container.specs.Container.{Container};
 ghost use Rattle.ax_script.specs.CommandLine.{is_run as is_run_lem, store_word};
 ghost use Rattle.ax_engine.specs.Engine.{HoldsOver, Works};
-ghost use Rattle.ax_engine.specs.Stores.{IsStore, IsWithin};
+ghost use Rattle.ax_documents.specs.Opening.{IsStore, IsWithin};
 ghost use Rattle.ax_image.specs.Readable.{newest};
 ghost use Rattle.ax_pages.specs.Area.{extent_number};
 ghost use Rattle.ax_script.specs.Answered.{TellsAnswered};
@@ -42,8 +42,9 @@ const CACHED_PARTS: u32 = 256;
 /// `WriteFault` only where a call on the source or the sink failed in it. Over an honest disk, but that it
 /// may fail, `Newer` exactly where the store is of that later version, and `Damaged` with its place where
 /// the root is damaged, whatever memory there is; the store is then as it was. Else `Damaged` only where the
-/// store is outside the format at that offset, and it is as it was, or where a store that was opened has at
-/// that place, as the run has left it, the part of a document whose text is none; `Done`, `ReadFault`,
+/// store is outside the format at that offset, or its policies make no table, and it is as it was, or where a store that
+/// was opened has at that place, as the run has left it, the text of a document that is none, or a part of the index that is
+/// outside its grammar; `Done`, `ReadFault`,
 /// `WriteFault` and `Long` only where the store had contents; where it also stands for a container, `Long`
 /// exactly where more than 2^40 bytes were taken, and without a failed call only `Done`, `Memory` or `Long`.
 /// `Memory` comes where memory ran out outside the serving of a line; at `Done` all input was read and
@@ -168,7 +169,7 @@ fn serve<D: Disk, S: Source, K: Sink, L: Ledger>(
     ensures steps { steps.old ≤ steps.new }
     ensures not_words { result ≢ Status.Words }
 {
-    match open_named(alloc, disk, store_name(words)) {
+    match open_named(alloc, disk, store_name(words), steps) {
         Ok(engine) => serve_opened(alloc, engine, disk, source, sink, steps),
         Err(status) => status,
     }
@@ -184,7 +185,7 @@ fn serve_opened<D: Disk, S: Source, K: Sink, L: Ledger>(
     sink: &mut K,
     steps: &mut Steps<L>,
 ) -> Status
-    requires works { Works (λ _. no_pages) (IsTrue (D.is_honest disk.old)) engine (D.history disk.old (D.attached disk.old)) }
+    requires works { Works (λ _. no_pages) (D.is_honest disk.old) engine (D.history disk.old (D.attached disk.old)) }
     requires unfaulted { engine.fault ≡ None }
     ensures script { IsTrue (D.is_honest disk.old) → (before : Container) → HoldsOver engine (D.history disk.old (D.attached disk.old)) before
         → Ends (IsTrue (D.is_honest disk.old)) before result
@@ -225,7 +226,7 @@ fn serve_cached<D: Disk, C: PageCache, S: Source, K: Sink, L: Ledger>(
     sink: &mut K,
     steps: &mut Steps<L>,
 ) -> Status
-    requires works { Works C.pages (IsTrue (D.is_honest disk.old)) engine.old (D.history disk.old (D.attached disk.old)) }
+    requires works { Works C.pages (D.is_honest disk.old) engine.old (D.history disk.old (D.attached disk.old)) }
     requires unfaulted { engine.old.fault ≡ None }
     ensures script { IsTrue (D.is_honest disk.old) → (before : Container) → HoldsOver engine.old (D.history disk.old (D.attached disk.old)) before
         → Ends (IsTrue (D.is_honest disk.old)) before result

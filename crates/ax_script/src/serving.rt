@@ -29,8 +29,8 @@ use std::sync::ledger::Ledger;
 /// reply. A disk fault comes where a call on the disk failed in this call, or in an earlier one of this engine,
 /// and a line served by an engine without a fault counts a fault of the disk nowhere else. A write fault comes
 /// only where one on the sink failed in this call. Over an honest disk damage comes only
-/// where the text of a document is none that a document can have, with the place of its part, and so
-/// never over documents that are those of a container. A fault that the engine has afterwards is the error.
+/// where the text of a document is none that a document can have, or a part of the index is outside its grammar, with the
+/// place of its part, and so never over documents that are those of a container with their index. A fault that the engine has afterwards is the error.
 /// What is written at `Ok` is a reply that the line may have, whatever the documents are; a line that is
 /// judged at once (it is too long, none of the forms, or has a bad id) is told its refusal, whatever memory there is.
 pub fn serve_line<D: Disk, C: PageCache, K: Sink, L: Ledger>(
@@ -41,7 +41,7 @@ pub fn serve_line<D: Disk, C: PageCache, K: Sink, L: Ledger>(
     sink: &mut K,
     steps: &mut Steps<L>,
 ) -> Result<(), Status>
-    requires works { Works C.pages (IsTrue (D.is_honest disk.old)) engine.old (D.history disk.old (D.attached disk.old)) }
+    requires works { Works C.pages (D.is_honest disk.old) engine.old (D.history disk.old (D.attached disk.old)) }
     ensures whole { IsTrue (D.is_honest disk.old) → (before : Container) → HoldsOver engine.old (D.history disk.old (D.attached disk.old)) before
         → OnOk result ((now : Container) × HoldsOver engine.new (D.history disk.new (D.attached disk.new)) now
         × Serves (IsTrue (D.is_honest disk.old)) before line.now now
@@ -51,7 +51,7 @@ pub fn serve_line<D: Disk, C: PageCache, K: Sink, L: Ledger>(
         (BeginsToServe (IsTrue (D.is_honest disk.old)) before line.now
         (outlets (K.written sink.old) (D.history disk.old (D.attached disk.old)) steps.old)
         (outlets (K.written sink.new) (D.history disk.new (D.attached disk.new)) steps.new)) }
-    ensures works { Works C.pages (IsTrue (D.is_honest disk.old)) engine.new (D.history disk.new (D.attached disk.new)) }
+    ensures works { Works C.pages (D.is_honest disk.old) engine.new (D.history disk.new (D.attached disk.new)) }
     ensures sound { IsTrue (D.is_honest disk.old) → (before : Container) → HoldsOver engine.old (D.history disk.old (D.attached disk.old)) before → IfErr result BreaksOffWith }
     ensures only { IfErr result IsLineFault }
     ensures stops { engine.old.fault ≡ None → IfErr result (λ status. StopsBy (D.is_honest disk.old) status
@@ -88,11 +88,11 @@ fn answer<D: Disk, C: PageCache, L: Ledger>(
     line: &[u8],
     steps: &mut Steps<L>,
 ) -> Result<Reply, Fault>
-    requires works { Works C.pages (IsTrue (D.is_honest disk.old)) engine.old (D.history disk.old (D.attached disk.old)) }
+    requires works { Works C.pages (D.is_honest disk.old) engine.old (D.history disk.old (D.attached disk.old)) }
     ensures tells { IsTrue (D.is_honest disk.old) → (before : Container) → HoldsOver engine.old (D.history disk.old (D.attached disk.old)) before
         → TellsLine (IsTrue (D.is_honest disk.old)) before line.now result engine.new
         (D.history disk.old (D.attached disk.old)) (D.history disk.new (D.attached disk.new)) }
-    ensures works { Works C.pages (IsTrue (D.is_honest disk.old)) engine.new (D.history disk.new (D.attached disk.new)) }
+    ensures works { Works C.pages (D.is_honest disk.old) engine.new (D.history disk.new (D.attached disk.new)) }
     ensures may_answer { IfOk result (λ reply. MayAnswer line.now reply) }
     ensures met { IsTrue (D.is_honest disk.old) → engine.old.fault ≡ None
         → IfErr result (λ fault. Meets fault (D.history disk.new (D.attached disk.new)).reads) }
@@ -101,7 +101,7 @@ fn answer<D: Disk, C: PageCache, L: Ledger>(
     ensures never_falls { D.faults disk.old ≤ D.faults disk.new }
     ensures attached { D.attached disk.new ≡ D.attached disk.old }
     ensures honest { D.is_honest disk.new ≡ D.is_honest disk.old }
-    ensures bound { (before : Container) → Holds engine.old before
+    ensures bound { IsTrue (D.is_honest disk.old) → (before : Container) → Holds engine.old before
         → steps.new ≤ steps.old + most_steps before line.now }
     ensures steps { steps.old ≤ steps.new }
     ensures again { (fault : Fault) → engine.old.fault ≡ Some fault → (result ≡ Err fault)
@@ -123,11 +123,11 @@ fn answer_line<D: Disk, C: PageCache, L: Ledger>(
     line: &[u8],
     steps: &mut Steps<L>,
 ) -> Result<Reply, Fault>
-    requires works { Works C.pages (IsTrue (D.is_honest disk.old)) engine.old (D.history disk.old (D.attached disk.old)) }
+    requires works { Works C.pages (D.is_honest disk.old) engine.old (D.history disk.old (D.attached disk.old)) }
     ensures tells { IsTrue (D.is_honest disk.old) → (before : Container) → HoldsOver engine.old (D.history disk.old (D.attached disk.old)) before
         → TellsLine (IsTrue (D.is_honest disk.old)) before line.now result engine.new
         (D.history disk.old (D.attached disk.old)) (D.history disk.new (D.attached disk.new)) }
-    ensures works { Works C.pages (IsTrue (D.is_honest disk.old)) engine.new (D.history disk.new (D.attached disk.new)) }
+    ensures works { Works C.pages (D.is_honest disk.old) engine.new (D.history disk.new (D.attached disk.new)) }
     ensures may_answer { IfOk result (λ reply. MayAnswer line.now reply) }
     ensures met { IsTrue (D.is_honest disk.old) → engine.old.fault ≡ None
         → IfErr result (λ fault. Meets fault (D.history disk.new (D.attached disk.new)).reads) }
@@ -136,7 +136,7 @@ fn answer_line<D: Disk, C: PageCache, L: Ledger>(
     ensures never_falls { D.faults disk.old ≤ D.faults disk.new }
     ensures attached { D.attached disk.new ≡ D.attached disk.old }
     ensures honest { D.is_honest disk.new ≡ D.is_honest disk.old }
-    ensures bound { (before : Container) → Holds engine.old before
+    ensures bound { IsTrue (D.is_honest disk.old) → (before : Container) → Holds engine.old before
         → steps.new ≤ steps.old + most_steps before line.now }
     ensures steps { steps.old ≤ steps.new }
     ensures kept { engine.old.fault ≡ None → (fault : Fault) → engine.new.fault ≡ Some fault → result ≡ Err fault }

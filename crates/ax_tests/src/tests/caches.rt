@@ -1,5 +1,5 @@
 //! Whatever cache an engine has, lines are answered alike.
-ghost use Rattle.std.specs.Prelude.{◌≡◌, ◌<◌, true, IfOk, IsTrue};
+ghost use Rattle.std.specs.Prelude.{◌≡◌, ◌<◌, true, IfOk};
 ghost use Rattle.std.specs.FinMap as map;
 ghost use Rattle.ax_disk.specs.mem_disk.MemDisk.{disk_history};
 ghost use Rattle.ax_engine.specs.Engine.{Works};
@@ -52,15 +52,16 @@ fn replies(alloc: Global) -> Result<Vec<u8>, Fail> {
 }
 
 /// The engine with this cache over the store of a disk.
-fn engine_over<C: PageCache + Drop>(
+fn engine_over<C: PageCache + Drop, L: Ledger>(
     alloc: Global,
     disk: &mut MemDisk,
     cache: C,
+    steps: &mut Steps<L>,
 ) -> Result<Engine<C>, Fail>
     requires { C.pages cache ≡ map.empty }
-    ensures { IfOk result (λ engine. Works C.pages (IsTrue true) engine (disk_history disk.new)) }
+    ensures { IfOk result (λ engine. Works C.pages true engine (disk_history disk.new)) }
 {
-    let opened = Engine::open_engine(alloc, disk)?;
+    let opened = Engine::open_engine(alloc, disk, steps)?;
     Ok(opened.with_cache(cache))
 }
 
@@ -72,7 +73,7 @@ fn serve_lines<C: PageCache, L: Ledger>(
     sink: &mut MemSink,
     steps: &mut Steps<L>,
 ) -> Result<(), Status>
-    requires { Works C.pages (IsTrue true) engine.old (disk_history disk.old) }
+    requires { Works C.pages true engine.old (disk_history disk.old) }
 {
     'lines: for (line, _) in SCRIPT {
         serve_line(alloc, engine, disk, line.as_bytes(), sink, steps)?;
@@ -94,7 +95,7 @@ fn answers_by<C: PageCache + Drop, L: Ledger>(
     let mut disk = fresh_disk(alloc)?;
     let mut sink = MemSink::make(alloc, ROOM, Vec::new(alloc))?;
     let mut steps = Steps::<L>::begin(blank);
-    let mut engine = engine_over(alloc, &mut disk, cache)?;
+    let mut engine = engine_over(alloc, &mut disk, cache, &mut steps)?;
     serve_lines(alloc, &mut engine, &mut disk, &mut sink, &mut steps)?;
     Ok(Vec::from_slice(alloc, sink.bytes())?)
 }
@@ -115,5 +116,73 @@ fn each_cache_answers_alike(rt: HostRuntime) -> Result<(), Fail> {
     assert_eq!(rt; small.as_slice(), expected.as_slice());
     let large = answers(alloc, LruPages::make(alloc, 256)?)?;
     assert_eq!(rt; large.as_slice(), expected.as_slice());
+    Ok(())
+}
+
+/// The line by which the document is made of which reads are counted.
+const MADE: &str = "CREATE {\"id\":\"a\",\"n\":1}";
+
+/// A line of which the reads are counted.
+#[derive(Clone, Copy)]
+enum Asked {
+    Document,
+    Condition,
+    Whole,
+}
+
+fn line_of(asked: Asked) -> &'static str {
+    match asked {
+        Asked::Document => "READ a",
+        Asked::Condition => "QUERY {\"query\":\"SELECT VALUE c.id FROM c WHERE c.n = 1\"}",
+        Asked::Whole => "QUERY {\"query\":\"SELECT * FROM c\"}",
+    }
+}
+
+/// How often the disk is read for a line by an engine with this cache that has made the document: when the line comes
+/// first, and when it comes again.
+fn reads_by<C: PageCache + Drop, L: Ledger>(
+    alloc: Global,
+    cache: C,
+    asked: Asked,
+    blank: Blank,
+) -> Result<(u64, u64), Fail>
+    requires empty { C.pages cache ≡ map.empty }
+    requires name { blank.name ≡ L.name }
+    requires parts { blank.parts ≡ L.parts }
+    requires some { 0 < blank.parts }
+{
+    let line = line_of(asked).as_bytes();
+    let mut disk = fresh_disk(alloc)?;
+    let mut sink = MemSink::make(alloc, ROOM, Vec::new(alloc))?;
+    let mut steps = Steps::<L>::begin(blank);
+    let mut engine = engine_over(alloc, &mut disk, cache, &mut steps)?;
+    let made = MADE.as_bytes();
+    serve_line(alloc, &mut engine, &mut disk, made, &mut sink, &mut steps)?;
+    let opened = disk.reads();
+    serve_line(alloc, &mut engine, &mut disk, line, &mut sink, &mut steps)?;
+    let once = disk.reads();
+    serve_line(alloc, &mut engine, &mut disk, line, &mut sink, &mut steps)?;
+    Ok((once.abs_diff(opened), disk.reads().abs_diff(once)))
+}
+
+fn reads<C: PageCache + Drop>(alloc: Global, cache: C, asked: Asked) -> Result<(u64, u64), Fail>
+    requires { C.pages cache ≡ map.empty }
+{
+    reads_by::<C, Brand>(alloc, cache, asked, Blank::new(1))
+}
+
+/// Without a cache a line that comes again reads the disk as often as before, at least once; with one that has room, not
+/// at all for a document that was read.
+#[test]
+fn a_cache_spares_reads(rt: HostRuntime) -> Result<(), Fail> {
+    let alloc = rt.alloc();
+    for asked in [Asked::Document, Asked::Condition, Asked::Whole] {
+        let (first, again) = reads(alloc, NoPages, asked)?;
+        assert!(rt; first > 0);
+        assert_eq!(rt; first, again);
+    }
+    let (first, again) = reads(alloc, LruPages::make(alloc, 4)?, Asked::Document)?;
+    assert!(rt; first > 0);
+    assert_eq!(rt; again, 0);
     Ok(())
 }

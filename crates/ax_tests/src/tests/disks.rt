@@ -69,9 +69,7 @@ fn no_acknowledged_line_is_lost(rt: HostRuntime) -> Result<(), Fail> {
 #[test]
 fn images_are_judged(rt: HostRuntime) -> Result<(), Fail> {
     let alloc = rt.alloc();
-    let full =
-        b"\x01\x11\x00\x00\x00\x00\x00\x00\x00\x01\x00\x00\x00\x00\x08\x00\x00\x00\xFF\xFF\xFF\xFF\x00\x00\x00\x00\x00";
-    let mut disk = disk_of(alloc, ROOT, full)?;
+    let mut disk = disk_of(alloc, ROOT, FULL)?;
     let (status, output) = output_over(alloc, &mut disk, UPSERT)?;
     assert_eq!(rt; status, Status::Done);
     assert_eq!(rt; output.as_slice(), b"err 15 full\n".as_slice());
@@ -83,15 +81,24 @@ fn images_are_judged(rt: HostRuntime) -> Result<(), Fail> {
     Ok(())
 }
 
-/// A document of id `a`, and a meta part whose next number is the last one.
-const HELD_AND_FULL: &[u8] =
-    b"\x01\x25\x00\x00\x00\x00\x00\x00\x00\x03\x01\x00\x00\x00\x0B\x00\x00\x00\x00{\"id\":\"a\"}\x01\x00\x00\x00\x00\x08\x00\x00\x00\xFF\xFF\xFF\xFF\x00\x00\x00\x00\x00";
+/// A meta part whose next number is the last one.
+const FULL: &[u8] =
+    b"\x01\x11\x00\x00\x00\x00\x00\x00\x00\x01\x00\x00\x00\x00\x08\x00\x00\x00\xFF\xFF\xFF\xFF\x00\x00\x00\x00\x00";
+
+/// The store that a script leaves, in which then no number is left.
+fn filled(alloc: Global, script: &[u8]) -> Result<MemDisk, Fail> {
+    let mut disk = fresh_disk(alloc)?;
+    let _written = output_over(alloc, &mut disk, script)?;
+    let mut area = Vec::from_slice(alloc, disk.bytes(Extent::A))?;
+    area.extend_from_slice(FULL)?;
+    disk_of(alloc, disk.bytes(Extent::Root), area.as_slice())
+}
 
 // Where nothing can be created, a creation of a held id is a conflict all the same, and what is held is written.
 #[test]
 fn a_full_store_is_written(rt: HostRuntime) -> Result<(), Fail> {
     let alloc = rt.alloc();
-    let mut disk = disk_of(alloc, ROOT, HELD_AND_FULL)?;
+    let mut disk = filled(alloc, b"CREATE {\"id\":\"a\"}\n")?;
     let script =
         b"CREATE {\"id\":\"a\"}\nCREATE {\"id\":\"b\"}\nREPLACE {\"id\":\"a\",\"n\":1}\nREAD a\nDELETE a\nUPSERT {\"id\":\"a\"}\n";
     let (status, output) = output_over(alloc, &mut disk, script)?;

@@ -9,7 +9,7 @@ use Rattle.ax_area.specs.Image.{Says}
 use Rattle.ax_image.specs.Readable.{SaysReadable, newest}
 use Rattle.ax_engine.specs.Damage.{Meets, PassesOverNone}
 use Rattle.ax_store.specs.Store.{store_contents}
-use Rattle.ax_engine.specs.Documents.{DocumentsWork}
+use Rattle.ax_documents.specs.Documents.{DocumentsWork}
 use Rattle.ax_engine.specs.Engine.{CountsAnswer, Tells}
 use Rattle.ax_engine.specs.Replies.{MayReply}
 use Rattle.ax_engine.specs.declared.engine.Fault.{Fault}
@@ -36,15 +36,15 @@ returns-clause-tells g c = λ honest readable before holds.
     (g.D.Disk.history c.args.disk.now (g.D.Disk.attached c.args.disk.now))
     (g.D.Disk.history c.reply_to_query-read.new.disk (g.D.Disk.attached c.reply_to_query-read.new.disk)) in
     subst P (sym c.answer_of_read.ensures)
-    (tells_read g.C.PageCache.pages _ c.args.documents.now _ _ _ _ _ _ before c.args.body.now c.requires.works holds
+    (tells_read g.C.PageCache.pages _ c.args.documents.now _ _ _ _ _ _ c.requires.works before c.args.body.now holds
     c.reply_to_query-read.result c.reply_to_query-read.ensures.scans
     (g.met.D.Disk.reads_may_stay c.reply_to_query-read.new.disk (g.D.Disk.attached c.reply_to_query-read.new.disk)
     (subst IsTrue (sym c.reply_to_query-read.ensures.honest) honest))
     ((idles_rest _ _ SaysReadable readable
-    (lists_read g.C.PageCache.pages _ c.args.documents.now _ _ _ _ _ _ c.reply_to_query-read.result c.reply_to_query-read.ensures.scans honest)).each _
+    (lists_read g.C.PageCache.pages _ c.args.documents.now _ _ _ _ _ _ c.requires.works c.reply_to_query-read.result c.reply_to_query-read.ensures.scans honest)).each _
     (g.met.D.Disk.reads_may_stay c.reply_to_query-read.new.disk (g.D.Disk.attached c.reply_to_query-read.new.disk)
     (subst IsTrue (sym c.reply_to_query-read.ensures.honest) honest)))
-    (c.reply_to_query-read.ensures.reply honest before holds.hold) honest)
+    (c.reply_to_query-read.ensures.reply honest before holds.contents.documents) honest)
 
 pub returns-clause-may_reply : goal.returns-clause-may_reply
 returns-clause-may_reply g c =
@@ -57,7 +57,7 @@ returns-clause-met g c = λ honest.
     let P : Result Reply Fault → Type 0 = λ answer. IfErr answer (λ why. Meets why
     (g.D.Disk.history c.reply_to_query-read.new.disk (g.D.Disk.attached c.reply_to_query-read.new.disk)).reads) in
     subst P (sym c.answer_of_read.ensures)
-    (met_read g.C.PageCache.pages _ c.args.documents.now _ _ _ _ _ _ c.reply_to_query-read.result c.reply_to_query-read.ensures.scans
+    (met_read g.C.PageCache.pages _ c.args.documents.now _ _ _ _ _ _ c.requires.works c.reply_to_query-read.result c.reply_to_query-read.ensures.scans
     (g.met.D.Disk.reads_may_stay c.reply_to_query-read.new.disk (g.D.Disk.attached c.reply_to_query-read.new.disk)
     (subst IsTrue (sym c.reply_to_query-read.ensures.honest) honest)) honest)
 
@@ -70,36 +70,39 @@ returns-clause-passes_over_none g c = λ honest.
     subst P (sym c.answer_of_read.ensures)
     (passes_read of.version of.told contents c.args.body.now _
     ((idles_rest _ _ (Says newest of.version of.told contents) of.says
-    (lists_read g.C.PageCache.pages _ c.args.documents.now _ _ _ _ _ _ c.reply_to_query-read.result c.reply_to_query-read.ensures.scans honest)).each _
+    (lists_read g.C.PageCache.pages _ c.args.documents.now _ _ _ _ _ _ c.requires.works c.reply_to_query-read.result c.reply_to_query-read.ensures.scans honest)).each _
     (g.met.D.Disk.reads_may_stay c.reply_to_query-read.new.disk (g.D.Disk.attached c.reply_to_query-read.new.disk)
     (subst IsTrue (sym c.reply_to_query-read.ensures.honest) honest)))
     c.reply_to_query-read.result (c.reply_to_query-read.ensures.met honest))
 
 pub returns-clause-works : goal.returns-clause-works
 returns-clause-works g c =
-    let W = DocumentsWork g.C.PageCache.pages (IsTrue (g.D.Disk.is_honest c.args.disk.now))
+    let W = DocumentsWork g.C.PageCache.pages (g.D.Disk.is_honest c.args.disk.now)
     (record c.args.documents.now { store = c.reply_to_query-read.new.store })
     (g.D.Disk.history c.reply_to_query-read.new.disk (g.D.Disk.attached c.reply_to_query-read.new.disk)) in
     let P : Result Reply Fault → Type 0 = λ answer. OnOk answer W in
     subst P (sym c.answer_of_read.ensures)
-    (works_read g.C.PageCache.pages _ c.args.documents.now _ _ _ _ _ _ c.reply_to_query-read.result c.reply_to_query-read.ensures.scans)
+    (works_read g.C.PageCache.pages _ c.args.documents.now _ _ _ _ _ _ c.requires.works c.reply_to_query-read.result c.reply_to_query-read.ensures.scans)
 
 pub returns-clause-counted : goal.returns-clause-counted
 returns-clause-counted g c =
     let P : Result Reply Fault → Type 0 = λ answer. CountsAnswer answer (g.D.Disk.faults c.args.disk.now)
     (g.D.Disk.faults c.reply_to_query-read.new.disk) in
     subst P (sym c.answer_of_read.ensures)
-    (counted_read g.C.PageCache.pages _ c.args.documents.now _ _ _ _ _ _ c.reply_to_query-read.result c.reply_to_query-read.ensures.scans)
+    (counted_read g.C.PageCache.pages _ c.args.documents.now _ _ _ _ _ _ c.requires.works c.reply_to_query-read.result c.reply_to_query-read.ensures.scans)
 
 pub returns-clause-never_falls : goal.returns-clause-never_falls
 returns-clause-never_falls g c =
-    never_falls_read g.C.PageCache.pages _ c.args.documents.now _ _ _ _ _ _ c.reply_to_query-read.result c.reply_to_query-read.ensures.scans
+    never_falls_read g.C.PageCache.pages _ c.args.documents.now _ _ _ _ _ _ c.requires.works c.reply_to_query-read.result c.reply_to_query-read.ensures.scans
 
 pub returns-clause-lists : goal.returns-clause-lists
 returns-clause-lists g c = λ honest.
-    lists_read g.C.PageCache.pages _ c.args.documents.now _ _ _ _ _ _ c.reply_to_query-read.result c.reply_to_query-read.ensures.scans honest
+    lists_read g.C.PageCache.pages _ c.args.documents.now _ _ _ _ _ _ c.requires.works c.reply_to_query-read.result c.reply_to_query-read.ensures.scans honest
 
 pub returns-clause-readable : goal.returns-clause-readable
 returns-clause-readable g c = λ honest rests.
     idles_stay _ _ SaysReadable rests
-    (lists_read g.C.PageCache.pages _ c.args.documents.now _ _ _ _ _ _ c.reply_to_query-read.result c.reply_to_query-read.ensures.scans honest)
+    (lists_read g.C.PageCache.pages _ c.args.documents.now _ _ _ _ _ _ c.requires.works c.reply_to_query-read.result c.reply_to_query-read.ensures.scans honest)
+
+pub returns-clause-bound : goal.returns-clause-bound
+returns-clause-bound g c = λ honest before holds. c.reply_to_query-read.ensures.bound before holds.contents.documents

@@ -1,112 +1,70 @@
--- The document under the number of an id, as the answer to the line.
-use Rattle.std.proofs.Common.{◌≡◌, ℕ, Some, None, option_map, Vec, Global, sym, ap, ◌∙◌}
-use Rattle.ax_machine.specs.Run.{Served}
-use Rattle.ax_engine.specs.Documents.{contents_in, number_in}
-use Rattle.ax_engine.proofs.Applying.{read_absent, read_found, read_refused, read_steps, readable_then, tells_doc, tells_fault, tells_want}
-use Rattle.ax_engine.proofs.Holding.{still}
-use Rattle.ax_engine.proofs.Writing.{found_in}
+-- The document of an id, as the answer to the line.
+use Rattle.std.proofs.Common.{◌≡◌, ap, subst, sym, ◌∙◌}
+use Rattle.std.specs.Prelude.{IfErr, IfOk, IsTrue, OnOk, Result}
+use Rattle.ax_container.specs.Container.{contains}
+use Rattle.ax_disk.specs.laws.StaysLaws.{idles_stay}
+use Rattle.ax_image.specs.Readable.{SaysReadable}
+use Rattle.ax_lines.specs.declared.line.Line.TheVariants as line
+use Rattle.ax_documents.specs.Documents.{DocumentsWork}
+use Rattle.ax_engine.specs.Damage.{Meets}
+use Rattle.ax_engine.specs.Engine.{CountsAnswer, Tells}
+use Rattle.ax_engine.specs.Replies.{FitsRead}
+use Rattle.ax_engine.specs.declared.engine.Fault.{Fault}
+use Rattle.ax_engine.specs.declared.reply.Reply.{Reply}
+use Rattle.ax_engine.proofs.Applying.{counted_looked, may_look, met_looked, steps_of_held, tells_looked, works_looked}
+use Rattle.ax_engine.proofs.Holding.{idled}
 use Rattle.ax_engine.proofs.engine.read.Goals as goal
 
-pub returns-in_default-clause-tells : goal.returns-in_default-clause-tells
-returns-in_default-clause-tells g c = λ honest before holds.
-    let id = c.args.id.now in
-    let at : number_in id before ≡ None =
-    found_in c.args.documents.now before id _ _ holds c.as_str.ensures.text (sym c.in_default.is ∙ c.number.ensures) in (
-      Served,
-      ap (λ m. m.1) (read_absent id before at),
-      holds,
-      still g.C.PageCache.pages _ c.args.documents.now _ before before c.requires.works holds,
-    )
+pub returns-clause-tells : goal.returns-clause-tells
+returns-clause-tells g c = λ honest before holds.
+    let P : Result Reply Fault → Type 0 = λ answer. Tells (IsTrue (g.D.Disk.is_honest c.args.disk.now)) before
+    (line.Read c.args.id.now) answer c.read-found.new.self
+    (g.D.Disk.history c.args.disk.now (g.D.Disk.attached c.args.disk.now))
+    (g.D.Disk.history c.read-found.new.disk (g.D.Disk.attached c.read-found.new.disk)) in
+    subst P (sym c.answer_of_look_up.ensures)
+    (tells_looked _ c.args.documents.now.store c.read-found.new.self _ _ before c.args.id.now c.as_bytes-id.result.now
+    c.read-found.result (c.as_bytes-id.ensures.value ∙ c.as_str.ensures.text) holds.contents
+    (c.read-found.ensures.holds honest before holds)
+    (idled g.C.PageCache.pages _ c.args.documents.now _ before c.requires.works holds _ (c.read-found.ensures.leaves.reads.lists honest) honest)
+    (c.read-found.ensures.leaves.told honest) (c.read-found.ensures.text honest before holds))
 
-pub returns-in-Ok-Some-clause-tells : goal.returns-in-Ok-Some-clause-tells
-returns-in-Ok-Some-clause-tells g c = λ honest before holds.
-    let id = c.args.id.now in
-    let at : number_in id before ≡ Some c.in-Some.number =
-    found_in c.args.documents.now before id _ _ holds c.as_str.ensures.text (sym c.in-Some.is ∙ c.number.ensures) in
-    tells_doc g.C.PageCache.pages _ c.args.documents.now c.fetch_text.new.self _ _ _ _ c.fetch_text.ensures.reads before c.requires.works holds id c.in-Ok-Some.text
-    (read_found (contents_in c.args.documents.now) before id c.in-Ok-Some.text.items c.in-Some.number holds.hold at
-    (ap (option_map (λ (found : Vec ℕ Global). found.items)) (sym c.in-Ok-Some.field-0-is) ∙ c.in-Ok-Some.ensures.text honest))
+pub returns-clause-may_reply : goal.returns-clause-may_reply
+returns-clause-may_reply g c =
+    let P : Result Reply Fault → Type 0 = λ answer. IfOk answer FitsRead in
+    subst P (sym c.answer_of_look_up.ensures) (may_look c.read-found.result)
 
-pub returns-in-Ok-Some-clause-refused : goal.returns-in-Ok-Some-clause-refused
-returns-in-Ok-Some-clause-refused g c = λ before why holds is.
-    let id = c.args.id.now in
-    let at : number_in id before ≡ Some c.in-Some.number =
-    found_in c.args.documents.now before id _ _ holds c.as_str.ensures.text (sym c.in-Some.is ∙ c.number.ensures) in
-    read_refused id before c.in-Some.number why at is
+pub returns-clause-lists : goal.returns-clause-lists
+returns-clause-lists g c = λ honest. c.read-found.ensures.leaves.reads.lists honest
 
-pub returns-in-Ok-Some-clause-readable : goal.returns-in-Ok-Some-clause-readable
-returns-in-Ok-Some-clause-readable g c = λ honest rests.
-    readable_then g.C.PageCache.pages _ c.args.documents.now c.fetch_text.new.self _ _ _ _ c.fetch_text.ensures.reads honest rests
+pub returns-clause-met : goal.returns-clause-met
+returns-clause-met g c = λ honest.
+    let P : Result Reply Fault → Type 0 = λ answer. IfErr answer (λ why. Meets why
+    (g.D.Disk.history c.read-found.new.disk (g.D.Disk.attached c.read-found.new.disk)).reads) in
+    subst P (sym c.answer_of_look_up.ensures) (met_looked c.read-found.result _ (c.read-found.ensures.damage honest))
 
-pub returns-in-Ok-Some-clause-bound : goal.returns-in-Ok-Some-clause-bound
-returns-in-Ok-Some-clause-bound g c = λ before holds.
-    let id = c.args.id.now in
-    let at : number_in id before ≡ Some c.in-Some.number =
-    found_in c.args.documents.now before id _ _ holds c.as_str.ensures.text (sym c.in-Some.is ∙ c.number.ensures) in
-    read_steps id before c.in-Some.number _ _ at c.fetch_text.ensures.ticked
+pub returns-clause-works : goal.returns-clause-works
+returns-clause-works g c =
+    let W = DocumentsWork g.C.PageCache.pages (g.D.Disk.is_honest c.args.disk.now) c.read-found.new.self
+    (g.D.Disk.history c.read-found.new.disk (g.D.Disk.attached c.read-found.new.disk)) in
+    let P : Result Reply Fault → Type 0 = λ answer. OnOk answer W in
+    subst P (sym c.answer_of_look_up.ensures)
+    (works_looked g.C.PageCache.pages _ c.read-found.new.self _ c.read-found.result c.read-found.ensures.works)
 
-pub returns-in-Ok-None-clause-tells : goal.returns-in-Ok-None-clause-tells
-returns-in-Ok-None-clause-tells g c = λ honest before holds.
-    tells_want g.C.PageCache.pages _ c.args.documents.now c.fetch_text.new.self _ _ _ _ c.fetch_text.ensures.reads before c.requires.works holds c.args.id.now
+pub returns-clause-readable : goal.returns-clause-readable
+returns-clause-readable g c = λ honest rests. idles_stay _ _ SaysReadable rests (c.read-found.ensures.leaves.reads.lists honest)
 
-pub returns-in-Ok-None-clause-refused : goal.returns-in-Ok-None-clause-refused
-returns-in-Ok-None-clause-refused g c = λ before why holds is.
-    let id = c.args.id.now in
-    let at : number_in id before ≡ Some c.in-Some.number =
-    found_in c.args.documents.now before id _ _ holds c.as_str.ensures.text (sym c.in-Some.is ∙ c.number.ensures) in
-    read_refused id before c.in-Some.number why at is
+pub returns-clause-counted : goal.returns-clause-counted
+returns-clause-counted g c =
+    let P : Result Reply Fault → Type 0 = λ answer. CountsAnswer answer (g.D.Disk.faults c.args.disk.now)
+    (g.D.Disk.faults c.read-found.new.disk) in
+    subst P (sym c.answer_of_look_up.ensures)
+    (counted_looked c.read-found.result _ _ (c.read-found.ensures.leaves.cause c.requires.works.unfailed))
 
-pub returns-in-Ok-None-clause-readable : goal.returns-in-Ok-None-clause-readable
-returns-in-Ok-None-clause-readable g c = λ honest rests.
-    readable_then g.C.PageCache.pages _ c.args.documents.now c.fetch_text.new.self _ _ _ _ c.fetch_text.ensures.reads honest rests
+pub returns-clause-never_falls : goal.returns-clause-never_falls
+returns-clause-never_falls g c = c.read-found.ensures.leaves.reads.never_falls
 
-pub returns-in-Ok-None-clause-bound : goal.returns-in-Ok-None-clause-bound
-returns-in-Ok-None-clause-bound g c = λ before holds.
-    let id = c.args.id.now in
-    let at : number_in id before ≡ Some c.in-Some.number =
-    found_in c.args.documents.now before id _ _ holds c.as_str.ensures.text (sym c.in-Some.is ∙ c.number.ensures) in
-    read_steps id before c.in-Some.number _ _ at c.fetch_text.ensures.ticked
-
-pub returns-in-Err-Memory-clause-tells : goal.returns-in-Err-Memory-clause-tells
-returns-in-Err-Memory-clause-tells g c = λ honest before holds.
-    tells_want g.C.PageCache.pages _ c.args.documents.now c.fetch_text.new.self _ _ _ _ c.fetch_text.ensures.reads before c.requires.works holds c.args.id.now
-
-pub returns-in-Err-Memory-clause-refused : goal.returns-in-Err-Memory-clause-refused
-returns-in-Err-Memory-clause-refused g c = λ before why holds is.
-    let id = c.args.id.now in
-    let at : number_in id before ≡ Some c.in-Some.number =
-    found_in c.args.documents.now before id _ _ holds c.as_str.ensures.text (sym c.in-Some.is ∙ c.number.ensures) in
-    read_refused id before c.in-Some.number why at is
-
-pub returns-in-Err-Memory-clause-readable : goal.returns-in-Err-Memory-clause-readable
-returns-in-Err-Memory-clause-readable g c = λ honest rests.
-    readable_then g.C.PageCache.pages _ c.args.documents.now c.fetch_text.new.self _ _ _ _ c.fetch_text.ensures.reads honest rests
-
-pub returns-in-Err-Memory-clause-bound : goal.returns-in-Err-Memory-clause-bound
-returns-in-Err-Memory-clause-bound g c = λ before holds.
-    let id = c.args.id.now in
-    let at : number_in id before ≡ Some c.in-Some.number =
-    found_in c.args.documents.now before id _ _ holds c.as_str.ensures.text (sym c.in-Some.is ∙ c.number.ensures) in
-    read_steps id before c.in-Some.number _ _ at c.fetch_text.ensures.ticked
-
-pub returns-in-Err-Disk-clause-tells : goal.returns-in-Err-Disk-clause-tells
-returns-in-Err-Disk-clause-tells g c = λ honest before holds.
-    tells_fault g.C.PageCache.pages _ c.args.documents.now c.fetch_text.new.self _ _ _ _ c.fetch_text.ensures.reads before c.requires.works holds c.args.id.now
-
-pub returns-in-Err-Disk-clause-refused : goal.returns-in-Err-Disk-clause-refused
-returns-in-Err-Disk-clause-refused g c = λ before why holds is.
-    let id = c.args.id.now in
-    let at : number_in id before ≡ Some c.in-Some.number =
-    found_in c.args.documents.now before id _ _ holds c.as_str.ensures.text (sym c.in-Some.is ∙ c.number.ensures) in
-    read_refused id before c.in-Some.number why at is
-
-pub returns-in-Err-Disk-clause-readable : goal.returns-in-Err-Disk-clause-readable
-returns-in-Err-Disk-clause-readable g c = λ honest rests.
-    readable_then g.C.PageCache.pages _ c.args.documents.now c.fetch_text.new.self _ _ _ _ c.fetch_text.ensures.reads honest rests
-
-pub returns-in-Err-Disk-clause-bound : goal.returns-in-Err-Disk-clause-bound
-returns-in-Err-Disk-clause-bound g c = λ before holds.
-    let id = c.args.id.now in
-    let at : number_in id before ≡ Some c.in-Some.number =
-    found_in c.args.documents.now before id _ _ holds c.as_str.ensures.text (sym c.in-Some.is ∙ c.number.ensures) in
-    read_steps id before c.in-Some.number _ _ at c.fetch_text.ensures.ticked
+pub returns-clause-bound : goal.returns-clause-bound
+returns-clause-bound g c = λ honest before holds.
+    let same = c.as_bytes-id.ensures.value ∙ c.as_str.ensures.text in
+    steps_of_held c.args.id.now before _ _ c.read-found.ensures.one
+    (λ absent. c.read-found.ensures.none honest before holds (ap (λ i. contains i before) same ∙ absent))

@@ -7,7 +7,7 @@ use Rattle.ax_image.specs.Readable.{newest}
 use Rattle.ax_pages.specs.Area.{extent_number}
 use Rattle.ax_store.specs.declared.fault.StoreFault.{StoreFault}
 use Rattle.ax_store.specs.declared.fault.StoreFault.TheVariants as fault
-use Rattle.ax_engine.specs.Stores.{IsImageOf}
+use Rattle.ax_documents.specs.Opening.{IsImageOf}
 use Rattle.ax_engine.proofs.Opened.{idle_since}
 use Rattle.ax_script.specs.Opening.{IsEndUnlessDisk}
 use Rattle.ax_script.specs.declared.status.Status.TheVariants as status

@@ -63,7 +63,7 @@ lines-preserved g c = record {
       (answered_goes_on _ _ _ _ _ _ c.lines.invariant.answered c.in-Some.head.now c.in-Some.tail.now _
       c.in-Some.ensures.split c.in-Some.ensures.line c.in_default-serve_head.ensures.answered);
   line = subst IsOneLine (sym c.in_default-serve_head.ensures.empty) refl;
-  works = subst (λ honest. Works g.C.PageCache.pages (IsTrue honest) c.serve_head.new.engine
+  works = subst (λ honest. Works g.C.PageCache.pages honest c.serve_head.new.engine
       (g.D.Disk.history c.serve_head.new.disk (g.D.Disk.attached c.serve_head.new.disk)))
       (sym c.in_default-serve_head.ensures.honest) c.in_default-serve_head.ensures.works;
   unfaulted = c.in_default-serve_head.ensures.unfaulted;

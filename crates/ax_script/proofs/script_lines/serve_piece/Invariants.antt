@@ -21,7 +21,7 @@ invariant-lines g l = record {
   answered : AnsweredIn l.fn.pending.items l.pending.items l.piece l.rest (g.K.Sink.written l.fn.sink)
       (g.K.Sink.written l.sink);
   line : IsOneLine l.pending.items;
-  works : Works g.C.PageCache.pages (IsTrue (g.D.Disk.is_honest l.disk)) l.engine
+  works : Works g.C.PageCache.pages (g.D.Disk.is_honest l.disk) l.engine
       (g.D.Disk.history l.disk (g.D.Disk.attached l.disk));
   unfaulted : l.engine.fault ≡ None;
   uncounted : g.D.Disk.faults l.disk ≡ g.D.Disk.faults l.fn.disk;

@@ -126,7 +126,7 @@ pieces-preserved g c = record {
   answered = answers_go_on _ _ _ _ c.pieces.invariant.answered _ _ _ (take c.in-Ok.count c.read_some.new.buf) _
       c.in-Ok.count c.in-Ok.ensures.taken (sym c.in-Ok.ensures.bound.1) c.in_default-served.ensures.answered;
   line = c.in_default-served.ensures.line;
-  works = subst (λ honest. Works g.C.PageCache.pages (IsTrue honest) c.serve_piece-served.new.engine
+  works = subst (λ honest. Works g.C.PageCache.pages honest c.serve_piece-served.new.engine
       (g.D.Disk.history c.serve_piece-served.new.disk (g.D.Disk.attached c.serve_piece-served.new.disk)))
       (sym c.in_default-served.ensures.honest) c.in_default-served.ensures.works;
   unfaulted = c.in_default-served.ensures.unfaulted;

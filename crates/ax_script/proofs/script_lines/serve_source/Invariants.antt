@@ -23,7 +23,7 @@ invariant-pieces g l = record {
       (streams (g.S.Source.rest l.fn.source) (g.K.Sink.written l.fn.sink) l.fn.steps)
       (streams (g.S.Source.rest l.source) (g.K.Sink.written l.sink) l.steps) l.pending.items l.taken;
   line : IsOneLine l.pending.items;
-  works : Works g.C.PageCache.pages (IsTrue (g.D.Disk.is_honest l.disk)) l.engine
+  works : Works g.C.PageCache.pages (g.D.Disk.is_honest l.disk) l.engine
       (g.D.Disk.history l.disk (g.D.Disk.attached l.disk));
   unfaulted : l.engine.fault ≡ None;
   within : l.taken ≤ most_input;

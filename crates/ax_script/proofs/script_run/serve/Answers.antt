@@ -3,8 +3,10 @@ use Rattle.std.proofs.Common.{IsTrue, Bool, List, ℕ, subst, sym}
 use Rattle.ax_area.specs.Image.{IsDamaged, IsNewer}
 use Rattle.ax_disk.specs.declared.extent.Extent.TheVariants.{Root}
 use Rattle.ax_image.specs.Readable.{newest}
-use Rattle.ax_engine.specs.Stores.{IsStore}
-use Rattle.ax_engine.specs.Stores.{IsWithin}
+use Rattle.ax_documents.specs.Opening.{IsStore}
+use Rattle.ax_documents.specs.Opening.{IsWithin}
+use Rattle.ax_script.specs.Answered.{TellsAnswered}
+use Rattle.ax_script.specs.CommandLine.{store_word}
 use Rattle.ax_script.specs.DiskScript.{RunsOnDisk}
 use Rattle.ax_script.specs.Opening.{Refuses}
 use Rattle.ax_script.specs.Progress.{Ends}
@@ -25,6 +27,10 @@ returns-in-Ok-clause-script g c = λ honest before store.
     let R : List ℕ → Type 0 = λ name. RunsOnDisk before c.serve_opened.result old new
     (g.D.Disk.history c.args.disk.now (g.D.Disk.store_named name))
     (g.D.Disk.history c.serve_opened.new.disk (g.D.Disk.store_named name)) in
+    let T : ℕ → Type 0 = λ n. Ends (IsTrue (g.D.Disk.is_honest c.open_named.new.disk)) before c.serve_opened.result
+    (streams (g.S.Source.rest c.args.source.now) (g.K.Sink.written c.args.sink.now) n) new
+    (g.D.Disk.history c.open_named.new.disk (g.D.Disk.attached c.open_named.new.disk))
+    (g.D.Disk.history c.serve_opened.new.disk (g.D.Disk.attached c.serve_opened.new.disk)) in
     let E : Bool → Type 0 = λ h. Ends (IsTrue h) before c.serve_opened.result old new
     (g.D.Disk.history c.open_named.new.disk (g.D.Disk.attached c.open_named.new.disk))
     (g.D.Disk.history c.serve_opened.new.disk (g.D.Disk.attached c.serve_opened.new.disk)) in
@@ -37,9 +43,16 @@ returns-in-Ok-clause-script g c = λ honest before store.
     (g.D.Disk.attached c.open_named.new.disk) (g.D.Disk.attached c.serve_opened.new.disk)
     c.in-Ok.ensures.attached c.serve_opened.ensures.attached honest
     (c.open_named.ensures.any_moment honest before named)
-    (subst E c.open_named.ensures.honest
+    (subst E c.open_named.ensures.honest (subst T c.open_named.ensures.steps
     (c.serve_opened.ensures.script (subst IsTrue (sym c.open_named.ensures.honest) honest) before
-    (c.in-Ok.ensures.holds honest before named))))
+    (c.in-Ok.ensures.holds honest before named)))))
+
+pub returns-in-Ok-clause-answered : goal.returns-in-Ok-clause-answered
+returns-in-Ok-clause-answered g c =
+    let T : ℕ → Type 0 = λ n. TellsAnswered c.serve_opened.result
+    (streams (g.S.Source.rest c.args.source.now) (g.K.Sink.written c.args.sink.now) n)
+    (streams (g.S.Source.rest c.serve_opened.new.source) (g.K.Sink.written c.serve_opened.new.sink) c.serve_opened.new.steps) in
+    subst T c.open_named.ensures.steps c.serve_opened.ensures.answered
 
 pub returns-in-Ok-clause-refused : goal.returns-in-Ok-clause-refused
 returns-in-Ok-clause-refused g c = λ honest.
@@ -78,11 +91,15 @@ returns-in-Err-clause-script g c = λ honest before store.
     let R : List ℕ → Type 0 = λ name. RunsOnDisk before c.in-Err.status at at
     (g.D.Disk.history c.args.disk.now (g.D.Disk.store_named name))
     (g.D.Disk.history c.open_named.new.disk (g.D.Disk.store_named name)) in
+    let T : ℕ → Type 0 = λ n. RunsOnDisk before c.in-Err.status at
+    (streams (g.S.Source.rest c.args.source.now) (g.K.Sink.written c.args.sink.now) n)
+    (g.D.Disk.history c.args.disk.now (g.D.Disk.store_named (store_word c.args.words.now)))
+    (g.D.Disk.history c.open_named.new.disk (g.D.Disk.store_named (store_word c.args.words.now))) in
     let named = subst S (sym c.store_name.ensures) store in
-    subst R c.store_name.ensures
+    subst T (sym c.open_named.ensures.steps) (subst R c.store_name.ensures
     (on_disk_early before c.in-Err.status at _ _
     (runs_early before c.in-Err.status at c.in-Err.ensures.only)
-    (c.open_named.ensures.any_moment honest before named))
+    (c.open_named.ensures.any_moment honest before named)))
 
 pub
     returns-in-Ok-clause-complete

@@ -8,13 +8,13 @@ pub returns-clause-whole : goal.returns-clause-whole
 returns-clause-whole g c = λ honest before holds.
     whole_of g.C.PageCache.pages _ before c.args.line.now c.answer-answered.new.engine _ _ _ _ _ _ c.write_answer.result
     c.answer-answered.result (c.answer-answered.ensures.tells honest before holds) c.answer-answered.ensures.works
-    (c.answer-answered.ensures.bound before holds.holds) c.write_answer.ensures.whole
+    (c.answer-answered.ensures.bound honest before holds.holds) c.write_answer.ensures.whole
 
 pub returns-clause-prefix : goal.returns-clause-prefix
 returns-clause-prefix g c = λ honest before holds.
     part_of g.C.PageCache.pages _ before c.args.line.now c.answer-answered.new.engine _ _ _ _ _ _ c.write_answer.result
     c.answer-answered.result (c.answer-answered.ensures.tells honest before holds) c.answer-answered.ensures.works
-    (c.answer-answered.ensures.bound before holds.holds) c.write_answer.ensures.prefix
+    (c.answer-answered.ensures.bound honest before holds.holds) c.write_answer.ensures.prefix
 
 pub returns-clause-sound : goal.returns-clause-sound
 returns-clause-sound g c = λ honest before holds.

@@ -1,6 +1,6 @@
 -- What is opened has the documents of the container, and all that the images tell can be read.
 use Rattle.std.proofs.Common.{refl}
-use Rattle.ax_engine.proofs.Opened.{never_answered, passed_on}
+use Rattle.ax_documents.proofs.Opened.{never_answered, passed_on}
 use Rattle.ax_engine.proofs.engine.Engine+NoPages.open_engine.Goals as goal
 
 pub returns-in-Ok-clause-holds : goal.returns-in-Ok-clause-holds

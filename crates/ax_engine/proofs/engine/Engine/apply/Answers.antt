@@ -6,4 +6,4 @@ pub returns-clause-applies : goal.returns-clause-applies
 returns-clause-applies g c = λ honest before over.
     applies_told _ before _ c.answer-answered.result _ _ _ c.kept_fault-self.ensures.none
     (c.answer-answered.ensures.tells honest over.readable before over.holds.documents)
-    (c.answer-answered.ensures.readable honest over.readable)
+    (c.answer-answered.ensures.readable honest before over.holds.documents over.readable)
