@@ -4,16 +4,12 @@ use Rattle.std.proofs.Common.{find, Option, Some, None, is_some, refl, sym, ap, 
 use Rattle.std.proofs.Common.{inl, inr, arith}
 use Rattle.std.proofs.Common.{append_assoc}
 use Rattle.std.specs.Prelude.{◌≢◌, option_map, nat_lt, if◌then◌else◌}
-use Rattle.std.specs.List.{list_any, AllByRecursion}
+use Rattle.std.specs.List.{AllByRecursion}
 use Rattle.std.specs.Ordering.{nat_cmp, eq_by_cmp}
-use Rattle.std.specs.Str.{bytes_eq}
 use Rattle.std.specs.FinMap as finite
 use Rattle.std.proofs.lemmas.Bool.{cases_lt, lt-ltb, le-ltb}
 use Rattle.ax_tree.specs.CanonicalText.{canonical_text}
-use Rattle.ax_container.specs.Container.{Entry, Container, has_id}
-use Rattle.ax_container.specs.Container.{NumbersRise, IdsAreDistinct, IsStored}
-use Rattle.ax_container.proofs.Ids.{same_from_eq}
-use Rattle.ax_container.proofs.Soundness.{or_none}
+use Rattle.ax_container.specs.Container.{Entry, Container, IsStored, NumbersRise}
 use Rattle.ax_area.specs.Contents.{Contents, Stored}
 use Rattle.ax_pages.proofs.LastPart.{same_number, other_number}
 use Rattle.ax_image.specs.Documents.{ContentsHold}
@@ -22,8 +18,6 @@ use Rattle.ax_tree.specs.declared.tree.Tree.{Tree}
 use Rattle.ax_store.specs.Kept.{Kept}
 use Rattle.ax_store.specs.Store.{SameButReads, store_contents}
 use Rattle.ax_store.specs.declared.store.Store.{Store}
-use Rattle.ax_text.proofs.RoundTrip.{text-stands}
-use Rattle.ax_text.specs.Reading.{reading, Stands}
 use Rattle.ax_store.specs.Listed.{IsNextAfter}
 use Rattle.ax_engine.specs.StoreSays.{kept_says, text_of}
 
@@ -94,10 +88,6 @@ behind n k p ps e es le lt same found =
       found = found_later k p ps apart ∙ found.found;
       text_is = found.text_is;
     }
-
--- what a document may nest, a text may nest
-pub within_text : {depth : ℕ} → depth ≤ 100 → depth ≤ 127
-within_text low = omega (arith, low)
 
 module _ (n k next : ℕ) (p : ℕ × Stored) (ps : List (ℕ × Stored)) (e : Entry) (es : List Entry)
     (rise : NumbersRise e.number es next) (shown : ShowEntries (p ∷ ps) (e ∷ es))
@@ -173,47 +163,7 @@ none_above n (p ∷ ps) (e ∷ es) shown none =
 abbrev pub pairs : List Entry → List (ℕ × Tree)
 pairs = map (λ (entry : Entry). (entry.number, entry.tree))
 
--- ---- numbers of ids
-
--- what the map shows beside an entry that is still to come
-abbrev pub number_or : Option Entry → Option ℕ → Option ℕ
-number_or None known = known
-number_or (Some e) known = Some e.number
-
-pub number_or-none : (found : Option Entry)
-    → number_or found None ≡ option_map (λ (e : Entry). e.number) found
-number_or-none None = refl
-number_or-none (Some e) = refl
-
-absent : (id : List ℕ) (es : List Entry) → list_any (has_id id) es ≡ false
-    → find (has_id id) es ≡ None
-absent id [] none = refl
-absent id (e ∷ es) none =
-    let parts = or_none (has_id id e) (list_any (has_id id) es) none in
-    ap (λ b. if b then Some e else find (has_id id) es) parts.0 ∙ absent id es parts.1
-
-one_number : (id : List ℕ) (e : Entry) (later : List Entry) (k : ℕ) (known : Option ℕ)
-    → k ≡ e.number → IdsAreDistinct (e ∷ later)
-    → number_or (find (has_id id) (e ∷ later)) known
-    ≡ number_or (find (has_id id) later) (cond (bytes_eq e.id id) (Some k) known)
-one_number id e later k known is distinct =
-    elim (bytes_eq e.id id) as (λ b. bytes_eq e.id id ≡ b
-    → number_or (if b then Some e else find (has_id id) later) known
-    ≡ number_or (find (has_id id) later) (cond b (Some k) known)) [
-      | true ↦ λ same.
-          let none : list_any (has_id id) later ≡ false =
-          ap (λ i. list_any (has_id i) later) (sym (same_from_eq e.id id same)) ∙ distinct.0 in
-          sym (ap (λ o. number_or o (Some k)) (absent id later none) ∙ ap Some is)
-      | false ↦ λ _. refl
-    ] refl
-
-distinct_above : (n : ℕ) (es : List Entry) → IdsAreDistinct es → IdsAreDistinct (above n es)
-distinct_above n [] distinct = tt
-distinct_above n (e ∷ es) distinct =
-    elim (nat_lt n e.number) as (λ b. IdsAreDistinct (if b then e ∷ es else above n es)) [
-      | true ↦ distinct
-      | false ↦ distinct_above n es distinct.1
-    ]
+-- ---- documents that are stored
 
 stored_above : (n : ℕ) (es : List Entry) → AllByRecursion IsStored es
     → AllByRecursion IsStored (above n es)
@@ -257,18 +207,6 @@ module _ (contents : Contents) (container : Container)
   stored_here n k next = (subst (AllByRecursion IsStored) next.here
       (stored_above n container.entries hold.show.sound.stored)).0
 
-  pub distinct_here : (n k : ℕ) (next : Next n k pages container.entries)
-      → IdsAreDistinct (next.entry ∷ next.later)
-  distinct_here n k next = subst IdsAreDistinct next.here
-      (distinct_above n container.entries hold.show.sound.distinct)
-
-  -- the next document's text stands for its tree
-  pub reads_here : (n k : ℕ) (next : Next n k pages container.entries)
-      → reading (canonical_text next.entry.tree) ≡ Stands next.entry.tree
-  reads_here n k next =
-      let stored = stored_here n k next in
-      text-stands next.entry.tree stored.storable.well_formed (within_text stored.storable.shallow)
-
   -- one document more was taken in
   pub taken_on : (n k : ℕ) (done : List (ℕ × Tree)) (next : Next n k pages container.entries)
       → done ++ pairs (above n container.entries) ≡ pairs container.entries
@@ -284,19 +222,6 @@ module _ (contents : Contents) (container : Container)
   pub one_less : (n k : ℕ) (next : Next n k pages container.entries)
       → length (above n container.entries) ≡ length (above k container.entries) + 1
   one_less n k next = omega (arith, ap length next.here, ap length next.left)
-
-  -- one id more
-  pub numbers_on : (n k : ℕ) (id : List ℕ) (old new meant : Option ℕ)
-      (next : Next n k pages container.entries)
-      → new ≡ cond (bytes_eq next.entry.id id) (Some k) old
-      → number_or (find (has_id id) (above n container.entries)) old ≡ meant
-      → number_or (find (has_id id) (above k container.entries)) new ≡ meant
-  numbers_on n k id old new meant next is known =
-      ap (λ es. number_or (find (has_id id) es) new) next.left
-      ∙ ap (number_or (find (has_id id) next.later)) is
-      ∙ sym (one_number id next.entry next.later k old next.number_is (distinct_here n k next))
-      ∙ ap (λ es. number_or (find (has_id id) es) old) (sym next.here)
-      ∙ known
 
 -- ---- over calls that read
 
