@@ -1,5 +1,5 @@
 pub mod Opened
-pub mod PolicyPlaces
+pub mod Placing
 pub mod Refusing
 pub mod Working
 pub mod Recaching

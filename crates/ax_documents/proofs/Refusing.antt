@@ -30,7 +30,7 @@ use Rattle.ax_store.specs.declared.fault.StoreFault.TheVariants as fault
 use Rattle.ax_store.specs.declared.store.Store.{Store}
 use Rattle.ax_table.specs.Damage.{HaveTwins, IsNeeded, IsPolicySpoiled, TellsTable}
 use Rattle.ax_documents.specs.Opening.{IsNeededMetAt, RefusesBy}
-use Rattle.ax_documents.proofs.PolicyPlaces.{alike_on, begins_at, nothing_alike}
+use Rattle.ax_documents.proofs.Placing.{alike_on, nothing_alike, policy_begins_at}
 
 -- of no contents nothing is needed that a part gave, and no two policies are taken
 no_text : (number : ℕ) (text : List ℕ) → finite.get no_contents.policies number ≡ Some text → ⊥
@@ -75,7 +75,7 @@ module _ {C : Type 0} (pages : C → CachedPages) (store : Store C) (history : H
         met = record {
           text = spoiled.text;
           held = spoiled.held;
-          begin = begins_at store.pages.offsets (places_after told no_places) number at
+          begin = policy_begins_at store.pages.offsets (places_after told no_places) number at
               (alike_on agrees.frames 0 told nothing_kept store.pages no_places tell agrees.takes nothing_alike) spoiled.placed;
           bad = spoiled.bad;
         };
