@@ -1,5 +1,6 @@
 pub mod Opened
-pub mod PolicyPlaces
+pub mod Placing
+pub mod Meeting
 pub mod Refusing
 pub mod Working
 pub mod Recaching

@@ -1,6 +1,5 @@
 -- What a store that was opened stands for with its index.
-use Rattle.std.proofs.Common.{◌≡◌, ◌⊎◌, inl, inr, ℕ, ◌<◌, List, [], Result, Ok, Err, sym, ap, subst, arith}
-use Rattle.std.specs.Prelude.{OnOk}
+use Rattle.std.proofs.Common.{◌≡◌, ◌⊎◌, inl, inr, ℕ, List, [], Result, Ok, Err, sym, ap, subst, arith}
 use Rattle.std.specs.List.{Contains}
 use Rattle.ax_area.proofs.OneOutcome.{one_contents}
 use Rattle.ax_area.specs.Contents.{Contents}

@@ -1,5 +1,5 @@
 -- The same documents over another cache, which holds nothing yet.
-use Rattle.std.proofs.Common.{◌≡◌, ℕ, List, Bool, false, sym, subst, ◌∙◌}
+use Rattle.std.proofs.Common.{◌≡◌, Bool, false, sym, subst, ◌∙◌}
 use Rattle.std.specs.Prelude.{replicate}
 use Rattle.std.specs.FinMap as map
 use Rattle.std.specs.List.{Contains}

@@ -1,16 +1,13 @@
 -- Where no table of policies can be made, the image that was opened is damaged at that place.
-use Rattle.std.proofs.Common.{◌≡◌, ◌⊎◌, inl, inr, ℕ, List, Some, refl, sym, subst, ◌∙◌, arith}
+use Rattle.std.proofs.Common.{◌≡◌, ◌⊎◌, inl, inr, ℕ, List, Some, refl, sym, subst, ◌∙◌}
 use Rattle.std.specs.FinMap as finite
 use Rattle.std.specs.Ordering.{nat_cmp}
-use Rattle.ax_area.proofs.OneRoot.{counts_from, fresh_counts}
+use Rattle.ax_area.proofs.OneRoot.{fresh_counts}
 use Rattle.ax_area.proofs.OneTelling.{some_or_none}
 use Rattle.ax_area.specs.Contents.{Contents, no_contents}
-use Rattle.ax_area.specs.Image.{IsFresh, IsLiveWith}
+use Rattle.ax_area.specs.Image.{IsFresh}
 use Rattle.ax_area.specs.Places.{no_places, places_after}
-use Rattle.ax_area.specs.Told.{Lead, Told, TellOn}
-use Rattle.ax_area_laws.proofs.Rising.{told_risen}
 use Rattle.ax_cache.specs.PageLaws.{no_pages}
-use Rattle.ax_cache.specs.Pages.{CachedPages}
 use Rattle.ax_cache.specs.declared.no_pages.NoPages.{NoPages}
 use Rattle.ax_disk.specs.model.Calls.{Idles}
 use Rattle.ax_disk.specs.model.Image.{Image}
@@ -19,18 +16,16 @@ use Rattle.ax_disk.specs.model.Pending.{MayLeave}
 use Rattle.ax_image.specs.Readable.{newest}
 use Rattle.ax_image_grammar.specs.Grammar.{HasTwins}
 use Rattle.ax_image_grammar.specs.Table.{IsTaken}
-use Rattle.ax_log.specs.Log.{log_slot}
 use Rattle.ax_log.specs.Opening.{Keeps}
-use Rattle.ax_store.proofs.LoadLemmas.{lead_on_of}
 use Rattle.ax_store.proofs.OpenLemmas.{keeps_idle}
-use Rattle.ax_store.specs.Loading.{nothing_kept}
-use Rattle.ax_store.specs.Store.{Agrees, Has, IsOpened, store_area, store_contents}
+use Rattle.ax_store.specs.Store.{Has, IsOpened, store_area, store_contents, store_offsets}
 use Rattle.ax_store.specs.declared.fault.StoreFault.{StoreFault}
 use Rattle.ax_store.specs.declared.fault.StoreFault.TheVariants as fault
 use Rattle.ax_store.specs.declared.store.Store.{Store}
 use Rattle.ax_table.specs.Damage.{HaveTwins, IsNeeded, IsPolicySpoiled, TellsTable}
 use Rattle.ax_documents.specs.Opening.{IsNeededMetAt, RefusesBy}
-use Rattle.ax_documents.proofs.PolicyPlaces.{alike_on, begins_at, nothing_alike}
+use Rattle.ax_documents.proofs.Meeting.{Stands, stands}
+use Rattle.ax_documents.proofs.Placing.{policy_begins_at}
 
 -- of no contents nothing is needed that a part gave, and no two policies are taken
 no_text : (number : ℕ) (text : List ℕ) → finite.get no_contents.policies number ≡ Some text → ⊥
@@ -41,64 +36,41 @@ taken_is_zero number (inl is) = is
 taken_is_zero number (inr used) =
     absurd (some_or_none used.document (sym (finite.get-empty nat_cmp used.number) ∙ used.held))
 
--- what a store that agrees with the disk says, the image tells
-module _ {C : Type 0} (pages : C → CachedPages) (store : Store C) (history : History) (agrees : Agrees pages store history)
-    (may : MayLeave history.unsynced history.reads) where
-  abbrev live_by : (told : List Told) → TellOn newest agrees.frames 0 told → Lead told no_contents (store_contents store)
-      → IsLiveWith newest newest told (store_contents store) history.reads
-  live_by told tell lead =
-      let logged = agrees.logged in
-      let there = logged.rests.each history.reads may in
-      let slot = log_slot store.log in
-      record {
-        slot = slot;
-        version_is = omega (arith, counts_from history.reads.root slot logged.counts, logged.known.known);
-        frames = agrees.frames;
-        live = record { counts = logged.counts; known = logged.known; has = there.has };
-        tell = tell;
-        lead = lead;
-      }
+-- what stands in the image by which the store was opened
+module _ {C : Type 0} (store : Store C) (image : Image) (there : Stands store image) where
+  spoiled_met : (number at : ℕ) → IsNeeded number (store_contents store) → IsPolicySpoiled number store at
+      → IsNeededMetAt (store_area store) at image
+  spoiled_met number at needed spoiled = record {
+    version = newest;
+    told = there.told;
+    contents = store_contents store;
+    live = there.live;
+    area_is = there.area_is;
+    number = number;
+    needed = needed;
+    met = record {
+      text = spoiled.text;
+      held = spoiled.held;
+      begin = policy_begins_at (store_offsets store) (places_after there.told no_places) number at there.alike spoiled.placed;
+      bad = spoiled.bad;
+    };
+  }
 
-  pub spoiled_met : (number at : ℕ) → IsNeeded number (store_contents store) → IsPolicySpoiled number store at
-      → IsNeededMetAt (store_area store) at history.reads
-  spoiled_met number at needed spoiled =
-      let (told, tell, lead) = told_risen agrees.frames store.pages.contents
-      (lead_on_of agrees.frames 0 nothing_kept store.pages agrees.takes) in
-      record {
-        version = newest;
-        told = told;
-        contents = store_contents store;
-        live = live_by told tell lead;
-        area_is = refl;
-        number = number;
-        needed = needed;
-        met = record {
-          text = spoiled.text;
-          held = spoiled.held;
-          begin = begins_at store.pages.offsets (places_after told no_places) number at
-              (alike_on agrees.frames 0 told nothing_kept store.pages no_places tell agrees.takes nothing_alike) spoiled.placed;
-          bad = spoiled.bad;
-        };
-      }
-
-  pub twins_there : HaveTwins (store_contents store) → HasTwins newest (store_area store) 0 history.reads
-  twins_there twins =
-      let (told, tell, lead) = told_risen agrees.frames store.pages.contents
-      (lead_on_of agrees.frames 0 nothing_kept store.pages agrees.takes) in
-      record {
-        version = newest;
-        told = told;
-        contents = store_contents store;
-        live = live_by told tell lead;
-        area_is = refl;
-        place = refl;
-        a = twins.a;
-        b = twins.b;
-        taken = twins.taken;
-        taken_too = twins.taken_too;
-        same = twins.same;
-        two = twins.two;
-      }
+  twins_there : HaveTwins (store_contents store) → HasTwins newest (store_area store) 0 image
+  twins_there twins = record {
+    version = newest;
+    told = there.told;
+    contents = store_contents store;
+    live = there.live;
+    area_is = there.area_is;
+    place = refl;
+    a = twins.a;
+    b = twins.b;
+    taken = twins.taken;
+    taken_too = twins.taken_too;
+    same = twins.same;
+    two = twins.two;
+  }
 
 -- of a store that was fresh a table can be made
 none_of_fresh : (store : Store NoPages) (extent at : ℕ) → store_contents store ≡ no_contents
@@ -128,13 +100,15 @@ table_refuses old mid new store opened unchanged may idles (fault.Damaged extent
     keeps : Keeps old mid
     keeps = unchanged (not_fresh old.reads store extent at opened.has tells)
 
+    there : Stands store mid.reads
+    there = stands (λ (c : NoPages). no_pages) store mid opened.agrees may
+
     by_cause : (((number : ℕ) × IsNeeded number (store_contents store) × IsPolicySpoiled number store at)
         ⊎ ((at ≡ 0) × HaveTwins (store_contents store)))
         → IsNeededMetAt (store_area store) at old.reads ⊎ HasTwins newest (store_area store) at old.reads
     by_cause (inl (number, needed, spoiled)) =
         inl (subst (IsNeededMetAt (store_area store) at) keeps.reads
-        (spoiled_met (λ (c : NoPages). no_pages) store mid opened.agrees may number at needed spoiled))
+        (spoiled_met store mid.reads there number at needed spoiled))
     by_cause (inr (zero, twins)) =
         inr (subst (λ n. HasTwins newest (store_area store) n old.reads) (sym zero)
-        (subst (HasTwins newest (store_area store) 0) keeps.reads
-        (twins_there (λ (c : NoPages). no_pages) store mid opened.agrees may twins)))
+        (subst (HasTwins newest (store_area store) 0) keeps.reads (twins_there store mid.reads there twins)))

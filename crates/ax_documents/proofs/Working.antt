@@ -1,7 +1,8 @@
 -- The text of the document of an id, and what looking it up and then reading it leave together.
-use Rattle.std.proofs.Common.{◌≡◌, ◌≤◌, ◌⊎◌, inl, inr, ℕ, Bool, false, List, Option, Some, Result, Ok, Err, sym, ap, subst, ◌∙◌, arith}
+use Rattle.std.proofs.Common.{◌≡◌, ◌⊎◌, inl, inr, ℕ, Bool, false, List, Option, Some, None, Result, Ok, Err, refl, sym, ap, subst, ◌∙◌, arith}
 use Rattle.std.specs.Prelude.{option_map, IfErr, IsTrue}
 use Rattle.std.specs.FinMap as finite
+use Rattle.std.specs.Global.{Vec}
 use Rattle.ax_area.specs.Contents.{Contents, Stored}
 use Rattle.ax_cache.specs.Pages.{CachedPages}
 use Rattle.ax_container.specs.Container.{Container, Entry, tree_of}
@@ -19,7 +20,8 @@ use Rattle.ax_store.specs.declared.fault.StoreFault.TheVariants as fault
 use Rattle.ax_store.specs.declared.store.Store.{Store}
 use Rattle.ax_tree.specs.CanonicalText.{canonical_text}
 use Rattle.ax_write.proofs.FoundNumbers.{number_there, text_of}
-use Rattle.ax_write.specs.Writes.{Looks, TellsDamage}
+use Rattle.ax_write.specs.Writes.{IsLookedUp, Looks, TellsDamage}
+use Rattle.ax_documents.specs.Documents.{IsReadOf}
 
 -- the text under the number that a container has for an id is that of the document of the id
 pub text_of_id : (contents : Contents) (before : Container) → ContentsHold contents before → (id : List ℕ) (number : ℕ)
@@ -66,3 +68,19 @@ looks_behind pages honest then same value result old mid new before between afte
   fails = subst (λ was. FailsBy result was (store_failed new)) looks.fails fails;
   cause = λ works. subst (λ n. HasDiskCause result n last) (looks.cause works).uncounted (cause (looks.fails ∙ works));
 }
+
+-- ---- what READ has met
+
+none_of : (held : Option Stored) → None ≡ option_map (λ (document : Stored). document.text) held → held ≡ None
+none_of None is = refl
+none_of (Some document) is = absurd cc
+
+-- a number that was told, and the text that was read under it
+pub read_met : (ids : List (List ℕ × ℕ)) (id : List ℕ) (contents : Contents) (number : ℕ) (found : Option (Vec ℕ))
+    → IsLookedUp ids id contents (Some number)
+    → option_map (λ (text : Vec ℕ). text.items) found
+    ≡ option_map (λ (document : Stored). document.text) (finite.get contents.documents number)
+    → IsReadOf ids id contents found
+read_met ids id contents number None told is =
+    inr (record { number = number; told = told; none = inr (none_of (finite.get contents.documents number) is) })
+read_met ids id contents number (Some text) told is = (number, told, sym is)

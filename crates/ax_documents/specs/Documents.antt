@@ -13,7 +13,7 @@ use Rattle.ax_store.specs.Store.{Agrees, SameButCache, store_contents, store_fai
 use Rattle.ax_store.specs.declared.fault.StoreFault.{StoreFault}
 use Rattle.ax_store.specs.declared.fault.StoreFault.TheVariants as store_fault
 use Rattle.ax_table.specs.TableAgrees.{TableAgrees}
-use Rattle.ax_write.specs.Writes.{FindsNone, HoldsAll, IsLookedUp, of_store}
+use Rattle.ax_write.specs.Writes.{FindsNone, HoldsAll, IsLookedUp}
 use Rattle.ax_documents.specs.declared.documents.Documents.{Documents}
 
 -- the documents are those of the container, and so is the index, and each id lately found stands under its number
