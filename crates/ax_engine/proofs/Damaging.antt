@@ -9,26 +9,17 @@ use Rattle.std.proofs.lemmas.Bool.{cases_lt}
 use Rattle.ax_answer_text.specs.Parts.{IsKept, IsOfDocument, IsTakenWhole}
 use Rattle.ax_answer_text.specs.declared.text_fault.TextFault.{TextFault}
 use Rattle.ax_answer_text.specs.declared.text_fault.TextFault.TheVariants as text_fault
-use Rattle.ax_area.proofs.KeptSo.{told_so}
-use Rattle.ax_area.proofs.OneRoot.{counts_from}
 use Rattle.ax_area.specs.Contents.{Contents, Stored}
-use Rattle.ax_area.specs.Places.{no_places, places_after}
-use Rattle.ax_area.specs.Told.{changes_of}
 use Rattle.ax_cache.specs.Pages.{CachedPages}
-use Rattle.ax_disk.specs.model.Image.{Image}
 use Rattle.ax_disk.specs.model.Moments.{History}
 use Rattle.ax_disk.specs.model.Pending.{MayLeave}
 use Rattle.ax_excerpt.specs.ShownDocuments.{without_pick}
-use Rattle.ax_image.specs.Readable.{SaysReadable, newest}
-use Rattle.ax_image_grammar.specs.Payloads.{IsDocumentText, IsReadable as IsReadableChange}
-use Rattle.ax_area_laws.proofs.Rising.{told_risen}
+use Rattle.ax_image.specs.Readable.{newest}
+use Rattle.ax_image_grammar.specs.Payloads.{IsDocumentText}
 use Rattle.ax_lines.specs.Asked.{IsStorable}
 use Rattle.ax_lines.specs.Lines.{most_bytes}
-use Rattle.ax_log.specs.Log.{log_slot}
 use Rattle.ax_mean.specs.declared.query.Query.{Query}
-use Rattle.ax_store.proofs.LoadLemmas.{lead_on_of}
 use Rattle.ax_store.specs.Kept.{Kept}
-use Rattle.ax_store.specs.Loading.{nothing_kept}
 use Rattle.ax_store.specs.ReadAhead.{AgreesAhead, IsAhead}
 use Rattle.ax_store.specs.declared.fault.StoreFault.{StoreFault}
 use Rattle.ax_store.specs.declared.fault.StoreFault.TheVariants as store_fault
@@ -38,12 +29,11 @@ use Rattle.ax_tree.specs.CanonicalText.{canonical_text}
 use Rattle.ax_tree.specs.declared.tree.Tree.{Tree}
 use Rattle.ax_store.specs.Listed.{IsNextAfter}
 use Rattle.ax_store.specs.Store.{store_contents}
-use Rattle.ax_documents.proofs.Meeting.{document_met}
+use Rattle.ax_documents.proofs.Meeting.{text_met}
 use Rattle.ax_documents.specs.Damage.{IsMetIn}
 use Rattle.ax_engine.specs.Damage.{AreDocuments, MeetsDocuments}
 use Rattle.ax_engine.specs.InPages.{HasOutside, IsOutsideAt, IsPlaced}
 use Rattle.ax_engine.specs.StoreSays.{kept_says, text_of}
-use Rattle.ax_engine.proofs.Placing.{alike_on, begins_at, nothing_alike}
 use Rattle.ax_engine.specs.Printing.{IsPrinted}
 use Rattle.ax_engine.specs.Replies.{OnRows}
 use Rattle.ax_engine.specs.Scans.{ScanFails, Scanned}
@@ -142,7 +132,7 @@ pub met_outside : {C : Type 0} (pages : C → CachedPages) (store : Store C) (ah
     → IsMetIn history.reads extent at
 met_outside pages store ahead history extent at agrees may outside =
     subst (λ e. IsMetIn history.reads e at) (sym outside.0)
-    (document_met pages store history agrees.agrees may outside.1.number at outside.1.document outside.1.held outside.1.placed
+    (text_met pages store history agrees.agrees may outside.1.number at outside.1.document outside.1.held outside.1.placed
     outside.1.outside)
 
 -- what was read ahead of a document that has this text is this text
