@@ -456,6 +456,15 @@ still_over pages honest engine history before other works over h =
     stays_turn history history (IsImageOf before) (IsImageOf other)
     (stays_start history (IsImageOf before) (rests_over pages honest engine history before works over h))
 
+none_kept : (kept : Option Fault) (why : Fault) → kept ≡ Some why → kept ≡ None → ⊥
+none_kept kept why some none = let both : Some why ≡ None = sym some ∙ none in absurd cc
+
+-- what is so unless a fault is answered is so where none is kept
+pub works_unless : (answered : Result Reply Fault) (kept : Option Fault) (Is : Type 0) → OnOk answered Is
+    → IfErr answered (λ why. kept ≡ Some why) → kept ≡ None → Is
+works_unless (Ok reply) kept Is works fault none = works
+works_unless (Err why) kept Is works fault none = absurd (none_kept kept why fault none)
+
 -- the documents' answer as the engine's
 pub applies_told : {C : Type 0} (honest : Type 0) (before : Container) (asked : Line) (result : Result Reply Fault) (engine : Engine C)
     (old new : History) → OnOk result (engine.fault ≡ None) → Tells honest before asked result engine.documents old new

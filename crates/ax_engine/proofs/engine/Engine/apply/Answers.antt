@@ -1,5 +1,5 @@
 -- The answer of the documents is that of the engine, which keeps a fault.
-use Rattle.ax_engine.proofs.Applying.{applies_told}
+use Rattle.ax_engine.proofs.Applying.{applies_told, works_unless}
 use Rattle.ax_engine.proofs.engine.Engine.apply.Goals as goal
 
 pub returns-clause-applies : goal.returns-clause-applies
@@ -7,3 +7,9 @@ returns-clause-applies g c = λ honest before over.
     applies_told _ before _ c.answer-answered.result _ _ _ c.kept_fault-self.ensures.none
     (c.answer-answered.ensures.tells honest over.readable before over.holds.documents)
     (c.answer-answered.ensures.readable honest before over.holds.documents over.readable)
+
+pub returns-clause-works : goal.returns-clause-works
+returns-clause-works g c = record {
+  documents = λ none.
+      works_unless c.answer-answered.result c.kept_fault-self.result _ c.answer-answered.ensures.works c.kept_fault-self.ensures.fault none;
+}
