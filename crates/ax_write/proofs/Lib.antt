@@ -1,5 +1,7 @@
 pub mod Calls
 pub mod FoundNumbers
+pub mod Idling
+pub mod Meeting
 pub mod Passing
 pub mod PartsSaid
 mod PagesAlone

@@ -29,6 +29,7 @@ use Rattle.ax_store.specs.declared.fault.StoreFault.TheVariants as store_fault
 use Rattle.ax_store.specs.declared.store.Store.{Store}
 use Rattle.ax_write.proofs.Calls.{on_err}
 use Rattle.ax_write.proofs.FoundNumbers.{undamaged}
+use Rattle.ax_write.proofs.Idling.{idles_behind, idles_of}
 use Rattle.ax_write.specs.Held.{HasNone}
 use Rattle.ax_write.specs.Writes.{HoldsAll, IsKept, Looks, TellsDamage, TellsWrite, WriteLeaves, left_by, of_store}
 use Rattle.ax_write.specs.declared.fault.WriteFault.{WriteFault}
@@ -105,6 +106,7 @@ module _ {C : Type 0} (pages : C → CachedPages) (honest : Bool) where
     leaves_failed why looks = record {
       told = looks.told;
       kept = same_contents old new looks.reads.same.same;
+      idle = λ trusted. idles_of before after (looks.reads.lists trusted) why;
       readable = λ trusted works set index rests. reads_readable looks.reads trusted rests;
       fails = looks.fails;
       agrees = looks.reads.agrees;
@@ -121,6 +123,7 @@ module _ {C : Type 0} (pages : C → CachedPages) (honest : Bool) where
       leaves_conflict = record {
         told = λ trusted. tt;
         kept = same_contents old new looks.reads.same.same;
+        idle = looks.reads.lists;
         readable = λ trusted works set index rests. reads_readable looks.reads trusted rests;
         fails = looks.fails;
         agrees = looks.reads.agrees;
@@ -135,6 +138,7 @@ module _ {C : Type 0} (pages : C → CachedPages) (honest : Bool) where
       leaves_absent = record {
         told = λ trusted. tt;
         kept = same_contents old new looks.reads.same.same;
+        idle = looks.reads.lists;
         readable = λ trusted works set index rests. reads_readable looks.reads trusted rests;
         fails = looks.fails;
         agrees = looks.reads.agrees;
@@ -155,6 +159,8 @@ module _ {C : Type 0} (pages : C → CachedPages) (honest : Bool) where
       record {
         told = λ trusted. errors_back old mid looks.reads.same.same (of_store result) (leaves.told (subst IsTrue (sym same) trusted));
         kept = on_err result (λ kept. kept ∙ contents) leaves.kept;
+        idle = λ trusted.
+            idles_behind before between after (looks.reads.lists trusted) result (leaves.idle (subst IsTrue (sym same) trusted));
         readable = λ trusted works set index rests.
             stays_join before between after SaysReadable (idles_stay before between SaysReadable rests (looks.reads.lists trusted))
             (leaves.readable (subst IsTrue (sym same) trusted) (looks.fails ∙ works) set

@@ -10,9 +10,9 @@ use Rattle.ax_area.specs.Image.{Says}
 use Rattle.ax_area.specs.Told.{Told}
 use Rattle.ax_cache.specs.Pages.{CachedPages}
 use Rattle.ax_container.specs.Container.{Container}
-use Rattle.ax_container.specs.Writes.{WriteRefusal, Full}
+use Rattle.ax_container.specs.Writes.{WriteRefusal}
 use Rattle.ax_delta.specs.declared.change.Change.{Change as PairChange}
-use Rattle.ax_disk.specs.laws.StaysLaws.{idles_stay, rests_weaken, stays_start, stays_turn, turns_weaken}
+use Rattle.ax_disk.specs.laws.StaysLaws.{idles_start, idles_stay, rests_weaken, stays_start, stays_turn, turns_weaken}
 use Rattle.ax_disk.specs.model.Calls.{Idles}
 use Rattle.ax_disk.specs.model.Image.{Image}
 use Rattle.ax_disk.specs.model.Moments.{History}
@@ -30,15 +30,12 @@ use Rattle.ax_store.specs.Store.{AgreesUnlessFailed, SaysOf, store_area, store_c
 use Rattle.ax_store.specs.declared.fault.StoreFault.{StoreFault}
 use Rattle.ax_store.specs.declared.fault.StoreFault.TheVariants as store_fault
 use Rattle.ax_store.specs.declared.store.Store.{Store}
-use Rattle.ax_write.specs.Committed.{LeadWith, SaysWith}
-use Rattle.ax_write.specs.Writes.{TellsDamage, TellsWrite, WriteLeaves, left_by, of_store}
+use Rattle.ax_write.specs.Committed.{IdlesUnlessDisk, LeadWith, SaysWith}
+use Rattle.ax_write.specs.Writes.{IdlesUnlessMade, TellsDamage, TellsWrite, WriteLeaves, left_by, of_store}
 use Rattle.ax_write.specs.declared.fault.WriteFault.{WriteFault}
 use Rattle.ax_write.specs.declared.fault.WriteFault.TheVariants as fault
+use Rattle.ax_write.proofs.Idling.{idles_made}
 use Rattle.ax_write.proofs.Unspoiled.{never_spoiled}
-
--- a refusal of the store
-abbrev refused : StoreFault → Result (Unit {0}) StoreFault
-refused why = Err why
 
 -- ---- where changes lead that carry their pairs
 
@@ -104,7 +101,7 @@ module _ {C : Type 0} (old : Store C) (before : Container) (earlier : History) (
 
         -- or they were not
         pub told_unmade : (why : StoreFault) → store_contents new ≡ store_contents old → TellsPart old why
-            → (refused why ≡ refused store_fault.Memory → Idles earlier later)
+            → IdlesUnlessDisk why earlier later
             → ((id : List ℕ) (number : ℕ) → Contains ids (id, number) → number_in id before ≡ Some number)
             → TellsWrite before made (Err (fault.Store why)) new ids earlier later
         told_unmade store_fault.Disk kept damage idles recent =
@@ -114,7 +111,7 @@ module _ {C : Type 0} (old : Store C) (before : Container) (earlier : History) (
         told_unmade (store_fault.Newer version) kept damage idles recent = damage
         told_unmade store_fault.Memory kept damage idles recent = (
           record { contents = subst (λ contents. ContentsHoldAll contents before) (sym kept) hold; recent = recent },
-          idle (idles refl),
+          idle idles,
         )
 
 -- ---- what is left
@@ -143,10 +140,16 @@ kept_by : (P : Type 0) (result : Result (Unit {0}) StoreFault) → OnErr result 
 kept_by P (Ok done) kept = tt
 kept_by P (Err why) kept = kept
 
+idle_by : (before after : History) (result : Result (Unit {0}) StoreFault) → IfErr result (λ why. IdlesUnlessDisk why before after)
+    → IdlesUnlessMade (written result) before after
+idle_by before after (Ok done) idles = tt
+idle_by before after (Err why) idles = idles
+
 module _ {C : Type 0} (pages : C → CachedPages) (honest : Bool) (old new : Store C) (earlier later : History) (first last : ℕ) where
   pub left_behind : (result : Result (Unit {0}) StoreFault) → OnErr result (store_contents new ≡ store_contents old)
       → (IsTrue honest → store_failed old ≡ false → (set : PairSet) → IsIndex (store_contents old).terms set
       → Rests earlier SaysReadable → Stays earlier later SaysReadable)
+      → (IsTrue honest → IfErr result (λ why. IdlesUnlessDisk why earlier later))
       → (IsTrue honest → IfErr result (TellsPart old))
       → FailsBy result (store_failed old) (store_failed new)
       → AgreesUnlessFailed pages honest new later
@@ -156,9 +159,10 @@ module _ {C : Type 0} (pages : C → CachedPages) (honest : Bool) (old new : Sto
       → (store_failed old ≡ false → HasDiskCause result first last)
       → first ≤ last
       → WriteLeaves pages honest (written result) old new earlier later first last
-  left_behind result kept readable damage fails agrees slots others area cause never_falls = record {
+  left_behind result kept readable idles damage fails agrees slots others area cause never_falls = record {
     told = λ trusted. told_damage old result (damage trusted);
     kept = kept_by (store_contents new ≡ store_contents old) result kept;
+    idle = λ trusted. idle_by earlier later result (idles trusted);
     readable = readable;
     fails = subst (λ r. FailsBy r (store_failed old) (store_failed new)) (same_answer result) fails;
     agrees = agrees;
@@ -180,6 +184,7 @@ module _ {C : Type 0} (pages : C → CachedPages) (honest : Bool) (store : Store
   nothing_left result told kept fails cause = record {
     told = λ trusted. told;
     kept = kept;
+    idle = λ trusted. idles_made history history (idles_start history) result;
     readable = λ trusted works set index rests. stays_start history SaysReadable rests;
     fails = fails;
     agrees = agrees;

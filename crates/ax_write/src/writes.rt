@@ -202,6 +202,7 @@ pub fn delete<D: Disk, C: PageCache, L: Ledger>(
             done
         }
         Ok(None) => Err(WriteFault::Absent),
+        // What is damaged is not told as absent.
         Err(fault) => Err(WriteFault::Store(fault)),
     }
 }

@@ -9,6 +9,7 @@ use Rattle.ax_store.proofs.StoreLemmas.{agrees_says}
 use Rattle.ax_store.specs.Store.{store_contents}
 use Rattle.ax_write.proofs.Calls.{cause_then, fails_then, keeps_still, on_err, on_ok, some_more, told_briefly}
 use Rattle.ax_write.proofs.Committing.{made_by, readable_with, says_all, told_with, trusted_plan, turns_with, unplanned}
+use Rattle.ax_write.proofs.Idling.{idles_committed, idles_of}
 use Rattle.ax_write.proofs.Planned.{front_said, planned, planned_allowed}
 use Rattle.ax_write.proofs.commit.plan_and_commit.Goals as goal
 
@@ -63,6 +64,11 @@ returns-in-Ok-clause-told g c = λ honest works version told front says said.
     (c.seal_and_commit.ensures.told (subst IsTrue (sym c.plan_changes.ensures.honest) honest)
     (c.in-Ok.ensures.fails ∙ works) version told)
 
+pub returns-in-Ok-clause-untouched : goal.returns-in-Ok-clause-untouched
+returns-in-Ok-clause-untouched g c = λ honest.
+    idles_committed _ _ _ (c.plan_changes.ensures.reserves.lists honest) c.seal_and_commit.result c.seal_and_commit.ensures.only
+    (c.seal_and_commit.ensures.untouched (subst IsTrue (sym c.plan_changes.ensures.honest) honest))
+
 pub returns-in-Ok-clause-readable : goal.returns-in-Ok-clause-readable
 returns-in-Ok-clause-readable g c = λ honest works front set said readable index rests.
     let before = store_contents c.args.store.now in
@@ -104,6 +110,9 @@ returns-in-Err-clause-any_moment g c = λ honest works version told front says s
     let of = agrees_says g.C.PageCache.pages c.args.store.now _ (c.requires.agrees honest works) in
     unplanned _ _ version told before _ (says_all _ version of.version told of.told before may of.says says)
     (c.plan_changes.ensures.reserves.lists honest)
+
+pub returns-in-Err-clause-untouched : goal.returns-in-Err-clause-untouched
+returns-in-Err-clause-untouched g c = λ honest. idles_of _ _ (c.plan_changes.ensures.reserves.lists honest) c.in-Err.fault
 
 pub returns-in-Err-clause-readable : goal.returns-in-Err-clause-readable
 returns-in-Err-clause-readable g c = λ honest works front set said readable index rests.

@@ -96,7 +96,7 @@ returns-in-Ok-plan_and_commit-clause-leaves g c =
     left_behind g.C.PageCache.pages _ store c.plan_and_commit.new.store _ _ _ _ (Ok tt) tt
     (λ honest works set index rests.
     c.plan_and_commit.ensures.readable honest works front set said (replacing_readable found.number now tree c.requires.storable) index rests)
-    (λ honest. tt) c.in-Ok-plan_and_commit.ensures.fails c.plan_and_commit.ensures.agrees c.plan_and_commit.ensures.slots
+    (λ honest. tt) (λ honest. tt) c.in-Ok-plan_and_commit.ensures.fails c.plan_and_commit.ensures.agrees c.plan_and_commit.ensures.slots
     c.plan_and_commit.ensures.others c.plan_and_commit.ensures.area c.in-Ok-plan_and_commit.ensures.cause c.plan_and_commit.ensures.never_falls
 
 pub returns-clause-tells : goal.returns-clause-tells
@@ -131,5 +131,5 @@ returns-clause-leaves g c =
     left_behind g.C.PageCache.pages _ store c.plan_and_commit.new.store _ _ _ _ (Err c.in-Err.fault) c.in-Err.ensures.kept
     (λ honest works set index rests.
     c.plan_and_commit.ensures.readable honest works front set said (replacing_readable found.number now tree c.requires.storable) index rests)
-    c.in-Err.ensures.damage c.in-Err.ensures.fails c.plan_and_commit.ensures.agrees c.plan_and_commit.ensures.slots
+    c.in-Err.ensures.untouched c.in-Err.ensures.damage c.in-Err.ensures.fails c.plan_and_commit.ensures.agrees c.plan_and_commit.ensures.slots
     c.plan_and_commit.ensures.others c.plan_and_commit.ensures.area c.in-Err.ensures.cause c.plan_and_commit.ensures.never_falls

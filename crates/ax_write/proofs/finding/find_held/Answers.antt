@@ -4,12 +4,23 @@ use Rattle.std.specs.Prelude.{IsTrue}
 use Rattle.ax_index.proofs.Unmoved.{same_contents}
 use Rattle.ax_store.specs.Store.{store_contents}
 use Rattle.ax_write.proofs.FoundNumbers.{found_under, holds_still, never_absent, one_under, zero_absent}
+use Rattle.ax_write.proofs.Meeting.{finds_held, finds_none, finds_unheld, finds_zero}
 use Rattle.ax_write.proofs.finding.find_held.Goals as goal
+
+pub returns-in-Ok-None-clause-met : goal.returns-in-Ok-None-clause-met
+returns-in-Ok-None-clause-met g c = λ honest.
+    finds_none c.args.ids.now c.args.id.now (store_contents c.args.store.now) c.in-Ok-None.field-0 (c.in-Ok-None.ensures.met honest)
+    c.in-Ok-None.field-0-is
 
 pub returns-then-number-eq0-clause-found : goal.returns-then-number-eq0-clause-found
 returns-then-number-eq0-clause-found g c = λ honest before holds.
     zero_absent c.args.id.now before c.in-Ok-Some.number holds.contents.documents.show.sound c.if-number-eq0.true
     (sym c.in-Ok-Some.field-0-is ∙ c.in-Ok-Some.ensures.number honest before holds)
+
+pub returns-then-number-eq0-clause-met : goal.returns-then-number-eq0-clause-met
+returns-then-number-eq0-clause-met g c = λ honest.
+    finds_zero c.args.ids.now c.args.id.now (store_contents c.args.store.now) c.in-Ok-Some.field-0 (c.in-Ok-Some.ensures.met honest)
+    c.in-Ok-Some.number c.in-Ok-Some.field-0-is c.if-number-eq0.true
 
 pub returns-in-Ok-Some-held-clause-found : goal.returns-in-Ok-Some-held-clause-found
 returns-in-Ok-Some-held-clause-found g c = λ honest before holds.
@@ -17,6 +28,14 @@ returns-in-Ok-Some-held-clause-found g c = λ honest before holds.
     c.args.id.now c.in-Ok-Some.number (sym c.in-Ok-Some.field-0-is ∙ c.in-Ok-Some.ensures.number honest before holds)
     c.in-Ok-Some-held.field-0 c.in-Ok-Some-held.document c.in-Ok-Some-held.field-0-is
     (c.in-Ok-Some-held.ensures.held (subst IsTrue (sym c.find_number.ensures.honest) honest))
+
+pub returns-in-Ok-Some-held-clause-met : goal.returns-in-Ok-Some-held-clause-met
+returns-in-Ok-Some-held-clause-met g c = λ honest.
+    finds_held c.args.ids.now c.args.id.now (store_contents c.args.store.now) c.in-Ok-Some.field-0 (c.in-Ok-Some.ensures.met honest)
+    c.in-Ok-Some.number c.in-Ok-Some.field-0-is (store_contents c.find_number.new.store)
+    (same_contents c.args.store.now c.find_number.new.store c.in-Ok-Some.ensures.leaves.reads.same.same) c.in-Ok-Some-held.field-0
+    (c.in-Ok-Some-held.ensures.held (subst IsTrue (sym c.find_number.ensures.honest) honest)) c.in-Ok-Some-held.document
+    c.in-Ok-Some-held.field-0-is
 
 pub returns-in-Ok-Some-held-clause-ids : goal.returns-in-Ok-Some-held-clause-ids
 returns-in-Ok-Some-held-clause-ids g c = λ honest before holds.
@@ -34,6 +53,13 @@ returns-in-Ok-None-held-clause-found g c = λ honest before holds.
     c.args.id.now c.in-Ok-Some.number (sym c.in-Ok-Some.field-0-is ∙ c.in-Ok-Some.ensures.number honest before holds)
     c.in-Ok-None-held.field-0 c.in-Ok-None-held.field-0-is
     (c.in-Ok-None-held.ensures.held (subst IsTrue (sym c.find_number.ensures.honest) honest)))
+
+pub returns-in-Ok-None-held-clause-met : goal.returns-in-Ok-None-held-clause-met
+returns-in-Ok-None-held-clause-met g c = λ honest.
+    finds_unheld c.args.ids.now c.args.id.now (store_contents c.args.store.now) c.in-Ok-Some.field-0 (c.in-Ok-Some.ensures.met honest)
+    c.in-Ok-Some.number c.in-Ok-Some.field-0-is (store_contents c.find_number.new.store)
+    (same_contents c.args.store.now c.find_number.new.store c.in-Ok-Some.ensures.leaves.reads.same.same) c.in-Ok-None-held.field-0
+    (c.in-Ok-None-held.ensures.held (subst IsTrue (sym c.find_number.ensures.honest) honest)) c.in-Ok-None-held.field-0-is
 
 pub returns-in-Ok-None-held-clause-ids : goal.returns-in-Ok-None-held-clause-ids
 returns-in-Ok-None-held-clause-ids g c = λ honest before holds.

@@ -3,6 +3,8 @@ use Rattle.std.proofs.Common.{sym, subst, ◌∙◌}
 use Rattle.std.specs.Prelude.{IsTrue}
 use Rattle.ax_container.specs.Writes.{creation, inserted}
 use Rattle.ax_write.proofs.FoundNumbers.{conflict_is, insertion_is, number_absent, own_document, own_id}
+use Rattle.ax_store.specs.Store.{store_contents}
+use Rattle.ax_write.proofs.Meeting.{meets_conflict, meets_creation}
 use Rattle.ax_write.proofs.Passing.{kept_by_look, leaves_conflict, leaves_failed, leaves_then, tells_failed, tells_then}
 use Rattle.ax_write.proofs.writes.create.Goals as goal
 
@@ -18,6 +20,13 @@ returns-in-Ok-Some-clause-tells g c = λ honest works before id holds document.
           (c.in-Ok-Some.ensures.leaves.reads.lists honest) c.find_number.new.store c.find_number.new.ids
           (c.find_number.ensures.ids honest before holds),
     )
+
+pub returns-in-Ok-Some-clause-met : goal.returns-in-Ok-Some-clause-met
+returns-in-Ok-Some-clause-met g c = λ honest id document.
+    let own = c.as_bytes-id.result.now in
+    let same = own_id c.args.tree.now c.in-Some.id.now own id c.in-Some.ensures (c.as_bytes-id.ensures.value ∙ c.as_str.ensures.text) document in
+    meets_conflict c.args.ids.now own id (store_contents c.args.store.now) same c.in-Ok-Some.field-0 (c.in-Ok-Some.ensures.met honest)
+    c.in-Ok-Some.field-0-0 c.in-Ok-Some.field-0-is
 
 pub returns-in-Ok-Some-clause-leaves : goal.returns-in-Ok-Some-clause-leaves
 returns-in-Ok-Some-clause-leaves g c = leaves_conflict g.C.PageCache.pages _ _ _ _ _ _ _ c.in-Ok-Some.field-0 c.in-Ok-Some.ensures.leaves
@@ -37,6 +46,13 @@ returns-in-Ok-None-clause-tells g c = λ honest works before id holds document.
     (insertion_is tree before own id same none)
     (c.create_new.ensures.tells (subst IsTrue (sym c.find_number.ensures.honest) honest) (c.in-Ok-None.ensures.leaves.fails ∙ works) before
     (c.find_number.ensures.ids honest before holds) (own_document tree c.in-Some.id.now own c.in-Some.ensures taken) none)
+
+pub returns-in-Ok-None-clause-met : goal.returns-in-Ok-None-clause-met
+returns-in-Ok-None-clause-met g c = λ honest id document.
+    let own = c.as_bytes-id.result.now in
+    let same = own_id c.args.tree.now c.in-Some.id.now own id c.in-Some.ensures (c.as_bytes-id.ensures.value ∙ c.as_str.ensures.text) document in
+    meets_creation c.args.ids.now own id (store_contents c.args.store.now) same c.in-Ok-None.field-0 (c.in-Ok-None.ensures.met honest)
+    c.in-Ok-None.field-0-is c.create_new.result c.create_new.ensures.only
 
 pub returns-in-Ok-None-clause-leaves : goal.returns-in-Ok-None-clause-leaves
 returns-in-Ok-None-clause-leaves g c =

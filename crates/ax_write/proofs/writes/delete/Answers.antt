@@ -1,8 +1,10 @@
 -- The deletion is behind a look-up that only read; where the id is not held, nothing is behind it.
-use Rattle.std.proofs.Common.{Ok, sym, subst, ◌∙◌}
+use Rattle.std.proofs.Common.{Ok, refl, sym, subst, ◌∙◌}
 use Rattle.std.specs.Prelude.{IsTrue}
 use Rattle.ax_container.specs.Writes.{deleted, removed}
 use Rattle.ax_write.proofs.FoundNumbers.{found_is, no_removal, none_is, removal_is}
+use Rattle.ax_store.specs.Store.{store_contents}
+use Rattle.ax_write.proofs.Meeting.{meets_absent, meets_held}
 use Rattle.ax_write.proofs.Passing.{kept_by_look, leaves_absent, leaves_failed, leaves_then, tells_failed, tells_then}
 use Rattle.ax_write.proofs.writes.delete.Goals as goal
 
@@ -20,6 +22,12 @@ returns-in-Ok-Some-clause-tells g c = λ honest works before holds.
     (c.delete_held-done.ensures.tells (subst IsTrue (sym c.find_held.ensures.honest) honest) (c.in-Ok-Some.ensures.leaves.fails ∙ works) before
     (c.find_held.ensures.ids honest before holds) found)
 
+pub returns-in-Ok-Some-clause-met : goal.returns-in-Ok-Some-clause-met
+returns-in-Ok-Some-clause-met g c = λ honest.
+    let id = c.args.id.now in
+    meets_held c.args.ids.now id id (store_contents c.args.store.now) refl c.in-Ok-Some.field-0 (c.in-Ok-Some.ensures.met honest)
+    c.in-Ok-Some.found c.in-Ok-Some.field-0-is c.delete_held-done.result c.delete_held-done.ensures.only
+
 pub returns-in-Ok-Some-clause-leaves : goal.returns-in-Ok-Some-clause-leaves
 returns-in-Ok-Some-clause-leaves g c =
     leaves_then g.C.PageCache.pages _ c.in-Ok-Some.field-0 _ c.find_held.ensures.honest c.delete_held-done.result _ _ _ _ _ _ _ _ _
@@ -34,6 +42,12 @@ returns-in-Ok-None-clause-tells g c = λ honest works before holds.
       kept_by_look g.C.PageCache.pages c.args.store.now start mid before (c.requires.agrees honest works) holds.contents
           (c.in-Ok-None.ensures.leaves.reads.lists honest) c.find_held.new.store c.find_held.new.ids (c.find_held.ensures.ids honest before holds),
     )
+
+pub returns-in-Ok-None-clause-met : goal.returns-in-Ok-None-clause-met
+returns-in-Ok-None-clause-met g c = λ honest.
+    let id = c.args.id.now in
+    meets_absent c.args.ids.now id id (store_contents c.args.store.now) refl c.in-Ok-None.field-0 (c.in-Ok-None.ensures.met honest)
+    c.in-Ok-None.field-0-is
 
 pub returns-in-Ok-None-clause-leaves : goal.returns-in-Ok-None-clause-leaves
 returns-in-Ok-None-clause-leaves g c = leaves_absent g.C.PageCache.pages _ _ _ _ _ _ _ c.in-Ok-None.field-0 c.in-Ok-None.ensures.leaves

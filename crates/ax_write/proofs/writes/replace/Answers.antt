@@ -3,6 +3,8 @@ use Rattle.std.proofs.Common.{Ok, sym, subst, ◌∙◌}
 use Rattle.std.specs.Prelude.{IsTrue}
 use Rattle.ax_container.specs.Writes.{exchanged, replaced}
 use Rattle.ax_write.proofs.FoundNumbers.{exchange_is, found_is, no_exchange, none_is, own_document, own_id}
+use Rattle.ax_store.specs.Store.{store_contents}
+use Rattle.ax_write.proofs.Meeting.{meets_absent, meets_held}
 use Rattle.ax_write.proofs.Passing.{kept_by_look, leaves_absent, leaves_failed, leaves_then, tells_failed, tells_then}
 use Rattle.ax_write.proofs.writes.replace.Goals as goal
 
@@ -24,6 +26,13 @@ returns-in-Ok-Some-clause-tells g c = λ honest works before id holds document.
     before c.find_held.new.ids own (c.find_held.ensures.ids honest before holds) (own_document tree c.in-Some.id.now own c.in-Some.ensures taken)
     found)
 
+pub returns-in-Ok-Some-clause-met : goal.returns-in-Ok-Some-clause-met
+returns-in-Ok-Some-clause-met g c = λ honest id document.
+    let own = c.as_bytes-id.result.now in
+    let same = own_id c.args.tree.now c.in-Some.id.now own id c.in-Some.ensures (c.as_bytes-id.ensures.value ∙ c.as_str.ensures.text) document in
+    meets_held c.args.ids.now own id (store_contents c.args.store.now) same c.in-Ok-Some.field-0 (c.in-Ok-Some.ensures.met honest)
+    c.in-Ok-Some.found c.in-Ok-Some.field-0-is c.replace_held-done.result c.replace_held-done.ensures.only
+
 pub returns-in-Ok-Some-clause-leaves : goal.returns-in-Ok-Some-clause-leaves
 returns-in-Ok-Some-clause-leaves g c =
     leaves_then g.C.PageCache.pages _ c.in-Ok-Some.field-0 _ c.find_held.ensures.honest c.replace_held-done.result _ _ _ _ _ _ _ _ _
@@ -42,6 +51,13 @@ returns-in-Ok-None-clause-tells g c = λ honest works before id holds document.
       kept_by_look g.C.PageCache.pages c.args.store.now start mid before (c.requires.agrees honest works) holds.contents
           (c.in-Ok-None.ensures.leaves.reads.lists honest) c.find_held.new.store c.find_held.new.ids (c.find_held.ensures.ids honest before holds),
     )
+
+pub returns-in-Ok-None-clause-met : goal.returns-in-Ok-None-clause-met
+returns-in-Ok-None-clause-met g c = λ honest id document.
+    let own = c.as_bytes-id.result.now in
+    let same = own_id c.args.tree.now c.in-Some.id.now own id c.in-Some.ensures (c.as_bytes-id.ensures.value ∙ c.as_str.ensures.text) document in
+    meets_absent c.args.ids.now own id (store_contents c.args.store.now) same c.in-Ok-None.field-0 (c.in-Ok-None.ensures.met honest)
+    c.in-Ok-None.field-0-is
 
 pub returns-in-Ok-None-clause-leaves : goal.returns-in-Ok-None-clause-leaves
 returns-in-Ok-None-clause-leaves g c = leaves_absent g.C.PageCache.pages _ _ _ _ _ _ _ c.in-Ok-None.field-0 c.in-Ok-None.ensures.leaves
