@@ -1,7 +1,7 @@
 //! The writes of documents.
 //!
-//! Over an honest disk each is made, or refused by what is held, only where the parts of the index that tell the id are in
-//! their grammar, and the text of the document that it finds is that of a document.
+//! Over an honest disk each is made, or refused by what is held, only where the table of ids lately found tells the id or the
+//! parts of the index that tell it are in their grammar, and the text of the document that it reads is that of a document.
 
 ghost use Rattle.std.specs.Prelude.{◌≡◌, ◌≤◌, ◌+◌, ℕ, List, Option, None, Some, Ok, Err, IsTrue, IfErr, IfOk, IfSome, true, false, OnOk};
 ghost use Rattle.ax_container.specs.Container.{Container, contains};
