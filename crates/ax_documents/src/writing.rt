@@ -1,6 +1,6 @@
 //! The writes of documents, and READ.
 
-ghost use Rattle.std.specs.Prelude.{◌≡◌, ◌≤◌, ◌+◌, ◌⊎◌, ℕ, List, Some, IsTrue, IfErr, IfOk, false, option_map};
+ghost use Rattle.std.specs.Prelude.{◌≡◌, ◌≤◌, ◌+◌, ◌⊎◌, ℕ, List, Some, IsTrue, IfErr, IfOk, false, option_map, OnOk, None};
 ghost use Rattle.std.specs.FinMap as map;
 ghost use Rattle.ax_container.specs.Container.{Container, contains, tree_of};
 ghost use Rattle.ax_container.specs.Writes.{exchanged, inserted, removed, upserted};
@@ -11,6 +11,7 @@ ghost use Rattle.ax_store.specs.Reads.{ReadsStore};
 ghost use Rattle.ax_store.specs.Store.{AgreesUnlessFailed, store_contents, store_failed, store_slots};
 ghost use Rattle.ax_tree.specs.CanonicalText.{canonical_text};
 ghost use Rattle.ax_tree.specs.Document.{document_id};
+ghost use Rattle.ax_write.specs.Small.{IsSmallBatch};
 ghost use Rattle.ax_write.specs.Writes.{IsOfCreation, IsOfHeld, IsOfUpsert, Looks, MeetsCreation, MeetsHeld, MeetsUpsert, TellsWrite, WriteLeaves, of_store};
 ghost use Rattle.ax_documents.specs.Damage.{MeetsBy};
 ghost use Rattle.ax_documents.specs.Documents.{DocumentsHold, DocumentsWork, IsReadOf, WorkUnlessDisk};
@@ -41,6 +42,7 @@ impl<C: PageCache> Documents<C> {
         ensures only { IfErr result IsOfCreation }
         ensures works { WorkUnlessDisk C.pages (D.is_honest disk.old) (of_store result) self.new
             (D.history disk.new (D.attached disk.new)) }
+        ensures small { OnOk result (IsSmallBatch (D.is_honest disk.old) self.old.table (Some tree.now) (store_contents self.old.store) (store_contents self.new.store)) }
         ensures leaves { WriteLeaves C.pages (D.is_honest disk.old) result self.old.store self.new.store
             (D.history disk.old (D.attached disk.old)) (D.history disk.new (D.attached disk.new))
             (D.faults disk.old) (D.faults disk.new) }
@@ -82,6 +84,7 @@ impl<C: PageCache> Documents<C> {
             → document_id tree.now ≡ Some id
             → contains id before ≡ false → steps.new ≡ steps.old }
         ensures never_falls { steps.old ≤ steps.new }
+        ensures small { OnOk result (IsSmallBatch (D.is_honest disk.old) self.old.table (Some tree.now) (store_contents self.old.store) (store_contents self.new.store)) }
         ensures leaves { WriteLeaves C.pages (D.is_honest disk.old) result self.old.store self.new.store
             (D.history disk.old (D.attached disk.old)) (D.history disk.new (D.attached disk.new))
             (D.faults disk.old) (D.faults disk.new) }
@@ -124,6 +127,7 @@ impl<C: PageCache> Documents<C> {
             → document_id tree.now ≡ Some id
             → contains id before ≡ false → steps.new ≡ steps.old }
         ensures never_falls { steps.old ≤ steps.new }
+        ensures small { OnOk result (IsSmallBatch (D.is_honest disk.old) self.old.table (Some tree.now) (store_contents self.old.store) (store_contents self.new.store)) }
         ensures leaves { WriteLeaves C.pages (D.is_honest disk.old) result self.old.store self.new.store
             (D.history disk.old (D.attached disk.old)) (D.history disk.new (D.attached disk.new))
             (D.faults disk.old) (D.faults disk.new) }
@@ -161,6 +165,7 @@ impl<C: PageCache> Documents<C> {
         ensures none { IsTrue (D.is_honest disk.old) → (before : Container) → DocumentsHold self.old before
             → contains id.now before ≡ false → steps.new ≡ steps.old }
         ensures never_falls { steps.old ≤ steps.new }
+        ensures small { OnOk result (IsSmallBatch (D.is_honest disk.old) self.old.table None (store_contents self.old.store) (store_contents self.new.store)) }
         ensures leaves { WriteLeaves C.pages (D.is_honest disk.old) result self.old.store self.new.store
             (D.history disk.old (D.attached disk.old)) (D.history disk.new (D.attached disk.new))
             (D.faults disk.old) (D.faults disk.new) }

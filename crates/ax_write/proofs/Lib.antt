@@ -20,3 +20,4 @@ mod Numbered
 mod Owned
 mod Fullness
 mod Tables
+mod Smallness

@@ -4,4 +4,5 @@ pub mod Held
 pub mod Exchanged
 pub mod Full
 pub mod LookedUp
+pub mod Small
 pub mod Writes

@@ -25,6 +25,7 @@ ghost use Rattle.ax_store.specs.Faults.{HasDiskCause};
 ghost use Rattle.ax_store.specs.Kept.{deltas_of};
 ghost use Rattle.ax_store.specs.Store.{AgreesUnlessFailed, SaysMore, store_area, store_contents, store_failed, store_room, store_slots, store_spare};
 ghost use Rattle.ax_write.specs.Committed.{IdlesUnlessDisk, IsBrief, LeadWith, LeaveTerms, SaysWith};
+ghost use Rattle.ax_write.specs.Small.{IsPlanned};
 
 use ax_cache::PageCache;
 use ax_disk::Disk;
@@ -54,6 +55,7 @@ pub(crate) fn plan_and_commit<D: Disk, C: PageCache>(
     requires beside { LeaveTerms (batch_parts batch) (store_contents store.old) }
     ensures made { (front : List Change) → changes_said (batch_parts batch) ≡ Some front
         → OnOk result (LeadWith (D.is_honest disk.old) changes.now front (store_contents store.old) (store_contents store.new)) }
+    ensures planned { OnOk result (IsPlanned (D.is_honest disk.old) changes.now (batch_parts batch) (store_contents store.old) (store_contents store.new)) }
     ensures kept { OnErr result (store_contents store.new ≡ store_contents store.old) }
 
     // A crash at any moment of the call, and after it, leaves what was told before it and those contents; or behind it

@@ -1,6 +1,6 @@
 //! A document is created.
 
-ghost use Rattle.std.specs.Prelude.{◌≡◌, ◌≢◌, ◌⊎◌, ◌<◌, ◌≤◌, ◌+◌, ℕ, List, Option, None, Some, Ok, Err, IsTrue, IfErr, IfOk, IfSome, true, false};
+ghost use Rattle.std.specs.Prelude.{◌≡◌, ◌≢◌, ◌⊎◌, ◌<◌, ◌≤◌, ◌+◌, ℕ, List, Option, None, Some, Ok, Err, IsTrue, IfErr, IfOk, IfSome, true, false, OnOk};
 ghost use Rattle.std.specs.List.{Contains};
 ghost use Rattle.ax_container.specs.Container.{Container, entry_of};
 ghost use Rattle.ax_container.specs.Writes.{creation, is_full};
@@ -13,6 +13,7 @@ ghost use Rattle.ax_tree.specs.Document.{document_id};
 ghost use Rattle.ax_image_pairs.specs.Indexed.{ContentsHoldAll};
 ghost use Rattle.ax_write.specs.Exchanged.{IsExchanged};
 ghost use Rattle.ax_write.specs.Full.{is_free_in, is_full_of};
+ghost use Rattle.ax_write.specs.Small.{IsSmallBatch};
 ghost use Rattle.ax_write.specs.Writes.{HoldsAll, IsOfUpsert, TellsWrite, WriteLeaves};
 
 use crate::batches::creating;
@@ -53,6 +54,7 @@ pub(crate) fn create_new<D: Disk, C: PageCache>(
         → result ≡ Err WriteFault.Full }
     ensures only { IfErr result IsOfUpsert }
     ensures table { TableAgrees (D.is_honest disk.old) table.new (store_contents store.new) }
+    ensures small { OnOk result (IsSmallBatch (D.is_honest disk.old) table.old (Some tree.now) (store_contents store.old) (store_contents store.new)) }
     ensures leaves { WriteLeaves C.pages (D.is_honest disk.old) result store.old store.new
         (D.history disk.old (D.attached disk.old)) (D.history disk.new (D.attached disk.new))
         (D.faults disk.old) (D.faults disk.new) }

@@ -1,6 +1,6 @@
 //! A document that is held gets another tree, or is deleted.
 
-ghost use Rattle.std.specs.Prelude.{◌≡◌, ◌≢◌, ◌↔◌, ◌≤◌, ◌<◌, ◌+◌, ◌-◌, ℕ, List, Option, None, Some, Ok, Err, IsTrue, IfErr, IfOk, IfSome, IsSome, true, false};
+ghost use Rattle.std.specs.Prelude.{◌≡◌, ◌≢◌, ◌↔◌, ◌≤◌, ◌<◌, ◌+◌, ◌-◌, ℕ, List, Option, None, Some, Ok, Err, IsTrue, IfErr, IfOk, IfSome, IsSome, true, false, OnOk};
 ghost use Rattle.std.specs.List.{Contains};
 ghost use Rattle.ax_container.specs.Container.{Container, entry_of};
 ghost use Rattle.ax_container.specs.Writes.{deleted, replaced};
@@ -11,6 +11,7 @@ ghost use Rattle.ax_store.specs.Store.{AgreesUnlessFailed, store_contents, store
 ghost use Rattle.ax_table.specs.TableAgrees.{ArePolicies, TableAgrees};
 ghost use Rattle.ax_tree.specs.Document.{document_id};
 ghost use Rattle.ax_write.specs.Exchanged.{IsExchanged};
+ghost use Rattle.ax_write.specs.Small.{IsSmallBatch};
 ghost use Rattle.ax_write.specs.Writes.{HoldsAll, IsFoundIn, IsHeldAs, IsOfStore, TellsWrite, WriteLeaves};
 
 use crate::batches::{deleting, replacing};
@@ -51,6 +52,7 @@ pub(crate) fn replace_held<D: Disk, C: PageCache>(
         (D.history disk.old (D.attached disk.old)) (D.history disk.new (D.attached disk.new)) }
     ensures only { IfErr result IsOfStore }
     ensures table { TableAgrees (D.is_honest disk.old) table.new (store_contents store.new) }
+    ensures small { OnOk result (IsSmallBatch (D.is_honest disk.old) table.old (Some tree.now) (store_contents store.old) (store_contents store.new)) }
     ensures leaves { WriteLeaves C.pages (D.is_honest disk.old) result store.old store.new
         (D.history disk.old (D.attached disk.old)) (D.history disk.new (D.attached disk.new))
         (D.faults disk.old) (D.faults disk.new) }
@@ -96,6 +98,7 @@ pub(crate) fn delete_held<D: Disk, C: PageCache>(
         (D.history disk.old (D.attached disk.old)) (D.history disk.new (D.attached disk.new)) }
     ensures only { IfErr result IsOfStore }
     ensures table { TableAgrees (D.is_honest disk.old) table.new (store_contents store.new) }
+    ensures small { OnOk result (IsSmallBatch (D.is_honest disk.old) table.old None (store_contents store.old) (store_contents store.new)) }
     ensures leaves { WriteLeaves C.pages (D.is_honest disk.old) result store.old store.new
         (D.history disk.old (D.attached disk.old)) (D.history disk.new (D.attached disk.new))
         (D.faults disk.old) (D.faults disk.new) }

@@ -1,9 +1,9 @@
 //! The writes of documents.
 //!
-//! Over an honest disk each is made, or refused by what is held, only where the parts of the index that tell the id are in
-//! their grammar, and the text of the document that it finds is that of a document.
+//! Over an honest disk each is made, or refused by what is held, only where the table of ids lately found tells the id or the
+//! parts of the index that tell it are in their grammar, and the text of the document that it reads is that of a document.
 
-ghost use Rattle.std.specs.Prelude.{◌≡◌, ◌≤◌, ◌+◌, ℕ, List, Option, None, Some, Ok, Err, IsTrue, IfErr, IfOk, IfSome, true, false};
+ghost use Rattle.std.specs.Prelude.{◌≡◌, ◌≤◌, ◌+◌, ℕ, List, Option, None, Some, Ok, Err, IsTrue, IfErr, IfOk, IfSome, true, false, OnOk};
 ghost use Rattle.ax_container.specs.Container.{Container, contains};
 ghost use Rattle.ax_container.specs.Writes.{exchanged, inserted, removed, upserted};
 ghost use Rattle.ax_lines.specs.Asked.{IsStorable};
@@ -11,6 +11,7 @@ ghost use Rattle.ax_pool.specs.Frames.{free_count};
 ghost use Rattle.ax_store.specs.Store.{AgreesUnlessFailed, store_contents, store_failed, store_slots};
 ghost use Rattle.ax_table.specs.TableAgrees.{TableAgrees};
 ghost use Rattle.ax_tree.specs.Document.{document_id};
+ghost use Rattle.ax_write.specs.Small.{IsSmallBatch};
 ghost use Rattle.ax_write.specs.Writes.{HoldsAll, IsOfCreation, IsOfHeld, IsOfUpsert, MeetsCreation, MeetsHeld, MeetsUpsert, TellsWrite, WriteLeaves};
 
 use crate::creating::create_new;
@@ -49,6 +50,7 @@ pub fn create<D: Disk, C: PageCache>(
         → MeetsCreation result ids.old id (store_contents store.old) }
     ensures only { IfErr result IsOfCreation }
     ensures table { TableAgrees (D.is_honest disk.old) table.new (store_contents store.new) }
+    ensures small { OnOk result (IsSmallBatch (D.is_honest disk.old) table.old (Some tree.now) (store_contents store.old) (store_contents store.new)) }
     ensures leaves { WriteLeaves C.pages (D.is_honest disk.old) result store.old store.new
         (D.history disk.old (D.attached disk.old)) (D.history disk.new (D.attached disk.new))
         (D.faults disk.old) (D.faults disk.new) }
@@ -93,6 +95,7 @@ pub fn upsert<D: Disk, C: PageCache, L: Ledger>(
     ensures none { IsTrue (D.is_honest disk.old) → (before : Container) → (id : List ℕ) → HoldsAll store.old ids.old before
         → document_id tree.now ≡ Some id → contains id before ≡ false → steps.new ≡ steps.old }
     ensures never_falls { steps.old ≤ steps.new }
+    ensures small { OnOk result (IsSmallBatch (D.is_honest disk.old) table.old (Some tree.now) (store_contents store.old) (store_contents store.new)) }
     ensures leaves { WriteLeaves C.pages (D.is_honest disk.old) result store.old store.new
         (D.history disk.old (D.attached disk.old)) (D.history disk.new (D.attached disk.new))
         (D.faults disk.old) (D.faults disk.new) }
@@ -142,6 +145,7 @@ pub fn replace<D: Disk, C: PageCache, L: Ledger>(
     ensures none { IsTrue (D.is_honest disk.old) → (before : Container) → (id : List ℕ) → HoldsAll store.old ids.old before
         → document_id tree.now ≡ Some id → contains id before ≡ false → steps.new ≡ steps.old }
     ensures never_falls { steps.old ≤ steps.new }
+    ensures small { OnOk result (IsSmallBatch (D.is_honest disk.old) table.old (Some tree.now) (store_contents store.old) (store_contents store.new)) }
     ensures leaves { WriteLeaves C.pages (D.is_honest disk.old) result store.old store.new
         (D.history disk.old (D.attached disk.old)) (D.history disk.new (D.attached disk.new))
         (D.faults disk.old) (D.faults disk.new) }
@@ -188,6 +192,7 @@ pub fn delete<D: Disk, C: PageCache, L: Ledger>(
     ensures none { IsTrue (D.is_honest disk.old) → (before : Container) → HoldsAll store.old ids.old before
         → contains id.now before ≡ false → steps.new ≡ steps.old }
     ensures never_falls { steps.old ≤ steps.new }
+    ensures small { OnOk result (IsSmallBatch (D.is_honest disk.old) table.old None (store_contents store.old) (store_contents store.new)) }
     ensures leaves { WriteLeaves C.pages (D.is_honest disk.old) result store.old store.new
         (D.history disk.old (D.attached disk.old)) (D.history disk.new (D.attached disk.new))
         (D.faults disk.old) (D.faults disk.new) }

@@ -11,9 +11,11 @@ use Rattle.ax_write.specs.Committed.{LeaveTerms}
 use Rattle.ax_write.specs.Exchanged.{IsExchanged}
 use Rattle.ax_write.specs.Full.{is_full_of}
 use Rattle.ax_write.proofs.Fullness.{can_create, creates, full_same, never_full, refuses}
+use Rattle.ax_write.proofs.Fronts.{no_delta_creating}
 use Rattle.ax_write.proofs.Numbered.{recent_created}
 use Rattle.ax_write.proofs.Owned.{created_carries}
 use Rattle.ax_write.proofs.Saying.{creating_said}
+use Rattle.ax_write.proofs.Smallness.{small_batch}
 use Rattle.ax_write.proofs.Tables.{create_beside, table_created}
 use Rattle.ax_write.proofs.Writing.{left_behind, still, told_made, told_unmade}
 use Rattle.ax_write.proofs.creating.create_new.Goals as goal
@@ -105,6 +107,18 @@ returns-in-Ok-plan_and_commit-clause-table g c =
     ∙ creating_said number now tree (omega (arith, can.some, next)) (omega (arith, can.left, next)) (omega arith) in
     table_created _ c.args.table.now contents c.requires.table refl now c.now-now.ensures.current _ c.as_slice.result.now _
     c.note_created.new.table number tree can next (c.in-Ok-plan_and_commit.ensures.made front said) c.note_created.ensures.counts
+
+pub returns-in-Ok-plan_and_commit-clause-small : goal.returns-in-Ok-plan_and_commit-clause-small
+returns-in-Ok-plan_and_commit-clause-small g c =
+    let contents = store_contents c.args.store.now in
+    let table = c.args.table.now in
+    let tree = c.args.tree.now in
+    let number = c.meta-number.result.next in
+    let now = c.now-now.result in
+    small_batch _ table number table.current None (Some tree) _ _ _ _ contents _ c.in-Ok-created_pairs.ensures c.as_slice.ensures.value c.in-Ok.ensures
+    (create_beside _ table contents c.requires.table refl now c.now-now.ensures.current number tree
+    (can_create contents (sym c.is_full.ensures ∙ c.if-is_full.false)) c.meta-number.ensures.next (omega (arith)))
+    (no_delta_creating number now tree) c.in-Ok-plan_and_commit.ensures.planned
 
 pub returns-in-Ok-plan_and_commit-clause-leaves : goal.returns-in-Ok-plan_and_commit-clause-leaves
 returns-in-Ok-plan_and_commit-clause-leaves g c =

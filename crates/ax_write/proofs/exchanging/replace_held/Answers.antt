@@ -8,9 +8,11 @@ use Rattle.ax_store.proofs.StoreLemmas.{agrees_says}
 use Rattle.ax_store.specs.Store.{store_contents}
 use Rattle.ax_write.specs.Committed.{LeaveTerms}
 use Rattle.ax_write.specs.Exchanged.{IsExchanged}
+use Rattle.ax_write.proofs.Fronts.{no_delta_replacing}
 use Rattle.ax_write.proofs.Numbered.{recent_replaced}
 use Rattle.ax_write.proofs.Owned.{replaced_carries}
 use Rattle.ax_write.proofs.Saying.{replacing_said}
+use Rattle.ax_write.proofs.Smallness.{small_batch}
 use Rattle.ax_write.proofs.Tables.{is_known, is_used, replace_beside, room_for, table_replaced}
 use Rattle.ax_write.proofs.Writing.{left_behind, still, told_made, told_unmade}
 use Rattle.ax_write.proofs.exchanging.replace_held.Goals as goal
@@ -84,6 +86,18 @@ returns-in-Ok-plan_and_commit-clause-table g c =
     let said = ap changes_said c.in-Ok.ensures ∙ replacing_said found.number now tree c.requires.some in
     table_replaced _ table contents c.requires.table refl now c.now-now.ensures.current found c.requires.held _ c.as_slice.result.now _
     c.count_out.new.self c.count_in.new.self tree (c.in-Ok-plan_and_commit.ensures.made front said) c.count_out.ensures c.count_in.ensures
+
+pub returns-in-Ok-plan_and_commit-clause-small : goal.returns-in-Ok-plan_and_commit-clause-small
+returns-in-Ok-plan_and_commit-clause-small g c =
+    let contents = store_contents c.args.store.now in
+    let table = c.args.table.now in
+    let found = c.args.found.now in
+    let tree = c.args.tree.now in
+    let now = c.now-now.result in
+    small_batch _ table found.number found.document.policy (Some found.document.tree) (Some tree) _ _ _ _ contents _
+    c.in-Ok-replaced_pairs.ensures c.as_slice.ensures.value c.in-Ok.ensures
+    (replace_beside _ table contents c.requires.table refl now c.now-now.ensures.current found c.requires.held tree c.requires.some)
+    (no_delta_replacing found.number now tree) c.in-Ok-plan_and_commit.ensures.planned
 
 pub returns-in-Ok-plan_and_commit-clause-leaves : goal.returns-in-Ok-plan_and_commit-clause-leaves
 returns-in-Ok-plan_and_commit-clause-leaves g c =
