@@ -29,11 +29,11 @@ use Rattle.ax_machine.specs.Needs.{held_need}
 use Rattle.ax_machine.specs.Querying.{query_reply}
 use Rattle.ax_machine.specs.Reply as reply
 use Rattle.ax_machine.specs.Run.{OutOfMemory, Served}
-use Rattle.ax_machine.specs.Step.{doc_reply, read_reply, served, write_by, write_refusal, written}
+use Rattle.ax_machine.specs.Step.{doc_reply, served, write_by, write_refusal, written}
 use Rattle.ax_mean.specs.declared.query.Query.{Query}
 use Rattle.ax_pool.specs.Frames.{Frames}
 use Rattle.ax_store.specs.Faults.{HasDiskCause}
-use Rattle.ax_store.specs.Store.{store_contents, store_slots}
+use Rattle.ax_store.specs.Store.{store_contents}
 use Rattle.ax_store.specs.Kept.{Kept}
 use Rattle.ax_store.specs.Slots.{slot_count}
 use Rattle.ax_store.specs.declared.fault.StoreFault.{StoreFault}

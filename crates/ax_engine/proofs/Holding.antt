@@ -1,5 +1,5 @@
 -- What holds of open documents: what a crash leaves of them, and that calls which read leave them as they were.
-use Rattle.std.proofs.Common.{◌≡◌, ◌⊎◌, inl, inr, ℕ, List, Bool, sym, ap, subst, ◌∙◌}
+use Rattle.std.proofs.Common.{◌⊎◌, inl, inr, ℕ, List, Bool, sym, subst}
 use Rattle.std.specs.Prelude.{IsTrue}
 use Rattle.ax_area.specs.Image.{Says}
 use Rattle.ax_area.specs.Told.{Told}

@@ -1,5 +1,5 @@
 -- An image that stands for a container is not refused; and what a failure before the barrier leaves.
-use Rattle.std.proofs.Common.{◌≡◌, ◌⊎◌, inl, inr, ℕ, List, ap, arith}
+use Rattle.std.proofs.Common.{inl, inr, ℕ, List, ap, arith}
 use Rattle.ax_area.proofs.OneOutcome.{says_not_damaged}
 use Rattle.ax_area.proofs.OneRoot.{fresh_counts, one_slot_counts}
 use Rattle.ax_area.specs.Contents.{Contents}

@@ -1,5 +1,5 @@
 -- The bytes of the id are the id.
-use Rattle.std.proofs.Common.{◌≡◌, List, ℕ, ap, sym, subst, ◌∙◌}
+use Rattle.std.proofs.Common.{List, ℕ, ap, subst, ◌∙◌}
 use Rattle.ax_container.specs.Container.{contains}
 use Rattle.ax_container.specs.Writes.{removed}
 use Rattle.ax_write.specs.Writes.{TellsWrite}

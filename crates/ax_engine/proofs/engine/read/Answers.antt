@@ -1,5 +1,5 @@
 -- The document of an id, as the answer to the line.
-use Rattle.std.proofs.Common.{◌≡◌, ap, subst, sym, ◌∙◌}
+use Rattle.std.proofs.Common.{ap, subst, sym, ◌∙◌}
 use Rattle.std.specs.Prelude.{IfErr, IfOk, IsTrue, OnOk, Result}
 use Rattle.ax_container.specs.Container.{contains}
 use Rattle.ax_disk.specs.laws.StaysLaws.{idles_stay}
