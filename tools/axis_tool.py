@@ -1,4 +1,4 @@
-"""What the tools share: their options, and how they end.
+"""What the tools share: their options, stores that are made, and how they end.
 
 A tool ends with 0 where all was done, 1 where something was refused or failed, 2 where its words are wrong, 130 where a
 person stopped it; and it says why in one line on standard error.
@@ -6,11 +6,13 @@ person stopped it; and it says why in one line on standard error.
 from __future__ import annotations
 
 import argparse
+import contextlib
 import os
+import pathlib
 import sys
-from typing import Callable, NoReturn
+from typing import Callable, Iterator, List, NoReturn, Optional, Tuple
 
-from axis_client import AxisError
+from axis_client import Axis, AxisError, store_files
 
 if sys.version_info < (3, 9):
     sys.exit("axis: the tools need Python 3.9 or later, and this is Python %d.%d" % sys.version_info[:2])
@@ -46,6 +48,35 @@ class Parser(argparse.ArgumentParser):
 
     def error(self, message: str) -> NoReturn:
         self.exit(WRONG_WORDS, f"{self.prog}: {message}; {self.prog} --help has an example\n")
+
+
+def count_of(store: str, program: Optional[str]) -> int:
+    """How many documents the program finds in a store."""
+    with Axis(store, program, must_exist=True) as axis:
+        return next(axis.query("SELECT VALUE COUNT(1) FROM c"))
+
+
+def new_files(store: str) -> Tuple[pathlib.Path, ...]:
+    """The paths of the files of a store that is to be made. One of which a file is there is refused."""
+    paths = store_files(store)
+    for path in paths:
+        if path.exists():
+            raise ToolError(f"{path} is there: name a store of which no file is there")
+    if not paths[0].parent.is_dir():
+        raise ToolError(f"there is no folder {paths[0].parent}: make it first")
+    return paths
+
+
+@contextlib.contextmanager
+def removed_on_failure() -> Iterator[List[pathlib.Path]]:
+    """A list for files that are made, which are removed where not all is done."""
+    made: List[pathlib.Path] = []
+    try:
+        yield made
+    except BaseException:
+        for path in made:
+            path.unlink(missing_ok=True)
+        raise
 
 
 def run(parser: Parser, work: Callable[[argparse.Namespace], int]) -> NoReturn:
