@@ -49,11 +49,12 @@ use Rattle.ax_write.specs.Writes.{IdlesUnlessMade, IsKept, TellsDamage, TellsWri
 use Rattle.ax_write.specs.declared.fault.WriteFault.{WriteFault}
 use Rattle.ax_write.specs.declared.fault.WriteFault.TheVariants as write
 use Rattle.ax_documents.specs.Damage.{IsMetIn, MeetsBy}
-use Rattle.ax_documents.specs.Documents.{DocumentsHold, DocumentsWork, WorkUnlessDisk}
+use Rattle.ax_documents.specs.Documents.{DocumentsHold, DocumentsWork, IsReadOf, WorkUnlessDisk}
 use Rattle.ax_documents.specs.Opening.{IsImageOf}
 use Rattle.ax_documents.specs.declared.documents.Documents.{Documents}
 use Rattle.ax_engine.specs.Damage.{Meets, MeetsDocuments, PassesOverNone}
 use Rattle.ax_engine.specs.Engine.{Applies, CountsAnswer, HoldsOver, IdlesUnlessDone, IsWrite, MayFail, Tells, Works, by_document, made_by, made_of}
+use Rattle.ax_engine.specs.Judging.{Judges, MeetsLine}
 use Rattle.ax_engine.specs.Replies.{FitsRead, FitsRefusal, IsOfReading, IsReply, MayReply, OnRows, look_up_answer, own_refusal, read_answer, write_answer}
 use Rattle.ax_engine.specs.Scans.{Scanned, Scans}
 use Rattle.ax_engine.specs.StoreSays.{kept_says}
@@ -220,6 +221,25 @@ pub may_write : (asked : Line) (result : Result (Unit {0}) WriteFault) → IsWri
 may_write asked (Ok done) is may = may_be_made asked is
 may_write asked (Err why) is may = may_refuse asked why is may
 
+-- ---- what a line has met that is answered
+
+if_ok : (answer : Result Reply Fault) (Is : Reply → Type 0) → ((reply : Reply) → answer ≡ Ok reply → Is reply) → IfOk answer Is
+if_ok (Ok reply) Is by = by reply refl
+if_ok (Err why) Is by = tt
+
+pub judges_written : (asked : Line) (made : Result (Unit {0}) WriteFault) (ids : List (List ℕ × ℕ)) (contents : Contents) → IsWrite asked
+    → MeetsLine asked made ids contents → IfOk (write_answer made) (Judges asked ids contents)
+judges_written (line.Create tree) made ids contents is met =
+    if_ok (write_answer made) (Judges (line.Create tree) ids contents) (λ reply same. record { made = made; answer = same; met = met })
+judges_written (line.Upsert tree) made ids contents is met =
+    if_ok (write_answer made) (Judges (line.Upsert tree) ids contents) (λ reply same. record { made = made; answer = same; met = met })
+judges_written (line.Replace tree) made ids contents is met =
+    if_ok (write_answer made) (Judges (line.Replace tree) ids contents) (λ reply same. record { made = made; answer = same; met = met })
+judges_written (line.Delete id) made ids contents is met =
+    if_ok (write_answer made) (Judges (line.Delete id) ids contents) (λ reply same. record { made = made; answer = same; met = met })
+judges_written (line.Read id) made ids contents is met = absurd is
+judges_written (line.Query body) made ids contents is met = absurd is
+
 -- ---- the steps of a line for an id
 
 pub steps_of_held : (id : List ℕ) (before : Container) (steps now : ℕ) → now ≤ steps + 1 → (contains id before ≡ false → now ≡ steps)
@@ -301,6 +321,16 @@ may_look (Err store_fault.Disk) = tt
 may_look (Err (store_fault.Damaged extent at)) = tt
 may_look (Err (store_fault.Newer version)) = inr refl
 may_look (Err store_fault.Memory) = inr refl
+
+pub judges_looked : (id bytes : List ℕ) (found : LookedUp) (ids : List (List ℕ × ℕ)) (contents : Contents) → bytes ≡ id
+    → IfOk found (IsReadOf ids bytes contents) → IfOk (look_up_answer found) (Judges (line.Read id) ids contents)
+judges_looked id bytes (Ok text) ids contents same met =
+    if_ok (look_up_answer (Ok text)) (Judges (line.Read id) ids contents)
+    (λ reply is. inl (record { found = text; answer = is; met = subst (λ i. IsReadOf ids i contents text) same met }))
+judges_looked id bytes (Err store_fault.Disk) ids contents same met = tt
+judges_looked id bytes (Err (store_fault.Damaged extent at)) ids contents same met = tt
+judges_looked id bytes (Err (store_fault.Newer version)) ids contents same met = inr refl
+judges_looked id bytes (Err store_fault.Memory) ids contents same met = inr refl
 
 pub tells_looked : {C : Type 0} (honest : Type 0) (was : Store C) (documents : Documents C) (old new : History) (before : Container)
     (id bytes : List ℕ) (found : LookedUp) → bytes ≡ id → ContentsHoldAll (store_contents was) before

@@ -1,6 +1,7 @@
 pub mod Damage
 pub mod Engine
 pub mod InPages
+pub mod Judging
 pub mod Printing
 pub mod Replies
 pub mod Scans

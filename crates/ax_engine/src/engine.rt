@@ -16,12 +16,14 @@ ghost use Rattle.ax_lines.specs.Asked.{IsAsked};
 ghost use Rattle.ax_lines.specs.declared.line.Line.TheVariants as line;
 ghost use Rattle.ax_image.specs.Readable.{SaysReadable, newest};
 ghost use Rattle.ax_machine.specs.Needs.{most_steps_of};
-ghost use Rattle.ax_write.specs.Writes.{IsOfHeld, TellsWrite, WriteLeaves, of_store};
+ghost use Rattle.ax_store.specs.Store.{store_contents};
+ghost use Rattle.ax_write.specs.Writes.{IsOfHeld, MeetsHeld, TellsWrite, WriteLeaves, of_store};
 ghost use Rattle.ax_documents.specs.Damage.{MeetsBy};
 ghost use Rattle.ax_documents.specs.Documents.{DocumentsHold, DocumentsWork, SameDocuments, WorkUnlessDisk};
 ghost use Rattle.ax_documents.specs.Opening.{IsAnswerUnlessDisk, IsImageOf, IsStore, IsWithin, RefusesBy};
 ghost use Rattle.ax_engine.specs.Damage.{Meets, PassesOverNone};
 ghost use Rattle.ax_engine.specs.Engine.{Applies, CountsAnswer, Holds, HoldsOver, IdlesUnlessDone, IsWrite, LeavesLists, MayFail, Tells, Works, made_of};
+ghost use Rattle.ax_engine.specs.Judging.{Judges, MeetsLine};
 ghost use Rattle.ax_engine.specs.Replies.{FitsRead, IsOfReading, MayReply, look_up_answer, read_answer, write_answer};
 
 use crate::querying::reply_to_query;
@@ -160,7 +162,8 @@ impl<C: PageCache> Engine<C> {
     /// Whatever the store holds, a query is answered rows only where it has no refusal of its own (of its text
     /// or its ORDER BY), and is refused by that one alone, or for want of memory; a write is answered `Ok`,
     /// or by a refusal of its own line, or for want of memory; a read by a document, as absent, or for want of
-    /// memory.
+    /// memory. Over an honest disk a write or a read is answered only where the table of ids lately found tells its id or the
+    /// parts of the index that do are in their grammar, and where the text of the document that a write reads is that of one.
     pub fn apply<D: Disk, L: Ledger>(
         &mut self,
         disk: &mut D,
@@ -178,6 +181,8 @@ impl<C: PageCache> Engine<C> {
             → IfErr result (λ fault. Meets fault (D.history disk.new (D.attached disk.new)).reads) }
         ensures passes_over_none { IsTrue (D.is_honest disk.old) → self.old.fault ≡ None
             → IfOk result (λ reply. PassesOverNone line reply (D.history disk.new (D.attached disk.new)).reads) }
+        ensures judged { IsTrue (D.is_honest disk.old) → self.old.fault ≡ None
+            → IfOk result (λ reply. Judges line self.old.documents.ids (store_contents self.old.documents.store) reply) }
         ensures lists { IsTrue (D.is_honest disk.old) → self.old.fault ≡ None
             → LeavesLists line result (D.history disk.old (D.attached disk.old)) (D.history disk.new (D.attached disk.new)) }
         ensures works { Works C.pages (D.is_honest disk.old) self.new (D.history disk.new (D.attached disk.new)) }
@@ -232,6 +237,8 @@ fn answer<D: Disk, C: PageCache, L: Ledger>(
         → Tells (IsTrue (D.is_honest disk.old)) before line.now result documents.new
         (D.history disk.old (D.attached disk.old)) (D.history disk.new (D.attached disk.new)) }
     ensures may_reply { IfOk result (λ reply. MayReply line.now reply) }
+    ensures judged { IsTrue (D.is_honest disk.old)
+        → IfOk result (λ reply. Judges line.now documents.old.ids (store_contents documents.old.store) reply) }
     ensures lists { IsTrue (D.is_honest disk.old)
         → LeavesLists line.now result (D.history disk.old (D.attached disk.old)) (D.history disk.new (D.attached disk.new)) }
     ensures met { IsTrue (D.is_honest disk.old)
@@ -274,6 +281,8 @@ fn write<D: Disk, C: PageCache, L: Ledger>(
         → Tells (IsTrue (D.is_honest disk.old)) before line.now result documents.new
         (D.history disk.old (D.attached disk.old)) (D.history disk.new (D.attached disk.new)) }
     ensures may_reply { IfOk result (λ reply. MayReply line.now reply) }
+    ensures judged { IsTrue (D.is_honest disk.old)
+        → IfOk result (λ reply. Judges line.now documents.old.ids (store_contents documents.old.store) reply) }
     ensures lists { IsTrue (D.is_honest disk.old) → IdlesUnlessDone result (D.history disk.old (D.attached disk.old)) (D.history disk.new (D.attached disk.new)) }
     ensures met { IsTrue (D.is_honest disk.old)
         → IfErr result (λ fault. Meets fault (D.history disk.new (D.attached disk.new)).reads) }
@@ -307,6 +316,7 @@ fn make<D: Disk, C: PageCache, L: Ledger>(
         → TellsWrite before (made_of line.now before) result documents.new.store documents.new.ids
         (D.history disk.old (D.attached disk.old)) (D.history disk.new (D.attached disk.new)) }
     ensures only { IfErr result (MayFail line.now) }
+    ensures met { IsTrue (D.is_honest disk.old) → MeetsLine line.now result documents.old.ids (store_contents documents.old.store) }
     ensures damage { IsTrue (D.is_honest disk.old)
         → IfErr (of_store result) (λ why. MeetsBy why (D.history disk.new (D.attached disk.new)).reads) }
     ensures works { WorkUnlessDisk C.pages (D.is_honest disk.old) (of_store result) documents.new
@@ -342,6 +352,7 @@ fn delete<D: Disk, C: PageCache, L: Ledger>(
         → TellsWrite before (removed id.now before) result documents.new.store documents.new.ids
         (D.history disk.old (D.attached disk.old)) (D.history disk.new (D.attached disk.new)) }
     ensures only { IfErr result IsOfHeld }
+    ensures met { IsTrue (D.is_honest disk.old) → MeetsHeld result documents.old.ids id.now (store_contents documents.old.store) }
     ensures damage { IsTrue (D.is_honest disk.old)
         → IfErr (of_store result) (λ why. MeetsBy why (D.history disk.new (D.attached disk.new)).reads) }
     ensures works { WorkUnlessDisk C.pages (D.is_honest disk.old) (of_store result) documents.new
@@ -392,6 +403,8 @@ fn read<D: Disk, C: PageCache, L: Ledger>(
         → Tells (IsTrue (D.is_honest disk.old)) before (line.Read id.now) result documents.new
         (D.history disk.old (D.attached disk.old)) (D.history disk.new (D.attached disk.new)) }
     ensures may_reply { IfOk result FitsRead }
+    ensures judged { IsTrue (D.is_honest disk.old)
+        → IfOk result (λ reply. Judges (line.Read id.now) documents.old.ids (store_contents documents.old.store) reply) }
     ensures lists { IsTrue (D.is_honest disk.old) → Idles (D.history disk.old (D.attached disk.old)) (D.history disk.new (D.attached disk.new)) }
     ensures met { IsTrue (D.is_honest disk.old)
         → IfErr result (λ fault. Meets fault (D.history disk.new (D.attached disk.new)).reads) }

@@ -2,7 +2,8 @@
 use Rattle.std.proofs.Common.{List, ℕ, ap, subst, ◌∙◌}
 use Rattle.ax_container.specs.Container.{contains}
 use Rattle.ax_container.specs.Writes.{removed}
-use Rattle.ax_write.specs.Writes.{TellsWrite}
+use Rattle.ax_store.specs.Store.{store_contents}
+use Rattle.ax_write.specs.Writes.{MeetsHeld, TellsWrite}
 use Rattle.ax_engine.proofs.engine.delete.Goals as goal
 
 pub returns-clause-tells : goal.returns-clause-tells
@@ -16,3 +17,8 @@ pub returns-clause-none : goal.returns-clause-none
 returns-clause-none g c = λ honest before holds absent.
     c.delete.ensures.none honest before holds
     (ap (λ i. contains i before) (c.as_bytes-id.ensures.value ∙ c.as_str.ensures.text) ∙ absent)
+
+pub returns-clause-met : goal.returns-clause-met
+returns-clause-met g c = λ honest.
+    subst (λ (i : List ℕ). MeetsHeld c.delete.result c.args.documents.now.ids i (store_contents c.args.documents.now.store))
+    (c.as_bytes-id.ensures.value ∙ c.as_str.ensures.text) (c.delete.ensures.met honest)

@@ -8,10 +8,12 @@ use Rattle.ax_lines.specs.declared.line.Line.TheVariants as line
 use Rattle.ax_documents.specs.Documents.{DocumentsWork}
 use Rattle.ax_engine.specs.Damage.{Meets}
 use Rattle.ax_engine.specs.Engine.{CountsAnswer, Tells}
+use Rattle.ax_engine.specs.Judging.{Judges}
 use Rattle.ax_engine.specs.Replies.{FitsRead}
+use Rattle.ax_store.specs.Store.{store_contents}
 use Rattle.ax_engine.specs.declared.engine.Fault.{Fault}
 use Rattle.ax_engine.specs.declared.reply.Reply.{Reply}
-use Rattle.ax_engine.proofs.Applying.{counted_looked, may_look, met_looked, steps_of_held, tells_looked, works_looked}
+use Rattle.ax_engine.proofs.Applying.{counted_looked, judges_looked, may_look, met_looked, steps_of_held, tells_looked, works_looked}
 use Rattle.ax_engine.proofs.Holding.{idled}
 use Rattle.ax_engine.proofs.engine.read.Goals as goal
 
@@ -68,3 +70,11 @@ returns-clause-bound g c = λ honest before holds.
     let same = c.as_bytes-id.ensures.value ∙ c.as_str.ensures.text in
     steps_of_held c.args.id.now before _ _ c.read-found.ensures.one
     (λ absent. c.read-found.ensures.none honest before holds (ap (λ i. contains i before) same ∙ absent))
+
+pub returns-clause-judged : goal.returns-clause-judged
+returns-clause-judged g c = λ honest.
+    let P : Result Reply Fault → Type 0 = λ answer. IfOk answer
+    (λ reply. Judges (line.Read c.args.id.now) c.args.documents.now.ids (store_contents c.args.documents.now.store) reply) in
+    subst P (sym c.answer_of_look_up.ensures)
+    (judges_looked c.args.id.now c.as_bytes-id.result.now c.read-found.result c.args.documents.now.ids
+    (store_contents c.args.documents.now.store) (c.as_bytes-id.ensures.value ∙ c.as_str.ensures.text) (c.read-found.ensures.met honest))

@@ -4,10 +4,12 @@ use Rattle.std.specs.Prelude.{IfErr, IfOk, IsTrue, OnOk, Result}
 use Rattle.ax_documents.specs.Documents.{DocumentsWork}
 use Rattle.ax_engine.specs.Damage.{Meets}
 use Rattle.ax_engine.specs.Engine.{CountsAnswer, IdlesUnlessDone, Tells, made_of}
+use Rattle.ax_engine.specs.Judging.{Judges}
 use Rattle.ax_engine.specs.Replies.{MayReply}
+use Rattle.ax_store.specs.Store.{store_contents}
 use Rattle.ax_engine.specs.declared.engine.Fault.{Fault}
 use Rattle.ax_engine.specs.declared.reply.Reply.{Reply}
-use Rattle.ax_engine.proofs.Applying.{counted_written, idle_written, may_write, met_written, tells_written, works_written, write_is}
+use Rattle.ax_engine.proofs.Applying.{counted_written, idle_written, judges_written, may_write, met_written, tells_written, works_written, write_is}
 use Rattle.ax_engine.proofs.engine.write.Goals as goal
 
 pub returns-clause-tells : goal.returns-clause-tells
@@ -61,3 +63,11 @@ returns-clause-counted g c =
 
 pub returns-clause-never_falls : goal.returns-clause-never_falls
 returns-clause-never_falls g c = c.make-made.ensures.leaves.never_falls
+
+pub returns-clause-judged : goal.returns-clause-judged
+returns-clause-judged g c = λ honest.
+    let P : Result Reply Fault → Type 0 = λ answer. IfOk answer
+    (λ reply. Judges c.args.line.now c.args.documents.now.ids (store_contents c.args.documents.now.store) reply) in
+    subst P (sym c.answer_of_write.ensures)
+    (judges_written c.args.line.now c.make-made.result c.args.documents.now.ids (store_contents c.args.documents.now.store) c.requires.writes
+    (c.make-made.ensures.met honest))
