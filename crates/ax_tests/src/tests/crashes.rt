@@ -16,7 +16,17 @@ const MOST_CALLS: u64 = 200;
 /// A line that is committed makes four calls or more.
 const LEAST_CALLS: u64 = 80;
 
-const QUERY: &[u8] = b"QUERY {\"query\":\"SELECT * FROM c\"}";
+/// The lines by which the documents are looked at: all of them by a query, and each by its id, which the index tells.
+const LOOKS: [&[u8]; 8] = [
+    b"QUERY {\"query\":\"SELECT * FROM c\"}\n",
+    b"READ d0\n",
+    b"READ d1\n",
+    b"READ d2\n",
+    b"READ d3\n",
+    b"READ d4\n",
+    b"READ d5\n",
+    b"READ d6\n",
+];
 
 /// The line of a number: seven ids, so that documents are created, replaced and deleted.
 fn line_of(alloc: Global, number: usize) -> Result<String, AllocError> {
@@ -50,13 +60,28 @@ fn serve_line(alloc: Global, machine: &mut PlainMachine, number: usize) -> Resul
     Ok(())
 }
 
-/// What the plain machine answers to the query after the first so many lines.
+/// The script of the lines by which the documents are looked at.
+fn look_script(alloc: Global) -> Result<Vec<u8>, Fail> {
+    let mut script = Vec::new(alloc);
+    for line in LOOKS {
+        script.extend_from_slice(line)?;
+    }
+    Ok(script)
+}
+
+/// What the plain machine answers to these after the first so many lines.
 fn answer_after(alloc: Global, lines: usize) -> Result<Vec<u8>, Fail> {
     let mut machine = PlainMachine::new(alloc);
     for number in 0..lines {
         serve_line(alloc, &mut machine, number)?;
     }
-    Ok(machine.answer(alloc, QUERY)?)
+    let mut answers = Vec::new(alloc);
+    for line in LOOKS {
+        let answer = machine.answer(alloc, line.trim_ascii_end())?;
+        answers.extend_from_slice(answer.as_slice())?;
+        drop(answer);
+    }
+    Ok(answers)
 }
 
 fn all_answers(alloc: Global) -> Result<Vec<Vec<u8>>, Fail> {
@@ -67,21 +92,27 @@ fn all_answers(alloc: Global) -> Result<Vec<Vec<u8>>, Fail> {
     Ok(answers)
 }
 
-/// The lines, and what the query is answered after each number of them.
+/// The lines, those by which the documents are looked at, and what these are answered after each number of the former.
 #[derive(Drop)]
 struct Plan {
     script: Vec<u8>,
+    looks: Vec<u8>,
     answers: Vec<Vec<u8>>,
 }
 
 impl Plan {
     fn make(alloc: Global) -> Result<Plan, Fail> {
         let script = whole_script(alloc)?;
+        let looks = look_script(alloc)?;
         let answers = all_answers(alloc)?;
-        Ok(Plan { script, answers })
+        Ok(Plan {
+            script,
+            looks,
+            answers,
+        })
     }
 
-    /// The number of lines after which the query is answered so, if there is one.
+    /// The number of lines after which the documents are answered so, if there is one.
     fn lines_before(&self, found: &[u8]) -> Option<usize> {
         for (lines, answer) in self.answers.iter().enumerate() {
             if answer.as_slice() == found {
@@ -100,7 +131,7 @@ fn run_lines<D: Disk>(alloc: Global, plan: &Plan, disk: &mut D) -> Result<(Statu
 
 /// The number of lines after which the documents are those that a run finds.
 fn lines_found<D: Disk>(alloc: Global, plan: &Plan, disk: &mut D) -> Result<Option<usize>, Fail> {
-    let (status, output) = output_over(alloc, disk, QUERY)?;
+    let (status, output) = output_over(alloc, disk, plan.looks.as_slice())?;
     if status != Status::Done {
         return Ok(None);
     }

@@ -184,3 +184,75 @@ fn a_text_of_no_document_is_damage(rt: HostRuntime) -> Result<(), Fail> {
     assert_eq!(rt; written.as_slice(), b"row 1234\nend 1\n".as_slice());
     Ok(())
 }
+
+/// The store of one document `{"id":"a"}`, whose text begins at 36 in the part at 26, and a delta of a term page at 46; with
+/// the byte of this place another one.
+fn spoiled_at(alloc: Global, place: usize) -> Result<MemDisk, Fail> {
+    let mut disk = fresh_disk(alloc)?;
+    let _written = output_over(alloc, &mut disk, b"CREATE {\"id\":\"a\"}\n")?;
+    let mut area = Vec::from_slice(alloc, disk.bytes(Extent::A))?;
+    if let Some(byte) = area.get_mut(place) {
+        *byte = 0xFF;
+    }
+    disk_of(alloc, disk.bytes(Extent::Root), area.as_slice())
+}
+
+// Each line that looks an id up reads the index, and is told its damage, with its place.
+#[test]
+fn damage_of_the_index_is_told(rt: HostRuntime) -> Result<(), Fail> {
+    let alloc = rt.alloc();
+    let damaged = Status::Damaged { extent: 1, at: 46 };
+    for line in [
+        b"READ a".as_slice(),
+        b"CREATE {\"id\":\"b\"}",
+        b"UPSERT {\"id\":\"a\"}",
+        b"REPLACE {\"id\":\"a\"}",
+        b"DELETE a",
+    ] {
+        let mut disk = spoiled_at(alloc, 55)?;
+        let (status, written) = output_over(alloc, &mut disk, line)?;
+        assert_eq!(rt; status, damaged);
+        assert!(rt; written.is_empty());
+    }
+    Ok(())
+}
+
+// A write that needs the tree of the document reads its text, and is told that it is none; READ passes it on.
+#[test]
+fn damage_of_a_text_is_told_by_writes(rt: HostRuntime) -> Result<(), Fail> {
+    let alloc = rt.alloc();
+    let damaged = Status::Damaged { extent: 1, at: 26 };
+    for line in [
+        b"UPSERT {\"id\":\"a\"}".as_slice(),
+        b"REPLACE {\"id\":\"a\"}",
+        b"DELETE a",
+    ] {
+        let mut disk = spoiled_at(alloc, 43)?;
+        let (status, written) = output_over(alloc, &mut disk, line)?;
+        assert_eq!(rt; status, damaged);
+        assert!(rt; written.is_empty());
+    }
+    let mut disk = spoiled_at(alloc, 43)?;
+    let (status, written) = output_over(alloc, &mut disk, b"CREATE {\"id\":\"a\"}\nREAD a\n")?;
+    assert_eq!(rt; status, Status::Done);
+    assert_eq!(rt;
+        written.as_slice(),
+        b"err 7 conflict\ndoc {\"id\":\"\xFF\"}\n".as_slice()
+    );
+    Ok(())
+}
+
+/// A policy of number 1 whose text is none, at 9, and a meta part by which it is the policy now.
+const BAD_POLICY: &[u8] =
+    b"\x01\x1D\x00\x00\x00\x00\x00\x00\x00\x02\x01\x00\x00\x00\x03\x00\x00\x00xyz\x01\x00\x00\x00\x00\x08\x00\x00\x00\x01\x00\x00\x00\x01\x00\x00\x00\x00";
+
+// A store whose policies make no table is not opened.
+#[test]
+fn a_policy_text_that_is_none_is_damage(rt: HostRuntime) -> Result<(), Fail> {
+    let alloc = rt.alloc();
+    let mut disk = disk_of(alloc, ROOT, BAD_POLICY)?;
+    let (status, written) = output_over(alloc, &mut disk, UPSERT)?;
+    assert_eq!(rt; status, Status::Damaged { extent: 1, at: 9 });
+    assert!(rt; written.is_empty());
+    Ok(())
+}
