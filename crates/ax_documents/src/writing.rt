@@ -1,6 +1,6 @@
 //! The writes of documents, and READ.
 
-ghost use Rattle.std.specs.Prelude.{◌≡◌, ◌≤◌, ◌+◌, ◌⊎◌, ℕ, List, Some, IsTrue, IfErr, IfOk, false, option_map, OnOk, None};
+ghost use Rattle.std.specs.Prelude.{◌≡◌, ◌≤◌, ◌+◌, ◌⊎◌, ℕ, List, Some, IsTrue, IfErr, IfOk, false, option_map, OnOk, None, IfSome, true};
 ghost use Rattle.std.specs.FinMap as map;
 ghost use Rattle.ax_container.specs.Container.{Container, contains, tree_of};
 ghost use Rattle.ax_container.specs.Writes.{exchanged, inserted, removed, upserted};
@@ -83,6 +83,8 @@ impl<C: PageCache> Documents<C> {
         ensures none { IsTrue (D.is_honest disk.old) → (before : Container) → (id : List ℕ) → DocumentsHold self.old before
             → document_id tree.now ≡ Some id
             → contains id before ≡ false → steps.new ≡ steps.old }
+        ensures counted { IsTrue (D.is_honest disk.old) → (before : Container) → (id : List ℕ) → DocumentsHold self.old before
+            → document_id tree.now ≡ Some id → contains id before ≡ true → OnOk result (steps.new ≡ steps.old + 1) }
         ensures never_falls { steps.old ≤ steps.new }
         ensures small { OnOk result (IsSmallBatch (D.is_honest disk.old) self.old.table (Some tree.now) (store_contents self.old.store) (store_contents self.new.store)) }
         ensures leaves { WriteLeaves C.pages (D.is_honest disk.old) result self.old.store self.new.store
@@ -126,6 +128,7 @@ impl<C: PageCache> Documents<C> {
         ensures none { IsTrue (D.is_honest disk.old) → (before : Container) → (id : List ℕ) → DocumentsHold self.old before
             → document_id tree.now ≡ Some id
             → contains id before ≡ false → steps.new ≡ steps.old }
+        ensures counted { OnOk result (steps.new ≡ steps.old + 1) }
         ensures never_falls { steps.old ≤ steps.new }
         ensures small { OnOk result (IsSmallBatch (D.is_honest disk.old) self.old.table (Some tree.now) (store_contents self.old.store) (store_contents self.new.store)) }
         ensures leaves { WriteLeaves C.pages (D.is_honest disk.old) result self.old.store self.new.store
@@ -164,6 +167,7 @@ impl<C: PageCache> Documents<C> {
         ensures one { steps.new ≤ steps.old + 1 }
         ensures none { IsTrue (D.is_honest disk.old) → (before : Container) → DocumentsHold self.old before
             → contains id.now before ≡ false → steps.new ≡ steps.old }
+        ensures counted { OnOk result (steps.new ≡ steps.old + 1) }
         ensures never_falls { steps.old ≤ steps.new }
         ensures small { OnOk result (IsSmallBatch (D.is_honest disk.old) self.old.table None (store_contents self.old.store) (store_contents self.new.store)) }
         ensures leaves { WriteLeaves C.pages (D.is_honest disk.old) result self.old.store self.new.store
@@ -206,6 +210,7 @@ impl<C: PageCache> Documents<C> {
         ensures one { steps.new ≤ steps.old + 1 }
         ensures none { IsTrue (D.is_honest disk.old) → (before : Container) → DocumentsHold self.old before
             → contains id.now before ≡ false → steps.new ≡ steps.old }
+        ensures counted { IfOk result (λ found. IfSome found (λ text. steps.new ≡ steps.old + 1)) }
         ensures never_falls { steps.old ≤ steps.new }
         ensures leaves { Looks C.pages (D.is_honest disk.old) result self.old.store self.new.store
             (D.history disk.old (D.attached disk.old)) (D.history disk.new (D.attached disk.new))

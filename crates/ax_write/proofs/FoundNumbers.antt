@@ -105,6 +105,9 @@ module _ (tree : Tree) (before : Container) (own id : List ℕ) (same : own ≡ 
   absent_same : entry_of own before ≡ None → contains id before ≡ false
   absent_same none = ap (λ i. contains i before) (sym same) ∙ id_absent own before none
 
+  pub never_both : entry_of own before ≡ None → contains id before ≡ true → ⊥
+  never_both none held = let absent : contains id before ≡ false = absent_same none in absurd cc
+
   pub conflict_is : (number : ℕ) → Some number ≡ number_in own before → inserted id tree before ≡ Err Conflict
   conflict_is number is =
       let there = number_there own before number is in

@@ -1,4 +1,4 @@
--- The fronts of batches may follow contents, and leave the term pages as they are; and no part of them is a delta.
+-- The fronts of batches may follow contents, and leave the term pages as they are.
 use Rattle.std.proofs.Common.{◌≡◌, ℕ, ◌+◌, ◌-◌, ◌<◌, ◌^◌, Bool, true, false, [], Some, None, refl, ap, ◌∙◌}
 use Rattle.std.specs.Prelude.{option_and_then, if◌then◌else◌, ◌&&◌, ◌||◌, nat_lt, not}
 use Rattle.std.specs.FinMap as finite
@@ -6,7 +6,6 @@ use Rattle.std.proofs.lemmas.Bool.{lt-ltb}
 use Rattle.ax_area.specs.Changes as change
 use Rattle.ax_area.specs.Contents.{Contents, after_changes, has_room, is_given, may_follow, with_change}
 use Rattle.ax_image.specs.WriteChanges.{creating_changes, deleting_changes, document_change, meta_change, replacing_changes}
-use Rattle.ax_index.specs.Plans.{HasNoDeltas}
 use Rattle.ax_pages.specs.AfterPart.{most_documents}
 use Rattle.ax_tree.specs.declared.tree.Tree.{Tree}
 use Rattle.ax_write.specs.Batches.{creating_parts, deleting_parts, replacing_parts}
@@ -74,12 +73,3 @@ deleting_beside number contents some = record {
   lead = said_leads (deleting_parts number) (deleting_changes number) contents (deleting_said number some);
   same = refl;
 }
-
-pub no_delta_replacing : (number policy : ℕ) (tree : Tree) → HasNoDeltas (replacing_parts number policy tree)
-no_delta_replacing number policy tree n = refl
-
-pub no_delta_creating : (number policy : ℕ) (tree : Tree) → HasNoDeltas (creating_parts number policy tree)
-no_delta_creating number policy tree n = refl
-
-pub no_delta_deleting : (number : ℕ) → HasNoDeltas (deleting_parts number)
-no_delta_deleting number n = refl

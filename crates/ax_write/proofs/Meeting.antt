@@ -67,6 +67,14 @@ module _ (ids : List (List ℕ × ℕ)) (id : List ℕ) (contents : Contents) (a
             (not_there (finite.get mid.documents number) (subst (IsHeld (finite.get mid.documents number)) none is)));
       })
 
+-- what is read over the same contents is held in them
+pub held_still : (contents mid : Contents) (number : ℕ) → mid ≡ contents → (read : Option HeldDocument)
+    → IsHeld (finite.get mid.documents number) read → (held : HeldDocument) → read ≡ Some held
+    → IsHeld (finite.get contents.documents number) (Some held)
+held_still contents mid number still read is held there =
+    subst (λ (c : Contents). IsHeld (finite.get c.documents number) (Some held)) still
+    (subst (IsHeld (finite.get mid.documents number)) there is)
+
 -- ---- what a write has met
 
 module _ (ids : List (List ℕ × ℕ)) (own id : List ℕ) (contents : Contents) (same : own ≡ id) where

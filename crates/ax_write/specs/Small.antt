@@ -1,14 +1,16 @@
 -- What a write puts into the index, in its one batch: little, whatever the store holds.
 -- It is this project's own; it comes from no public document.
-use Rattle.std.specs.Prelude.{◌≡◌, ℕ, Bool, List, Option, Some}
-use Rattle.ax_area.specs.Contents.{Contents}
+use Rattle.std.specs.Prelude.{◌≡◌, ℕ, Bool, List, [], Option, None, Some, IsTrue}
+use Rattle.std.specs.FinMap as finite
+use Rattle.ax_area.specs.Contents.{Contents, Stored}
 use Rattle.ax_area.specs.Parts.{after_parts}
 use Rattle.ax_delta.specs.declared.change.Change.{Change}
 use Rattle.ax_frame.specs.Part.{PartValue}
-use Rattle.ax_index.specs.Plans.{HasNoDeltas, IsPlan}
+use Rattle.ax_index.specs.Plans.{IsPlan}
+use Rattle.ax_lines.specs.StoredTexts.{IsStoredText}
 use Rattle.ax_policy.specs.Table.{Table}
 use Rattle.ax_tree.specs.declared.tree.Tree.{Tree}
-use Rattle.ax_write.specs.Committed.{LeaveTerms}
+use Rattle.ax_write.specs.Batches.{creating_parts, deleting_parts, replacing_parts}
 use Rattle.ax_write.specs.Exchanged.{IsExchanged}
 
 -- parts that were committed behind those in front: a plan of the changes of the index
@@ -18,15 +20,28 @@ pub record IsPlanned (honest : Bool) (changes : List Change) (front : List PartV
   pub plan : IsPlan honest changes merged front parts before.terms
   pub committed : after_parts parts before ≡ Some after
 
--- In one batch: in front the parts of the document, none of a term page, and behind them a plan of exactly the changes by which
+-- the parts by which the document of a number is created, gets another tree, or is deleted
+abbrev pub front_parts : ℕ → ℕ → Option Tree → Option Tree → List PartValue
+front_parts number now None None = []
+front_parts number now None (Some new) = creating_parts number now new
+front_parts number now (Some old) (Some new) = replacing_parts number now new
+front_parts number now (Some old) None = deleting_parts number
+
+-- There was no document, and the number is the next one; or the document of the number was stored under that policy, and over
+-- an honest disk its text was that of the tree.
+abbrev pub IsWas : Bool → Contents → ℕ → ℕ → Option Tree → Type 0
+IsWas honest before number policy None = (number ≡ before.next_number) × (finite.get before.documents number ≡ None)
+IsWas honest before number policy (Some old) =
+    (stored : Stored) × (finite.get before.documents number ≡ Some stored) × (policy ≡ stored.policy)
+    × (IsTrue honest → IsStoredText stored.text old)
+
+-- In one batch: in front exactly the parts of the document, and behind them a plan of exactly the changes by which
 -- the pairs of the document as it was go out of the index and those of it as it is to be come in.
 pub record IsSmallBatch (honest : Bool) (table : Table) (new : Option Tree) (before after : Contents) : Type 0 where
   pub number : ℕ
   pub policy : ℕ
   pub old : Option Tree
+  pub was : IsWas honest before number policy old
   pub changes : List Change
   pub exchanged : IsExchanged table number policy old table.current new changes
-  pub front : List PartValue
-  pub beside : LeaveTerms front before
-  pub none : HasNoDeltas front
-  pub planned : IsPlanned honest changes front before after
+  pub planned : IsPlanned honest changes (front_parts number table.current old new) before after

@@ -26,7 +26,7 @@ use Rattle.ax_store.specs.declared.fault.StoreFault.TheVariants as store_fault
 use Rattle.ax_store.specs.declared.store.Store.{Store}
 use Rattle.ax_tree.specs.declared.tree.Tree.{Tree}
 use Rattle.ax_write.specs.Committed.{IdlesUnlessDisk}
-use Rattle.ax_write.specs.Held.{HasNone, IsPlaced}
+use Rattle.ax_write.specs.Held.{HasNone, IsHeld, IsPlaced}
 use Rattle.ax_write.specs.LookedUp.{TellsIndex}
 use Rattle.ax_write.specs.declared.fault.WriteFault.{WriteFault}
 use Rattle.ax_write.specs.declared.fault.WriteFault.TheVariants as fault
@@ -129,6 +129,10 @@ pub record IsHeldAs (contents : Contents) (found : FoundDocument) : Type 0 where
   pub stored : Stored
   pub held : finite.get contents.documents found.number ≡ Some stored
   pub policy : found.document.policy ≡ stored.policy
+
+-- its text is that of the document, where the disk is to be trusted
+abbrev pub IsTextHeld : Contents → FoundDocument → Type 0
+IsTextHeld contents found = IsHeld (finite.get contents.documents found.number) (Some found.document)
 
 -- ---- what calls leave
 

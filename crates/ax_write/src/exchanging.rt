@@ -12,7 +12,7 @@ ghost use Rattle.ax_table.specs.TableAgrees.{ArePolicies, TableAgrees};
 ghost use Rattle.ax_tree.specs.Document.{document_id};
 ghost use Rattle.ax_write.specs.Exchanged.{IsExchanged};
 ghost use Rattle.ax_write.specs.Small.{IsSmallBatch};
-ghost use Rattle.ax_write.specs.Writes.{HoldsAll, IsFoundIn, IsHeldAs, IsOfStore, TellsWrite, WriteLeaves};
+ghost use Rattle.ax_write.specs.Writes.{HoldsAll, IsFoundIn, IsHeldAs, IsOfStore, IsTextHeld, TellsWrite, WriteLeaves};
 
 use crate::batches::{deleting, replacing};
 use crate::commit::plan_and_commit;
@@ -41,6 +41,7 @@ pub(crate) fn replace_held<D: Disk, C: PageCache>(
     requires storable { IsStorable tree.now }
     requires was { IsStorable found.now.document.tree }
     requires held { IsHeldAs (store_contents store.old) found.now }
+    requires text { IsTrue (D.is_honest disk.old) → IsTextHeld (store_contents store.old) found.now }
     requires some { 0 < found.now.number }
     requires free { 2 ≤ free_count (store_slots store.old) }
     requires agrees { AgreesUnlessFailed C.pages (D.is_honest disk.old) store.old (D.history disk.old (D.attached disk.old)) }
@@ -88,6 +89,7 @@ pub(crate) fn delete_held<D: Disk, C: PageCache>(
 ) -> Result<(), WriteFault>
     requires was { IsStorable found.now.document.tree }
     requires held { IsHeldAs (store_contents store.old) found.now }
+    requires text { IsTrue (D.is_honest disk.old) → IsTextHeld (store_contents store.old) found.now }
     requires some { 0 < found.now.number }
     requires free { 2 ≤ free_count (store_slots store.old) }
     requires agrees { AgreesUnlessFailed C.pages (D.is_honest disk.old) store.old (D.history disk.old (D.attached disk.old)) }

@@ -7,7 +7,7 @@ ghost use Rattle.ax_lines.specs.Asked.{IsStorable};
 ghost use Rattle.ax_pool.specs.Frames.{free_count};
 ghost use Rattle.ax_store.specs.Store.{AgreesUnlessFailed, store_contents, store_slots};
 ghost use Rattle.ax_image_pairs.specs.Found.{number_in};
-ghost use Rattle.ax_write.specs.Writes.{Finds, HoldsAll, IsFoundIn, IsHeldAs, IsLookedUp, Looks};
+ghost use Rattle.ax_write.specs.Writes.{Finds, HoldsAll, IsFoundIn, IsHeldAs, IsLookedUp, IsTextHeld, Looks};
 
 use crate::held::{HeldDocument, held};
 use ax_base::Steps;
@@ -99,6 +99,8 @@ pub(crate) fn find_held<D: Disk, C: PageCache, L: Ledger>(
     ensures one { steps.new ≤ steps.old + 1 }
     ensures none { IsTrue (D.is_honest disk.old) → (before : Container) → HoldsAll store.old ids.old before
         → contains id.now before ≡ false → steps.new ≡ steps.old }
+    ensures counted { IfOk result (λ found. IfSome found (λ found. steps.new ≡ steps.old + 1)) }
+    ensures text { IsTrue (D.is_honest disk.old) → IfOk result (λ found. IfSome found (IsTextHeld (store_contents store.old))) }
     ensures never_falls { steps.old ≤ steps.new }
     ensures leaves { Looks C.pages (D.is_honest disk.old) result store.old store.new
         (D.history disk.old (D.attached disk.old)) (D.history disk.new (D.attached disk.new))

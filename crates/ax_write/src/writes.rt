@@ -94,6 +94,8 @@ pub fn upsert<D: Disk, C: PageCache, L: Ledger>(
     ensures one { steps.new ≤ steps.old + 1 }
     ensures none { IsTrue (D.is_honest disk.old) → (before : Container) → (id : List ℕ) → HoldsAll store.old ids.old before
         → document_id tree.now ≡ Some id → contains id before ≡ false → steps.new ≡ steps.old }
+    ensures counted { IsTrue (D.is_honest disk.old) → (before : Container) → (id : List ℕ) → HoldsAll store.old ids.old before
+        → document_id tree.now ≡ Some id → contains id before ≡ true → OnOk result (steps.new ≡ steps.old + 1) }
     ensures never_falls { steps.old ≤ steps.new }
     ensures small { OnOk result (IsSmallBatch (D.is_honest disk.old) table.old (Some tree.now) (store_contents store.old) (store_contents store.new)) }
     ensures leaves { WriteLeaves C.pages (D.is_honest disk.old) result store.old store.new
@@ -144,6 +146,7 @@ pub fn replace<D: Disk, C: PageCache, L: Ledger>(
     ensures one { steps.new ≤ steps.old + 1 }
     ensures none { IsTrue (D.is_honest disk.old) → (before : Container) → (id : List ℕ) → HoldsAll store.old ids.old before
         → document_id tree.now ≡ Some id → contains id before ≡ false → steps.new ≡ steps.old }
+    ensures counted { OnOk result (steps.new ≡ steps.old + 1) }
     ensures never_falls { steps.old ≤ steps.new }
     ensures small { OnOk result (IsSmallBatch (D.is_honest disk.old) table.old (Some tree.now) (store_contents store.old) (store_contents store.new)) }
     ensures leaves { WriteLeaves C.pages (D.is_honest disk.old) result store.old store.new
@@ -191,6 +194,7 @@ pub fn delete<D: Disk, C: PageCache, L: Ledger>(
     ensures one { steps.new ≤ steps.old + 1 }
     ensures none { IsTrue (D.is_honest disk.old) → (before : Container) → HoldsAll store.old ids.old before
         → contains id.now before ≡ false → steps.new ≡ steps.old }
+    ensures counted { OnOk result (steps.new ≡ steps.old + 1) }
     ensures never_falls { steps.old ≤ steps.new }
     ensures small { OnOk result (IsSmallBatch (D.is_honest disk.old) table.old None (store_contents store.old) (store_contents store.new)) }
     ensures leaves { WriteLeaves C.pages (D.is_honest disk.old) result store.old store.new

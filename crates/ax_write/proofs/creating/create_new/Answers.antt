@@ -1,5 +1,6 @@
 -- A creation is refused, or its changes are committed with those of the index behind them.
 use Rattle.std.proofs.Common.{◌≡◌, false, None, Some, Ok, Err, refl, sym, ap, subst, ◌∙◌, arith}
+use Rattle.std.specs.FinMap as finite
 use Rattle.ax_area.specs.Parts.{changes_said}
 use Rattle.ax_container.specs.Writes.{created, creation}
 use Rattle.ax_image.proofs.ReadableWrites.{creating_readable}
@@ -11,7 +12,6 @@ use Rattle.ax_write.specs.Committed.{LeaveTerms}
 use Rattle.ax_write.specs.Exchanged.{IsExchanged}
 use Rattle.ax_write.specs.Full.{is_full_of}
 use Rattle.ax_write.proofs.Fullness.{can_create, creates, full_same, never_full, refuses}
-use Rattle.ax_write.proofs.Fronts.{no_delta_creating}
 use Rattle.ax_write.proofs.Numbered.{recent_created}
 use Rattle.ax_write.proofs.Owned.{created_carries}
 use Rattle.ax_write.proofs.Saying.{creating_said}
@@ -115,10 +115,10 @@ returns-in-Ok-plan_and_commit-clause-small g c =
     let tree = c.args.tree.now in
     let number = c.meta-number.result.next in
     let now = c.now-now.result in
-    small_batch _ table number table.current None (Some tree) _ _ _ _ contents _ c.in-Ok-created_pairs.ensures c.as_slice.ensures.value c.in-Ok.ensures
-    (create_beside _ table contents c.requires.table refl now c.now-now.ensures.current number tree
-    (can_create contents (sym c.is_full.ensures ∙ c.if-is_full.false)) c.meta-number.ensures.next (omega (arith)))
-    (no_delta_creating number now tree) c.in-Ok-plan_and_commit.ensures.planned
+    let can = can_create contents (sym c.is_full.ensures ∙ c.if-is_full.false) in
+    let next = c.meta-number.ensures.next in
+    small_batch _ table number table.current now None (Some tree) _ _ _ contents _ (next, ap (finite.get contents.documents) next ∙ can.none)
+    c.in-Ok-created_pairs.ensures c.as_slice.ensures.value c.now-now.ensures.current c.in-Ok.ensures c.in-Ok-plan_and_commit.ensures.planned
 
 pub returns-in-Ok-plan_and_commit-clause-leaves : goal.returns-in-Ok-plan_and_commit-clause-leaves
 returns-in-Ok-plan_and_commit-clause-leaves g c =

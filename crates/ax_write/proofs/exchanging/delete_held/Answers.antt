@@ -8,11 +8,11 @@ use Rattle.ax_store.proofs.StoreLemmas.{agrees_says}
 use Rattle.ax_store.specs.Store.{store_contents}
 use Rattle.ax_write.specs.Committed.{LeaveTerms}
 use Rattle.ax_write.specs.Exchanged.{IsExchanged}
-use Rattle.ax_write.proofs.Fronts.{deleting_beside, no_delta_deleting}
+use Rattle.ax_write.proofs.Fronts.{deleting_beside}
 use Rattle.ax_write.proofs.Numbered.{recent_deleted}
 use Rattle.ax_write.proofs.Owned.{deleted_carries}
 use Rattle.ax_write.proofs.Saying.{deleting_said}
-use Rattle.ax_write.proofs.Smallness.{small_batch}
+use Rattle.ax_write.proofs.Smallness.{small_batch, was_held}
 use Rattle.ax_write.proofs.Tables.{is_known, is_used, table_deleted}
 use Rattle.ax_write.proofs.Writing.{left_behind, still, told_made, told_unmade}
 use Rattle.ax_write.proofs.exchanging.delete_held.Goals as goal
@@ -83,8 +83,8 @@ returns-in-Ok-plan_and_commit-clause-small g c =
     let contents = store_contents c.args.store.now in
     let table = c.args.table.now in
     let found = c.args.found.now in
-    small_batch _ table found.number found.document.policy (Some found.document.tree) None _ _ _ _ contents _ c.in-Ok-deleted_pairs.ensures
-    c.as_slice.ensures.value c.in-Ok.ensures (deleting_beside found.number contents c.requires.some) (no_delta_deleting found.number)
+    small_batch _ table found.number found.document.policy table.current (Some found.document.tree) None _ _ _ contents _
+    (was_held _ contents found c.requires.held c.requires.text) c.in-Ok-deleted_pairs.ensures c.as_slice.ensures.value refl c.in-Ok.ensures
     c.in-Ok-plan_and_commit.ensures.planned
 
 pub returns-in-Ok-plan_and_commit-clause-leaves : goal.returns-in-Ok-plan_and_commit-clause-leaves

@@ -8,11 +8,10 @@ use Rattle.ax_store.proofs.StoreLemmas.{agrees_says}
 use Rattle.ax_store.specs.Store.{store_contents}
 use Rattle.ax_write.specs.Committed.{LeaveTerms}
 use Rattle.ax_write.specs.Exchanged.{IsExchanged}
-use Rattle.ax_write.proofs.Fronts.{no_delta_replacing}
 use Rattle.ax_write.proofs.Numbered.{recent_replaced}
 use Rattle.ax_write.proofs.Owned.{replaced_carries}
 use Rattle.ax_write.proofs.Saying.{replacing_said}
-use Rattle.ax_write.proofs.Smallness.{small_batch}
+use Rattle.ax_write.proofs.Smallness.{small_batch, was_held}
 use Rattle.ax_write.proofs.Tables.{is_known, is_used, replace_beside, room_for, table_replaced}
 use Rattle.ax_write.proofs.Writing.{left_behind, still, told_made, told_unmade}
 use Rattle.ax_write.proofs.exchanging.replace_held.Goals as goal
@@ -94,10 +93,9 @@ returns-in-Ok-plan_and_commit-clause-small g c =
     let found = c.args.found.now in
     let tree = c.args.tree.now in
     let now = c.now-now.result in
-    small_batch _ table found.number found.document.policy (Some found.document.tree) (Some tree) _ _ _ _ contents _
-    c.in-Ok-replaced_pairs.ensures c.as_slice.ensures.value c.in-Ok.ensures
-    (replace_beside _ table contents c.requires.table refl now c.now-now.ensures.current found c.requires.held tree c.requires.some)
-    (no_delta_replacing found.number now tree) c.in-Ok-plan_and_commit.ensures.planned
+    small_batch _ table found.number found.document.policy now (Some found.document.tree) (Some tree) _ _ _ contents _
+    (was_held _ contents found c.requires.held c.requires.text) c.in-Ok-replaced_pairs.ensures c.as_slice.ensures.value c.now-now.ensures.current
+    c.in-Ok.ensures c.in-Ok-plan_and_commit.ensures.planned
 
 pub returns-in-Ok-plan_and_commit-clause-leaves : goal.returns-in-Ok-plan_and_commit-clause-leaves
 returns-in-Ok-plan_and_commit-clause-leaves g c =

@@ -4,7 +4,7 @@ use Rattle.std.specs.Prelude.{IsTrue}
 use Rattle.ax_index.proofs.Unmoved.{same_contents}
 use Rattle.ax_store.specs.Store.{store_contents}
 use Rattle.ax_write.proofs.FoundNumbers.{found_under, holds_still, never_absent, one_under, zero_absent}
-use Rattle.ax_write.proofs.Meeting.{finds_held, finds_none, finds_unheld, finds_zero}
+use Rattle.ax_write.proofs.Meeting.{finds_held, finds_none, finds_unheld, finds_zero, held_still}
 use Rattle.ax_write.proofs.finding.find_held.Goals as goal
 
 pub returns-in-Ok-None-clause-met : goal.returns-in-Ok-None-clause-met
@@ -33,6 +33,13 @@ pub returns-in-Ok-Some-held-clause-met : goal.returns-in-Ok-Some-held-clause-met
 returns-in-Ok-Some-held-clause-met g c = λ honest.
     finds_held c.args.ids.now c.args.id.now (store_contents c.args.store.now) c.in-Ok-Some.field-0 (c.in-Ok-Some.ensures.met honest)
     c.in-Ok-Some.number c.in-Ok-Some.field-0-is (store_contents c.find_number.new.store)
+    (same_contents c.args.store.now c.find_number.new.store c.in-Ok-Some.ensures.leaves.reads.same.same) c.in-Ok-Some-held.field-0
+    (c.in-Ok-Some-held.ensures.held (subst IsTrue (sym c.find_number.ensures.honest) honest)) c.in-Ok-Some-held.document
+    c.in-Ok-Some-held.field-0-is
+
+pub returns-in-Ok-Some-held-clause-text : goal.returns-in-Ok-Some-held-clause-text
+returns-in-Ok-Some-held-clause-text g c = λ honest.
+    held_still (store_contents c.args.store.now) (store_contents c.find_number.new.store) c.in-Ok-Some.number
     (same_contents c.args.store.now c.find_number.new.store c.in-Ok-Some.ensures.leaves.reads.same.same) c.in-Ok-Some-held.field-0
     (c.in-Ok-Some-held.ensures.held (subst IsTrue (sym c.find_number.ensures.honest) honest)) c.in-Ok-Some-held.document
     c.in-Ok-Some-held.field-0-is

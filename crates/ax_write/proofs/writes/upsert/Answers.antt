@@ -2,7 +2,7 @@
 use Rattle.std.proofs.Common.{Ok, sym, subst, ◌∙◌}
 use Rattle.std.specs.Prelude.{IsTrue}
 use Rattle.ax_container.specs.Writes.{creation, replaced, upserted}
-use Rattle.ax_write.proofs.FoundNumbers.{found_is, none_is, own_document, own_id, upsert_is, upsert_replaces}
+use Rattle.ax_write.proofs.FoundNumbers.{found_is, never_both, none_is, own_document, own_id, upsert_is, upsert_replaces}
 use Rattle.ax_store.specs.Store.{store_contents}
 use Rattle.ax_write.proofs.Meeting.{meets_exchanged, meets_new}
 use Rattle.ax_write.proofs.Passing.{leaves_failed, leaves_then, tells_failed, tells_then}
@@ -60,6 +60,14 @@ returns-in-Ok-None-clause-met g c = λ honest id document.
     let same = own_id c.args.tree.now c.in-Some.id.now own id c.in-Some.ensures (c.as_bytes-id.ensures.value ∙ c.as_str.ensures.text) document in
     meets_new c.args.ids.now own id (store_contents c.args.store.now) same c.in-Ok-None.field-0 (c.in-Ok-None.ensures.met honest)
     c.in-Ok-None.field-0-is c.create_new.result c.create_new.ensures.only
+
+pub returns-in-Ok-None-clause-counted : goal.returns-in-Ok-None-clause-counted
+returns-in-Ok-None-clause-counted g c = λ honest before id holds document held.
+    let tree = c.args.tree.now in
+    let own = c.as_bytes-id.result.now in
+    let same = own_id tree c.in-Some.id.now own id c.in-Some.ensures (c.as_bytes-id.ensures.value ∙ c.as_str.ensures.text) document in
+    absurd (never_both tree before own id same
+    (none_is own before c.in-Ok-None.field-0 c.in-Ok-None.field-0-is (c.in-Ok-None.ensures.found honest before holds)) held)
 
 pub returns-in-Ok-None-clause-leaves : goal.returns-in-Ok-None-clause-leaves
 returns-in-Ok-None-clause-leaves g c =
