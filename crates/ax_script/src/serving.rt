@@ -31,8 +31,8 @@ use std::sync::ledger::Ledger;
 /// only where one on the sink failed in this call. Over an honest disk damage comes only
 /// where the text of a document is none that a document can have, or a part of the index is outside its grammar, with the
 /// place of its part, and so never over documents that are those of a container with their index. A fault that the engine has afterwards is the error.
-/// What is written at `Ok` is a reply that the line may have, whatever the documents are; a line that is
-/// judged at once (it is too long, none of the forms, or has a bad id) is told its refusal, whatever memory there is.
+/// What is written at `Ok` is a reply that the line may have, whatever the documents are; a line that is judged at
+/// once (it is too long, none of the forms, or a `READ` or `DELETE` with a bad id) is told its refusal, whatever memory there is.
 pub fn serve_line<D: Disk, C: PageCache, K: Sink, L: Ledger>(
     alloc: Global,
     engine: &mut Engine<C>,
