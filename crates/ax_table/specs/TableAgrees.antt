@@ -1,5 +1,6 @@
 -- When a table of policies agrees with the contents of a store: the policy now has the same number in both, each
--- number that is in use or now has a policy in the table, where the disk is to be trusted a policy that the table has is
+-- number that is in use or now has a policy in the table, no two of which are equal, and no other number but those that parts
+-- gave and 0 has one; where the disk is to be trusted a policy that the table has is
 -- the one of the text that its number has, and each count is that of the documents under that number.
 -- It is this project's own; it comes from no public document.
 use Rattle.std.specs.Prelude.{◌≡◌, ◌≤◌, ℕ, ◌==◌, Bool, true, count_by, Some, IsSome, IsTrue}
@@ -31,6 +32,10 @@ pub record TableAgrees (honest : Bool) (table : Table) (contents : Contents) : T
   pub given : is_given contents.policy_now contents ≡ true
   pub known : (number : ℕ) → IsTaken number contents → IsSome (policy_at table number)
   pub policies : ArePolicies table
+  -- no two of them are equal
+  pub apart : AreApart table
+  -- a part gave each number that has a policy, or it is number 0
+  pub only_given : (number : ℕ) (policy : Policy) → policy_at table number ≡ Some policy → is_given number contents ≡ true
   pub texts : IsTrue honest → (number : ℕ) (policy : Policy) → policy_at table number ≡ Some policy
       → IsTextOf (policy_text number contents) policy
   pub counts : (number : ℕ) → count_at table number ≡ documents_under number contents
