@@ -1,7 +1,7 @@
 -- A table that agrees with the contents agrees with them after a write of a document, where its counts follow.
-use Rattle.std.proofs.Common.{◌≡◌, inl, inr, ⊎_elim, ℕ, ◌+◌, ◌-◌, ◌<◌, ◌≤◌, ◌==◌, Bool, cond, List, length, Some, None, refl, sym, ap, subst, ◌∙◌, arith}
-use Rattle.std.specs.Prelude.{IsSome, is_some}
-use Rattle.std.proofs.lemmas.Bool.{cases_eq, eq-eqb, eqb-true, false_from_ne_true}
+use Rattle.std.proofs.Common.{◌≡◌, inl, inr, ◌⊎◌, ⊎_elim, ℕ, ◌+◌, ◌-◌, ◌<◌, ◌≤◌, ◌==◌, Bool, true, cond, List, length, Some, None, refl, sym, ap, subst, ◌∙◌, arith}
+use Rattle.std.specs.Prelude.{IsSome, is_some, nat_lt}
+use Rattle.std.proofs.lemmas.Bool.{cases_eq, eq-eqb, eqb-true, false_from_ne_true, lt-ltb, ltb-true, or_cases, or_left, or_right}
 use Rattle.std.proofs.lemmas.List.Sums.{count_by-le-length}
 use Rattle.std.specs.Cmp.{nat_cmp_total}
 use Rattle.std.specs.FinMap as map
@@ -13,6 +13,7 @@ use Rattle.ax_image_grammar.specs.Table.{IsTaken, policy_text}
 use Rattle.ax_pages.proofs.LastPart.{get_inserted, get_not_inserted, get_not_removed, get_removed}
 use Rattle.ax_pages.specs.AfterPart.{most_documents}
 use Rattle.ax_policy.specs.Table.{SetsCount, Table, count_at, policy_at}
+use Rattle.ax_policy.specs.Table.{is_taken as is_taken_in}
 use Rattle.ax_table.specs.TableAgrees.{TableAgrees, documents_under}
 use Rattle.ax_table.proofs.Counting.{count, count_insert, count_remove}
 
@@ -59,15 +60,19 @@ one_more number old new sets n =
 abbrev under : ℕ → Stored → Bool
 under n document = document.policy == n
 
+-- a document that is held counts
+pub counts_held : (contents : Contents) (number : ℕ) (old : Stored) → map.get contents.documents number ≡ Some old
+    → 0 < documents_under old.policy contents
+counts_held contents number old held =
+    let counted : count (under old.policy) (map.entries (map.remove contents.documents number)) + bit (old.policy == old.policy)
+    ≡ documents_under old.policy contents = count_remove (under old.policy) contents.documents number old held in
+    let one : bit (old.policy == old.policy) ≡ 1 = test_true old.policy old.policy refl in
+    omega arith
+
 module _ (honest : Bool) (table : Table) (contents : Contents) (agrees : TableAgrees honest table contents) where
   -- a document that is held is counted
   pub is_counted : (number : ℕ) (old : Stored) → map.get contents.documents number ≡ Some old → 0 < count_at table old.policy
-  is_counted number old held =
-      let counted : count (under old.policy) (map.entries (map.remove contents.documents number)) + bit (old.policy == old.policy)
-      ≡ count (under old.policy) (map.entries contents.documents) = count_remove (under old.policy) contents.documents number old held in
-      let one : bit (old.policy == old.policy) ≡ 1 = test_true old.policy old.policy refl in
-      let all : count_at table old.policy ≡ count (under old.policy) (map.entries contents.documents) = agrees.counts old.policy in
-      omega arith
+  is_counted number old held = subst (λ n. 0 < n) (sym (agrees.counts old.policy)) (counts_held contents number old held)
 
   -- and its number is in use
   pub is_taken : (number : ℕ) (old : Stored) → map.get contents.documents number ≡ Some old → IsTaken old.policy contents
@@ -75,23 +80,36 @@ module _ (honest : Bool) (table : Table) (contents : Contents) (agrees : TableAg
 
   module _ (after : Table) (new : Contents) (now : new.policy_now ≡ contents.policy_now) (policies : new.policies ≡ contents.policies)
       (current : after.current ≡ table.current) (there : (n : ℕ) → policy_at after n ≡ policy_at table n) where
-    still : ((n : ℕ) → IsTaken n new → IsTaken n contents) → ((n : ℕ) → count_at after n ≡ documents_under n new)
-        → map.len new.documents ≤ most_documents → TableAgrees honest after new
-    still taken counts few = record {
+    still : ((n : ℕ) → IsTaken n new → IsTaken n contents) → ((n : ℕ) → 0 < count_at after n → (0 < count_at table n) ⊎ (n ≡ table.current))
+        → ((n : ℕ) → count_at after n ≡ documents_under n new) → map.len new.documents ≤ most_documents → TableAgrees honest after new
+    still taken used counts few = record {
       now = current ∙ agrees.now ∙ sym now;
-      given = same_given ∙ agrees.given;
+      given = ap (λ n. is_given n new) now ∙ same_given contents.policy_now ∙ agrees.given;
       known = λ n is. subst IsSome (sym (there n)) (agrees.known n (taken n is));
       policies = λ n policy is. agrees.policies n policy (sym (there n) ∙ is);
+      apart = λ a b policy other fa fb ta tb ia ib same.
+          agrees.apart a b policy other fa fb (taken_before a ta) (taken_before b tb) (sym (there a) ∙ ia) (sym (there b) ∙ ib) same;
+      only_given = λ n policy is. same_given n ∙ agrees.only_given n policy (sym (there n) ∙ is);
       texts = λ h n policy is.
           subst (λ text. IsTextOf text policy) (sym (same_text n)) (agrees.texts h n policy (sym (there n) ∙ is));
       counts = counts;
       few = few;
     }
       where
-        same_given : is_given new.policy_now new ≡ is_given contents.policy_now contents
-        same_given =
-            ap (λ (p : map.FinMap nat_cmp (List ℕ)). is_given new.policy_now (record contents { policies = p })) policies
-            ∙ ap (λ n. is_given n contents) now
+        same_given : (n : ℕ) → is_given n new ≡ is_given n contents
+        same_given n = ap (λ (p : map.FinMap nat_cmp (List ℕ)). is_given n (record contents { policies = p })) policies
+
+        -- no other number comes into use in the table
+        taken_before : (n : ℕ) → is_taken_in after n ≡ true → is_taken_in table n ≡ true
+        taken_before n taken_after =
+            ⊎_elim
+            (λ (some : nat_lt 0 (count_at after n) ≡ true).
+            ⊎_elim (λ (had : 0 < count_at table n). or_left (nat_lt 0 (count_at table n)) (n == table.current) (lt-ltb 0 (count_at table n) had))
+            (λ (is : n ≡ table.current). or_right (nat_lt 0 (count_at table n)) (n == table.current) (eq-eqb n table.current is))
+            (used n (ltb-true 0 (count_at after n) some)))
+            (λ (is : (n == after.current) ≡ true).
+            or_right (nat_lt 0 (count_at table n)) (n == table.current) (eq-eqb n table.current (eqb-true n after.current is ∙ current)))
+            (or_cases (nat_lt 0 (count_at after n)) (n == after.current) taken_after)
 
         same_text : (n : ℕ) → policy_text n new ≡ policy_text n contents
         same_text n = ap (λ (p : map.FinMap nat_cmp (List ℕ)). policy_text n (record contents { policies = p })) policies
@@ -167,10 +185,19 @@ module _ (honest : Bool) (table : Table) (contents new : Contents) (agrees : Tab
       → TableAgrees honest after new
   agrees_replaced mid after number old made held put under_now out into =
       still honest table contents agrees after new now policies (into.current ∙ out.current) (λ n. into.policies n ∙ out.policies n)
-      (put_taken number made put under_now) counts few
+      (put_taken number made put under_now) used counts few
     where
       some : 0 < count_at table old.policy
       some = is_counted honest table contents agrees number old held
+
+      used : (n : ℕ) → 0 < count_at after n → (0 < count_at table n) ⊎ (n ≡ table.current)
+      used n is =
+          ⊎_elim (λ (now_too : n ≡ table.current). inr now_too)
+          (λ (apart : n ≡ table.current → ⊥).
+          let less : count_at mid n + bit (old.policy == n) ≡ count_at table n = one_less old.policy table mid out some n in
+          let there : count_at after n ≡ count_at mid n = into.others n apart in
+          inl (omega (arith, is, less, there)))
+          (cases_eq n table.current)
 
       counts : (n : ℕ) → count_at after n ≡ documents_under n new
       counts n =
@@ -197,8 +224,13 @@ module _ (honest : Bool) (table : Table) (contents new : Contents) (agrees : Tab
       → new.documents ≡ map.insert contents.documents number made → made.policy ≡ contents.policy_now
       → SetsCount table.current (count_at table table.current + 1) table after → TableAgrees honest after new
   agrees_created after number made none room put under_now into =
-      still honest table contents agrees after new now policies into.current into.policies (put_taken number made put under_now) counts few
+      still honest table contents agrees after new now policies into.current into.policies (put_taken number made put under_now) used counts few
     where
+      used : (n : ℕ) → 0 < count_at after n → (0 < count_at table n) ⊎ (n ≡ table.current)
+      used n is =
+          ⊎_elim (λ (now_too : n ≡ table.current). inr now_too)
+          (λ (apart : n ≡ table.current → ⊥). inl (subst (λ m. 0 < m) (into.others n apart) is)) (cases_eq n table.current)
+
       counts : (n : ℕ) → count_at after n ≡ documents_under n new
       counts n =
           let moved : count (under n) (map.entries (map.insert contents.documents number made)) + 0
@@ -222,8 +254,14 @@ module _ (honest : Bool) (table : Table) (contents new : Contents) (agrees : Tab
       → new.documents ≡ map.remove contents.documents number
       → SetsCount old.policy (count_at table old.policy - 1) table after → TableAgrees honest after new
   agrees_deleted after number old held gone out =
-      still honest table contents agrees after new now policies out.current out.policies (gone_taken number gone) counts few
+      still honest table contents agrees after new now policies out.current out.policies (gone_taken number gone) used counts few
     where
+      used : (n : ℕ) → 0 < count_at after n → (0 < count_at table n) ⊎ (n ≡ table.current)
+      used n is =
+          let less : count_at after n + bit (old.policy == n) ≡ count_at table n =
+          one_less old.policy table after out (is_counted honest table contents agrees number old held) n in
+          inl (omega (arith, is, less))
+
       counts : (n : ℕ) → count_at after n ≡ documents_under n new
       counts n =
           let moved : count (under n) (map.entries (map.remove contents.documents number)) + bit (old.policy == n)

@@ -1,11 +1,10 @@
 -- What calls answer, told as the calls above them answer it.
-use Rattle.std.proofs.Common.{◌≡◌, ℕ, ◌+◌, ◌<◌, ◌≤◌, Bool, true, false, List, [], length, Option, Some, None, Result, Ok, Err}
-use Rattle.std.proofs.Common.{refl, sym, ap, subst, ◌∙◌, ⊎_elim, arith}
+use Rattle.std.proofs.Common.{◌≡◌, ℕ, ◌<◌, ◌≤◌, Bool, true, false, List, [], length, Option, Some, None, Result, Ok, Err}
+use Rattle.std.proofs.Common.{refl, sym, ap, subst, ◌∙◌, arith}
 use Rattle.std.specs.Prelude.{IfErr, IfNone, IfOk, IfSome, IsTrue, OnOk, is_some, option_map, slice_index_or}
 use Rattle.std.specs.Option.{option_to_list, unwrap_or}
 use Rattle.std.specs.FinMap as map
 use Rattle.std.specs.Ordering.{nat_cmp}
-use Rattle.std.proofs.lemmas.Bool.{cases_eq}
 use Rattle.std.proofs.lemmas.Result.{IfErr-weaker}
 use Rattle.ax_area.proofs.OneTelling.{same_some, some_or_none}
 use Rattle.ax_area.specs.Contents.{Contents, Stored}
@@ -33,7 +32,7 @@ use Rattle.ax_store.specs.Slots.{AreOthersSame, IsRead, IsSlotOf}
 use Rattle.ax_store.specs.Store.{AgreesUnlessFailed, SameButReads, SameButSlots, store_contents, store_failed, store_slots}
 use Rattle.ax_table.specs.Damage.{HaveTwins, TellsPolicy, TellsTable}
 use Rattle.ax_store.specs.Listed.{IsNextAfter}
-use Rattle.ax_table.specs.Filling.{AreApartBelow, Gives, HasBelow, HasNoneBelow, IsFilled, IsFirst, IsGivenNumber, IsPolicyOf, IsStarted, IsTwin}
+use Rattle.ax_table.specs.Filling.{Gives, HasBelow, HasNoneBelow, IsFilled, IsFirst, IsGivenNumber, IsPolicyOf, IsStarted, IsTwin}
 use Rattle.ax_table.specs.Filling.{TakesIn, TellsTwins, taken_text}
 use Rattle.ax_table.specs.TableAgrees.{TableAgrees}
 use Rattle.ax_table.proofs.Fitting.{IsFitting, document_given, few_documents, fitting, now_given}
@@ -60,10 +59,6 @@ pub twins_result : {C T : Type 0} (store : Store C) (table : Table) (result : Re
     → FailsByDisk result → ⊥
 twins_result store table (Ok value) told fails = fails
 twins_result store table (Err fault) told fails = twins_apart store table fault told fails
-
-pub on_ok : {T E : Type 0} (result : Result T E) (Is : Type 0) → Is → OnOk result Is
-on_ok (Ok value) Is is = is
-on_ok (Err error) Is is = tt
 
 -- ---- slots
 

@@ -9,12 +9,11 @@ use Rattle.std.specs.Cmp.{nat_cmp_total}
 use Rattle.std.specs.FinMap as map
 use Rattle.std.specs.Ordering.{nat_cmp}
 use Rattle.ax_area.proofs.OneTelling.{same_some, some_or_none}
-use Rattle.ax_area.specs.Contents.{Contents, Stored, is_given}
+use Rattle.ax_area.specs.Contents.{Contents, Stored}
 use Rattle.ax_image_grammar.specs.Table.{IsTaken, IsUsed}
 use Rattle.ax_pages.proofs.LastPart.{get_not_removed, get_removed}
 use Rattle.ax_pages.specs.AfterPart.{most_documents}
 use Rattle.ax_policy.specs.Table.{Table, count_at, policy_at}
-use Rattle.ax_policy.specs.declared.policy.Policy.{Policy}
 use Rattle.ax_store.specs.Listed.{IsNextAfter}
 use Rattle.ax_table.specs.Filling.{AreGiven, IsFilled, IsFirst, IsStarted, TakesIn}
 use Rattle.ax_table.specs.TableAgrees.{documents_under}
@@ -254,23 +253,14 @@ module _ (honest : Bool) (contents : Contents) where
   pub pass_all : (table : Table) → map.len contents.documents ≤ most_documents → IsPassed honest contents None table
       → IsFilled honest table contents
   pass_all table few passed = record {
-    agrees = record {
-      now = passed.now;
-      given = given_by (policy_at table contents.policy_now) refl passed.there;
-      known = known;
-      policies = λ number policy is. (passed.given.policies number policy is).is;
-      texts = λ h number policy is. (passed.given.policies number policy is).text h;
-      counts = counts;
-      few = few;
-    };
+    now = passed.now;
+    known = known;
     given = passed.given;
+    counts = counts;
     used = passed.used;
+    few = few;
   }
     where
-      given_by : (o : Option Policy) → policy_at table contents.policy_now ≡ o → IsSome o → is_given contents.policy_now contents ≡ true
-      given_by None is some = absurd cc
-      given_by (Some policy) is some = (passed.given.numbers contents.policy_now policy is).given
-
       known : (number : ℕ) → IsTaken number contents → IsSome (policy_at table number)
       known number (inl is) = subst (λ n. IsSome (policy_at table n)) (sym is) passed.there
       known number (inr used) =

@@ -16,7 +16,8 @@ use Rattle.ax_policy.specs.Table.{SetsCount, Table, count_at, fresh, is_taken, n
 use Rattle.ax_table.specs.Damage.{HaveTwins}
 use Rattle.ax_table.specs.Filling.{AreApartBelow, AreGiven, AreNumbersGiven, Gives, IsBegun, IsFilled, IsGivenNumber, IsPolicyOf, IsStarted, IsTwin}
 use Rattle.ax_table.specs.Filling.{PutsGiven, TakesIn, taken_text}
-use Rattle.ax_table.proofs.Agreeing.{is_counted, one_more}
+use Rattle.ax_table.specs.TableAgrees.{TableAgrees}
+use Rattle.ax_table.proofs.Agreeing.{counts_held, one_more}
 
 -- ---- a new table
 
@@ -164,25 +165,42 @@ module _ (honest : Bool) (t : Table) (contents : Contents) (filled : IsFilled ho
   some_policy None some = absurd cc
   some_policy (Some policy) some = (policy, refl)
 
+  -- it agrees, unless two numbers have one policy
+  pub filled_agrees : table.AreApart t → TableAgrees honest t contents
+  filled_agrees apart = record {
+    now = filled.now;
+    given =
+        let there = some_policy (policy_at t contents.policy_now) (filled.known contents.policy_now (inl refl)) in
+        (filled.given.numbers contents.policy_now there.0 there.1).given;
+    known = filled.known;
+    policies = λ n policy is. (filled.given.policies n policy is).is;
+    apart = apart;
+    only_given = λ n policy is. (filled.given.numbers n policy is).given;
+    texts = λ h n policy is. (filled.given.policies n policy is).text h;
+    counts = filled.counts;
+    few = filled.few;
+  }
+
   taken_here : (n : ℕ) → IsTaken n contents → is_taken t n ≡ true
-  taken_here n (inl is) = or_right (nat_lt 0 (count_at t n)) (n == t.current) (eq-eqb n t.current (is ∙ sym filled.agrees.now))
+  taken_here n (inl is) = or_right (nat_lt 0 (count_at t n)) (n == t.current) (eq-eqb n t.current (is ∙ sym filled.now))
   taken_here n (inr used) =
       or_left (nat_lt 0 (count_at t n)) (n == t.current)
       (lt-ltb 0 (count_at t n)
-      (subst (λ m. 0 < count_at t m) used.indexed_by (is_counted honest t contents filled.agrees used.number used.document used.held)))
+      (subst (λ m. 0 < count_at t m) used.indexed_by
+      (subst (λ m. 0 < m) (sym (filled.counts used.document.policy)) (counts_held contents used.number used.document used.held))))
 
   taken_there : (n : ℕ) → is_taken t n ≡ true → IsTaken n contents
   taken_there n taken =
       ⊎_elim (λ (some : nat_lt 0 (count_at t n) ≡ true). inr (filled.used n (ltb-true 0 (count_at t n) some)))
-      (λ (now : (n == t.current) ≡ true). inl (eqb-true n t.current now ∙ filled.agrees.now))
+      (λ (now : (n == t.current) ≡ true). inl (eqb-true n t.current now ∙ filled.now))
       (or_cases (nat_lt 0 (count_at t n)) (n == t.current) taken)
 
   pub contents_apart : IsTrue honest → table.AreApart t → AreApart contents
   contents_apart h apart a b ta tb same =
-      let pa = some_policy (policy_at t a) (filled.agrees.known a ta) in
-      let pb = some_policy (policy_at t b) (filled.agrees.known b tb) in
-      let sa = filled.agrees.texts h a pa.0 pa.1 in
-      let sb = filled.agrees.texts h b pb.0 pb.1 in
+      let pa = some_policy (policy_at t a) (filled.known a ta) in
+      let pb = some_policy (policy_at t b) (filled.known b tb) in
+      let sa = (filled.given.policies a pa.0 pa.1).text h in
+      let sb = (filled.given.policies b pb.0 pb.1).text h in
       apart a b pa.0 pb.0 (filled.given.numbers a pa.0 pa.1).few (filled.given.numbers b pb.0 pb.1).few (taken_here a ta) (taken_here b tb) pa.1 pb.1
       (sym sa.spelled ∙ same ∙ sb.spelled)
 
@@ -190,8 +208,8 @@ module _ (honest : Bool) (t : Table) (contents : Contents) (filled : IsFilled ho
   have_twins h number twin =
       let a = has_text (is_taken t number) (policy_at t number) twin.text twin.here in
       let b = has_text (is_taken t twin.below.other) (policy_at t twin.below.other) twin.text twin.below.there in
-      let sa = filled.agrees.texts h number a.1.0 a.1.1 in
-      let sb = filled.agrees.texts h twin.below.other b.1.0 b.1.1 in
+      let sa = (filled.given.policies number a.1.0 a.1.1).text h in
+      let sb = (filled.given.policies twin.below.other b.1.0 b.1.1).text h in
       record {
         a = number;
         b = twin.below.other;

@@ -5,8 +5,8 @@ use Rattle.std.specs.FinMap as map
 use Rattle.std.specs.Ordering.{nat_cmp}
 use Rattle.ax_area.specs.Contents.{Contents, is_given}
 use Rattle.ax_image_grammar.specs.Payloads.{IsTextOf}
-use Rattle.ax_image_grammar.specs.Table.{IsUsed, policy_text}
-use Rattle.ax_pages.specs.AfterPart.{last_policy}
+use Rattle.ax_image_grammar.specs.Table.{IsTaken, IsUsed, policy_text}
+use Rattle.ax_pages.specs.AfterPart.{last_policy, most_documents}
 use Rattle.ax_policy.specs.declared.policy.Policy.{Policy}
 use Rattle.ax_policy.specs.Normal.{normal_text, normal_tree}
 use Rattle.ax_policy.specs.Policies.{policy_of}
@@ -16,7 +16,7 @@ use Rattle.ax_store.specs.declared.store.Store.{Store}
 use Rattle.ax_store.specs.declared.fault.StoreFault.{StoreFault}
 use Rattle.ax_store.specs.declared.fault.StoreFault.TheVariants.{Disk, Damaged, Newer, Memory}
 use Rattle.ax_store.specs.Store.{store_area}
-use Rattle.ax_table.specs.TableAgrees.{TableAgrees}
+use Rattle.ax_table.specs.TableAgrees.{documents_under}
 
 -- a part gave a policy this number, or it is number 0, which needs none; and a table can have it
 pub record IsGivenNumber (number : ℕ) (contents : Contents) : Type 0 where
@@ -79,9 +79,12 @@ IsFirst held_by None = (number : ℕ) → map.get held_by number ≡ None
 
 -- all documents are under their policies
 pub record IsFilled (honest : Bool) (table : Table) (contents : Contents) : Type 0 where
-  pub agrees : TableAgrees honest table contents
+  pub now : table.current ≡ contents.policy_now
+  pub known : (number : ℕ) → IsTaken number contents → IsSome (policy_at table number)
   pub given : AreGiven honest table contents
+  pub counts : (number : ℕ) → count_at table number ≡ documents_under number contents
   pub used : (number : ℕ) → 0 < count_at table number → IsUsed number contents
+  pub few : map.len contents.documents ≤ most_documents
 
 -- ---- twins
 

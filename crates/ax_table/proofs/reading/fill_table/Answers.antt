@@ -6,9 +6,9 @@ use Rattle.ax_pool.specs.declared.slot.Slot.{Slot}
 use Rattle.ax_store.specs.declared.store.StoreFrames.{StoreFrames}
 use Rattle.ax_store.specs.Store.{store_contents}
 use Rattle.ax_table.specs.Filling.{AreNumbersGiven}
-use Rattle.ax_table.proofs.Answering.{filled_told, on_ok, started_told, still_slot, told_twins, twins_result}
+use Rattle.ax_table.proofs.Answering.{filled_told, started_told, still_slot, told_twins, twins_result}
 use Rattle.ax_table.proofs.ReadsLaws.{agrees_told, read_on, read_only}
-use Rattle.ax_table.proofs.TableLaws.{contents_apart}
+use Rattle.ax_table.proofs.TableLaws.{contents_apart, filled_agrees}
 use Rattle.ax_table.proofs.Telling.{same_contents, table_back}
 use Rattle.ax_table.proofs.reading.fill_table.Goals as goal
 
@@ -44,7 +44,7 @@ pub returns-clause-table : goal.returns-clause-table
 returns-clause-table g c =
     let filled = filled_told _ _ c.in-Ok.ensures.honest c.args.store.now c.take_now.new.store c.in-Ok.ensures.reads.reads.same
     c.take_documents.new.table c.in-Ok-take_documents.ensures.filled in
-    on_ok c.check_apart.result _ filled.agrees
+    on_ok_weaker c.check_apart.result (filled_agrees _ c.take_documents.new.table (store_contents c.args.store.now) filled) c.check_apart.ensures.apart
 
 pub returns-clause-apart : goal.returns-clause-apart
 returns-clause-apart g c = λ honest.
