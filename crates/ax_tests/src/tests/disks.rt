@@ -90,6 +90,8 @@ fn filled(alloc: Global, script: &[u8]) -> Result<MemDisk, Fail> {
     let mut disk = fresh_disk(alloc)?;
     let _written = output_over(alloc, &mut disk, script)?;
     let mut area = Vec::from_slice(alloc, disk.bytes(Extent::A))?;
+    // The byte that ends the area stands behind the new frame again.
+    let _end = area.pop();
     area.extend_from_slice(FULL)?;
     disk_of(alloc, disk.bytes(Extent::Root), area.as_slice())
 }
