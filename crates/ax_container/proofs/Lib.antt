@@ -5,3 +5,4 @@ pub mod Refusing
 pub mod ByNumber
 pub mod Writing
 pub mod Moving
+mod Repolicing

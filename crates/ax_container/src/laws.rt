@@ -1,5 +1,5 @@
 //! Laws of the definitions, each the contract of a function that does nothing.
-ghost use Rattle.std.specs.Prelude.{◌≡◌, ◌≤◌, ◌==◌, ◌-◌, ℕ, List, map, Some, None, Ok, Err, false, true, option_map, IfSome, if◌then◌else◌};
+ghost use Rattle.std.specs.Prelude.{◌≡◌, ◌<◌, ◌≤◌, ◌==◌, ◌-◌, ℕ, List, length, map, Some, None, Ok, Err, false, true, option_map, IfSome, if◌then◌else◌};
 ghost use Rattle.std.specs.Str.{bytes_eq};
 ghost use Rattle.ax_tree.specs.declared.tree.Tree.{Tree};
 ghost use Rattle.ax_tree.specs.Document.{document_id};
@@ -8,7 +8,7 @@ ghost use Rattle.ax_policy.specs.declared.policy.Policy.{Policy};
 ghost use Rattle.ax_container.specs.Container.{Container, Entry, IsSound, contains, fresh, entry_at, entry_of, tree_of};
 ghost use Rattle.ax_container.specs.Writes.{Absent, Conflict, Full, created, deleted, exchanged, inserted, is_full, new_entry};
 ghost use Rattle.ax_container.specs.Writes.{removed, replaced, rewritten, upserted};
-ghost use Rattle.ax_container.specs.Reindexing.{but_policy, left, stepped, with_policy};
+ghost use Rattle.ax_container.specs.Reindexing.{Policies, but_policy, left, most_others, others_in_use, repoliced, stepped, with_policy};
 
 /// A container of no documents is sound.
 pub fn a_fresh_container_is_sound()
@@ -45,7 +45,17 @@ pub fn an_absent_id_is_not_written()
 /// So do another policy now, and a step of the transformation.
 pub fn another_policy_keeps_soundness()
     ensures policy { (before : Container) (policy : Policy) → IsSound before → IsSound (with_policy policy before) }
+    ensures change { (before after : Container) (policy : Policy) → IsSound before → repoliced policy before ≡ Ok after
+        → (after ≡ with_policy policy before) × IsSound after }
     ensures step { (before : Container) (count : ℕ) → IsSound before → IsSound (stepped count before) }
+{}
+
+/// Another policy is refused exactly where documents are indexed by eight others.
+pub fn a_policy_is_refused_where_eight_others_are_in_use()
+    ensures refused { (before : Container) (policy : Policy) → most_others ≤ length (others_in_use policy before)
+        → repoliced policy before ≡ Err Policies }
+    ensures made { (before : Container) (policy : Policy) → length (others_in_use policy before) < most_others
+        → repoliced policy before ≡ Ok (with_policy policy before) }
 {}
 
 /// A step moves as many documents as it is asked for, or all that are left; of none it changes more than the

@@ -1,6 +1,6 @@
 //! Opening a store with its index.
 
-ghost use Rattle.std.specs.Prelude.{◌≡◌, ℕ, IsTrue, IfErr, IfOk, OnOk};
+ghost use Rattle.std.specs.Prelude.{◌≡◌, ℕ, [], IsTrue, IfErr, IfOk, OnOk};
 ghost use Rattle.ax_area.specs.Image.{IsDamaged, IsFresh, IsNewer};
 ghost use Rattle.ax_cache.specs.PageLaws.{no_pages};
 ghost use Rattle.ax_container.specs.Container.{Container};
@@ -41,6 +41,7 @@ pub fn open_documents<D: Disk, L: Ledger>(
         (D.history disk.new (D.attached disk.new))) }
     ensures holds { IsTrue (D.is_honest disk.old) → (before : Container)
         → IsStore before (D.history disk.old (D.attached disk.old)) → IfOk result (λ documents. DocumentsHold documents before) }
+    ensures empty { IfOk result (λ documents. documents.ids ≡ []) }
     ensures readable { IsTrue (D.is_honest disk.old) → (before : Container)
         → IsStore before (D.history disk.old (D.attached disk.old))
         → OnOk result (Rests (D.history disk.new (D.attached disk.new)) SaysReadable) }

@@ -11,8 +11,10 @@ ghost use Rattle.ax_store.specs.Reads.{ReadsStore};
 ghost use Rattle.ax_store.specs.Store.{AgreesUnlessFailed, store_contents, store_failed, store_slots};
 ghost use Rattle.ax_tree.specs.CanonicalText.{canonical_text};
 ghost use Rattle.ax_tree.specs.Document.{document_id};
-ghost use Rattle.ax_write.specs.Small.{IsSmallBatch};
-ghost use Rattle.ax_write.specs.Writes.{IsOfCreation, IsOfHeld, IsOfUpsert, Looks, MeetsCreation, MeetsHeld, MeetsUpsert, TellsWrite, WriteLeaves, of_store};
+ghost use Rattle.ax_write.specs.Full.{is_full_of};
+ghost use Rattle.ax_write.specs.Learnt.{Learns, LearnsOfCreation, LearnsOfDeletion, LearnsOfUpsert};
+ghost use Rattle.ax_write.specs.Small.{IsNew, IsNewOrTold, IsSmallBatch, IsToldHeld};
+ghost use Rattle.ax_write.specs.Writes.{FullOnly, IsOfCreation, IsOfHeld, IsOfUpsert, Looks, MeetsCreation, MeetsHeld, MeetsUpsert, SamePolicies, TellsWrite, WriteLeaves, of_store};
 ghost use Rattle.ax_documents.specs.Damage.{MeetsBy};
 ghost use Rattle.ax_documents.specs.Documents.{DocumentsHold, DocumentsWork, IsReadOf, WorkUnlessDisk};
 
@@ -42,7 +44,13 @@ impl<C: PageCache> Documents<C> {
         ensures only { IfErr result IsOfCreation }
         ensures works { WorkUnlessDisk C.pages (D.is_honest disk.old) (of_store result) self.new
             (D.history disk.new (D.attached disk.new)) }
-        ensures small { OnOk result (IsSmallBatch (D.is_honest disk.old) self.old.table (Some tree.now) (store_contents self.old.store) (store_contents self.new.store)) }
+        ensures policies { SamePolicies self.old.table self.new.table }
+        ensures full { FullOnly result (store_contents self.old.store) }
+        ensures made { OnOk result (is_full_of (store_contents self.old.store) ≡ false) }
+        ensures small { OnOk result (IsSmallBatch (IsNew (store_contents self.old.store)) (D.is_honest disk.old) self.old.table
+            (Some tree.now) (store_contents self.old.store) (store_contents self.new.store)) }
+        ensures learns { (id : List ℕ) → document_id tree.now ≡ Some id
+            → LearnsOfCreation result (D.is_honest disk.old) id (store_contents self.old.store) self.old.ids self.new.ids }
         ensures leaves { WriteLeaves C.pages (D.is_honest disk.old) result self.old.store self.new.store
             (D.history disk.old (D.attached disk.old)) (D.history disk.new (D.attached disk.new))
             (D.faults disk.old) (D.faults disk.new) }
@@ -86,7 +94,13 @@ impl<C: PageCache> Documents<C> {
         ensures counted { IsTrue (D.is_honest disk.old) → (before : Container) → (id : List ℕ) → DocumentsHold self.old before
             → document_id tree.now ≡ Some id → contains id before ≡ true → OnOk result (steps.new ≡ steps.old + 1) }
         ensures never_falls { steps.old ≤ steps.new }
-        ensures small { OnOk result (IsSmallBatch (D.is_honest disk.old) self.old.table (Some tree.now) (store_contents self.old.store) (store_contents self.new.store)) }
+        ensures policies { SamePolicies self.old.table self.new.table }
+        ensures full { FullOnly result (store_contents self.old.store) }
+        ensures small { (id : List ℕ) → document_id tree.now ≡ Some id
+            → OnOk result (IsSmallBatch (IsNewOrTold (D.is_honest disk.old) self.old.ids id (store_contents self.old.store))
+            (D.is_honest disk.old) self.old.table (Some tree.now) (store_contents self.old.store) (store_contents self.new.store)) }
+        ensures learns { (id : List ℕ) → document_id tree.now ≡ Some id
+            → LearnsOfUpsert result (D.is_honest disk.old) id (store_contents self.old.store) self.old.ids self.new.ids }
         ensures leaves { WriteLeaves C.pages (D.is_honest disk.old) result self.old.store self.new.store
             (D.history disk.old (D.attached disk.old)) (D.history disk.new (D.attached disk.new))
             (D.faults disk.old) (D.faults disk.new) }
@@ -130,7 +144,12 @@ impl<C: PageCache> Documents<C> {
             → contains id before ≡ false → steps.new ≡ steps.old }
         ensures counted { OnOk result (steps.new ≡ steps.old + 1) }
         ensures never_falls { steps.old ≤ steps.new }
-        ensures small { OnOk result (IsSmallBatch (D.is_honest disk.old) self.old.table (Some tree.now) (store_contents self.old.store) (store_contents self.new.store)) }
+        ensures policies { SamePolicies self.old.table self.new.table }
+        ensures small { (id : List ℕ) → document_id tree.now ≡ Some id
+            → OnOk result (IsSmallBatch (IsToldHeld (D.is_honest disk.old) self.old.ids id (store_contents self.old.store))
+            (D.is_honest disk.old) self.old.table (Some tree.now) (store_contents self.old.store) (store_contents self.new.store)) }
+        ensures learns { (id : List ℕ) → document_id tree.now ≡ Some id
+            → Learns (D.is_honest disk.old) id (store_contents self.old.store) self.old.ids self.new.ids }
         ensures leaves { WriteLeaves C.pages (D.is_honest disk.old) result self.old.store self.new.store
             (D.history disk.old (D.attached disk.old)) (D.history disk.new (D.attached disk.new))
             (D.faults disk.old) (D.faults disk.new) }
@@ -169,7 +188,10 @@ impl<C: PageCache> Documents<C> {
             → contains id.now before ≡ false → steps.new ≡ steps.old }
         ensures counted { OnOk result (steps.new ≡ steps.old + 1) }
         ensures never_falls { steps.old ≤ steps.new }
-        ensures small { OnOk result (IsSmallBatch (D.is_honest disk.old) self.old.table None (store_contents self.old.store) (store_contents self.new.store)) }
+        ensures policies { SamePolicies self.old.table self.new.table }
+        ensures small { OnOk result (IsSmallBatch (IsToldHeld (D.is_honest disk.old) self.old.ids id.now (store_contents self.old.store))
+            (D.is_honest disk.old) self.old.table None (store_contents self.old.store) (store_contents self.new.store)) }
+        ensures learns { LearnsOfDeletion result (D.is_honest disk.old) id.now (store_contents self.old.store) self.old.ids self.new.ids }
         ensures leaves { WriteLeaves C.pages (D.is_honest disk.old) result self.old.store self.new.store
             (D.history disk.old (D.attached disk.old)) (D.history disk.new (D.attached disk.new))
             (D.faults disk.old) (D.faults disk.new) }
@@ -206,6 +228,8 @@ impl<C: PageCache> Documents<C> {
         ensures damage { IsTrue (D.is_honest disk.old) → IfErr result (λ why. MeetsBy why (D.history disk.new (D.attached disk.new)).reads) }
         ensures holds { IsTrue (D.is_honest disk.old) → (before : Container) → DocumentsHold self.old before
             → DocumentsHold self.new before }
+        ensures table { self.new.table ≡ self.old.table }
+        ensures learns { Learns (D.is_honest disk.old) id.now (store_contents self.old.store) self.old.ids self.new.ids }
         ensures works { WorkUnlessDisk C.pages (D.is_honest disk.old) result self.new (D.history disk.new (D.attached disk.new)) }
         ensures one { steps.new ≤ steps.old + 1 }
         ensures none { IsTrue (D.is_honest disk.old) → (before : Container) → DocumentsHold self.old before

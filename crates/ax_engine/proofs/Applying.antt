@@ -31,6 +31,7 @@ use Rattle.ax_machine.specs.Reply as reply
 use Rattle.ax_machine.specs.Run.{OutOfMemory, Served}
 use Rattle.ax_machine.specs.Step.{doc_reply, served, write_by, write_refusal, written}
 use Rattle.ax_mean.specs.declared.query.Query.{Query}
+use Rattle.ax_policy.specs.declared.policy.Policy.{Policy}
 use Rattle.ax_pool.specs.Frames.{Frames}
 use Rattle.ax_store.specs.Faults.{HasDiskCause}
 use Rattle.ax_store.specs.Store.{store_contents}
@@ -177,49 +178,51 @@ idle_written (Err (write.Store (store_fault.Damaged extent at))) old new idle = 
 idle_written (Err (write.Store (store_fault.Newer version))) old new idle = idle
 idle_written (Err (write.Store store_fault.Memory)) old new idle = idle
 
-may_want : (asked : Line) → IsWrite asked → MayReply asked (given.Refused refusal.Memory)
-may_want (line.Create tree) is = inr (inr refl)
-may_want (line.Upsert tree) is = inr refl
-may_want (line.Replace tree) is = inr refl
-may_want (line.Delete id) is = inr refl
-may_want (line.Read id) is = absurd is
-may_want (line.Query body) is = absurd is
+may_want : (policy : Policy) (asked : Line) → IsWrite asked → MayReply policy asked (given.Refused refusal.Memory)
+may_want policy (line.Create tree) is = inr (inr refl)
+may_want policy (line.Upsert tree) is = inr refl
+may_want policy (line.Replace tree) is = inr refl
+may_want policy (line.Delete id) is = inr refl
+may_want policy (line.Read id) is = absurd is
+may_want policy (line.Query body) is = absurd is
 
-may_store : (asked : Line) (why : StoreFault) → IsWrite asked → IfOk (write_answer (Err (write.Store why))) (λ reply. MayReply asked reply)
-may_store asked store_fault.Disk is = tt
-may_store asked (store_fault.Damaged extent at) is = tt
-may_store asked (store_fault.Newer version) is = may_want asked is
-may_store asked store_fault.Memory is = may_want asked is
+may_store : (policy : Policy) (asked : Line) (why : StoreFault) → IsWrite asked
+    → IfOk (write_answer (Err (write.Store why))) (λ reply. MayReply policy asked reply)
+may_store policy asked store_fault.Disk is = tt
+may_store policy asked (store_fault.Damaged extent at) is = tt
+may_store policy asked (store_fault.Newer version) is = may_want policy asked is
+may_store policy asked store_fault.Memory is = may_want policy asked is
 
-may_refuse : (asked : Line) (why : WriteFault) → IsWrite asked → MayFail asked why → IfOk (write_answer (Err why)) (λ reply. MayReply asked reply)
-may_refuse asked (write.Store why) is may = may_store asked why is
-may_refuse (line.Create tree) write.Conflict is may = inl refl
-may_refuse (line.Create tree) write.Absent is may = absurd may
-may_refuse (line.Create tree) write.Full is may = inr (inl refl)
-may_refuse (line.Upsert tree) write.Conflict is may = absurd may
-may_refuse (line.Upsert tree) write.Absent is may = absurd may
-may_refuse (line.Upsert tree) write.Full is may = inl refl
-may_refuse (line.Replace tree) write.Conflict is may = absurd may
-may_refuse (line.Replace tree) write.Absent is may = inl refl
-may_refuse (line.Replace tree) write.Full is may = absurd may
-may_refuse (line.Delete id) write.Conflict is may = absurd may
-may_refuse (line.Delete id) write.Absent is may = inl refl
-may_refuse (line.Delete id) write.Full is may = absurd may
-may_refuse (line.Read id) why is may = absurd is
-may_refuse (line.Query body) why is may = absurd is
+may_refuse : (policy : Policy) (asked : Line) (why : WriteFault) → IsWrite asked → MayFail asked why
+    → IfOk (write_answer (Err why)) (λ reply. MayReply policy asked reply)
+may_refuse policy asked (write.Store why) is may = may_store policy asked why is
+may_refuse policy (line.Create tree) write.Conflict is may = inl refl
+may_refuse policy (line.Create tree) write.Absent is may = absurd may
+may_refuse policy (line.Create tree) write.Full is may = inr (inl refl)
+may_refuse policy (line.Upsert tree) write.Conflict is may = absurd may
+may_refuse policy (line.Upsert tree) write.Absent is may = absurd may
+may_refuse policy (line.Upsert tree) write.Full is may = inl refl
+may_refuse policy (line.Replace tree) write.Conflict is may = absurd may
+may_refuse policy (line.Replace tree) write.Absent is may = inl refl
+may_refuse policy (line.Replace tree) write.Full is may = absurd may
+may_refuse policy (line.Delete id) write.Conflict is may = absurd may
+may_refuse policy (line.Delete id) write.Absent is may = inl refl
+may_refuse policy (line.Delete id) write.Full is may = absurd may
+may_refuse policy (line.Read id) why is may = absurd is
+may_refuse policy (line.Query body) why is may = absurd is
 
-may_be_made : (asked : Line) → IsWrite asked → MayReply asked given.Ok
-may_be_made (line.Create tree) is = tt
-may_be_made (line.Upsert tree) is = tt
-may_be_made (line.Replace tree) is = tt
-may_be_made (line.Delete id) is = tt
-may_be_made (line.Read id) is = absurd is
-may_be_made (line.Query body) is = absurd is
+may_be_made : (policy : Policy) (asked : Line) → IsWrite asked → MayReply policy asked given.Ok
+may_be_made policy (line.Create tree) is = tt
+may_be_made policy (line.Upsert tree) is = tt
+may_be_made policy (line.Replace tree) is = tt
+may_be_made policy (line.Delete id) is = tt
+may_be_made policy (line.Read id) is = absurd is
+may_be_made policy (line.Query body) is = absurd is
 
-pub may_write : (asked : Line) (result : Result (Unit {0}) WriteFault) → IsWrite asked → IfErr result (MayFail asked)
-    → IfOk (write_answer result) (λ reply. MayReply asked reply)
-may_write asked (Ok done) is may = may_be_made asked is
-may_write asked (Err why) is may = may_refuse asked why is may
+pub may_write : (policy : Policy) (asked : Line) (result : Result (Unit {0}) WriteFault) → IsWrite asked → IfErr result (MayFail asked)
+    → IfOk (write_answer result) (λ reply. MayReply policy asked reply)
+may_write policy asked (Ok done) is may = may_be_made policy asked is
+may_write policy asked (Err why) is may = may_refuse policy asked why is may
 
 -- ---- what a line has met that is answered
 
@@ -452,14 +455,14 @@ passes_read version told contents body image says (Err (store_fault.Newer later)
 passes_read version told contents body image says (Err store_fault.Memory) met = λ query is. tt
 
 -- what fits the own refusal of the query may be its reply, and so may want of memory
-pub may_read : (body : Body) (read : Result Reply StoreFault)
-    → IfOk read (λ reply. FitsRefusal (own_refusal (query_in body.params body.text)) reply)
-    → IfOk (read_answer read) (λ reply. MayReply (line.Query body) reply)
-may_read body (Ok made) fits = inl fits
-may_read body (Err store_fault.Disk) fits = tt
-may_read body (Err (store_fault.Damaged extent at)) fits = tt
-may_read body (Err (store_fault.Newer version)) fits = inr refl
-may_read body (Err store_fault.Memory) fits = inr refl
+pub may_read : (policy : Policy) (body : Body) (read : Result Reply StoreFault)
+    → IfOk read (λ reply. FitsRefusal (own_refusal policy (query_in body.params body.text)) reply)
+    → IfOk (read_answer read) (λ reply. MayReply policy (line.Query body) reply)
+may_read policy body (Ok made) fits = inl fits
+may_read policy body (Err store_fault.Disk) fits = tt
+may_read policy body (Err (store_fault.Damaged extent at)) fits = tt
+may_read policy body (Err (store_fault.Newer version)) fits = inr refl
+may_read policy body (Err store_fault.Memory) fits = inr refl
 
 pub of_reading : {C : Type 0} (pages : C → CachedPages) (honest : Bool) (read : Result Reply StoreFault) (old new : Store C) (ahead : ReadAhead)
     (entry exit : History) (l m : ℕ) → Scans pages honest read old new ahead entry exit l m → IfErr read IsOfReading
@@ -511,3 +514,4 @@ applies_told honest before asked (Ok reply) engine old new none told stays = (
 applies_told honest before asked (Err fault.Disk) engine old new none told stays =
     λ h. images_turn old new before (served before (Ok asked)).0 (told h) stays
 applies_told honest before asked (Err (fault.Damaged extent at)) engine old new none told stays = told
+applies_told honest before asked (Err fault.Sink) engine old new none told stays = told

@@ -1,12 +1,16 @@
 pub mod Applying
+mod Batching
 mod Damaging
 pub mod Holding
 mod InOrder
 mod Numbers
 pub mod Opened
 mod OwnRefusals
+pub mod PolicyHeld
 mod QueryTexts
+mod ReadingInto
 pub mod Recaching
+mod Refusals
 mod RowLines
 mod Scanning
 mod ShownTexts

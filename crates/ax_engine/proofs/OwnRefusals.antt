@@ -5,6 +5,7 @@ use Rattle.ax_lines.specs.Causes.{Cause, unless}
 use Rattle.ax_lines.specs.declared.refusal.Refusal.{Refusal}
 use Rattle.ax_machine.specs.Querying.{causes}
 use Rattle.ax_mean.specs.declared.query.Query.{Query}
+use Rattle.ax_policy.specs.declared.policy.Policy.{Policy}
 use Rattle.ax_engine.specs.Replies.{own_refusal, refusal_in}
 
 -- one cause more
@@ -21,12 +22,12 @@ same_refusal [] rows = refl
 same_refusal (cause ∷ more) rows =
     with_cause cause.applies cause.refusal (unless more (Ok (tt {0}))) (unless more (Ok rows)) (same_refusal more rows)
 
-pub is_refused : (query : Query) (why : Refusal)
-    → ((answer : Result (List (List ℕ)) Refusal) → unless (causes query) answer ≡ Err why)
-    → own_refusal (Some query) ≡ Some why
-is_refused query why all = same_refusal (causes query) [] ∙ ap refusal_in (all (Ok []))
+pub is_refused : (policy : Policy) (query : Query) (why : Refusal)
+    → ((answer : Result (List (List ℕ)) Refusal) → unless (causes policy query) answer ≡ Err why)
+    → own_refusal policy (Some query) ≡ Some why
+is_refused policy query why all = same_refusal (causes policy query) [] ∙ ap refusal_in (all (Ok []))
 
-pub is_answered : (query : Query)
-    → ((answer : Result (List (List ℕ)) Refusal) → unless (causes query) answer ≡ answer)
-    → own_refusal (Some query) ≡ None
-is_answered query all = same_refusal (causes query) [] ∙ ap refusal_in (all (Ok []))
+pub is_answered : (policy : Policy) (query : Query)
+    → ((answer : Result (List (List ℕ)) Refusal) → unless (causes policy query) answer ≡ answer)
+    → own_refusal policy (Some query) ≡ None
+is_answered policy query all = same_refusal (causes policy query) [] ∙ ap refusal_in (all (Ok []))

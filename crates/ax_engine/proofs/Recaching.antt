@@ -25,4 +25,5 @@ module _ {C E : Type 0} (old : Engine C) (new : Engine E) (fault : new.fault ≡
   works_still pages others honest history empty works = record {
     documents = λ none.
         work_still pages others honest old.documents new.documents history same empty (works.documents (sym fault ∙ none));
+    no_sink = λ is. works.no_sink (sym fault ∙ is);
   }

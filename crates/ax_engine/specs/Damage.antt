@@ -28,6 +28,7 @@ use Rattle.ax_engine.specs.declared.reply.Reply.{Reply}
 abbrev pub Meets : Fault → Image → Type 0
 Meets fault.Disk image = Unit {0}
 Meets (fault.Damaged extent at) image = IsMetIn image extent at
+Meets fault.Sink image = Unit {0}
 
 -- ---- what a query has met
 

@@ -1,5 +1,5 @@
 -- An engine at work: which container it has, and what it answers to a line.
-use Rattle.std.specs.Prelude.{◌≡◌, ℕ, List, Bool, Option, None, Some, Result, Ok, Err, if◌then◌else◌}
+use Rattle.std.specs.Prelude.{◌≡◌, ◌≢◌, ℕ, List, Bool, Option, None, Some, Result, Ok, Err, if◌then◌else◌}
 use Rattle.ax_cache.specs.Pages.{CachedPages}
 use Rattle.ax_disk.specs.model.Calls.{Idles}
 use Rattle.ax_disk.specs.model.Image.{Image}
@@ -39,9 +39,11 @@ pub record HoldsOver {C : Type 0} (engine : Engine C) (history : History) (conta
   pub holds : Holds engine container
   pub readable : Rests history SaysReadable
 
--- until it answers a fault its documents work: the store has not failed, and agrees with the disk where that is honest
+-- Until it answers a fault its documents work: the store has not failed, and agrees with the disk where that is honest. The
+-- fault of a sink is none that it keeps.
 pub record Works {C : Type 0} (pages : C → CachedPages) (honest : Bool) (engine : Engine C) (history : History) : Type 0 where
   pub documents : engine.fault ≡ None → DocumentsWork pages honest engine.documents history
+  pub no_sink : engine.fault ≢ Some fault.Sink
 
 -- the container after a line that was read, and its reply: by its step, or unchanged for want of memory
 abbrev pub made_by : Container → Line → Outcome → Container × reply.Reply
@@ -59,6 +61,7 @@ TellsOf honest before line (Ok given) Has Leaves old new =
 TellsOf honest before line (Err fault.Disk) Has Leaves old new =
     honest → Turns old new (Leaves before) (Leaves (served before (Ok line)).0)
 TellsOf honest before line (Err (fault.Damaged extent at)) Has Leaves old new = ⊥
+TellsOf honest before line (Err fault.Sink) Has Leaves old new = ⊥
 
 -- the same of documents
 abbrev pub Tells : {C : Type 0} → Type 0 → Container → Line → Result Reply Fault → Documents C → History → History → Type 0
@@ -115,6 +118,7 @@ IdlesUnlessDone (Ok (given.Rows rows)) old new = Idles old new
 IdlesUnlessDone (Ok (given.Refused why)) old new = Idles old new
 IdlesUnlessDone (Err fault.Disk) old new = Unit {0}
 IdlesUnlessDone (Err (fault.Damaged extent at)) old new = Idles old new
+IdlesUnlessDone (Err fault.Sink) old new = Idles old new
 
 -- a read and a query leave the disk's lists as they are, and so does a write that is not made
 abbrev pub LeavesLists : Line → Result Reply Fault → History → History → Type 0
@@ -125,7 +129,8 @@ LeavesLists (line.Delete id) result old new = IdlesUnlessDone result old new
 LeavesLists (line.Read id) result old new = Idles old new
 LeavesLists (line.Query body) result old new = Idles old new
 
--- the disk's count of faults rises where the disk failed, and nowhere else
+-- the disk's count of faults rises where the disk failed, and nowhere else; no sink has failed
 abbrev pub CountsAnswer : Result Reply Fault → ℕ → ℕ → Type 0
 CountsAnswer (Err fault.Disk) earlier later = Rose earlier later
+CountsAnswer (Err fault.Sink) earlier later = ⊥
 CountsAnswer other earlier later = later ≡ earlier

@@ -1,8 +1,11 @@
+pub mod Batched
 pub mod Damage
 pub mod Engine
 pub mod InPages
 pub mod Judging
+pub mod PolicyNow
 pub mod Printing
+pub mod Reading
 pub mod Replies
 pub mod Scans
 pub mod StoreSays

@@ -13,6 +13,7 @@ use Rattle.ax_machine.specs.Querying.{causes}
 use Rattle.ax_machine.specs.Reply as reply
 use Rattle.ax_machine.specs.ReplyTexts.{row_text}
 use Rattle.ax_mean.specs.declared.query.Query.{Query}
+use Rattle.ax_policy.specs.declared.policy.Policy.{Policy}
 use Rattle.ax_store.specs.declared.fault.StoreFault.{StoreFault}
 use Rattle.ax_store.specs.declared.fault.StoreFault.TheVariants as store_fault
 use Rattle.ax_write.specs.declared.fault.WriteFault.{WriteFault}
@@ -54,11 +55,11 @@ abbrev pub refusal_in : {A : Type 0} → Result A Refusal → Option Refusal
 refusal_in (Ok answer) = None
 refusal_in (Err why) = Some why
 
--- The own refusal of a query, which no document has a part in: a text of which the grammar makes no query is
--- refused as such, and a query by the first of its causes that applies. Where none does there is none.
-abbrev pub own_refusal : Option Query → Option Refusal
-own_refusal None = Some refusal.Query
-own_refusal (Some query) = refusal_in (unless (causes query) (Ok (tt {0})))
+-- The own refusal of a query under a policy, which no document has a part in: a text of which the grammar makes no query
+-- is refused as such, and a query by the first of its causes that applies. Where none does there is none.
+abbrev pub own_refusal : Policy → Option Query → Option Refusal
+own_refusal policy None = Some refusal.Query
+own_refusal policy (Some query) = refusal_in (unless (causes policy query) (Ok (tt {0})))
 
 -- what a query is answered that has this refusal, or none: it, or rows
 abbrev pub FitsRefusal : Option Refusal → Reply → Type 0
@@ -91,17 +92,17 @@ FitsRead (given.Doc text) = Unit {0}
 FitsRead (given.Rows rows) = ⊥
 FitsRead (given.Refused why) = RefusesAbsent why
 
--- What a line may be answered, whatever the store holds. A query: rows only where it has no refusal of its own,
--- that refusal, or that memory ran out. A write: that it was made, or a refusal that is one of its line. A read: a
+-- What a line may be answered under a policy, whatever the store holds. A query: rows only where it has no refusal of its
+-- own, that refusal, or that memory ran out. A write: that it was made, or a refusal that is one of its line. A read: a
 -- document, that there is none, or that memory ran out.
-abbrev pub MayReply : Line → Reply → Type 0
-MayReply (line.Create tree) made = FitsWrite RefusesCreation made
-MayReply (line.Upsert tree) made = FitsWrite RefusesUpsert made
-MayReply (line.Replace tree) made = FitsWrite RefusesAbsent made
-MayReply (line.Delete id) made = FitsWrite RefusesAbsent made
-MayReply (line.Read id) made = FitsRead made
-MayReply (line.Query body) made =
-    FitsRefusal (own_refusal (query_in body.params body.text)) made ⊎ (made ≡ given.Refused refusal.Memory)
+abbrev pub MayReply : Policy → Line → Reply → Type 0
+MayReply policy (line.Create tree) made = FitsWrite RefusesCreation made
+MayReply policy (line.Upsert tree) made = FitsWrite RefusesUpsert made
+MayReply policy (line.Replace tree) made = FitsWrite RefusesAbsent made
+MayReply policy (line.Delete id) made = FitsWrite RefusesAbsent made
+MayReply policy (line.Read id) made = FitsRead made
+MayReply policy (line.Query body) made =
+    FitsRefusal (own_refusal policy (query_in body.params body.text)) made ⊎ (made ≡ given.Refused refusal.Memory)
 
 -- ---- what the parts of the engine answered, as the answer to a line
 

@@ -1,6 +1,6 @@
 //! An engine over an open store.
 
-ghost use Rattle.std.specs.Prelude.{◌≡◌, ◌≤◌, ◌+◌, ℕ, Ok, Err, Some, None, IsTrue, IfOk, IfErr, OnOk, false};
+ghost use Rattle.std.specs.Prelude.{◌≡◌, ◌≢◌, ◌≤◌, ◌+◌, ℕ, [], Ok, Err, Some, None, IsTrue, IfOk, IfErr, OnOk, false};
 ghost use Rattle.std.specs.FinMap as map;
 ghost use Rattle.ax_cache.specs.PageLaws.{no_pages};
 ghost use Rattle.ax_disk.specs.model.Calls.{Idles};
@@ -17,15 +17,19 @@ ghost use Rattle.ax_lines.specs.declared.line.Line.TheVariants as line;
 ghost use Rattle.ax_image.specs.Readable.{SaysReadable, newest};
 ghost use Rattle.ax_machine.specs.Needs.{most_steps_of};
 ghost use Rattle.ax_store.specs.Store.{store_contents};
-ghost use Rattle.ax_write.specs.Writes.{IsOfHeld, MeetsHeld, TellsWrite, WriteLeaves, of_store};
+ghost use Rattle.ax_write.specs.Small.{IsSmallBatch, IsToldHeld};
+ghost use Rattle.ax_write.specs.Writes.{IsOfHeld, MeetsHeld, SamePolicies, TellsWrite, WriteLeaves, of_store};
 ghost use Rattle.ax_documents.specs.Damage.{MeetsBy};
 ghost use Rattle.ax_documents.specs.Documents.{DocumentsHold, DocumentsWork, SameDocuments, WorkUnlessDisk};
 ghost use Rattle.ax_documents.specs.Opening.{IsAnswerUnlessDisk, IsImageOf, IsStore, IsWithin, RefusesBy};
+ghost use Rattle.ax_engine.specs.Batched.{AnswersSmall, MakesSmall};
 ghost use Rattle.ax_engine.specs.Damage.{Meets, PassesOverNone};
 ghost use Rattle.ax_engine.specs.Engine.{Applies, CountsAnswer, Holds, HoldsOver, IdlesUnlessDone, IsWrite, LeavesLists, MayFail, Tells, Works, made_of};
 ghost use Rattle.ax_engine.specs.Judging.{Judges, MeetsLine};
+ghost use Rattle.ax_engine.specs.PolicyNow.{policy_now};
 ghost use Rattle.ax_engine.specs.Replies.{FitsRead, IsOfReading, MayReply, look_up_answer, read_answer, write_answer};
 
+use crate::policy_now::current_policy;
 use crate::querying::reply_to_query;
 use crate::reply::Reply;
 use ax_base::Steps;
@@ -50,6 +54,9 @@ pub enum Fault {
         /// The offset of the part in that list.
         at: u64,
     },
+    /// A write of the sink failed, and its count of faults rose. It comes from `read_into` alone, and an engine keeps
+    /// it never: its documents are as they were.
+    Sink,
 }
 
 /// The documents of a container on a disk. After a fault it is to be opened again.
@@ -79,6 +86,7 @@ impl Engine<NoPages> {
         ensures works { IfOk result (λ engine. Works (λ _. no_pages) (D.is_honest disk.old) engine
             (D.history disk.new (D.attached disk.new))) }
         ensures unfaulted { IfOk result (λ engine. engine.fault ≡ None) }
+        ensures empty { IfOk result (λ engine. engine.documents.ids ≡ []) }
         ensures holds { IsTrue (D.is_honest disk.old) → (before : Container)
             → IsStore before (D.history disk.old (D.attached disk.old))
             → IfOk result (λ engine. HoldsOver engine (D.history disk.new (D.attached disk.new)) before) }
@@ -151,7 +159,7 @@ impl<C: PageCache> Engine<C> {
     /// Makes the step of a line, durable where the disk is honest, and answers with its reply; or is
     /// refused for want of memory, with no change. What the container refuses (an id that is held, or is
     /// not; no room for a document) is answered as that, unless memory ran out before it was known. After a fault every
-    /// line is answered by it.
+    /// line is answered by it. `Sink` it answers never: it writes to none.
     ///
     /// `Disk` where a call on the disk failed, and nowhere else does the disk count a fault. `Damaged` where the text of a
     /// document is none that a document can have, or a part of the index is outside its grammar, over an honest disk with
@@ -159,11 +167,13 @@ impl<C: PageCache> Engine<C> {
     /// query without LIMIT answers no rows over such
     /// a text that it reads whole, where it has no WHERE, or the text is that of a tree that has rows in it.
     ///
-    /// Whatever the store holds, a query is answered rows only where it has no refusal of its own (of its text
-    /// or its ORDER BY), and is refused by that one alone, or for want of memory; a write is answered `Ok`,
+    /// Whatever the store holds, a query is answered rows only where it has no refusal of its own (of its text,
+    /// or of its ORDER BY under the policy now), and is refused by that one alone, or for want of memory; a write is answered `Ok`,
     /// or by a refusal of its own line, or for want of memory; a read by a document, as absent, or for want of
     /// memory. Over an honest disk a write or a read is answered only where the table of ids lately found tells its id or the
     /// parts of the index that do are in their grammar, and where the text of the document that a write reads is that of one.
+    /// What a write puts into the store is one batch, of its document and the changes of the index that belong to it.
+    #[tactic(auto, using(crate::proofs::PolicyHeld::same_policies))]
     pub fn apply<D: Disk, L: Ledger>(
         &mut self,
         disk: &mut D,
@@ -176,7 +186,7 @@ impl<C: PageCache> Engine<C> {
             → HoldsOver self.old (D.history disk.old (D.attached disk.old)) before
             → Applies (IsTrue (D.is_honest disk.old)) before line result self.new
             (D.history disk.old (D.attached disk.old)) (D.history disk.new (D.attached disk.new)) }
-        ensures may_reply { IfOk result (λ reply. MayReply line reply) }
+        ensures may_reply { IfOk result (λ reply. MayReply (policy_now self.old.documents.table) line reply) }
         ensures met { IsTrue (D.is_honest disk.old) → self.old.fault ≡ None
             → IfErr result (λ fault. Meets fault (D.history disk.new (D.attached disk.new)).reads) }
         ensures passes_over_none { IsTrue (D.is_honest disk.old) → self.old.fault ≡ None
@@ -185,7 +195,13 @@ impl<C: PageCache> Engine<C> {
             → IfOk result (λ reply. Judges line self.old.documents.ids (store_contents self.old.documents.store) reply) }
         ensures lists { IsTrue (D.is_honest disk.old) → self.old.fault ≡ None
             → LeavesLists line result (D.history disk.old (D.attached disk.old)) (D.history disk.new (D.attached disk.new)) }
+        ensures small { self.old.fault ≡ None → AnswersSmall line result (D.is_honest disk.old)
+            self.old.documents.table self.old.documents.ids
+            (store_contents self.old.documents.store) (store_contents self.new.documents.store) }
         ensures works { Works C.pages (D.is_honest disk.old) self.new (D.history disk.new (D.attached disk.new)) }
+        ensures policies { SamePolicies self.old.documents.table self.new.documents.table }
+
+        ensures no_sink { result ≢ Err Fault.Sink }
 
         // A fault that was answered is kept, and answered again, with no call on the disk.
         ensures keeps { IfErr result (λ fault. self.new.fault ≡ Some fault) }
@@ -211,7 +227,7 @@ impl<C: PageCache> Engine<C> {
 }
 
 /// The fault that an answer is.
-fn kept_fault(answered: &Result<Reply, Fault>) -> Option<Fault>
+pub(crate) fn kept_fault(answered: &Result<Reply, Fault>) -> Option<Fault>
     ensures fault { IfErr answered.now (λ fault. result ≡ Some fault) }
     ensures none { OnOk answered.now (result ≡ None) }
 {
@@ -236,11 +252,13 @@ fn answer<D: Disk, C: PageCache, L: Ledger>(
         → (before : Container) → DocumentsHold documents.old before
         → Tells (IsTrue (D.is_honest disk.old)) before line.now result documents.new
         (D.history disk.old (D.attached disk.old)) (D.history disk.new (D.attached disk.new)) }
-    ensures may_reply { IfOk result (λ reply. MayReply line.now reply) }
+    ensures may_reply { IfOk result (λ reply. MayReply (policy_now documents.old.table) line.now reply) }
     ensures judged { IsTrue (D.is_honest disk.old)
         → IfOk result (λ reply. Judges line.now documents.old.ids (store_contents documents.old.store) reply) }
     ensures lists { IsTrue (D.is_honest disk.old)
         → LeavesLists line.now result (D.history disk.old (D.attached disk.old)) (D.history disk.new (D.attached disk.new)) }
+    ensures small { AnswersSmall line.now result (D.is_honest disk.old) documents.old.table documents.old.ids
+        (store_contents documents.old.store) (store_contents documents.new.store) }
     ensures met { IsTrue (D.is_honest disk.old)
         → IfErr result (λ fault. Meets fault (D.history disk.new (D.attached disk.new)).reads) }
     ensures passes_over_none { IsTrue (D.is_honest disk.old)
@@ -251,6 +269,7 @@ fn answer<D: Disk, C: PageCache, L: Ledger>(
         → Stays (D.history disk.old (D.attached disk.old)) (D.history disk.new (D.attached disk.new)) SaysReadable }
     ensures counted { CountsAnswer result (D.faults disk.old) (D.faults disk.new) }
     ensures never_falls { D.faults disk.old ≤ D.faults disk.new }
+    ensures policies { SamePolicies documents.old.table documents.new.table }
     ensures attached { D.attached disk.new ≡ D.attached disk.old }
     ensures honest { D.is_honest disk.new ≡ D.is_honest disk.old }
     ensures bound { IsTrue (D.is_honest disk.old) → (before : Container) → DocumentsHold documents.old before
@@ -280,10 +299,12 @@ fn write<D: Disk, C: PageCache, L: Ledger>(
     ensures tells { IsTrue (D.is_honest disk.old) → (before : Container) → DocumentsHold documents.old before
         → Tells (IsTrue (D.is_honest disk.old)) before line.now result documents.new
         (D.history disk.old (D.attached disk.old)) (D.history disk.new (D.attached disk.new)) }
-    ensures may_reply { IfOk result (λ reply. MayReply line.now reply) }
+    ensures may_reply { IfOk result (λ reply. MayReply (policy_now documents.old.table) line.now reply) }
     ensures judged { IsTrue (D.is_honest disk.old)
         → IfOk result (λ reply. Judges line.now documents.old.ids (store_contents documents.old.store) reply) }
     ensures lists { IsTrue (D.is_honest disk.old) → IdlesUnlessDone result (D.history disk.old (D.attached disk.old)) (D.history disk.new (D.attached disk.new)) }
+    ensures small { AnswersSmall line.now result (D.is_honest disk.old) documents.old.table documents.old.ids
+        (store_contents documents.old.store) (store_contents documents.new.store) }
     ensures met { IsTrue (D.is_honest disk.old)
         → IfErr result (λ fault. Meets fault (D.history disk.new (D.attached disk.new)).reads) }
     ensures works { OnOk result (DocumentsWork C.pages (D.is_honest disk.old) documents.new (D.history disk.new (D.attached disk.new))) }
@@ -292,6 +313,7 @@ fn write<D: Disk, C: PageCache, L: Ledger>(
         → Stays (D.history disk.old (D.attached disk.old)) (D.history disk.new (D.attached disk.new)) SaysReadable }
     ensures counted { CountsAnswer result (D.faults disk.old) (D.faults disk.new) }
     ensures never_falls { D.faults disk.old ≤ D.faults disk.new }
+    ensures policies { SamePolicies documents.old.table documents.new.table }
     ensures attached { D.attached disk.new ≡ D.attached disk.old }
     ensures honest { D.is_honest disk.new ≡ D.is_honest disk.old }
     ensures bound { IsTrue (D.is_honest disk.old) → (before : Container) → DocumentsHold documents.old before
@@ -317,6 +339,8 @@ fn make<D: Disk, C: PageCache, L: Ledger>(
         (D.history disk.old (D.attached disk.old)) (D.history disk.new (D.attached disk.new)) }
     ensures only { IfErr result (MayFail line.now) }
     ensures met { IsTrue (D.is_honest disk.old) → MeetsLine line.now result documents.old.ids (store_contents documents.old.store) }
+    ensures small { MakesSmall line.now result (D.is_honest disk.old) documents.old.table documents.old.ids
+        (store_contents documents.old.store) (store_contents documents.new.store) }
     ensures damage { IsTrue (D.is_honest disk.old)
         → IfErr (of_store result) (λ why. MeetsBy why (D.history disk.new (D.attached disk.new)).reads) }
     ensures works { WorkUnlessDisk C.pages (D.is_honest disk.old) (of_store result) documents.new
@@ -324,6 +348,7 @@ fn make<D: Disk, C: PageCache, L: Ledger>(
     ensures leaves { WriteLeaves C.pages (D.is_honest disk.old) result documents.old.store documents.new.store
         (D.history disk.old (D.attached disk.old)) (D.history disk.new (D.attached disk.new))
         (D.faults disk.old) (D.faults disk.new) }
+    ensures policies { SamePolicies documents.old.table documents.new.table }
     ensures attached { D.attached disk.new ≡ D.attached disk.old }
     ensures honest { D.is_honest disk.new ≡ D.is_honest disk.old }
     ensures bound { IsTrue (D.is_honest disk.old) → (before : Container) → DocumentsHold documents.old before
@@ -353,6 +378,8 @@ fn delete<D: Disk, C: PageCache, L: Ledger>(
         (D.history disk.old (D.attached disk.old)) (D.history disk.new (D.attached disk.new)) }
     ensures only { IfErr result IsOfHeld }
     ensures met { IsTrue (D.is_honest disk.old) → MeetsHeld result documents.old.ids id.now (store_contents documents.old.store) }
+    ensures small { OnOk result (IsSmallBatch (IsToldHeld (D.is_honest disk.old) documents.old.ids id.now (store_contents documents.old.store))
+        (D.is_honest disk.old) documents.old.table None (store_contents documents.old.store) (store_contents documents.new.store)) }
     ensures damage { IsTrue (D.is_honest disk.old)
         → IfErr (of_store result) (λ why. MeetsBy why (D.history disk.new (D.attached disk.new)).reads) }
     ensures works { WorkUnlessDisk C.pages (D.is_honest disk.old) (of_store result) documents.new
@@ -363,6 +390,7 @@ fn delete<D: Disk, C: PageCache, L: Ledger>(
     ensures one { steps.new ≤ steps.old + 1 }
     ensures none { IsTrue (D.is_honest disk.old) → (before : Container) → DocumentsHold documents.old before
         → contains id.now before ≡ false → steps.new ≡ steps.old }
+    ensures policies { SamePolicies documents.old.table documents.new.table }
     ensures attached { D.attached disk.new ≡ D.attached disk.old }
     ensures honest { D.is_honest disk.new ≡ D.is_honest disk.old }
     ensures steps { steps.old ≤ steps.new }
@@ -391,7 +419,8 @@ fn answer_of_write(made: Result<(), WriteFault>) -> Result<Reply, Fault>
 }
 
 /// The document of an id, which changes nothing. Its text is passed on as it is stored.
-fn read<D: Disk, C: PageCache, L: Ledger>(
+#[tactic(auto, using(crate::proofs::PolicyHeld::unchanged))]
+pub(crate) fn read<D: Disk, C: PageCache, L: Ledger>(
     documents: &mut Documents<C>,
     disk: &mut D,
     id: &Text,
@@ -414,6 +443,7 @@ fn read<D: Disk, C: PageCache, L: Ledger>(
         → Stays (D.history disk.old (D.attached disk.old)) (D.history disk.new (D.attached disk.new)) SaysReadable }
     ensures counted { CountsAnswer result (D.faults disk.old) (D.faults disk.new) }
     ensures never_falls { D.faults disk.old ≤ D.faults disk.new }
+    ensures policies { SamePolicies documents.old.table documents.new.table }
     ensures attached { D.attached disk.new ≡ D.attached disk.old }
     ensures honest { D.is_honest disk.new ≡ D.is_honest disk.old }
     ensures bound { IsTrue (D.is_honest disk.old) → (before : Container) → DocumentsHold documents.old before
@@ -440,7 +470,8 @@ fn answer_of_look_up(found: Result<Option<Vec<u8>>, StoreFault>) -> Result<Reply
     }
 }
 
-/// The reply to a query, which changes nothing.
+/// The reply to a query under the policy now, which changes nothing.
+#[tactic(auto, using(crate::proofs::PolicyHeld::same_policies))]
 fn query<D: Disk, C: PageCache, L: Ledger>(
     alloc: Global,
     documents: &mut Documents<C>,
@@ -454,7 +485,7 @@ fn query<D: Disk, C: PageCache, L: Ledger>(
         → (before : Container) → DocumentsHold documents.old before
         → Tells (IsTrue (D.is_honest disk.old)) before (line.Query body.now) result documents.new
         (D.history disk.old (D.attached disk.old)) (D.history disk.new (D.attached disk.new)) }
-    ensures may_reply { IfOk result (λ reply. MayReply (line.Query body.now) reply) }
+    ensures may_reply { IfOk result (λ reply. MayReply (policy_now documents.old.table) (line.Query body.now) reply) }
     ensures lists { IsTrue (D.is_honest disk.old) → Idles (D.history disk.old (D.attached disk.old)) (D.history disk.new (D.attached disk.new)) }
     ensures met { IsTrue (D.is_honest disk.old)
         → IfErr result (λ fault. Meets fault (D.history disk.new (D.attached disk.new)).reads) }
@@ -467,6 +498,7 @@ fn query<D: Disk, C: PageCache, L: Ledger>(
         → Stays (D.history disk.old (D.attached disk.old)) (D.history disk.new (D.attached disk.new)) SaysReadable }
     ensures counted { CountsAnswer result (D.faults disk.old) (D.faults disk.new) }
     ensures never_falls { D.faults disk.old ≤ D.faults disk.new }
+    ensures policies { SamePolicies documents.old.table documents.new.table }
     ensures attached { D.attached disk.new ≡ D.attached disk.old }
     ensures honest { D.is_honest disk.new ≡ D.is_honest disk.old }
     ensures bound { IsTrue (D.is_honest disk.old) → (before : Container) → DocumentsHold documents.old before
@@ -474,7 +506,16 @@ fn query<D: Disk, C: PageCache, L: Ledger>(
     ensures steps { steps.old ≤ steps.new }
 {
     let mut ahead = ReadAhead::new(alloc);
-    let read = reply_to_query(alloc, &mut documents.store, disk, &mut ahead, body, steps);
+    let policy = current_policy(&documents.table);
+    let read = reply_to_query(
+        alloc,
+        &mut documents.store,
+        disk,
+        &mut ahead,
+        policy,
+        body,
+        steps,
+    );
     answer_of_read(read)
 }
 

@@ -1,8 +1,8 @@
 //! The engine: the documents of a container on a disk, and one line at a time over them.
 //!
 //! Opening finds the store attached, as it is; applying a line makes its step, durable where the disk is
-//! honest, and answers with the reply as data. The engine knows no stream, no text of a status and no
-//! command line. Once it has answered a fault it answers the same one to every line, and calls the disk
+//! honest, and answers with the reply as data; a READ may be answered to a sink, with no copy of its text. The engine
+//! knows no source, no text of a status and no command line. Once it has answered a fault it answers the same one to every line, and calls the disk
 //! no more, until it is opened again.
 //!
 //! Stands on `ax_documents`, whose documents are those of an image with its index, on `ax_machine`, whose definitions say what a
@@ -13,12 +13,16 @@
 #![tactic(auto)]
 
 mod engine;
+mod policy_now;
 mod querying;
+mod read_into;
 mod reading;
 mod reply;
+mod reply_lines;
 mod rows;
 mod shown_documents;
 
 pub use engine::{Engine, Fault};
 pub use reply::Reply;
+pub use reply_lines::{out_of_memory_line, refusal_line, write_document};
 pub use rows::Rows;

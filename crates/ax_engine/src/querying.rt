@@ -11,7 +11,7 @@ ghost use Rattle.ax_image.specs.Readable.{newest};
 ghost use Rattle.ax_image_grammar.specs.Payloads.{IsDocumentText};
 ghost use Rattle.ax_lines.specs.Asked.{IsStorable};
 ghost use Rattle.ax_machine.specs.Needs.{query_need};
-ghost use Rattle.ax_machine.specs.Querying.{numbered, query_reply, rows_of, rows_or_refusal, rows_reply};
+ghost use Rattle.ax_machine.specs.Querying.{numbered, rows_of, rows_reply, rows_under};
 ghost use Rattle.ax_mean.specs.declared.query.Query as queries;
 ghost use Rattle.ax_result.specs.Answers.{answer_of};
 ghost use Rattle.ax_tree.specs.CanonicalText.{canonical_text};
@@ -36,14 +36,15 @@ use ax_lines::{Body, Refusal};
 use ax_machine::refusal_of;
 use ax_mean::{KeyedRow, Query};
 use ax_parse::{ParseFault, parse};
+use ax_policy::Policy;
 use ax_store::{ReadAhead, Store, StoreFault};
 use ax_tree::Memory;
 use std::alloc::Global;
 use std::sync::ledger::Ledger;
 
-/// The reply to a query, which changes nothing: a refusal where the body's text is no
-/// query, or one that is refused; else the rows of its answer over all documents, and how many
-/// there are. Each document that is fetched to find the rows takes one step of work, and each that is
+/// The reply to a query under a policy, which changes nothing: a refusal where the body's text is no
+/// query, or one for whose ORDER BY the policy keeps no order; else the rows of its answer over all documents, and how
+/// many there are. Each document that is fetched to find the rows takes one step of work, and each that is
 /// evaluated another.
 ///
 /// `Disk` where a read failed; `Damaged` where the text of a document that was evaluated is outside the
@@ -53,17 +54,20 @@ pub(crate) fn reply_to_query<D: Disk, C: PageCache, L: Ledger>(
     store: &mut Store<C>,
     disk: &mut D,
     ahead: &mut ReadAhead,
+    policy: &Policy,
     body: &Body,
     steps: &mut Steps<L>,
 ) -> Result<Reply, StoreFault>
     requires ready { IsReady C.pages (D.is_honest disk.old) store.old ahead.old (D.history disk.old (D.attached disk.old)) }
     ensures reply { IsTrue (D.is_honest disk.old) → (container : Container) → ContentsHold (store_contents store.old) container
-        → IfOk result (λ reply. IsReply reply (query_reply body.now container)) }
-    ensures fits { IfOk result (λ reply. FitsRefusal (own_refusal (query_in body.now.params body.now.text)) reply) }
+        → IfOk result (λ reply. IsReply reply
+        (rows_reply (rows_under policy.now (query_in body.now.params body.now.text) container))) }
+    ensures fits { IfOk result (λ reply. FitsRefusal (own_refusal policy.now (query_in body.now.params body.now.text)) reply) }
     ensures met { IsTrue (D.is_honest disk.old) → (query : queries.Query) → query_in body.now.params body.now.text ≡ Some query
         → IfOk result (λ reply. OnRows reply (MeetsDocuments query (store_contents store.old))) }
     ensures bound { (container : Container) → ContentsHold (store_contents store.old) container
-        → steps.new ≤ steps.old + 2 * query_need (rows_or_refusal (query_in body.now.params body.now.text) container) container }
+        → steps.new ≤ steps.old
+        + 2 * query_need (rows_under policy.now (query_in body.now.params body.now.text) container) container }
     ensures never_falls { steps.old ≤ steps.new }
     ensures scans { Scans C.pages (D.is_honest disk.old) result store.old store.new ahead.new
         (D.history disk.old (D.attached disk.old)) (D.history disk.new (D.attached disk.new))
@@ -72,7 +76,7 @@ pub(crate) fn reply_to_query<D: Disk, C: PageCache, L: Ledger>(
     ensures honest { D.is_honest disk.new ≡ D.is_honest disk.old }
 {
     match query_of(alloc, body) {
-        Ok(Some(query)) => reply_to_read(alloc, store, disk, ahead, query, steps),
+        Ok(Some(query)) => reply_to_read(alloc, store, disk, ahead, policy, query, steps),
         Ok(None) => Ok(Reply::Refused(Refusal::Query)),
         Err(_) => Err(StoreFault::Memory),
     }
@@ -90,24 +94,25 @@ fn query_of(alloc: Global, body: &Body) -> Result<Option<Query>, Memory>
     }
 }
 
-/// The reply to a query that was read.
+/// The reply to a query that was read, under a policy.
 #[tactic(auto, using(crate::proofs::OwnRefusals::is_answered))]
 fn reply_to_read<D: Disk, C: PageCache, L: Ledger>(
     alloc: Global,
     store: &mut Store<C>,
     disk: &mut D,
     ahead: &mut ReadAhead,
+    policy: &Policy,
     query: Query,
     steps: &mut Steps<L>,
 ) -> Result<Reply, StoreFault>
     requires ready { IsReady C.pages (D.is_honest disk.old) store.old ahead.old (D.history disk.old (D.attached disk.old)) }
     ensures reply { IsTrue (D.is_honest disk.old) → (container : Container) → ContentsHold (store_contents store.old) container
-        → IfOk result (λ reply. IsReply reply (rows_reply (rows_or_refusal (Some query) container))) }
-    ensures fits { IfOk result (λ reply. FitsRefusal (own_refusal (Some query)) reply) }
+        → IfOk result (λ reply. IsReply reply (rows_reply (rows_under policy.now (Some query) container))) }
+    ensures fits { IfOk result (λ reply. FitsRefusal (own_refusal policy.now (Some query)) reply) }
     ensures met { IsTrue (D.is_honest disk.old)
         → IfOk result (λ reply. OnRows reply (MeetsDocuments query (store_contents store.old))) }
     ensures bound { (container : Container) → ContentsHold (store_contents store.old) container
-        → steps.new ≤ steps.old + 2 * query_need (rows_or_refusal (Some query) container) container }
+        → steps.new ≤ steps.old + 2 * query_need (rows_under policy.now (Some query) container) container }
     ensures never_falls { steps.old ≤ steps.new }
     ensures scans { Scans C.pages (D.is_honest disk.old) result store.old store.new ahead.new
         (D.history disk.old (D.attached disk.old)) (D.history disk.new (D.attached disk.new))
@@ -115,7 +120,7 @@ fn reply_to_read<D: Disk, C: PageCache, L: Ledger>(
     ensures attached { D.attached disk.new ≡ D.attached disk.old }
     ensures honest { D.is_honest disk.new ≡ D.is_honest disk.old }
 {
-    if let Some(refusal) = refusal_of(&query) {
+    if let Some(refusal) = refusal_of(&query, policy) {
         drop(query);
         return Ok(Reply::Refused(refusal));
     }

@@ -47,7 +47,8 @@ pub fn read_line(alloc: Global, line: &[u8]) -> Result<Line, LineFault>
     ensures answers { Answers result (spec.line_of line.now) }
     // A document that is asked for can be stored, an id is one, and a body can be answered.
     ensures asked { IfOk result IsAsked }
-    // A line that is too long, is none of the forms, or has no id where it wants one is refused whatever memory there is.
+    // A line that is too long, is none of the forms, or is a READ or DELETE of what is no id is refused whatever memory
+    // there is.
     ensures at_once { spec.is_judged_at_once line.now ≡ true → (why : RefusalOf) → spec.line_of line.now ≡ Err why
         → result ≡ Err (LineFault.Refused why) }
 {

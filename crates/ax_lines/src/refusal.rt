@@ -32,9 +32,8 @@ pub enum Refusal {
     /// parameters has more than 32,768 bytes, or its text is with them no query of the grammar. The
     /// text is judged after the line is read.
     Query,
-    /// `err 11 order`: the query has an ORDER BY of two paths or more, or of `_etag` alone, for
-    /// which the default indexing policy keeps no order. No line is refused so before its query is
-    /// read.
+    /// `err 11 order`: the query has an ORDER BY for which the indexing policy now keeps no order.
+    /// No line is refused so before its query is read.
     Order,
     /// `err 15 full`: a creation is asked for where 1,048,576 documents are there or the next
     /// number is 2^32 - 1. No line is refused so before it meets the store.

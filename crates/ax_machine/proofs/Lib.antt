@@ -1,2 +1,3 @@
+mod Orders
 pub mod Runs
 mod Soundness

@@ -1,10 +1,14 @@
 //! Laws of the definitions, each the contract of a function that does nothing.
-ghost use Rattle.std.specs.Prelude.{◌≡◌, ◌++◌, ℕ, List, Ok};
+ghost use Rattle.std.specs.Prelude.{◌≡◌, ◌++◌, ℕ, List, Some, Ok, Err};
 ghost use Rattle.std.specs.List.{AllByRecursion};
 ghost use Rattle.ax_container.specs.Container.{Container, IsSound};
 ghost use Rattle.ax_lines.specs.declared.body.Body.{Body};
 ghost use Rattle.ax_lines.specs.declared.line.Line.TheVariants as line_form;
+ghost use Rattle.ax_lines.specs.declared.refusal.Refusal.TheVariants as refusal;
 ghost use Rattle.ax_lines.specs.Lines.{line_of};
+ghost use Rattle.ax_mean.specs.declared.query.Query.{Query};
+ghost use Rattle.ax_policy.specs.Ordering.{Orderable};
+ghost use Rattle.ax_machine.specs.Querying.{rows_of, rows_or_refusal};
 ghost use Rattle.ax_machine.specs.Step.{step};
 ghost use Rattle.ax_machine.specs.Run.{Exchange, Served, lines_of, after, texts, text_of};
 
@@ -43,4 +47,13 @@ pub fn a_look_changes_nothing()
         → line_of line ≡ Ok (line_form.Query body) → (step before line).0 ≡ before }
     ensures read { (before : Container) (line id : List ℕ)
         → line_of line ≡ Ok (line_form.Read id) → (step before line).0 ≡ before }
+{}
+
+/// A query is answered by its rows where the policy now keeps an order for its ORDER BY, and refused by it where it
+/// keeps none.
+pub fn a_query_is_refused_by_its_order()
+    ensures kept { (query : Query) (container : Container) → Orderable container.policy query.orders
+        → rows_or_refusal (Some query) container ≡ Ok (rows_of query container) }
+    ensures refused { (query : Query) (container : Container) → (Orderable container.policy query.orders → ⊥)
+        → rows_or_refusal (Some query) container ≡ Err refusal.Order }
 {}

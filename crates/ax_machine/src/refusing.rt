@@ -2,42 +2,30 @@
 ghost use Rattle.std.specs.Prelude.{◌≡◌, ℕ, List, Result, Err, IfSome, IfNone};
 ghost use Rattle.ax_lines.specs.declared.refusal.Refusal as refused;
 ghost use Rattle.ax_lines.specs.Causes.{unless};
-ghost use Rattle.ax_machine.specs.Querying.{causes, is_etag as is_etag_path, is_orderable as orderable};
+ghost use Rattle.ax_machine.specs.Querying.{causes};
+ghost use Rattle.ax_policy.specs.Sameness.{is_orderable};
 
 use ax_lines::Refusal;
-use ax_mean::{OrderList, Path, Query, Step};
+use ax_mean::{OrderList, Query};
+use ax_policy::Policy;
 
-/// The refusal of a query that was read, and none of one that is answered: `Order` where no order is
-/// kept for its ORDER BY.
-pub fn refusal_of(query: &Query) -> Option<Refusal>
+/// The refusal of a query that was read, under the policy now, and none of one that is answered: `Order` where the policy
+/// keeps no order for its ORDER BY.
+pub fn refusal_of(query: &Query, policy: &Policy) -> Option<Refusal>
     ensures refused { IfSome result (λ why. (answer : Result (List (List ℕ)) refused.Refusal)
-        → unless (causes query.now) answer ≡ Err why) }
+        → unless (causes policy.now query.now) answer ≡ Err why) }
     ensures answered { IfNone result ((answer : Result (List (List ℕ)) refused.Refusal)
-        → unless (causes query.now) answer ≡ answer) }
+        → unless (causes policy.now query.now) answer ≡ answer) }
 {
-    if !is_orderable(&query.orders) {
+    if !is_kept(policy, &query.orders) {
         return Some(Refusal::Order);
     }
     None
 }
 
-/// Whether an order is kept for ORDER BY, or none is asked for.
-fn is_orderable(orders: &OrderList) -> bool
-    ensures { result ≡ orderable orders.now }
+/// Whether the policy keeps an order for ORDER BY, or none is asked for.
+fn is_kept(policy: &Policy, orders: &OrderList) -> bool
+    ensures { result ≡ is_orderable policy.now orders.now }
 {
-    match orders.as_slice() {
-        [] => true,
-        [order] => !is_etag(&order.path),
-        _ => false,
-    }
-}
-
-/// Whether the path is that to the member `_etag` of a document.
-fn is_etag(path: &Path) -> bool
-    ensures { result ≡ is_etag_path path.now }
-{
-    match path.as_slice() {
-        [Step::Name(name)] => name.as_str() == "_etag",
-        _ => false,
-    }
+    policy.orderable(orders)
 }

@@ -12,10 +12,9 @@ ghost use Rattle.ax_machine.specs.ReplyTexts.{reply_text};
 
 use crate::out_of_memory::Memory;
 use crate::plain_document::PlainDocument;
-use crate::query_rows::{answer_rows, query_in};
+use crate::query_rows::{answer_rows, own_refusal, query_in};
 use crate::reply_lines::{doc_line, ok_line, refusal_line, rows_lines};
 use ax_lines::{Body, Line, LineFault, Refusal, read_line};
-use ax_machine::refusal_of;
 use ax_mean::Query;
 use ax_tree::{Text, Tree, id_of};
 use std::alloc::Global;
@@ -100,10 +99,11 @@ impl PlainMachine {
         ensures { IfOk result (λ text. text.items ≡ reply_text
             (rows_reply (rows_or_refusal (Some query.now) self.now))) }
     {
-        if let Some(refusal) = refusal_of(query) {
+        let documents = self.documents.as_slice();
+        if let Some(refusal) = own_refusal(alloc, query)? {
             return refusal_line(alloc, refusal);
         }
-        let rows = answer_rows(alloc, query, self.documents.as_slice())?;
+        let rows = answer_rows(alloc, query, documents)?;
         rows_lines(alloc, rows.as_slice())
     }
 

@@ -1,5 +1,5 @@
 //! The rows of a query over whole documents, each looked at in turn.
-ghost use Rattle.std.specs.Prelude.{◌≡◌, ◌<◌, ℕ, List, [], ◌∷◌, ◌++◌, map, IfOk, OnOk};
+ghost use Rattle.std.specs.Prelude.{◌≡◌, ◌<◌, ℕ, List, [], ◌∷◌, ◌++◌, map, Result, Err, IfOk, IfNone, IfSome, OnOk};
 ghost use Rattle.std.specs.List.Sorted.{IsStrictlySortedBy};
 ghost use Rattle.std.specs.Ordering.{nat_cmp};
 ghost use Rattle.ax_tree.specs.declared.tree.Tree as trees;
@@ -7,14 +7,20 @@ ghost use Rattle.ax_mean.specs.declared.query.Query as queries;
 ghost use Rattle.ax_result.specs.Answers.{answer_of};
 ghost use Rattle.ax_answer.specs.Gathering.{Gathers};
 ghost use Rattle.ax_grammar.specs.Query.{query_in as query_of};
+ghost use Rattle.ax_lines.specs.Causes.{unless};
+ghost use Rattle.ax_lines.specs.declared.refusal.Refusal as refused;
+ghost use Rattle.ax_machine.specs.Querying.{causes};
+ghost use Rattle.ax_policy.specs.Default as policies;
 
 use crate::out_of_memory::Memory;
 use crate::plain_document::PlainDocument;
 use ax_answer::Answer;
 use ax_base::Steps;
-use ax_lines::Body;
+use ax_lines::{Body, Refusal};
+use ax_machine::refusal_of;
 use ax_mean::{KeyedRow, Query};
 use ax_parse::{ParseFault, parse};
+use ax_policy::default_policy;
 use std::alloc::Global;
 use std::marker::Brand;
 use std::sync::ledger::{Blank, Ledger};
@@ -29,6 +35,17 @@ pub fn query_in(alloc: Global, body: &Body) -> Result<Option<Query>, Memory>
         Err(ParseFault::Text) => Ok(None),
         Err(ParseFault::Memory) => Err(Memory),
     }
+}
+
+/// The refusal of a query that was read, under the default policy, since no line of this machine gives another.
+pub fn own_refusal(alloc: Global, query: &Query) -> Result<Option<Refusal>, Memory>
+    ensures refused { IfOk result (λ own. IfSome own (λ why. (answer : Result (List (List ℕ)) refused.Refusal)
+        → unless (causes policies.default_policy query.now) answer ≡ Err why)) }
+    ensures answered { IfOk result (λ own. IfNone own ((answer : Result (List (List ℕ)) refused.Refusal)
+        → unless (causes policies.default_policy query.now) answer ≡ answer)) }
+{
+    let policy = default_policy(alloc)?;
+    Ok(refusal_of(query, &policy))
 }
 
 /// The rows that the query answers over these documents, which stand in the order of their numbers.

@@ -10,7 +10,7 @@ mod NamePlaces
 pub mod NormalFits
 mod NormalTrees
 mod NumberLaws
-mod Orders
+pub mod Orders
 mod PathReading
 mod PathTexts
 mod PolicyAgain

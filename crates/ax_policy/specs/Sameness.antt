@@ -1,4 +1,4 @@
--- Tests of paths and composites, step by step, which come to equality. No public clause cites them.
+-- Tests of paths and composites, step by step, which come to equality, and the test of an order by a policy that they give.
 use Rattle.std.specs.Prelude.{List, [], ◌∷◌, Bool, true, false, ◌&&◌, ◌||◌, not}
 use Rattle.ax_mean.specs.declared.query.Order.{Order}
 use Rattle.ax_mean.specs.declared.query.Step.{Step}

@@ -42,6 +42,7 @@ fault_of_engine : (why : Fault) (earlier later : ℕ) → CountsAnswer (Err why)
     → CountsDisk (fault_status why) earlier later
 fault_of_engine fault.Disk earlier later counted = counted
 fault_of_engine (fault.Damaged extent at) earlier later counted = counted
+fault_of_engine fault.Sink earlier later counted = absurd counted
 
 -- what the engine counted is what the line did, whose reply was written or not
 pub line_counted : (result : Result (Unit {0}) Status) (answered : Result Reply Fault) (earlier later : ℕ)

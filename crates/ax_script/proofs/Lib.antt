@@ -7,7 +7,7 @@ mod DiskMoments
 mod Endings
 mod OnDisk
 mod Outcomes
-mod Refusals
+mod ReadLines
 mod Replying
 mod ServedLines
 mod Written

@@ -11,10 +11,14 @@ use Rattle.ax_tree.specs.Document.{document_id}
 use Rattle.ax_tree.specs.declared.tree.Tree.{Tree}
 use Rattle.ax_lines.specs.declared.line.Line.{Line}
 use Rattle.ax_lines.specs.declared.line.Line.TheVariants as line
+use Rattle.ax_lines.specs.declared.line.LineFault.{LineFault}
+use Rattle.ax_lines.specs.declared.line.LineFault.TheVariants as line_fault
 use Rattle.ax_lines.specs.declared.refusal.Refusal.{Refusal}
+use Rattle.ax_lines.specs.Answers.{IsRefusedBy}
 use Rattle.ax_lines.specs.Lines.{line_of}
 use Rattle.ax_engine.specs.Damage.{Meets}
 use Rattle.ax_engine.specs.Engine.{Applies, HoldsOver, Works, made_by}
+use Rattle.ax_engine.specs.Reading.{text_of_reply}
 use Rattle.ax_engine.specs.Replies.{IsReply}
 use Rattle.ax_documents.specs.Opening.{IsImageOf}
 use Rattle.ax_engine.specs.declared.engine.Engine.{Engine}
@@ -30,7 +34,7 @@ use Rattle.ax_machine.specs.Step.{served, step, write_by, written}
 use Rattle.ax_script.specs.declared.status.Status.{Status}
 use Rattle.ax_script.specs.declared.status.Status.TheVariants as status
 use Rattle.ax_script.specs.Progress.{Serves, BeginsToServe, BreaksOffWith, IsLineFault, StopsBy, outlets}
-use Rattle.ax_script.specs.Replies.{IsMadeInMemory, IsTextOf, TellsLine, WritesPart, WritesWhole, text_of_reply}
+use Rattle.ax_script.specs.Replies.{IsMadeInMemory, IsTextOf, TellsLine, WritesPart, WritesWhole, unread_refusal}
 use Rattle.ax_script.proofs.Outcomes.{OnOk-map, OnErr-map}
 use Rattle.ax_script.proofs.Written.{serves_by, begins_by, begins_without}
 
@@ -65,7 +69,7 @@ unchanged before line OutOfMemory not = refl
 -- a reply that is made in memory is not the one to a write that was made
 not_ok : (made : Reply) (meant : reply.Reply) → IsReply made meant → IsMadeInMemory made → meant ≢ reply.Ok
 not_ok given.Ok meant is in_memory = absurd in_memory
-not_ok (given.Doc text) meant is in_memory = λ same. cc
+not_ok (given.Doc text) meant is in_memory = absurd in_memory
 not_ok (given.Rows rows) meant is in_memory = λ same. cc
 not_ok (given.Refused why) meant is in_memory = absurd in_memory
 
@@ -114,6 +118,7 @@ module _ {C : Type 0} (pages : C → CachedPages) (trusted : Bool) (before : Con
       ))) whole
   whole_of result (Err fault.Disk) told works bounded whole = OnOk-map result (λ none. absurd none) whole
   whole_of result (Err (fault.Damaged extent at)) told works bounded whole = absurd told
+  whole_of result (Err fault.Sink) told works bounded whole = absurd told
 
   pub part_of : (result : Result (Unit {0}) Status) (answered : Result Reply Fault)
       → TellsLine honest before line answered engine old new
@@ -129,6 +134,7 @@ module _ {C : Type 0} (pages : C → CachedPages) (trusted : Bool) (before : Con
       (outlets w new later)) same
       (begins_without honest before line Served written old new steps later told bounded)) part
   part_of result (Err (fault.Damaged extent at)) told works bounded part = absurd told
+  part_of result (Err fault.Sink) told works bounded part = absurd told
 
 -- ---- the answer to a line
 
@@ -157,8 +163,9 @@ tells_applied honest before bytes asked engine old new (Err fault.Disk) read tol
     subst (λ (m : Container × reply.Reply). honest → Turns old new (IsImageOf before) (IsImageOf m.0))
     (sym (ap (served before) read)) told
 tells_applied honest before bytes asked engine old new (Err (fault.Damaged extent at)) read told = absurd told
+tells_applied honest before bytes asked engine old new (Err fault.Sink) read told = absurd told
 
-pub tells_refused : {C : Type 0} (honest : Type 0) (before : Container) (bytes : List ℕ) (why : Refusal)
+tells_refused : {C : Type 0} (honest : Type 0) (before : Container) (bytes : List ℕ) (why : Refusal)
     (engine : Engine C) (old new : History) → line_of bytes ≡ Err why → HoldsOver engine new before
     → (honest → Turns old new (IsImageOf before) (IsImageOf before))
     → TellsLine honest before bytes (Ok (given.Refused why)) engine old new
@@ -169,6 +176,15 @@ tells_refused honest before bytes why engine old new read holds turns =
       subst (λ (m : Container × reply.Reply). HoldsOver engine new m.0) (sym is) holds,
       subst (λ (m : Container × reply.Reply). honest → Turns old new (IsImageOf before) (IsImageOf m.0)) (sym is) turns,
     )
+
+-- a line that was not read changes nothing
+pub tells_unread : {C : Type 0} (honest : Type 0) (before : Container) (bytes : List ℕ) (fault : LineFault)
+    (engine : Engine C) (old new : History) → IsRefusedBy fault (line_of bytes) → HoldsOver engine new before
+    → (honest → Turns old new (IsImageOf before) (IsImageOf before))
+    → TellsLine honest before bytes (Ok (given.Refused (unread_refusal fault))) engine old new
+tells_unread honest before bytes (line_fault.Refused why) engine old new is holds turns =
+    tells_refused honest before bytes why engine old new is holds turns
+tells_unread honest before bytes line_fault.Memory engine old new is holds turns = (OutOfMemory, refl, holds, turns)
 
 -- ---- the status of a line that was not served
 

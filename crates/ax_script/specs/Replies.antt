@@ -7,6 +7,7 @@ use Rattle.ax_disk.specs.model.Moments.{History}
 use Rattle.ax_disk.specs.model.Stays.{Turns}
 use Rattle.ax_container.specs.Container.{Container}
 use Rattle.ax_engine.specs.Engine.{HoldsOver}
+use Rattle.ax_engine.specs.Reading.{text_of_reply}
 use Rattle.ax_engine.specs.Replies.{IsReply, MayReply}
 use Rattle.ax_documents.specs.Opening.{IsImageOf}
 use Rattle.ax_engine.specs.declared.engine.Engine.{Engine}
@@ -16,27 +17,23 @@ use Rattle.ax_engine.specs.declared.reply.Reply.{Reply}
 use Rattle.ax_engine.specs.declared.reply.Reply.TheVariants as given
 use Rattle.ax_lines.specs.Lines.{is_judged_at_once, line_of}
 use Rattle.ax_lines.specs.declared.line.Line.{Line}
+use Rattle.ax_lines.specs.declared.line.LineFault.{LineFault}
+use Rattle.ax_lines.specs.declared.line.LineFault.TheVariants as line_fault
 use Rattle.ax_lines.specs.declared.refusal.Refusal.{Refusal}
 use Rattle.ax_lines.specs.declared.refusal.Refusal.TheVariants as refusal
+use Rattle.ax_policy.specs.declared.policy.Policy.{Policy}
 use Rattle.ax_tree.specs.declared.out_of_memory.Memory.{Memory}
 use Rattle.ax_machine.specs.Reply as reply
-use Rattle.ax_machine.specs.ReplyTexts.{doc_text, end_text, refusal_text, reply_text}
+use Rattle.ax_machine.specs.ReplyTexts.{reply_text}
 use Rattle.ax_machine.specs.Run.{Outcome, after_line, reply_to}
 use Rattle.ax_machine.specs.Step.{step}
 use Rattle.ax_script.specs.declared.status.Status.{Status}
 use Rattle.ax_script.specs.declared.status.Status.TheVariants as status
 
--- the text of a reply: of a document its line; of rows their lines, and behind these how many there are
-abbrev pub text_of_reply : Reply → List ℕ
-text_of_reply given.Ok = reply_text reply.Ok
-text_of_reply (given.Doc text) = doc_text text.items
-text_of_reply (given.Rows rows) = rows.lines.items ++ end_text reply.End rows.count
-text_of_reply (given.Refused why) = refusal_text why
-
--- the text of the reply is made in memory: that of a document or of rows
+-- the text of the reply is made in memory: that of rows
 abbrev pub IsMadeInMemory : Reply → Type 0
 IsMadeInMemory given.Ok = ⊥
-IsMadeInMemory (given.Doc text) = Unit {0}
+IsMadeInMemory (given.Doc text) = ⊥
 IsMadeInMemory (given.Rows rows) = Unit {0}
 IsMadeInMemory (given.Refused why) = ⊥
 
@@ -64,6 +61,7 @@ TellsLine honest before line (Ok made) engine old new =
 TellsLine honest before line (Err fault.Disk) engine old new =
     honest → Turns old new (IsImageOf before) (IsImageOf (step before line).0)
 TellsLine honest before line (Err (fault.Damaged extent at)) engine old new = ⊥
+TellsLine honest before line (Err fault.Sink) engine old new = ⊥
 
 -- a text that was made, or that of out of memory
 abbrev pub text_or_memory : Result (Vec ℕ) Memory → List ℕ
@@ -74,26 +72,37 @@ text_or_memory (Err memory) = reply_text reply.out_of_memory
 abbrev pub fault_status : Fault → Status
 fault_status fault.Disk = status.DiskFault
 fault_status (fault.Damaged extent at) = status.Damaged extent at
+fault_status fault.Sink = status.WriteFault
+
+-- the same of a READ line that was answered to the sink
+abbrev pub read_status : Result (Unit {0}) Fault → Result (Unit {0}) Status
+read_status (Ok done) = Ok done
+read_status (Err why) = Err (fault_status why)
+
+-- the refusal of a line that was not read: its own, or that memory ran out
+abbrev pub unread_refusal : LineFault → Refusal
+unread_refusal (line_fault.Refused why) = why
+unread_refusal line_fault.Memory = refusal.Memory
 
 -- ---- what a line may be answered, whatever the store holds
 
--- What a line of that meaning may be answered: one that was read what the engine may reply to it; one that is
--- refused that refusal, or that memory ran out, unless it is judged at once.
-abbrev pub MayAnswerTo : Bool → Result Line Refusal → Reply → Type 0
-MayAnswerTo at_once (Ok asked) made = MayReply asked made
-MayAnswerTo true (Err why) made = made ≡ given.Refused why
-MayAnswerTo false (Err why) made = (made ≡ given.Refused why) ⊎ (made ≡ given.Refused refusal.Memory)
+-- What a line of that meaning may be answered under a policy: one that was read what the engine may reply to it; one
+-- that is refused that refusal, or that memory ran out, unless it is judged at once.
+abbrev pub MayAnswerTo : Policy → Bool → Result Line Refusal → Reply → Type 0
+MayAnswerTo policy at_once (Ok asked) made = MayReply policy asked made
+MayAnswerTo policy true (Err why) made = made ≡ given.Refused why
+MayAnswerTo policy false (Err why) made = (made ≡ given.Refused why) ⊎ (made ≡ given.Refused refusal.Memory)
 
--- what the bytes of a line may be answered
-abbrev pub MayAnswer : List ℕ → Reply → Type 0
-MayAnswer bytes made = MayAnswerTo (is_judged_at_once bytes) (line_of bytes) made
+-- what the bytes of a line may be answered under a policy
+abbrev pub MayAnswer : Policy → List ℕ → Reply → Type 0
+MayAnswer policy bytes made = MayAnswerTo policy (is_judged_at_once bytes) (line_of bytes) made
 
--- the text is that of a reply which the bytes of a line may be answered
-abbrev pub IsTextFor : List ℕ → List ℕ → Type 0
-IsTextFor bytes text = (made : Reply) × MayAnswer bytes made × IsTextOf made text
+-- the text is that of a reply which the bytes of a line may be answered under a policy
+abbrev pub IsTextUnder : Policy → List ℕ → List ℕ → Type 0
+IsTextUnder policy bytes text = (made : Reply) × MayAnswer policy bytes made × IsTextOf made text
 
 -- the text has one such text for each of the lines, in their order, and no more
-abbrev pub AreTextsFor : List (List ℕ) → List ℕ → Type 0
-AreTextsFor [] text = text ≡ []
-AreTextsFor (line ∷ lines) text =
-    (first : List ℕ) × (rest : List ℕ) × IsTextFor line first × AreTextsFor lines rest × (text ≡ first ++ rest)
+abbrev pub AreTextsUnder : Policy → List (List ℕ) → List ℕ → Type 0
+AreTextsUnder policy [] text = text ≡ []
+AreTextsUnder policy (line ∷ lines) text =
+    (first : List ℕ) × (rest : List ℕ) × IsTextUnder policy line first × AreTextsUnder policy lines rest × (text ≡ first ++ rest)

@@ -3,6 +3,7 @@ ghost use Rattle.std.specs.Prelude.{OnOk, OnErr, None, Some, Err, IsTrue, IfErr}
 ghost use Rattle.ax_faults.specs.Faults.{Rose};
 ghost use Rattle.ax_container.specs.Container.{Container};
 ghost use Rattle.ax_engine.specs.Engine.{HoldsOver, Works};
+ghost use Rattle.ax_engine.specs.PolicyNow.{policy_now};
 ghost use Rattle.ax_engine.specs.declared.engine.Fault.{Fault};
 ghost use Rattle.ax_script.specs.Progress.{outlets, Serves, BeginsToServe, ServesLines, BeginsLines, ServesLast, BeginsLast, Ends, BreaksOffWith, EndsServing, IsOfServing, StopsBy};
 ghost use Rattle.ax_script.specs.Answered.{AnswersLast, AnswersLine, AnswersLines, TellsAnswered};
@@ -56,7 +57,7 @@ pub fn serve_source<D: Disk, C: PageCache, S: Source, K: Sink, L: Ledger>(
     ensures steps { steps.old ≤ steps.new }
     ensures sound { IsTrue (D.is_honest disk.old) → (before : Container) → HoldsOver engine.old (D.history disk.old (D.attached disk.old)) before → IsOfServing result }
     ensures of_serving { EndsServing (D.is_honest disk.old) result (D.history disk.new (D.attached disk.new)) }
-    ensures answered { TellsAnswered result
+    ensures answered { TellsAnswered (policy_now engine.old.documents.table) result
         (record { remaining = S.rest source.old; written = K.written sink.old; steps = steps.old })
         (record { remaining = S.rest source.new; written = K.written sink.new; steps = steps.new }) }
     ensures kept { (fault : Fault) → engine.new.fault ≡ Some fault → result ≡ fault_status fault }
@@ -116,8 +117,9 @@ fn serve_piece<D: Disk, C: PageCache, K: Sink, L: Ledger>(
     ensures unfaulted { OnOk result (engine.new.fault ≡ None) }
     ensures kept { (fault : Fault) → engine.new.fault ≡ Some fault → result ≡ Err (fault_status fault) }
     ensures line { OnOk result (IsOneLine pending.new.items) }
-    ensures answered { OnOk result (AnswersLines (pending.old.items ++ piece.now) pending.new.items
+    ensures answered { OnOk result (AnswersLines (policy_now engine.old.documents.table) (pending.old.items ++ piece.now) pending.new.items
         (K.written sink.old) (K.written sink.new)) }
+    ensures policy { policy_now engine.new.documents.table ≡ policy_now engine.old.documents.table }
     ensures sound { IsTrue (D.is_honest disk.old) → (before : Container) → HoldsOver engine.old (D.history disk.old (D.attached disk.old)) before → IfErr result BreaksOffWith }
     ensures only { IfErr result (λ status. StopsBy (D.is_honest disk.old) status
         (D.history disk.new (D.attached disk.new))) }
@@ -168,7 +170,9 @@ fn serve_head<D: Disk, C: PageCache, K: Sink, L: Ledger>(
         (outlets (K.written sink.old) (D.history disk.old (D.attached disk.old)) steps.old)
         (outlets (K.written sink.new) (D.history disk.new (D.attached disk.new)) steps.new)) }
     ensures empty { OnOk result (pending.new.items ≡ []) }
-    ensures answered { OnOk result (AnswersLine (pending.old.items ++ head.now) (K.written sink.old) (K.written sink.new)) }
+    ensures answered { OnOk result (AnswersLine (policy_now engine.old.documents.table) (pending.old.items ++ head.now)
+        (K.written sink.old) (K.written sink.new)) }
+    ensures policy { policy_now engine.new.documents.table ≡ policy_now engine.old.documents.table }
     ensures err { IsTrue (D.is_honest disk.old) → (before : Container) → HoldsOver engine.old (D.history disk.old (D.attached disk.old)) before
         → OnErr result (BeginsToServe (IsTrue (D.is_honest disk.old)) before (pending.old.items ++ head.now)
         (outlets (K.written sink.old) (D.history disk.old (D.attached disk.old)) steps.old)
@@ -224,7 +228,8 @@ fn serve_last<D: Disk, C: PageCache, K: Sink, L: Ledger>(
         → (result ≡ Status.Done) ⊎ BreaksOffWith result }
     ensures only { (result ≡ Status.Done) ⊎ StopsBy (D.is_honest disk.old) result
         (D.history disk.new (D.attached disk.new)) }
-    ensures answered { result ≡ Status.Done → AnswersLast pending.now (K.written sink.old) (K.written sink.new) }
+    ensures answered { result ≡ Status.Done
+        → AnswersLast (policy_now engine.old.documents.table) pending.now (K.written sink.old) (K.written sink.new) }
     ensures kept { (fault : Fault) → engine.new.fault ≡ Some fault → result ≡ fault_status fault }
     ensures disk_counted { CountsDisk result (D.faults disk.old) (D.faults disk.new) }
     ensures sink_cause { result ≡ Status.WriteFault → Rose (K.faults sink.old) (K.faults sink.new) }

@@ -9,6 +9,8 @@ ghost use Rattle.ax_engine.specs.Engine.{HoldsOver, Works};
 ghost use Rattle.ax_documents.specs.Opening.{IsStore, IsWithin};
 ghost use Rattle.ax_image.specs.Readable.{newest};
 ghost use Rattle.ax_pages.specs.Area.{extent_number};
+ghost use Rattle.ax_engine.specs.PolicyNow.{policy_now};
+ghost use Rattle.ax_policy.specs.declared.policy.Policy.{Policy};
 ghost use Rattle.ax_script.specs.Answered.{TellsAnswered};
 ghost use Rattle.ax_script.specs.DiskScript.{RunsOnDisk};
 ghost use Rattle.ax_script.specs.Opening.{IsEndUnlessDisk, Refuses, TellsServed};
@@ -74,8 +76,8 @@ pub fn run<D: Disk, S: Source, K: Sink, L: Ledger>(
         (D.history disk.old (D.store_named (store_word words.now)))
         (D.history disk.new (D.store_named (store_word words.now))) }
 
-    // Over any store: at `Done` each line has a reply that it may have, and `Long` has its cause.
-    ensures answered { TellsAnswered result
+    // Over any store: at `Done` each line has a reply that it may have, all under one policy, and `Long` has its cause.
+    ensures answered { (policy : Policy) × TellsAnswered policy result
         (record { remaining = S.rest source.old; written = K.written sink.old; steps = steps.old })
         (record { remaining = S.rest source.new; written = K.written sink.new; steps = steps.new }) }
 
@@ -123,7 +125,6 @@ pub fn run<D: Disk, S: Source, K: Sink, L: Ledger>(
 }
 
 /// Opens the store that the words name, and serves the source over it.
-#[tactic(auto, using(crate::proofs::AnsweredLines::early_answered))]
 fn serve<D: Disk, S: Source, K: Sink, L: Ledger>(
     alloc: Global,
     words: &[String],
@@ -138,7 +139,7 @@ fn serve<D: Disk, S: Source, K: Sink, L: Ledger>(
         (record { remaining = S.rest source.old; written = K.written sink.old; steps = steps.old })
         (record { remaining = S.rest source.new; written = K.written sink.new; steps = steps.new })
         (D.history disk.old (D.store_named (store_word words.now))) (D.history disk.new (D.store_named (store_word words.now))) }
-    ensures answered { TellsAnswered result
+    ensures answered { (policy : Policy) × TellsAnswered policy result
         (record { remaining = S.rest source.old; written = K.written sink.old; steps = steps.old })
         (record { remaining = S.rest source.new; written = K.written sink.new; steps = steps.new }) }
     ensures disk_counted { CountsDisk result (D.faults disk.old) (D.faults disk.new) }
@@ -205,7 +206,7 @@ fn serve_opened<D: Disk, S: Source, K: Sink, L: Ledger>(
     ensures steps { steps.old ≤ steps.new }
     ensures sound { IsTrue (D.is_honest disk.old) → (before : Container) → HoldsOver engine (D.history disk.old (D.attached disk.old)) before → IsOfServing result }
     ensures of_serving { EndsServing (D.is_honest disk.old) result (D.history disk.new (D.attached disk.new)) }
-    ensures answered { TellsAnswered result
+    ensures answered { TellsAnswered (policy_now engine.documents.table) result
         (record { remaining = S.rest source.old; written = K.written sink.old; steps = steps.old })
         (record { remaining = S.rest source.new; written = K.written sink.new; steps = steps.new }) }
 {
@@ -246,7 +247,7 @@ fn serve_cached<D: Disk, C: PageCache, S: Source, K: Sink, L: Ledger>(
     ensures steps { steps.old ≤ steps.new }
     ensures sound { IsTrue (D.is_honest disk.old) → (before : Container) → HoldsOver engine.old (D.history disk.old (D.attached disk.old)) before → IsOfServing result }
     ensures of_serving { EndsServing (D.is_honest disk.old) result (D.history disk.new (D.attached disk.new)) }
-    ensures answered { TellsAnswered result
+    ensures answered { TellsAnswered (policy_now engine.old.documents.table) result
         (record { remaining = S.rest source.old; written = K.written sink.old; steps = steps.old })
         (record { remaining = S.rest source.new; written = K.written sink.new; steps = steps.new }) }
 {

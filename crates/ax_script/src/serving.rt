@@ -1,36 +1,43 @@
-ghost use Rattle.std.specs.Prelude.{◌≡◌, ◌≤◌, ◌+◌, ℕ, List, None, Some, Err, IsTrue, IfErr, IfOk, OnOk, OnErr};
+ghost use Rattle.std.specs.Prelude.{◌≡◌, ◌≢◌, ◌≤◌, ◌+◌, ℕ, List, None, Some, Err, true, IsTrue, IfErr, IfOk, OnOk, OnErr};
 ghost use Rattle.std.specs.Io.KnownBytes.{Appends};
 ghost use Rattle.ax_base.specs.Appends.{AppendsPrefix};
 ghost use Rattle.ax_faults.specs.Faults.{Rose};
 ghost use Rattle.ax_container.specs.Container.{Container};
 ghost use Rattle.ax_engine.specs.Engine.{CountsAnswer, Holds, HoldsOver, Works};
+ghost use Rattle.ax_engine.specs.PolicyNow.{policy_now};
+ghost use Rattle.ax_lines.specs.Answers.{Answers};
+ghost use Rattle.ax_lines.specs.Asked.{IsAsked};
+ghost use Rattle.ax_lines.specs.Lines.{is_judged_at_once, line_of};
+ghost use Rattle.ax_lines.specs.declared.refusal.Refusal.{Refusal as RefusalOf};
 ghost use Rattle.ax_machine.specs.Needs.{most_steps};
+ghost use Rattle.ax_machine.specs.ReplyTexts.{doc_text};
 ghost use Rattle.ax_engine.specs.Damage.{Meets};
 ghost use Rattle.ax_script.specs.Answered.{AnswersLine};
 ghost use Rattle.ax_script.specs.Progress.{outlets, Serves, BeginsToServe, BreaksOffWith, IsLineFault, StopsBy};
 ghost use Rattle.ax_script.specs.Statuses.{CallCountsDisk};
-ghost use Rattle.ax_script.specs.Replies.{IsTextOf, MayAnswer, TellsLine, WritesPart, WritesWhole, fault_status, text_or_memory};
+ghost use Rattle.ax_script.specs.Replies.{IsTextOf, MayAnswer, TellsLine, WritesPart, WritesWhole, fault_status, read_status, text_or_memory, unread_refusal};
 
-use crate::reply_lines::{doc_line, ok_line, out_of_memory_line, refusal_line, rows_text};
+use crate::reply_lines::{ok_line, rows_text};
 use crate::status::Status;
 use ax_base::{Failed, Sink, Steps, write_all};
 use ax_cache::PageCache;
 use ax_disk::Disk;
-use ax_engine::{Engine, Fault, Reply};
-use ax_lines::{LineFault, Refusal, read_line};
+use ax_engine::{Engine, Fault, Reply, out_of_memory_line, refusal_line, write_document};
+use ax_lines::{Line, LineFault, Refusal, read_line};
 use ax_tree::Memory;
 use std::alloc::Global;
 use std::sync::ledger::Ledger;
 
 /// Serves one line, which comes without its newline: makes its change, durable where the disk is
 /// honest, or reads what it asks for, and then writes its reply. Out of memory is a reply of its own, which
-/// needs none, also where it comes while the text of a document or of rows is made; nothing of that text was
-/// written then. The errors are `DiskFault`, `WriteFault` and `Damaged`: the sink was given some prefix of the
-/// reply. A disk fault comes where a call on the disk failed in this call, or in an earlier one of this engine,
+/// needs none, also where it comes while the text of rows is made; nothing of that text was
+/// written then. A document is written as the engine reads it, with no copy. The errors are `DiskFault`, `WriteFault` and
+/// `Damaged`: the sink was given some prefix of the reply. A disk fault comes where a call on the disk failed in this call, or in an earlier one of this engine,
 /// and a line served by an engine without a fault counts a fault of the disk nowhere else. A write fault comes
 /// only where one on the sink failed in this call. Over an honest disk damage comes only
 /// where the text of a document is none that a document can have, or a part of the index is outside its grammar, with the
-/// place of its part, and so never over documents that are those of a container with their index. A fault that the engine has afterwards is the error.
+/// place of its part, and so never over documents that are those of a container with their index. A fault that the engine
+/// has afterwards is the error.
 /// What is written at `Ok` is a reply that the line may have, whatever the documents are; a line that is judged at
 /// once (it is too long, none of the forms, or a `READ` or `DELETE` with a bad id) is told its refusal, whatever memory there is.
 pub fn serve_line<D: Disk, C: PageCache, K: Sink, L: Ledger>(
@@ -65,9 +72,11 @@ pub fn serve_line<D: Disk, C: PageCache, K: Sink, L: Ledger>(
     ensures honest { D.is_honest disk.new ≡ D.is_honest disk.old }
     ensures steps { steps.old ≤ steps.new }
 
-    // Over any documents what is written is a reply that the line may have: what may be replied to what it
-    // asks for, or its own refusal.
-    ensures answered { OnOk result (AnswersLine line.now (K.written sink.old) (K.written sink.new)) }
+    // Over any documents what is written is a reply that the line may have under the policy of the engine's table: what may
+    // be replied to what it asks for, or its own refusal. No line gives the table another policy.
+    ensures answered { OnOk result (AnswersLine (policy_now engine.old.documents.table) line.now
+        (K.written sink.old) (K.written sink.new)) }
+    ensures policy { policy_now engine.new.documents.table ≡ policy_now engine.old.documents.table }
 
     // A fault that the engine has answered is answered again, and then nothing is touched.
     ensures again { (fault : Fault) → engine.old.fault ≡ Some fault → (result ≡ Err (fault_status fault))
@@ -76,24 +85,46 @@ pub fn serve_line<D: Disk, C: PageCache, K: Sink, L: Ledger>(
     // And one that it has after this line is the error, whether it is of this line or was there before.
     ensures kept { (fault : Fault) → engine.new.fault ≡ Some fault → result ≡ Err (fault_status fault) }
 {
-    let answered = answer(alloc, engine, disk, line, steps);
-    write_answer(alloc, sink, answered)
+    match read_line(alloc, line) {
+        Ok(Line::Read(id)) => status_of_read(engine.read_into(disk, &id, sink, steps)),
+        asked => {
+            let answered = answer(engine, disk, line, asked, steps);
+            write_answer(alloc, sink, answered)
+        }
+    }
 }
 
-/// What the engine answers to a line, or its refusal; once it has answered a fault, that one to every line.
+/// What reading a document to the sink came to, as what serving its line does.
+fn status_of_read(read: Result<(), Fault>) -> Result<(), Status>
+    ensures { result ≡ read_status read }
+{
+    match read {
+        Ok(()) => Ok(()),
+        Err(Fault::Disk) => Err(Status::DiskFault),
+        Err(Fault::Damaged { extent, at }) => Err(Status::Damaged { extent, at }),
+        Err(Fault::Sink) => Err(Status::WriteFault),
+    }
+}
+
+/// What the engine answers to a line that asks for this, or its refusal; once it has answered a fault, that one to every line.
 fn answer<D: Disk, C: PageCache, L: Ledger>(
-    alloc: Global,
     engine: &mut Engine<C>,
     disk: &mut D,
     line: &[u8],
+    asked: Result<Line, LineFault>,
     steps: &mut Steps<L>,
 ) -> Result<Reply, Fault>
+    requires answers { Answers asked (line_of line.now) }
+    requires asked { IfOk asked IsAsked }
+    requires at_once { is_judged_at_once line.now ≡ true → (why : RefusalOf) → line_of line.now ≡ Err why
+        → asked ≡ Err (LineFault.Refused why) }
     requires works { Works C.pages (D.is_honest disk.old) engine.old (D.history disk.old (D.attached disk.old)) }
     ensures tells { IsTrue (D.is_honest disk.old) → (before : Container) → HoldsOver engine.old (D.history disk.old (D.attached disk.old)) before
         → TellsLine (IsTrue (D.is_honest disk.old)) before line.now result engine.new
         (D.history disk.old (D.attached disk.old)) (D.history disk.new (D.attached disk.new)) }
     ensures works { Works C.pages (D.is_honest disk.old) engine.new (D.history disk.new (D.attached disk.new)) }
-    ensures may_answer { IfOk result (λ reply. MayAnswer line.now reply) }
+    ensures may_answer { IfOk result (λ reply. MayAnswer (policy_now engine.old.documents.table) line.now reply) }
+    ensures policy { policy_now engine.new.documents.table ≡ policy_now engine.old.documents.table }
     ensures met { IsTrue (D.is_honest disk.old) → engine.old.fault ≡ None
         → IfErr result (λ fault. Meets fault (D.history disk.new (D.attached disk.new)).reads) }
     ensures counted { engine.old.fault ≡ None → CountsAnswer result (D.faults disk.old) (D.faults disk.new) }
@@ -107,28 +138,34 @@ fn answer<D: Disk, C: PageCache, L: Ledger>(
     ensures again { (fault : Fault) → engine.old.fault ≡ Some fault → (result ≡ Err fault)
         × (engine.new ≡ engine.old) × (disk.new ≡ disk.old) × (steps.new ≡ steps.old) }
     ensures kept { (fault : Fault) → engine.new.fault ≡ Some fault → result ≡ Err fault }
+    ensures no_sink { result ≢ Err Fault.Sink }
 {
     if let Some(fault) = engine.fault() {
         return Err(fault);
     }
-    answer_line(alloc, engine, disk, line, steps)
+    answer_line(engine, disk, line, asked, steps)
 }
 
-/// What the engine answers to a line, or its refusal.
-#[tactic(auto, using(crate::proofs::AnsweredLines::read_may, crate::proofs::AnsweredLines::refused_may, crate::proofs::AnsweredLines::memory_may))]
+/// What the engine answers to a line that asks for this, or its refusal.
+#[tactic(auto, using(ax_engine::proofs::PolicyHeld::same_now, crate::proofs::AnsweredLines::read_may))]
 fn answer_line<D: Disk, C: PageCache, L: Ledger>(
-    alloc: Global,
     engine: &mut Engine<C>,
     disk: &mut D,
     line: &[u8],
+    asked: Result<Line, LineFault>,
     steps: &mut Steps<L>,
 ) -> Result<Reply, Fault>
+    requires answers { Answers asked (line_of line.now) }
+    requires asked { IfOk asked IsAsked }
+    requires at_once { is_judged_at_once line.now ≡ true → (why : RefusalOf) → line_of line.now ≡ Err why
+        → asked ≡ Err (LineFault.Refused why) }
     requires works { Works C.pages (D.is_honest disk.old) engine.old (D.history disk.old (D.attached disk.old)) }
     ensures tells { IsTrue (D.is_honest disk.old) → (before : Container) → HoldsOver engine.old (D.history disk.old (D.attached disk.old)) before
         → TellsLine (IsTrue (D.is_honest disk.old)) before line.now result engine.new
         (D.history disk.old (D.attached disk.old)) (D.history disk.new (D.attached disk.new)) }
     ensures works { Works C.pages (D.is_honest disk.old) engine.new (D.history disk.new (D.attached disk.new)) }
-    ensures may_answer { IfOk result (λ reply. MayAnswer line.now reply) }
+    ensures may_answer { IfOk result (λ reply. MayAnswer (policy_now engine.old.documents.table) line.now reply) }
+    ensures policy { policy_now engine.new.documents.table ≡ policy_now engine.old.documents.table }
     ensures met { IsTrue (D.is_honest disk.old) → engine.old.fault ≡ None
         → IfErr result (λ fault. Meets fault (D.history disk.new (D.attached disk.new)).reads) }
     ensures counted { engine.old.fault ≡ None → CountsAnswer result (D.faults disk.old) (D.faults disk.new) }
@@ -140,11 +177,21 @@ fn answer_line<D: Disk, C: PageCache, L: Ledger>(
         → steps.new ≤ steps.old + most_steps before line.now }
     ensures steps { steps.old ≤ steps.new }
     ensures kept { engine.old.fault ≡ None → (fault : Fault) → engine.new.fault ≡ Some fault → result ≡ Err fault }
+    ensures no_sink { result ≢ Err Fault.Sink }
 {
-    match read_line(alloc, line) {
+    match asked {
         Ok(asked) => engine.apply(disk, asked, steps),
-        Err(LineFault::Refused(refusal)) => Ok(Reply::Refused(refusal)),
-        Err(LineFault::Memory) => Ok(Reply::Refused(Refusal::Memory)),
+        Err(fault) => Ok(Reply::Refused(refusal_of(fault))),
+    }
+}
+
+/// Why a line is refused that was not read: its own refusal, or that memory ran out.
+fn refusal_of(fault: LineFault) -> Refusal
+    ensures { result ≡ unread_refusal fault }
+{
+    match fault {
+        LineFault::Refused(refusal) => refusal,
+        LineFault::Memory => Refusal::Memory,
     }
 }
 
@@ -154,6 +201,7 @@ fn write_answer<K: Sink>(
     sink: &mut K,
     answered: Result<Reply, Fault>,
 ) -> Result<(), Status>
+    requires no_sink { answered ≢ Err Fault.Sink }
     ensures whole { OnOk result (WritesWhole answered (K.written sink.old) (K.written sink.new)) }
     ensures prefix { OnErr result (WritesPart answered (K.written sink.old) (K.written sink.new)) }
     ensures only { IfErr result IsLineFault }
@@ -167,11 +215,12 @@ fn write_answer<K: Sink>(
         Ok(reply) => write_reply(alloc, sink, reply),
         Err(Fault::Disk) => Err(Status::DiskFault),
         Err(Fault::Damaged { extent, at }) => Err(Status::Damaged { extent, at }),
+        Err(Fault::Sink) => unreachable!(),
     }
 }
 
-/// Writes a reply. Where no memory is left for the text of a document or of rows, that is what is
-/// written: out of memory. That a write was made or a line is refused takes none.
+/// Writes a reply. Where no memory is left for the text of rows, that is what is written: out of memory. That a write was
+/// made, a document or a refusal takes none.
 fn write_reply<K: Sink>(alloc: Global, sink: &mut K, reply: Reply) -> Result<(), Status>
     ensures whole { OnOk result ((text : List ℕ) × IsTextOf reply text
         × Appends (K.written sink.old) (K.written sink.new) text) }
@@ -183,7 +232,7 @@ fn write_reply<K: Sink>(alloc: Global, sink: &mut K, reply: Reply) -> Result<(),
 {
     match reply {
         Reply::Ok => write_text(sink, ok_line()),
-        Reply::Doc(text) => write_made(sink, doc_line(alloc, text.as_slice())),
+        Reply::Doc(text) => write_doc(sink, text.as_slice()),
         Reply::Rows(rows) => write_made(sink, rows_text(alloc, rows)),
         Reply::Refused(refusal) => write_text(sink, refusal_line(refusal)),
     }
@@ -200,6 +249,19 @@ fn write_made<K: Sink>(sink: &mut K, text: Result<Vec<u8>, Memory>) -> Result<()
     match text {
         Ok(text) => write_text(sink, text.as_slice()),
         Err(_) => write_text(sink, out_of_memory_line()),
+    }
+}
+
+fn write_doc<K: Sink>(sink: &mut K, text: &[u8]) -> Result<(), Status>
+    ensures added { OnOk result (Appends (K.written sink.old) (K.written sink.new) (doc_text text.now)) }
+    ensures failed { OnErr result (AppendsPrefix (K.written sink.old) (K.written sink.new) (doc_text text.now)) }
+    ensures only { IfErr result (λ status. status ≡ Status.WriteFault) }
+    ensures cause { OnErr result (Rose (K.faults sink.old) (K.faults sink.new)) }
+    ensures never_falls { K.faults sink.old ≤ K.faults sink.new }
+{
+    match write_document(sink, text) {
+        Ok(()) => Ok(()),
+        Err(Failed) => Err(Status::WriteFault),
     }
 }
 

@@ -20,4 +20,6 @@ mod Numbered
 mod Owned
 mod Fullness
 mod Tables
+mod KeptPolicies
 mod Smallness
+mod Learning

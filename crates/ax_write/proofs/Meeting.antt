@@ -1,15 +1,16 @@
 -- What a look-up has met, and what a write has behind it: the number that was told for an id, and the text under it.
 use Rattle.std.proofs.Common.{◌≡◌, ℕ, List, ◌∷◌, [], Option, Some, None, Result, Ok, Err, inl, inr, refl, subst}
-use Rattle.std.specs.Prelude.{IfErr}
+use Rattle.std.specs.Prelude.{IfErr, IfSome, OnOk, true, false}
 use Rattle.std.specs.FinMap as finite
 use Rattle.ax_area.specs.Contents.{Contents, Stored}
 use Rattle.ax_index.specs.ById.{IsNumberOf, id_range}
 use Rattle.ax_index.specs.Grammar.{AreInGrammar}
 use Rattle.ax_pairs.specs.Index.{IsIndex}
 use Rattle.ax_pairs.specs.PairSets.{PairSet}
+use Rattle.ax_write.specs.Full.{is_full_of}
 use Rattle.ax_write.specs.Held.{IsHeld}
 use Rattle.ax_write.specs.LookedUp.{TellsIndex}
-use Rattle.ax_write.specs.Writes.{Finds, FindsHeld, FindsNone, HasDocument, IsLookedUp, IsOfStore, IsOfUpsert, MeetsCreation}
+use Rattle.ax_write.specs.Writes.{Finds, FindsHeld, FindsNone, FullOnly, HasDocument, IsFullExactly, IsLookedUp, IsOfStore, MeetsCreation}
 use Rattle.ax_write.specs.Writes.{MeetsHeld, MeetsUpsert}
 use Rattle.ax_write.specs.declared.fault.WriteFault.{WriteFault}
 use Rattle.ax_write.specs.declared.fault.WriteFault.TheVariants as fault
@@ -84,29 +85,31 @@ module _ (ids : List (List ℕ × ℕ)) (own id : List ℕ) (contents : Contents
     meets_conflict number is =
         (number, subst (λ i. IsLookedUp ids i contents (Some number)) same (subst (IsLookedUp ids own contents) is told))
 
-    pub meets_creation : answer ≡ None → (result : Result (Unit {0}) WriteFault) → IfErr result IsOfUpsert
+    its_none : answer ≡ None → IsLookedUp ids id contents None
+    its_none is = subst (λ i. IsLookedUp ids i contents None) same (subst (IsLookedUp ids own contents) is told)
+
+    pub meets_creation : answer ≡ None → (result : Result (Unit {0}) WriteFault) → IsFullExactly result contents
         → MeetsCreation result ids id contents
-    meets_creation is (Ok done) only = subst (λ i. IsLookedUp ids i contents None) same (subst (IsLookedUp ids own contents) is told)
-    meets_creation is (Err fault.Conflict) only = absurd only
-    meets_creation is (Err fault.Absent) only = absurd only
-    meets_creation is (Err fault.Full) only =
-        subst (λ i. IsLookedUp ids i contents None) same (subst (IsLookedUp ids own contents) is told)
-    meets_creation is (Err (fault.Store why)) only = tt
+    meets_creation is (Ok done) full = (its_none is, full)
+    meets_creation is (Err fault.Conflict) full = absurd full
+    meets_creation is (Err fault.Absent) full = absurd full
+    meets_creation is (Err fault.Full) full = (its_none is, full)
+    meets_creation is (Err (fault.Store why)) full = tt
 
   -- of what is found under it
   module _ (answer : Option FoundDocument) (finds : Finds ids own contents answer) where
-    found_own : (found : FoundDocument) → answer ≡ Some found → FindsHeld ids id contents
+    pub found_own : (found : FoundDocument) → answer ≡ Some found → FindsHeld ids id contents
     found_own found is = subst (λ i. FindsHeld ids i contents) same (subst (Finds ids own contents) is finds)
 
     pub meets_absent : answer ≡ None → FindsNone ids id contents
     meets_absent is = subst (λ i. FindsNone ids i contents) same (subst (Finds ids own contents) is finds)
 
-    pub meets_new : answer ≡ None → (result : Result (Unit {0}) WriteFault) → IfErr result IsOfUpsert → MeetsUpsert result ids id contents
-    meets_new is (Ok done) only = inr (meets_absent is)
-    meets_new is (Err fault.Conflict) only = absurd only
-    meets_new is (Err fault.Absent) only = absurd only
-    meets_new is (Err fault.Full) only = meets_absent is
-    meets_new is (Err (fault.Store why)) only = tt
+    pub meets_new : answer ≡ None → (result : Result (Unit {0}) WriteFault) → IsFullExactly result contents → MeetsUpsert result ids id contents
+    meets_new is (Ok done) full = inr (meets_absent is, full)
+    meets_new is (Err fault.Conflict) full = absurd full
+    meets_new is (Err fault.Absent) full = absurd full
+    meets_new is (Err fault.Full) full = (meets_absent is, full)
+    meets_new is (Err (fault.Store why)) full = tt
 
     pub meets_exchanged : (found : FoundDocument) → answer ≡ Some found → (result : Result (Unit {0}) WriteFault) → IfErr result IsOfStore
         → MeetsUpsert result ids id contents
@@ -123,3 +126,39 @@ module _ (ids : List (List ℕ × ℕ)) (own id : List ℕ) (contents : Contents
     meets_held found is (Err fault.Absent) only = absurd only
     meets_held found is (Err fault.Full) only = absurd only
     meets_held found is (Err (fault.Store why)) only = tt
+
+-- ---- what is known of the number, and of the contents, behind a look-up
+
+-- the number of what was found was told
+pub told_found : (ids : List (List ℕ × ℕ)) (own id : List ℕ) (contents : Contents) → own ≡ id → (answer : Option FoundDocument) (found : FoundDocument)
+    → answer ≡ Some found → IfSome answer (λ (f : FoundDocument). IsLookedUp ids own contents (Some f.number))
+    → IsLookedUp ids id contents (Some found.number)
+told_found ids own id contents same answer found is told =
+    subst (λ (i : List ℕ). IsLookedUp ids i contents (Some found.number)) same
+    (subst (λ (a : Option FoundDocument). IfSome a (λ (f : FoundDocument). IsLookedUp ids own contents (Some f.number))) is told)
+
+-- the look-up left the contents as they were
+pub full_over : (before mid : Contents) → mid ≡ before → (result : Result (Unit {0}) WriteFault) → IsFullExactly result mid
+    → IsFullExactly result before
+full_over before mid same result = subst (IsFullExactly result) same
+
+-- ---- when none can be created
+
+pub full_told : (contents : Contents) (result : Result (Unit {0}) WriteFault) → IsFullExactly result contents → FullOnly result contents
+full_told contents (Ok done) is = tt
+full_told contents (Err fault.Conflict) is = tt
+full_told contents (Err fault.Absent) is = tt
+full_told contents (Err fault.Full) is = is
+full_told contents (Err (fault.Store why)) is = tt
+
+pub made_told : (contents : Contents) (result : Result (Unit {0}) WriteFault) → IsFullExactly result contents
+    → OnOk result (is_full_of contents ≡ false)
+made_told contents (Ok done) is = is
+made_told contents (Err why) is = tt
+
+pub full_of_store : (contents : Contents) (result : Result (Unit {0}) WriteFault) → IfErr result IsOfStore → FullOnly result contents
+full_of_store contents (Ok done) only = tt
+full_of_store contents (Err fault.Conflict) only = tt
+full_of_store contents (Err fault.Absent) only = tt
+full_of_store contents (Err fault.Full) only = absurd only
+full_of_store contents (Err (fault.Store why)) only = tt

@@ -3,6 +3,7 @@ pub mod Batches
 pub mod Held
 pub mod Exchanged
 pub mod Full
+pub mod Learnt
 pub mod LookedUp
 pub mod Small
 pub mod Writes

@@ -12,6 +12,8 @@ use Rattle.ax_policy.specs.Table.{Table}
 use Rattle.ax_tree.specs.declared.tree.Tree.{Tree}
 use Rattle.ax_write.specs.Batches.{creating_parts, deleting_parts, replacing_parts}
 use Rattle.ax_write.specs.Exchanged.{IsExchanged}
+use Rattle.ax_write.specs.Writes.{FindsNone, IsLookedUp}
+use Rattle.ax_write.specs.declared.finding.FoundDocument.{FoundDocument}
 
 -- parts that were committed behind those in front: a plan of the changes of the index
 pub record IsPlanned (honest : Bool) (changes : List Change) (front : List PartValue) (before after : Contents) : Type 0 where
@@ -36,12 +38,37 @@ IsWas honest before number policy (Some old) =
     × (IsTrue honest → IsStoredText stored.text old)
 
 -- In one batch: in front exactly the parts of the document, and behind them a plan of exactly the changes by which
--- the pairs of the document as it was go out of the index and those of it as it is to be come in.
-pub record IsSmallBatch (honest : Bool) (table : Table) (new : Option Tree) (before after : Contents) : Type 0 where
+-- the pairs of the document as it was go out of the index and those of it as it is to be come in. The document is one of
+-- which this holds, of its number and of the tree that was held under it.
+pub record IsSmallBatch (Was : ℕ → Option Tree → Type 0) (honest : Bool) (table : Table) (new : Option Tree) (before after : Contents)
+    : Type 0 where
   pub number : ℕ
   pub policy : ℕ
   pub old : Option Tree
+  pub one : Was number old
   pub was : IsWas honest before number policy old
   pub changes : List Change
   pub exchanged : IsExchanged table number policy old table.current new changes
   pub planned : IsPlanned honest changes (front_parts number table.current old new) before after
+
+-- ---- which document a write is of, by its number and the tree that was held under it
+
+-- none was held, and the number is the next one
+abbrev pub IsNew : Contents → ℕ → Option Tree → Type 0
+IsNew contents number None = number ≡ contents.next_number
+IsNew contents number (Some old) = ⊥
+
+-- one was held, under a number that over an honest disk was told for the id
+abbrev pub IsToldHeld : Bool → List (List ℕ × ℕ) → List ℕ → Contents → ℕ → Option Tree → Type 0
+IsToldHeld honest ids id contents number None = ⊥
+IsToldHeld honest ids id contents number (Some old) = IsTrue honest → IsLookedUp ids id contents (Some number)
+
+-- none was found for the id, and the number is the next one; or one was held, under a number that was told for the id
+abbrev pub IsNewOrTold : Bool → List (List ℕ × ℕ) → List ℕ → Contents → ℕ → Option Tree → Type 0
+IsNewOrTold honest ids id contents number None = (number ≡ contents.next_number) × (IsTrue honest → FindsNone ids id contents)
+IsNewOrTold honest ids id contents number (Some old) = IsToldHeld honest ids id contents number (Some old)
+
+-- it is the one that was found
+abbrev pub IsFound : FoundDocument → ℕ → Option Tree → Type 0
+IsFound found number None = ⊥
+IsFound found number (Some old) = (number ≡ found.number) × (old ≡ found.document.tree)

@@ -1,7 +1,7 @@
 -- What a write of a document answers over a store that holds a container with its index: what it makes of the
 -- container, or why it is refused; and what a crash at any moment of it leaves.
 -- It is this project's own; it comes from no public document.
-use Rattle.std.specs.Prelude.{◌≡◌, ◌≤◌, ◌⊎◌, ℕ, List, Bool, false, Option, Some, None, Result, Ok, Err, IsTrue, IfErr, OnErr}
+use Rattle.std.specs.Prelude.{◌≡◌, ◌≤◌, ◌⊎◌, ℕ, List, Bool, true, false, Option, Some, None, Result, Ok, Err, IsTrue, IfErr, OnErr}
 use Rattle.std.specs.FinMap as finite
 use Rattle.std.specs.List.{Contains}
 use Rattle.ax_area.specs.Contents.{Contents, Stored}
@@ -19,6 +19,7 @@ use Rattle.ax_index.specs.Reads.{KeepsTaken, Reads}
 use Rattle.ax_lines.specs.StoredTexts.{IsStoredText}
 use Rattle.ax_pairs.specs.Index.{IsIndex}
 use Rattle.ax_pairs.specs.PairSets.{PairSet}
+use Rattle.ax_policy.specs.Table.{Table, policy_at}
 use Rattle.ax_store.specs.Faults.{HasDiskCause}
 use Rattle.ax_store.specs.Store.{AgreesUnlessFailed, store_area, store_contents, store_failed, store_slots}
 use Rattle.ax_store.specs.declared.fault.StoreFault.{StoreFault}
@@ -26,6 +27,7 @@ use Rattle.ax_store.specs.declared.fault.StoreFault.TheVariants as store_fault
 use Rattle.ax_store.specs.declared.store.Store.{Store}
 use Rattle.ax_tree.specs.declared.tree.Tree.{Tree}
 use Rattle.ax_write.specs.Committed.{IdlesUnlessDisk}
+use Rattle.ax_write.specs.Full.{is_full_of}
 use Rattle.ax_write.specs.Held.{HasNone, IsHeld, IsPlaced}
 use Rattle.ax_write.specs.LookedUp.{TellsIndex}
 use Rattle.ax_write.specs.declared.fault.WriteFault.{WriteFault}
@@ -134,6 +136,31 @@ pub record IsHeldAs (contents : Contents) (found : FoundDocument) : Type 0 where
 abbrev pub IsTextHeld : Contents → FoundDocument → Type 0
 IsTextHeld contents found = IsHeld (finite.get contents.documents found.number) (Some found.document)
 
+-- ---- when none can be created
+
+-- a creation answers that the contents are full exactly where they are
+abbrev pub IsFullExactly : Result (Unit {0}) WriteFault → Contents → Type 0
+IsFullExactly (Ok done) contents = is_full_of contents ≡ false
+IsFullExactly (Err fault.Conflict) contents = ⊥
+IsFullExactly (Err fault.Absent) contents = ⊥
+IsFullExactly (Err fault.Full) contents = is_full_of contents ≡ true
+IsFullExactly (Err (fault.Store why)) contents = is_full_of contents ≡ false
+
+-- a write answers that the contents are full only where they are
+abbrev pub FullOnly : Result (Unit {0}) WriteFault → Contents → Type 0
+FullOnly (Ok done) contents = Unit {0}
+FullOnly (Err fault.Conflict) contents = Unit {0}
+FullOnly (Err fault.Absent) contents = Unit {0}
+FullOnly (Err fault.Full) contents = is_full_of contents ≡ true
+FullOnly (Err (fault.Store why)) contents = Unit {0}
+
+-- ---- the policies of the table
+
+-- each number has the policy that it had, and the number of the policy now is the same
+pub record SamePolicies (old new : Table) : Type 0 where
+  pub policies : (number : ℕ) → policy_at new number ≡ policy_at old number
+  pub current : new.current ≡ old.current
+
 -- ---- what calls leave
 
 -- of one that looks something up
@@ -205,20 +232,21 @@ abbrev pub Finds : List (List ℕ × ℕ) → List ℕ → Contents → Option F
 Finds ids id contents (Some found) = FindsHeld ids id contents
 Finds ids id contents None = FindsNone ids id contents
 
--- what a creation has met that is made, or refused by what is held
+-- what a creation has met that is made, or refused by what is held: it is made only where the contents are not full, and refused
+-- as full only where they are
 abbrev pub MeetsCreation : Result (Unit {0}) WriteFault → List (List ℕ × ℕ) → List ℕ → Contents → Type 0
-MeetsCreation (Ok done) ids id contents = IsLookedUp ids id contents None
+MeetsCreation (Ok done) ids id contents = IsLookedUp ids id contents None × (is_full_of contents ≡ false)
 MeetsCreation (Err fault.Conflict) ids id contents = (number : ℕ) × IsLookedUp ids id contents (Some number)
 MeetsCreation (Err fault.Absent) ids id contents = ⊥
-MeetsCreation (Err fault.Full) ids id contents = IsLookedUp ids id contents None
+MeetsCreation (Err fault.Full) ids id contents = IsLookedUp ids id contents None × (is_full_of contents ≡ true)
 MeetsCreation (Err (fault.Store why)) ids id contents = Unit {0}
 
 -- the same of an upsert
 abbrev pub MeetsUpsert : Result (Unit {0}) WriteFault → List (List ℕ × ℕ) → List ℕ → Contents → Type 0
-MeetsUpsert (Ok done) ids id contents = FindsHeld ids id contents ⊎ FindsNone ids id contents
+MeetsUpsert (Ok done) ids id contents = FindsHeld ids id contents ⊎ (FindsNone ids id contents × (is_full_of contents ≡ false))
 MeetsUpsert (Err fault.Conflict) ids id contents = ⊥
 MeetsUpsert (Err fault.Absent) ids id contents = ⊥
-MeetsUpsert (Err fault.Full) ids id contents = FindsNone ids id contents
+MeetsUpsert (Err fault.Full) ids id contents = FindsNone ids id contents × (is_full_of contents ≡ true)
 MeetsUpsert (Err (fault.Store why)) ids id contents = Unit {0}
 
 -- the same of a write that wants the id held

@@ -1,7 +1,6 @@
 //! A document is created.
 
-ghost use Rattle.std.specs.Prelude.{◌≡◌, ◌≢◌, ◌⊎◌, ◌<◌, ◌≤◌, ◌+◌, ℕ, List, Option, None, Some, Ok, Err, IsTrue, IfErr, IfOk, IfSome, true, false, OnOk};
-ghost use Rattle.std.specs.List.{Contains};
+ghost use Rattle.std.specs.Prelude.{◌≡◌, ◌<◌, ◌≤◌, ◌+◌, ℕ, List, Option, None, Some, Ok, Err, IsTrue, IfErr, IfOk, IfSome, true, false, OnOk};
 ghost use Rattle.ax_container.specs.Container.{Container, entry_of};
 ghost use Rattle.ax_container.specs.Writes.{creation, is_full};
 ghost use Rattle.ax_lines.specs.Asked.{IsStorable};
@@ -13,8 +12,9 @@ ghost use Rattle.ax_tree.specs.Document.{document_id};
 ghost use Rattle.ax_image_pairs.specs.Indexed.{ContentsHoldAll};
 ghost use Rattle.ax_write.specs.Exchanged.{IsExchanged};
 ghost use Rattle.ax_write.specs.Full.{is_free_in, is_full_of};
-ghost use Rattle.ax_write.specs.Small.{IsSmallBatch};
-ghost use Rattle.ax_write.specs.Writes.{HoldsAll, IsOfUpsert, TellsWrite, WriteLeaves};
+ghost use Rattle.ax_write.specs.Learnt.{Puts, PutsIfMade};
+ghost use Rattle.ax_write.specs.Small.{IsNew, IsSmallBatch};
+ghost use Rattle.ax_write.specs.Writes.{HoldsAll, IsFullExactly, IsOfUpsert, SamePolicies, TellsWrite, WriteLeaves};
 
 use crate::batches::creating;
 use crate::commit::plan_and_commit;
@@ -32,7 +32,9 @@ use ax_tree::Tree;
 use std::alloc::Global;
 
 /// Creates a document of an id that is not held, behind all others, under the policy now. `Full` exactly where as many
-/// are held as a store holds, or the next number can be taken by none.
+/// are held as a store holds, or the next number can be taken by none, whatever the store holds. The id is put into the
+/// table of ids lately found with that number where the document is created, and only there.
+#[tactic(auto, using(crate::proofs::KeptPolicies::same_policies, crate::proofs::KeptPolicies::counted))]
 pub(crate) fn create_new<D: Disk, C: PageCache>(
     alloc: Global,
     store: &mut Store<C>,
@@ -52,9 +54,13 @@ pub(crate) fn create_new<D: Disk, C: PageCache>(
         (D.history disk.old (D.attached disk.old)) (D.history disk.new (D.attached disk.new)) }
     ensures full { (before : Container) → ContentsHoldAll (store_contents store.old) before → is_full before ≡ true
         → result ≡ Err WriteFault.Full }
+    ensures full_only { IsFullExactly result (store_contents store.old) }
+    ensures learns { PutsIfMade result id.now (store_contents store.old).next_number ids.old ids.new }
     ensures only { IfErr result IsOfUpsert }
     ensures table { TableAgrees (D.is_honest disk.old) table.new (store_contents store.new) }
-    ensures small { OnOk result (IsSmallBatch (D.is_honest disk.old) table.old (Some tree.now) (store_contents store.old) (store_contents store.new)) }
+    ensures policies { SamePolicies table.old table.new }
+    ensures small { OnOk result (IsSmallBatch (IsNew (store_contents store.old)) (D.is_honest disk.old) table.old
+        (Some tree.now) (store_contents store.old) (store_contents store.new)) }
     ensures leaves { WriteLeaves C.pages (D.is_honest disk.old) result store.old store.new
         (D.history disk.old (D.attached disk.old)) (D.history disk.new (D.attached disk.new))
         (D.faults disk.old) (D.faults disk.new) }
@@ -100,8 +106,7 @@ fn created_pairs(
 fn note_created(table: &mut PolicyTable, ids: &mut RecentIds, id: &[u8], number: u32)
     requires room { count_at table.old table.old.current < most_documents }
     ensures counts { SetsCount table.old.current (count_at table.old table.old.current + 1) table.old table.new }
-    ensures ids { (entry : List ℕ × ℕ) → Contains ids.new entry
-        → (entry ≡ (id.now, number)) ⊎ (Contains ids.old entry × (entry.0 ≢ id.now)) }
+    ensures ids { Puts id.now number ids.old ids.new }
 {
     let now = table.now();
     table.count_in(now);

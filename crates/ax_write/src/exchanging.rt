@@ -11,8 +11,9 @@ ghost use Rattle.ax_store.specs.Store.{AgreesUnlessFailed, store_contents, store
 ghost use Rattle.ax_table.specs.TableAgrees.{ArePolicies, TableAgrees};
 ghost use Rattle.ax_tree.specs.Document.{document_id};
 ghost use Rattle.ax_write.specs.Exchanged.{IsExchanged};
-ghost use Rattle.ax_write.specs.Small.{IsSmallBatch};
-ghost use Rattle.ax_write.specs.Writes.{HoldsAll, IsFoundIn, IsHeldAs, IsOfStore, IsTextHeld, TellsWrite, WriteLeaves};
+ghost use Rattle.ax_write.specs.Learnt.{ForgetsIfMade};
+ghost use Rattle.ax_write.specs.Small.{IsFound, IsSmallBatch};
+ghost use Rattle.ax_write.specs.Writes.{HoldsAll, IsFoundIn, IsHeldAs, IsOfStore, IsTextHeld, SamePolicies, TellsWrite, WriteLeaves};
 
 use crate::batches::{deleting, replacing};
 use crate::commit::plan_and_commit;
@@ -30,6 +31,7 @@ use ax_tree::Tree;
 use std::alloc::Global;
 
 /// Gives a document that is held another tree of its id, under the policy now. It keeps its number.
+#[tactic(auto, using(crate::proofs::KeptPolicies::same_policies, crate::proofs::KeptPolicies::counted_twice))]
 pub(crate) fn replace_held<D: Disk, C: PageCache>(
     alloc: Global,
     store: &mut Store<C>,
@@ -53,7 +55,9 @@ pub(crate) fn replace_held<D: Disk, C: PageCache>(
         (D.history disk.old (D.attached disk.old)) (D.history disk.new (D.attached disk.new)) }
     ensures only { IfErr result IsOfStore }
     ensures table { TableAgrees (D.is_honest disk.old) table.new (store_contents store.new) }
-    ensures small { OnOk result (IsSmallBatch (D.is_honest disk.old) table.old (Some tree.now) (store_contents store.old) (store_contents store.new)) }
+    ensures policies { SamePolicies table.old table.new }
+    ensures small { OnOk result (IsSmallBatch (IsFound found.now) (D.is_honest disk.old) table.old (Some tree.now)
+        (store_contents store.old) (store_contents store.new)) }
     ensures leaves { WriteLeaves C.pages (D.is_honest disk.old) result store.old store.new
         (D.history disk.old (D.attached disk.old)) (D.history disk.new (D.attached disk.new))
         (D.faults disk.old) (D.faults disk.new) }
@@ -77,7 +81,8 @@ pub(crate) fn replace_held<D: Disk, C: PageCache>(
     }
 }
 
-/// Deletes a document that is held.
+/// Deletes a document that is held. Its id is taken out of the table of ids lately found where it is deleted, and only there.
+#[tactic(auto, using(crate::proofs::KeptPolicies::same_policies, crate::proofs::KeptPolicies::counted))]
 pub(crate) fn delete_held<D: Disk, C: PageCache>(
     alloc: Global,
     store: &mut Store<C>,
@@ -98,9 +103,12 @@ pub(crate) fn delete_held<D: Disk, C: PageCache>(
         → IsFoundIn id.now before (Some found.now)
         → TellsWrite before (Ok (deleted id.now before)) result store.new ids.new
         (D.history disk.old (D.attached disk.old)) (D.history disk.new (D.attached disk.new)) }
+    ensures learns { ForgetsIfMade result id.now ids.old ids.new }
     ensures only { IfErr result IsOfStore }
     ensures table { TableAgrees (D.is_honest disk.old) table.new (store_contents store.new) }
-    ensures small { OnOk result (IsSmallBatch (D.is_honest disk.old) table.old None (store_contents store.old) (store_contents store.new)) }
+    ensures policies { SamePolicies table.old table.new }
+    ensures small { OnOk result (IsSmallBatch (IsFound found.now) (D.is_honest disk.old) table.old None
+        (store_contents store.old) (store_contents store.new)) }
     ensures leaves { WriteLeaves C.pages (D.is_honest disk.old) result store.old store.new
         (D.history disk.old (D.attached disk.old)) (D.history disk.new (D.attached disk.new))
         (D.faults disk.old) (D.faults disk.new) }

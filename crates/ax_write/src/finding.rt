@@ -1,12 +1,12 @@
 //! The document of an id: under which number it stands, and what it is.
 
-ghost use Rattle.std.specs.Prelude.{◌≡◌, ◌≢◌, ◌<◌, ◌≤◌, ◌⊎◌, ◌+◌, ℕ, List, IsTrue, IfOk, IfSome, false};
-ghost use Rattle.std.specs.List.{Contains};
+ghost use Rattle.std.specs.Prelude.{◌≡◌, ◌<◌, ◌≤◌, ◌+◌, ℕ, Some, IsTrue, IfOk, IfSome, false};
 ghost use Rattle.ax_container.specs.Container.{Container, contains};
 ghost use Rattle.ax_lines.specs.Asked.{IsStorable};
 ghost use Rattle.ax_pool.specs.Frames.{free_count};
 ghost use Rattle.ax_store.specs.Store.{AgreesUnlessFailed, store_contents, store_slots};
 ghost use Rattle.ax_image_pairs.specs.Found.{number_in};
+ghost use Rattle.ax_write.specs.Learnt.{HasPut, Learns, Puts};
 ghost use Rattle.ax_write.specs.Writes.{Finds, HoldsAll, IsFoundIn, IsHeldAs, IsLookedUp, IsTextHeld, Looks};
 
 use crate::held::{HeldDocument, held};
@@ -27,8 +27,9 @@ pub(crate) struct FoundDocument {
 }
 
 /// The number of the document of an id; `None` exactly where none is held. An id that was lately found is told by the table
-/// of these and reads nothing; any other by the index, and is put into the table. Over an honest disk the index tells
-/// it, or that there is none, only where each part of a term page that is read is in its grammar.
+/// of these and reads nothing; any other by the index, and is put into the table with the number that the index tells, and
+/// nothing else is put there. Over an honest disk the index tells it, or that there is none, only where each part of a term
+/// page that is read is in its grammar.
 ///
 /// `Damaged` where a part of a term page that is read is outside its grammar, with its place.
 /// `Disk` where a read failed, or the store has failed before and the table does not tell the id. `Memory` where there is
@@ -47,6 +48,8 @@ pub fn find_number<D: Disk, C: PageCache>(
     ensures met { IsTrue (D.is_honest disk.old) → IfOk result (IsLookedUp ids.old id.now (store_contents store.old)) }
     ensures ids { IsTrue (D.is_honest disk.old) → (before : Container) → HoldsAll store.old ids.old before
         → HoldsAll store.new ids.new before }
+    ensures learns { Learns (D.is_honest disk.old) id.now (store_contents store.old) ids.old ids.new }
+    ensures kept { IfOk result (λ found. IfSome found (λ number. HasPut id.now number ids.new)) }
     ensures leaves { Looks C.pages (D.is_honest disk.old) result store.old store.new
         (D.history disk.old (D.attached disk.old)) (D.history disk.new (D.attached disk.new))
         (D.faults disk.old) (D.faults disk.new) }
@@ -68,16 +71,16 @@ pub fn find_number<D: Disk, C: PageCache>(
 
 /// Puts an id that was found into the table of those lately found, with its number.
 fn remember(ids: &mut RecentIds, id: &[u8], number: u32)
-    ensures { (entry : List ℕ × ℕ) → Contains ids.new entry
-        → (entry ≡ (id.now, number)) ⊎ (Contains ids.old entry × (entry.0 ≢ id.now)) }
+    ensures { Puts id.now number ids.old ids.new }
 {
     ids.put(id, number);
 }
 
 /// The document of an id; `None` exactly where none is held. It counts one step where a number was found, else none.
 ///
-/// As `find_number`, and `Damaged` also where the text of the document is that of none, with the place of its part: over an
-/// honest disk such a document is not told as one that is not held.
+/// As `find_number`, whose number it is under which the document is found over an honest disk, and `Damaged` also where the text
+/// of the document is that of none, with the place of its part: over an honest disk such a document is not told as one that
+/// is not held.
 pub(crate) fn find_held<D: Disk, C: PageCache, L: Ledger>(
     alloc: Global,
     store: &mut Store<C>,
@@ -91,8 +94,11 @@ pub(crate) fn find_held<D: Disk, C: PageCache, L: Ledger>(
     ensures found { IsTrue (D.is_honest disk.old) → (before : Container) → HoldsAll store.old ids.old before
         → IfOk result (IsFoundIn id.now before) }
     ensures met { IsTrue (D.is_honest disk.old) → IfOk result (Finds ids.old id.now (store_contents store.old)) }
+    ensures number { IsTrue (D.is_honest disk.old) → IfOk result (λ found. IfSome found
+        (λ found. IsLookedUp ids.old id.now (store_contents store.old) (Some found.number))) }
     ensures ids { IsTrue (D.is_honest disk.old) → (before : Container) → HoldsAll store.old ids.old before
         → HoldsAll store.new ids.new before }
+    ensures learns { Learns (D.is_honest disk.old) id.now (store_contents store.old) ids.old ids.new }
     ensures held { IfOk result (λ found. IfSome found (IsHeldAs (store_contents store.old))) }
     ensures storable { IfOk result (λ found. IfSome found (λ found. IsStorable found.document.tree)) }
     ensures some { IfOk result (λ found. IfSome found (λ found. 0 < found.number)) }

@@ -8,15 +8,16 @@ use crate::tests::script::{ROOM, fresh_disk};
 use ax_base::{MemSink, Steps};
 use ax_cache::{LruPages, NoPages, PageCache};
 use ax_disk::MemDisk;
-use ax_engine::Engine;
+use ax_engine::{Engine, Fault};
 use ax_script::{Status, serve_line};
+use ax_tree::Text;
 use std::alloc::Global;
 use std::marker::Brand;
 use std::sync::ledger::{Blank, Ledger};
 use std::test::Fail;
 
 /// Lines, and their replies by hand, from the meaning of each.
-const SCRIPT: [(&str, &str); 18] = [
+const SCRIPT: [(&str, &str); 40] = [
     ("CREATE {\"id\":\"a\",\"n\":1}", "ok\n"),
     ("CREATE {\"id\":\"b\",\"n\":2}", "ok\n"),
     ("UPSERT {\"id\":\"c\",\"n\":3}", "ok\n"),
@@ -40,6 +41,58 @@ const SCRIPT: [(&str, &str); 18] = [
     (
         "QUERY {\"query\":\"SELECT * FROM c WHERE c.n > 4\"}",
         "row {\"id\":\"b\",\"n\":5}\nrow {\"id\":\"c\",\"n\":6}\nend 2\n",
+    ),
+    ("CREATE {\"id\":\"a\"}", "err 7 conflict\n"),
+    ("REPLACE {\"id\":\"z\"}", "err 8 absent\n"),
+    ("DELETE z", "err 8 absent\n"),
+    ("READ ", "err 5 id\n"),
+    ("UPSERT {\"id\":\"d\",\"n\":1.5}", "err 4 number\n"),
+    ("UPSERT {", "err 3 json\n"),
+    ("FOO", "err 2 command\n"),
+    ("QUERY {\"query\":\"SELECT\"}", "err 10 query\n"),
+    (
+        "QUERY {\"query\":\"SELECT VALUE c.id FROM c ORDER BY c.n DESC\"}",
+        "row \"c\"\nrow \"b\"\nrow \"a\"\nend 3\n",
+    ),
+    (
+        "QUERY {\"query\":\"SELECT * FROM c ORDER BY c._etag\"}",
+        "err 11 order\n",
+    ),
+    (
+        "QUERY {\"query\":\"SELECT * FROM c ORDER BY c.n, c.id\"}",
+        "err 11 order\n",
+    ),
+    (
+        "UPSERT {\"id\":\"d\",\"tags\":[\"x\",\"y\"],\"m\":{\"k\":null}}",
+        "ok\n",
+    ),
+    (
+        "QUERY {\"query\":\"SELECT VALUE t FROM c JOIN t IN c.tags\"}",
+        "row \"x\"\nrow \"y\"\nend 2\n",
+    ),
+    (
+        "QUERY {\"query\":\"SELECT VALUE COUNT(1) FROM c\"}",
+        "row 4\nend 1\n",
+    ),
+    (
+        "QUERY {\"query\":\"SELECT VALUE c.id FROM c WHERE c.n = @n\",\"parameters\":[{\"name\":\"@n\",\"value\":5}]}",
+        "row \"b\"\nend 1\n",
+    ),
+    (
+        "QUERY {\"query\":\"SELECT TOP 1 c.n FROM c\"}",
+        "row {\"n\":4}\nend 1\n",
+    ),
+    (
+        "QUERY {\"query\":\"SELECT VALUE c.id FROM c OFFSET 1 LIMIT 2\"}",
+        "row \"b\"\nrow \"c\"\nend 2\n",
+    ),
+    ("REPLACE {\"id\":\"d\",\"tags\":[\"y\"]}", "ok\n"),
+    ("READ d", "doc {\"id\":\"d\",\"tags\":[\"y\"]}\n"),
+    ("DELETE a", "ok\n"),
+    ("UPSERT {\"id\":\"a\"}", "ok\n"),
+    (
+        "QUERY {\"query\":\"SELECT VALUE c.id FROM c\"}",
+        "row \"b\"\nrow \"c\"\nrow \"d\"\nrow \"a\"\nend 4\n",
     ),
 ];
 
@@ -125,6 +178,7 @@ const MADE: &str = "CREATE {\"id\":\"a\",\"n\":1}";
 /// A line of which the reads are counted.
 #[derive(Clone, Copy)]
 enum Asked {
+    Known,
     Document,
     Condition,
     Whole,
@@ -132,6 +186,7 @@ enum Asked {
 
 fn line_of(asked: Asked) -> &'static str {
     match asked {
+        Asked::Known => MADE,
         Asked::Document => "READ a",
         Asked::Condition => "QUERY {\"query\":\"SELECT VALUE c.id FROM c WHERE c.n = 1\"}",
         Asked::Whole => "QUERY {\"query\":\"SELECT * FROM c\"}",
@@ -184,5 +239,53 @@ fn a_cache_spares_reads(rt: HostRuntime) -> Result<(), Fail> {
     let (first, again) = reads(alloc, LruPages::make(alloc, 4)?, Asked::Document)?;
     assert!(rt; first > 0);
     assert_eq!(rt; again, 0);
+    // An id that was lately written is found without the disk.
+    let (first, again) = reads(alloc, NoPages, Asked::Known)?;
+    assert_eq!(rt; first, 0);
+    assert_eq!(rt; again, 0);
+    Ok(())
+}
+
+/// Reads the document twice to a sink whose second call fails: whether the first read is told that, and what the sink has.
+fn read_past_a_fault<L: Ledger>(alloc: Global, blank: Blank) -> Result<(bool, Vec<u8>), Fail>
+    requires name { blank.name ≡ L.name }
+    requires parts { blank.parts ≡ L.parts }
+    requires some { 0 < blank.parts }
+{
+    let id = Text::from_string(String::from_str(alloc, "a")?);
+    let mut failing = Vec::new(alloc);
+    failing.push(2)?;
+    let mut disk = fresh_disk(alloc)?;
+    let mut made = MemSink::make(alloc, ROOM, Vec::new(alloc))?;
+    let mut sink = MemSink::make(alloc, ROOM, failing)?;
+    let mut steps = Steps::<L>::begin(blank);
+    let mut engine = engine_over(alloc, &mut disk, NoPages, &mut steps)?;
+    serve_line(
+        alloc,
+        &mut engine,
+        &mut disk,
+        MADE.as_bytes(),
+        &mut made,
+        &mut steps,
+    )?;
+    let broken = engine.read_into(&mut disk, &id, &mut sink, &mut steps);
+    engine.read_into(&mut disk, &id, &mut sink, &mut steps)?;
+    let told = matches!(broken, Err(Fault::Sink));
+    Ok((told, Vec::from_slice(alloc, sink.bytes())?))
+}
+
+fn past_a_fault(alloc: Global) -> Result<(bool, Vec<u8>), Fail> {
+    read_past_a_fault::<Brand>(alloc, Blank::new(1))
+}
+
+/// An engine whose sink has failed keeps its documents, and serves on.
+#[test]
+fn an_engine_serves_on_behind_a_fault_of_its_sink(rt: HostRuntime) -> Result<(), Fail> {
+    let (told, written) = past_a_fault(rt.alloc())?;
+    assert!(rt; told);
+    assert_eq!(rt;
+        written.as_slice(),
+        b"doc doc {\"id\":\"a\",\"n\":1}\n".as_slice()
+    );
     Ok(())
 }

@@ -258,3 +258,39 @@ fn a_policy_text_that_is_none_is_damage(rt: HostRuntime) -> Result<(), Fail> {
     assert!(rt; written.is_empty());
     Ok(())
 }
+
+/// A policy of number 1, and a meta part by which it is the policy now: it excludes `/v/?`, and offers the composite of `/a`
+/// upwards and `/b` downwards.
+const OTHER_POLICY: &[u8] =
+    b"\x01\xF2\x00\x00\x00\x00\x00\x00\x00\x02\x01\x00\x00\x00\xD8\x00\x00\x00{\"automatic\":true,\"compositeIndexes\":[[{\"order\":\"ascending\",\"path\":\"/\\\"a\\\"\"},{\"order\":\"descending\",\"path\":\"/\\\"b\\\"\"}]],\"excludedPaths\":[{\"path\":\"/\\\"v\\\"/?\"}],\"includedPaths\":[{\"path\":\"/*\"}],\"indexingMode\":\"consistent\"}\x01\x00\x00\x00\x00\x08\x00\x00\x00\x01\x00\x00\x00\x01\x00\x00\x00\x00";
+
+/// Orders, and what each is answered over two documents under that policy.
+const ORDERS: [(&str, &str); 6] = [
+    ("c.a", "row \"x\"\nrow \"y\"\nend 2\n"),
+    ("c.v", "err 11 order\n"),
+    ("c._etag", "row \"x\"\nrow \"y\"\nend 2\n"),
+    ("c.a, c.b DESC", "row \"x\"\nrow \"y\"\nend 2\n"),
+    ("c.a DESC, c.b", "row \"y\"\nrow \"x\"\nend 2\n"),
+    ("c.a, c.b", "err 11 order\n"),
+];
+
+// An order is kept, or refused, by the policy that a store has now.
+#[test]
+fn an_order_goes_by_the_policy_now(rt: HostRuntime) -> Result<(), Fail> {
+    let alloc = rt.alloc();
+    let mut disk = disk_of(alloc, ROOT, OTHER_POLICY)?;
+    let script =
+        b"CREATE {\"id\":\"x\",\"a\":1,\"b\":2,\"v\":3}\nCREATE {\"id\":\"y\",\"a\":1,\"b\":1,\"v\":4}\n";
+    let (status, output) = output_over(alloc, &mut disk, script)?;
+    assert_eq!(rt; status, Status::Done);
+    assert_eq!(rt; output.as_slice(), b"ok\nok\n".as_slice());
+    for (order, expected) in ORDERS {
+        let line = format!(in alloc;
+            "QUERY {{\"query\":\"SELECT VALUE c.id FROM c ORDER BY {order}\"}}"
+        )?;
+        let (status, output) = output_over(alloc, &mut disk, line.as_bytes())?;
+        assert_eq!(rt; status, Status::Done, "{order}");
+        assert_eq!(rt; output.as_slice(), expected.as_bytes(), "{order}");
+    }
+    Ok(())
+}

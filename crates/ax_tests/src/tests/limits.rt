@@ -3,7 +3,7 @@ use std::alloc::{AllocError, Global};
 use std::test::Fail;
 
 /// A text, then a piece so many times, then another text.
-fn built(
+pub fn built(
     alloc: Global,
     front: &str,
     piece: &str,
@@ -182,7 +182,7 @@ fn the_word_of_a_parameter_has_255_bytes_at_most(rt: HostRuntime) -> Result<(), 
 }
 
 /// Two texts, and between them the numbers from 0 on, so many, with commas.
-fn with_numbers(
+pub fn with_numbers(
     alloc: Global,
     front: &str,
     count: usize,

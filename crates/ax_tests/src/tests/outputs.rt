@@ -1,3 +1,4 @@
+use crate::tests::limits::{built, with_numbers};
 use crate::tests::script::{ROOM, output_by_bytes, output_of};
 use ax_script::Status;
 use std::test::Fail;
@@ -103,5 +104,51 @@ fn one_row(rt: HostRuntime) -> Result<(), Fail> {
         output.as_slice(),
         b"ok\nrow {\"id\":\"a\"}\nend 1\n".as_slice()
     );
+    Ok(())
+}
+
+// As many terms as a document may have are written and taken out again, and one more is refused.
+#[test]
+fn as_many_terms_as_there_may_be_are_written(rt: HostRuntime) -> Result<(), Fail> {
+    let alloc = rt.alloc();
+    let script = with_numbers(
+        alloc,
+        "CREATE {\"id\":\"a\",\"v\":[",
+        4_095,
+        "]}\nDELETE a\nREAD a\n",
+    )?;
+    let (status, output) = output_of(alloc, script.as_bytes(), &[], &[], ROOM)?;
+    assert_eq!(rt; status, Status::Done);
+    assert_eq!(rt; output.as_slice(), b"ok\nok\nerr 8 absent\n".as_slice());
+    let script = with_numbers(alloc, "CREATE {\"id\":\"a\",\"v\":[", 4_096, "]}\nREAD a\n")?;
+    let (status, output) = output_of(alloc, script.as_bytes(), &[], &[], ROOM)?;
+    assert_eq!(rt; status, Status::Done);
+    assert_eq!(rt;
+        output.as_slice(),
+        b"err 6 large\nerr 8 absent\n".as_slice()
+    );
+    Ok(())
+}
+
+// A line that is too long is refused, and the lines behind it are served.
+#[test]
+fn a_line_that_is_too_long_is_passed(rt: HostRuntime) -> Result<(), Fail> {
+    let alloc = rt.alloc();
+    let script = built(alloc, "CREATE {\"id\":\"a\"}\n", "x", 262_145, "\nREAD a\n")?;
+    let (status, output) = output_of(alloc, script.as_bytes(), &[], &[], ROOM)?;
+    assert_eq!(rt; status, Status::Done);
+    assert_eq!(rt;
+        output.as_slice(),
+        b"ok\nerr 1 line\ndoc {\"id\":\"a\"}\n".as_slice()
+    );
+    Ok(())
+}
+
+// What is not UTF-8 is no id.
+#[test]
+fn an_id_is_utf8(rt: HostRuntime) -> Result<(), Fail> {
+    let (status, output) = output_of(rt.alloc(), b"READ \xFF\nDELETE \xFF\n", &[], &[], ROOM)?;
+    assert_eq!(rt; status, Status::Done);
+    assert_eq!(rt; output.as_slice(), b"err 5 id\nerr 5 id\n".as_slice());
     Ok(())
 }

@@ -1,5 +1,5 @@
 -- What reading answered, as the answer to the line.
-use Rattle.std.proofs.Common.{subst, sym}
+use Rattle.std.proofs.Common.{◌+◌, ◌*◌, ◌≤◌, ◌∙◌, subst, sym}
 use Rattle.std.specs.Prelude.{IfErr, IfOk, IsTrue, OnOk, Result}
 use Rattle.ax_lines.specs.declared.line.Line.TheVariants as line
 use Rattle.ax_store.proofs.AheadLemmas.{ahead_of_nothing}
@@ -9,12 +9,17 @@ use Rattle.ax_area.specs.Image.{Says}
 use Rattle.ax_image.specs.Readable.{SaysReadable, newest}
 use Rattle.ax_engine.specs.Damage.{Meets, PassesOverNone}
 use Rattle.ax_store.specs.Store.{store_contents}
+use Rattle.ax_grammar.specs.Query.{query_in}
+use Rattle.ax_machine.specs.Needs.{query_need}
+use Rattle.ax_machine.specs.Querying.{rows_reply, rows_under}
 use Rattle.ax_documents.specs.Documents.{DocumentsWork}
 use Rattle.ax_engine.specs.Engine.{CountsAnswer, Tells}
-use Rattle.ax_engine.specs.Replies.{MayReply}
+use Rattle.ax_engine.specs.PolicyNow.{policy_now}
+use Rattle.ax_engine.specs.Replies.{FitsRefusal, IsReply, MayReply, own_refusal}
 use Rattle.ax_engine.specs.declared.engine.Fault.{Fault}
 use Rattle.ax_engine.specs.declared.reply.Reply.{Reply}
 use Rattle.ax_engine.proofs.Applying.{counted_read, lists_read, may_read, met_read, never_falls_read, of_reading, passes_read, tells_read, works_read}
+use Rattle.ax_engine.proofs.PolicyHeld.{policy_held}
 use Rattle.ax_engine.proofs.engine.query.Goals as goal
 
 pub reply_to_query-read-requires : goal.reply_to_query-read-requires
@@ -44,13 +49,21 @@ returns-clause-tells g c = λ honest readable before holds.
     (lists_read g.C.PageCache.pages _ c.args.documents.now _ _ _ _ _ _ c.requires.works c.reply_to_query-read.result c.reply_to_query-read.ensures.scans honest)).each _
     (g.met.D.Disk.reads_may_stay c.reply_to_query-read.new.disk (g.D.Disk.attached c.reply_to_query-read.new.disk)
     (subst IsTrue (sym c.reply_to_query-read.ensures.honest) honest)))
-    (c.reply_to_query-read.ensures.reply honest before holds.contents.documents) honest)
+    (subst (λ policy. IfOk c.reply_to_query-read.result (λ reply. IsReply reply
+    (rows_reply (rows_under policy (query_in c.args.body.now.params c.args.body.now.text) before))))
+    (c.current_policy-policy.ensures
+    ∙ policy_held g.C.PageCache.pages _ c.args.documents.now _ before c.requires.works holds honest)
+    (c.reply_to_query-read.ensures.reply honest before holds.contents.documents)) honest)
 
 pub returns-clause-may_reply : goal.returns-clause-may_reply
 returns-clause-may_reply g c =
-    let P : Result Reply Fault → Type 0 = λ answer. IfOk answer (λ reply. MayReply (line.Query c.args.body.now) reply) in
+    let P : Result Reply Fault → Type 0 = λ answer. IfOk answer (λ reply.
+    MayReply (policy_now c.args.documents.now.table) (line.Query c.args.body.now) reply) in
     subst P (sym c.answer_of_read.ensures)
-    (may_read c.args.body.now c.reply_to_query-read.result c.reply_to_query-read.ensures.fits)
+    (may_read (policy_now c.args.documents.now.table) c.args.body.now c.reply_to_query-read.result
+    (subst (λ policy. IfOk c.reply_to_query-read.result (λ reply.
+    FitsRefusal (own_refusal policy (query_in c.args.body.now.params c.args.body.now.text)) reply))
+    c.current_policy-policy.ensures c.reply_to_query-read.ensures.fits))
 
 pub returns-clause-met : goal.returns-clause-met
 returns-clause-met g c = λ honest.
@@ -105,4 +118,9 @@ returns-clause-readable g c = λ honest rests.
     (lists_read g.C.PageCache.pages _ c.args.documents.now _ _ _ _ _ _ c.requires.works c.reply_to_query-read.result c.reply_to_query-read.ensures.scans honest)
 
 pub returns-clause-bound : goal.returns-clause-bound
-returns-clause-bound g c = λ honest before holds. c.reply_to_query-read.ensures.bound before holds.contents.documents
+returns-clause-bound g c = λ honest before holds.
+    subst (λ policy. c.reply_to_query-read.new.steps
+    ≤ c.args.steps.now + 2 * query_need (rows_under policy (query_in c.args.body.now.params c.args.body.now.text) before) before)
+    (c.current_policy-policy.ensures
+    ∙ policy_held g.C.PageCache.pages _ c.args.documents.now _ before c.requires.works holds honest)
+    (c.reply_to_query-read.ensures.bound before holds.contents.documents)

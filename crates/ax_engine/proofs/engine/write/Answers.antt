@@ -5,11 +5,14 @@ use Rattle.ax_documents.specs.Documents.{DocumentsWork}
 use Rattle.ax_engine.specs.Damage.{Meets}
 use Rattle.ax_engine.specs.Engine.{CountsAnswer, IdlesUnlessDone, Tells, made_of}
 use Rattle.ax_engine.specs.Judging.{Judges}
+use Rattle.ax_engine.specs.PolicyNow.{policy_now}
 use Rattle.ax_engine.specs.Replies.{MayReply}
 use Rattle.ax_store.specs.Store.{store_contents}
 use Rattle.ax_engine.specs.declared.engine.Fault.{Fault}
 use Rattle.ax_engine.specs.declared.reply.Reply.{Reply}
 use Rattle.ax_engine.proofs.Applying.{counted_written, idle_written, judges_written, may_write, met_written, tells_written, works_written, write_is}
+use Rattle.ax_engine.specs.Batched.{AnswersSmall}
+use Rattle.ax_engine.proofs.Batching.{small_written}
 use Rattle.ax_engine.proofs.engine.write.Goals as goal
 
 pub returns-clause-tells : goal.returns-clause-tells
@@ -25,9 +28,9 @@ returns-clause-tells g c = λ honest before holds.
 
 pub returns-clause-may_reply : goal.returns-clause-may_reply
 returns-clause-may_reply g c =
-    let P : Result Reply Fault → Type 0 = λ answer. IfOk answer (λ reply. MayReply c.args.line.now reply) in
+    let P : Result Reply Fault → Type 0 = λ answer. IfOk answer (λ reply. MayReply (policy_now c.args.documents.now.table) c.args.line.now reply) in
     subst P (sym c.answer_of_write.ensures)
-    (may_write c.args.line.now c.make-made.result c.requires.writes c.make-made.ensures.only)
+    (may_write (policy_now c.args.documents.now.table) c.args.line.now c.make-made.result c.requires.writes c.make-made.ensures.only)
 
 pub returns-clause-lists : goal.returns-clause-lists
 returns-clause-lists g c = λ honest.
@@ -71,3 +74,11 @@ returns-clause-judged g c = λ honest.
     subst P (sym c.answer_of_write.ensures)
     (judges_written c.args.line.now c.make-made.result c.args.documents.now.ids (store_contents c.args.documents.now.store) c.requires.writes
     (c.make-made.ensures.met honest))
+
+pub returns-clause-small : goal.returns-clause-small
+returns-clause-small g c =
+    let P : Result Reply Fault → Type 0 = λ answer. AnswersSmall c.args.line.now answer (g.D.Disk.is_honest c.args.disk.now)
+    c.args.documents.now.table c.args.documents.now.ids
+    (store_contents c.args.documents.now.store) (store_contents c.make-made.new.documents.store) in
+    subst P (sym c.answer_of_write.ensures)
+    (small_written c.args.line.now c.make-made.result _ c.args.documents.now.table c.args.documents.now.ids _ _ c.make-made.ensures.small)

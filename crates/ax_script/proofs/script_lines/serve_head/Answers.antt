@@ -3,6 +3,7 @@ use Rattle.std.proofs.Common.{◌≡◌, List, ℕ, [], ◌++◌, OnOk, IsTrue, 
 use Rattle.ax_container.specs.Container.{Container}
 use Rattle.ax_machine.specs.Run.{Served}
 use Rattle.ax_engine.specs.Engine.{HoldsOver}
+use Rattle.ax_engine.specs.PolicyNow.{policy_now}
 use Rattle.ax_script.specs.Answered.{AnswersLine}
 use Rattle.ax_script.specs.Progress.{Serves, outlets}
 use Rattle.ax_engine.proofs.Applying.{still_over}
@@ -42,7 +43,7 @@ returns-clause-ok g c = λ honest before holds.
 
 pub returns-then-is_empty-clause-answered : goal.returns-then-is_empty-clause-answered
 returns-then-is_empty-clause-answered g c =
-    let P : List ℕ → Type 0 = λ pending. OnOk c.serve_line.result (AnswersLine (pending ++ c.args.head.now)
+    let P : List ℕ → Type 0 = λ pending. OnOk c.serve_line.result (AnswersLine (policy_now c.args.engine.now.documents.table) (pending ++ c.args.head.now)
     (g.K.Sink.written c.args.sink.now) (g.K.Sink.written c.serve_line.new.sink)) in
     let none : c.args.pending.now.items ≡ [] =
     empty_list c.args.pending.now.items c.args.pending.now.len (omega (arith, c.args.pending.now.ok)) (sym c.if-is_empty.true ∙ c.is_empty.ensures) in
@@ -50,6 +51,6 @@ returns-then-is_empty-clause-answered g c =
 
 pub returns-clause-answered : goal.returns-clause-answered
 returns-clause-answered g c =
-    let P : List ℕ → Type 0 = λ line. AnswersLine line
+    let P : List ℕ → Type 0 = λ line. AnswersLine (policy_now c.args.engine.now.documents.table) line
     (g.K.Sink.written c.args.sink.now) (g.K.Sink.written c.serve_line-served.new.sink) in
     subst P (c.as_slice.ensures.value ∙ c.in-Ok.ensures.items) c.in_default-served.ensures.answered

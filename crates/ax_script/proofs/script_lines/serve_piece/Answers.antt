@@ -4,7 +4,8 @@ use Rattle.ax_container.specs.Container.{Container}
 use Rattle.ax_lines.specs.ScriptLines.{IsOneLine}
 use Rattle.ax_lines.proofs.Splits.{IsOneLine-append}
 use Rattle.ax_engine.specs.Engine.{HoldsOver, Works}
-use Rattle.ax_script.specs.Answered.{AnswersLines}
+use Rattle.ax_engine.specs.PolicyNow.{policy_now}
+use Rattle.ax_script.specs.Answered.{AnswersLine, AnswersLines}
 use Rattle.ax_script.specs.Progress.{outlets, Serves, BeginsToServe, ServesLines, StopsBy}
 use Rattle.ax_script.proofs.AnsweredLines.{AnsweredIn, answered_begins, answered_ends, answered_goes_on}
 use Rattle.ax_script.proofs.ServedLines.{InPiece, piece_begins, piece_goes_on, piece_fails}
@@ -20,7 +21,8 @@ lines-init g c = record {
     piece_begins _ before _ c.args.piece.now _ c.requires.line
         (rests_over g.C.PageCache.pages _ c.args.engine.now _ before c.requires.works holds),
   );
-  answered = answered_begins c.args.pending.now.items c.args.piece.now _ c.requires.line;
+  answered = answered_begins (policy_now c.args.engine.now.documents.table) c.args.pending.now.items c.args.piece.now _ c.requires.line;
+  policy = refl;
   line = c.requires.line;
   works = c.requires.works;
   unfaulted = c.requires.unfaulted;
@@ -57,11 +59,15 @@ lines-preserved g c = record {
             c.in-Some.tail.now _ c.in-Some.ensures.split c.in-Some.ensures.line served.2),
       );
   answered =
-      let P : List ℕ → Type 0 = λ pending. AnsweredIn c.args.pending.now.items pending c.args.piece.now
+      let P : List ℕ → Type 0 = λ pending. AnsweredIn (policy_now c.args.engine.now.documents.table) c.args.pending.now.items pending c.args.piece.now
       c.in-Some.tail.now (g.K.Sink.written c.args.sink.now) (g.K.Sink.written c.serve_head.new.sink) in
       subst P (sym c.in_default-serve_head.ensures.empty)
-      (answered_goes_on _ _ _ _ _ _ c.lines.invariant.answered c.in-Some.head.now c.in-Some.tail.now _
-      c.in-Some.ensures.split c.in-Some.ensures.line c.in_default-serve_head.ensures.answered);
+      (answered_goes_on (policy_now c.args.engine.now.documents.table) _ _ _ _ _ _ c.lines.invariant.answered c.in-Some.head.now c.in-Some.tail.now _
+      c.in-Some.ensures.split c.in-Some.ensures.line
+      (subst (λ policy. AnswersLine policy (c.lines.pending.items ++ c.in-Some.head.now)
+      (g.K.Sink.written c.lines.sink) (g.K.Sink.written c.serve_head.new.sink))
+      c.lines.invariant.policy c.in_default-serve_head.ensures.answered));
+  policy = c.in_default-serve_head.ensures.policy ∙ c.lines.invariant.policy;
   line = subst IsOneLine (sym c.in_default-serve_head.ensures.empty) refl;
   works = subst (λ honest. Works g.C.PageCache.pages honest c.serve_head.new.engine
       (g.D.Disk.history c.serve_head.new.disk (g.D.Disk.attached c.serve_head.new.disk)))
@@ -125,7 +131,8 @@ returns-in-Err-clause-only g c =
 
 pub returns-in-Ok-clause-answered : goal.returns-in-Ok-clause-answered
 returns-in-Ok-clause-answered g c =
-    let P : List ℕ → Type 0 = λ pending. AnswersLines (c.args.pending.now.items ++ c.args.piece.now) pending
+    let P : List ℕ → Type 0 = λ pending. AnswersLines (policy_now c.args.engine.now.documents.table)
+    (c.args.pending.now.items ++ c.args.piece.now) pending
     (g.K.Sink.written c.args.sink.now) (g.K.Sink.written c.lines.sink) in
     subst P (sym c.in-Ok.ensures.items)
-    (answered_ends _ _ _ _ _ _ c.lines.invariant.answered c.in_default.ensures.none)
+    (answered_ends (policy_now c.args.engine.now.documents.table) _ _ _ _ _ _ c.lines.invariant.answered c.in_default.ensures.none)

@@ -4,7 +4,8 @@ use Rattle.std.specs.Io.KnownBytes.{Consumes}
 use Rattle.ax_container.specs.Container.{Container}
 use Rattle.ax_lines.specs.ScriptLines.{IsOneLine}
 use Rattle.ax_engine.specs.Engine.{HoldsOver, Works}
-use Rattle.ax_script.specs.Answered.{AnswersLast}
+use Rattle.ax_engine.specs.PolicyNow.{policy_now}
+use Rattle.ax_script.specs.Answered.{AnswersLast, AnswersLines}
 use Rattle.ax_script.specs.Progress.{outlets, ServesLines, BeginsLines, ServesLast, BeginsLast, Progress}
 use Rattle.ax_script.proofs.AnsweredLines.{AnswersSoMany, answered_at_end, answered_to_a_fault, answers_begin}
 use Rattle.ax_script.proofs.AnsweredLines.{answers_go_on, stopped_answered, taken_long}
@@ -27,8 +28,9 @@ pieces-init g c =
             subst P (sym c.new-pending.ensures.items)
                 (progress_begins _ before here _ (rests_over g.C.PageCache.pages _ c.args.engine.now _ before c.requires.works holds)),
           );
-      answered = subst (λ pending. AnswersSoMany here here pending 0) (sym c.new-pending.ensures.items)
-          (answers_begin here);
+      policy = refl;
+      answered = subst (λ pending. AnswersSoMany (policy_now c.args.engine.now.documents.table) here here pending 0) (sym c.new-pending.ensures.items)
+          (answers_begin (policy_now c.args.engine.now.documents.table) here);
       line = subst IsOneLine (sym c.new-pending.ensures.items) refl;
       works = c.requires.works;
       unfaulted = c.requires.unfaulted;
@@ -123,8 +125,12 @@ pieces-preserved g c = record {
             (take c.in-Ok.count c.read_some.new.buf) _ c.in-Ok.count c.in-Ok.ensures.taken
             (sym c.in-Ok.ensures.bound.1) more.2,
       );
-  answered = answers_go_on _ _ _ _ c.pieces.invariant.answered _ _ _ (take c.in-Ok.count c.read_some.new.buf) _
-      c.in-Ok.count c.in-Ok.ensures.taken (sym c.in-Ok.ensures.bound.1) c.in_default-served.ensures.answered;
+  policy = c.in_default-served.ensures.policy ∙ c.pieces.invariant.policy;
+  answered = answers_go_on (policy_now c.args.engine.now.documents.table) _ _ _ _ c.pieces.invariant.answered _ _ _
+      (take c.in-Ok.count c.read_some.new.buf) _ c.in-Ok.count c.in-Ok.ensures.taken (sym c.in-Ok.ensures.bound.1)
+      (subst (λ policy. AnswersLines policy (c.pieces.pending.items ++ take c.in-Ok.count c.read_some.new.buf)
+      c.serve_piece-served.new.pending.items (g.K.Sink.written c.pieces.sink) (g.K.Sink.written c.serve_piece-served.new.sink))
+      c.pieces.invariant.policy c.in_default-served.ensures.answered);
   line = c.in_default-served.ensures.line;
   works = subst (λ honest. Works g.C.PageCache.pages honest c.serve_piece-served.new.engine
       (g.D.Disk.history c.serve_piece-served.new.disk (g.D.Disk.attached c.serve_piece-served.new.disk)))
@@ -165,26 +171,29 @@ returns-in-Err-clause-of_serving g c =
 
 pub returns-in_default-clause-answered : goal.returns-in_default-clause-answered
 returns-in_default-clause-answered g c =
-    answered_to_a_fault _ _ _ _ c.pieces.invariant.answered (g.S.Source.rest c.read_some.new.self)
+    answered_to_a_fault (policy_now c.args.engine.now.documents.table) _ _ _ _ c.pieces.invariant.answered (g.S.Source.rest c.read_some.new.self)
     c.in_default.ensures.failed
 
 pub returns-then-count-eq0-clause-answered : goal.returns-then-count-eq0-clause-answered
 returns-then-count-eq0-clause-answered g c =
     let P : ℕ → Type 0 = λ n. Consumes (g.S.Source.rest c.pieces.source)
     (g.S.Source.rest c.read_some.new.self) (take n c.read_some.new.buf) in
-    let Last : List ℕ → Type 0 = λ last. AnswersLast last (g.K.Sink.written c.pieces.sink)
-    (g.K.Sink.written c.serve_last.new.sink) in
-    answered_at_end _ _ _ _ c.pieces.invariant.answered _ _ _ _ _ c.serve_last.result
+    let Last : List ℕ → Type 0 = λ last. AnswersLast (policy_now c.args.engine.now.documents.table) last
+    (g.K.Sink.written c.pieces.sink) (g.K.Sink.written c.serve_last.new.sink) in
+    answered_at_end (policy_now c.args.engine.now.documents.table) _ _ _ _ c.pieces.invariant.answered _ _ _ _ _ c.serve_last.result
     (subst P c.if-count-eq0.true c.in-Ok.ensures.taken)
     (c.in-Ok.ensures.ended c.if-count-eq0.true
     (omega (arith, c.requires.some, c.pieces.auto.buffer, c.read_some.auto.buf)))
-    (λ is. subst Last c.as_slice.ensures.value (c.serve_last.ensures.answered is))
+    (λ is. subst Last c.as_slice.ensures.value (subst (λ policy. AnswersLast policy c.as_slice.result.now
+    (g.K.Sink.written c.pieces.sink) (g.K.Sink.written c.serve_last.new.sink))
+    c.pieces.invariant.policy (c.serve_last.ensures.answered is)))
     c.serve_last.ensures.only
 
 pub returns-then-taken-gt-MOST_INPUT-clause-answered : goal.returns-then-taken-gt-MOST_INPUT-clause-answered
 returns-then-taken-gt-MOST_INPUT-clause-answered g c =
-    taken_long _ _ _ _ c.pieces.invariant.answered _ (take c.in-Ok.count c.read_some.new.buf) c.in-Ok.count
+    taken_long (policy_now c.args.engine.now.documents.table) _ _ _ _ c.pieces.invariant.answered _ (take c.in-Ok.count c.read_some.new.buf) c.in-Ok.count
     c.in-Ok.ensures.taken (sym c.in-Ok.ensures.bound.1) c.if-taken-gt-MOST_INPUT.true
 
 pub returns-in-Err-clause-answered : goal.returns-in-Err-clause-answered
-returns-in-Err-clause-answered g c = stopped_answered _ _ c.in-Err.status _ _ c.in-Err.ensures.only
+returns-in-Err-clause-answered g c =
+    stopped_answered (policy_now c.args.engine.now.documents.table) _ _ c.in-Err.status _ _ c.in-Err.ensures.only

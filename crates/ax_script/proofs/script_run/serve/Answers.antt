@@ -5,11 +5,14 @@ use Rattle.ax_disk.specs.declared.extent.Extent.TheVariants.{Root}
 use Rattle.ax_image.specs.Readable.{newest}
 use Rattle.ax_documents.specs.Opening.{IsStore}
 use Rattle.ax_documents.specs.Opening.{IsWithin}
+use Rattle.ax_engine.specs.PolicyNow.{policy_now}
+use Rattle.ax_policy.specs.Default.{default_policy}
 use Rattle.ax_script.specs.Answered.{TellsAnswered}
 use Rattle.ax_script.specs.CommandLine.{store_word}
 use Rattle.ax_script.specs.DiskScript.{RunsOnDisk}
 use Rattle.ax_script.specs.Opening.{Refuses}
 use Rattle.ax_script.specs.Progress.{Ends}
+use Rattle.ax_script.proofs.AnsweredLines.{early_answered}
 use Rattle.ax_script.proofs.DiskCounts.{counts_since, fault_counted}
 use Rattle.ax_script.proofs.Endings.{streams, runs_early, complete_of}
 use Rattle.ax_script.proofs.OnDisk.{on_disk_early, on_disk_named}
@@ -49,10 +52,13 @@ returns-in-Ok-clause-script g c = λ honest before store.
 
 pub returns-in-Ok-clause-answered : goal.returns-in-Ok-clause-answered
 returns-in-Ok-clause-answered g c =
-    let T : ℕ → Type 0 = λ n. TellsAnswered c.serve_opened.result
+    let T : ℕ → Type 0 = λ n. TellsAnswered (policy_now c.in-Ok.engine.documents.table) c.serve_opened.result
     (streams (g.S.Source.rest c.args.source.now) (g.K.Sink.written c.args.sink.now) n)
     (streams (g.S.Source.rest c.serve_opened.new.source) (g.K.Sink.written c.serve_opened.new.sink) c.serve_opened.new.steps) in
-    subst T c.open_named.ensures.steps c.serve_opened.ensures.answered
+    (policy_now c.in-Ok.engine.documents.table, subst T c.open_named.ensures.steps c.serve_opened.ensures.answered)
+
+pub returns-in-Err-clause-answered : goal.returns-in-Err-clause-answered
+returns-in-Err-clause-answered g c = (default_policy, early_answered default_policy c.in-Err.status _ _ c.in-Err.ensures.only)
 
 pub returns-in-Ok-clause-refused : goal.returns-in-Ok-clause-refused
 returns-in-Ok-clause-refused g c = λ honest.

@@ -1,10 +1,13 @@
 -- The engine over its cache has the same documents; or no memory was left for the cache.
-use Rattle.std.proofs.Common.{ap, ◌∙◌}
+use Rattle.std.proofs.Common.{ap, subst, ◌∙◌}
 use Rattle.ax_cache.specs.Held.{held}
 use Rattle.ax_cache.specs.PageLaws.{no_pages}
 use Rattle.ax_engine.proofs.Applying.{rests_over}
 use Rattle.ax_engine.proofs.Recaching.{over_still, works_still}
-use Rattle.ax_script.proofs.Endings.{ends_without_memory}
+use Rattle.ax_engine.specs.PolicyNow.{policy_now}
+use Rattle.ax_policy.specs.Table.{Table}
+use Rattle.ax_script.specs.Answered.{TellsAnswered}
+use Rattle.ax_script.proofs.Endings.{ends_without_memory, streams}
 use Rattle.ax_script.proofs.script_run.serve_opened.Goals as goal
 
 pub returns-in_default-clause-script : goal.returns-in_default-clause-script
@@ -27,3 +30,10 @@ returns-clause-sound g c = λ honest before holds.
     c.serve_cached.ensures.sound honest before
     (over_still c.args.engine c.with_cache-engine.result c.with_cache-engine.ensures.fault
     c.with_cache-engine.ensures.documents _ before holds)
+
+pub returns-clause-answered : goal.returns-clause-answered
+returns-clause-answered g c =
+    subst (λ (table : Table). TellsAnswered (policy_now table) c.serve_cached.result
+    (streams (g.S.Source.rest c.args.source.now) (g.K.Sink.written c.args.sink.now) c.args.steps.now)
+    (streams (g.S.Source.rest c.serve_cached.new.source) (g.K.Sink.written c.serve_cached.new.sink) c.serve_cached.new.steps))
+    c.with_cache-engine.ensures.documents.table c.serve_cached.ensures.answered

@@ -1,32 +1,39 @@
 -- A line that is refused, and one for which memory ran out, change nothing.
-use Rattle.std.proofs.Common.{refl, subst}
+use Rattle.std.proofs.Common.{◌≡◌, Ok, Result, subst, sym}
+use Rattle.std.specs.Prelude.{IsTrue}
+use Rattle.ax_lines.specs.declared.line.Line.{Line}
 use Rattle.ax_lines.specs.declared.line.LineFault.{LineFault}
+use Rattle.ax_lines.specs.declared.refusal.Refusal.{Refusal}
+use Rattle.ax_lines.specs.Answers.{Answers}
 use Rattle.ax_lines.specs.Lines.{line_of}
-use Rattle.ax_lines.specs.Answers.{IsRefusedBy}
-use Rattle.ax_machine.specs.Run.{OutOfMemory}
 use Rattle.ax_engine.proofs.Applying.{still_over}
-use Rattle.ax_script.proofs.AnsweredLines.{refused_may}
-use Rattle.ax_script.proofs.Replying.{tells_applied, tells_refused}
+use Rattle.ax_engine.specs.PolicyNow.{policy_now}
+use Rattle.ax_engine.specs.declared.reply.Reply.TheVariants as given
+use Rattle.ax_script.specs.Replies.{MayAnswer, TellsLine}
+use Rattle.ax_script.proofs.AnsweredLines.{unread_may}
+use Rattle.ax_script.proofs.Replying.{tells_applied, tells_unread}
 use Rattle.ax_script.proofs.serving.answer_line.Goals as goal
-
-pub returns-in-Err-Refused-clause-tells : goal.returns-in-Err-Refused-clause-tells
-returns-in-Err-Refused-clause-tells g c = λ honest before holds.
-    let P : LineFault → Type 0 = λ fault. IsRefusedBy fault (line_of c.args.line.now) in
-    tells_refused _ before c.args.line.now c.in-Err-Refused.refusal c.args.engine.now _ _
-    (subst P c.in-Err-Refused.field-0-is c.in-Err-Refused.ensures.answers) holds
-    (still_over g.C.PageCache.pages _ c.args.engine.now _ before before c.requires.works holds)
-
-pub returns-in-Err-Memory-clause-tells : goal.returns-in-Err-Memory-clause-tells
-returns-in-Err-Memory-clause-tells g c = λ honest before holds.
-    (OutOfMemory, refl, holds, still_over g.C.PageCache.pages _ c.args.engine.now _ before before c.requires.works holds)
 
 pub returns-in-Ok-clause-tells : goal.returns-in-Ok-clause-tells
 returns-in-Ok-clause-tells g c = λ honest before holds.
-    tells_applied _ before c.args.line.now c.in-Ok.asked c.apply.new.self _ _ c.apply.result c.in-Ok.ensures.answers
-    (c.apply.ensures.applies honest before holds)
+    let A : Result Line LineFault → Type 0 = λ asked. Answers asked (line_of c.args.line.now) in
+    tells_applied _ before c.args.line.now c.in-Ok.asked c.apply.new.self _ _ c.apply.result
+    (subst A c.in-Ok.is c.requires.answers) (c.apply.ensures.applies honest before holds)
 
-pub returns-in-Err-Refused-clause-may_answer : goal.returns-in-Err-Refused-clause-may_answer
-returns-in-Err-Refused-clause-may_answer g c =
-    let P : LineFault → Type 0 = λ fault. IsRefusedBy fault (line_of c.args.line.now) in
-    refused_may c.args.line.now c.in-Err-Refused.refusal
-    (subst P c.in-Err-Refused.field-0-is c.in-Err-Refused.ensures.answers)
+pub returns-in-Err-clause-tells : goal.returns-in-Err-clause-tells
+returns-in-Err-clause-tells g c = λ honest before holds.
+    let A : Result Line LineFault → Type 0 = λ asked. Answers asked (line_of c.args.line.now) in
+    let here = g.D.Disk.history c.args.disk.now (g.D.Disk.attached c.args.disk.now) in
+    let P : Refusal → Type 0 = λ why. TellsLine (IsTrue (g.D.Disk.is_honest c.args.disk.now)) before c.args.line.now
+    (Ok (given.Refused why)) c.args.engine.now here here in
+    subst P (sym c.refusal_of.ensures)
+    (tells_unread (IsTrue (g.D.Disk.is_honest c.args.disk.now)) before c.args.line.now c.in-Err.fault c.args.engine.now here here
+    (subst A c.in-Err.is c.requires.answers) holds
+    (still_over g.C.PageCache.pages _ c.args.engine.now _ before before c.requires.works holds))
+
+pub returns-in-Err-clause-may_answer : goal.returns-in-Err-clause-may_answer
+returns-in-Err-clause-may_answer g c =
+    let policy = policy_now c.args.engine.now.documents.table in
+    let P : Refusal → Type 0 = λ why. MayAnswer policy c.args.line.now (given.Refused why) in
+    subst P (sym c.refusal_of.ensures)
+    (unread_may policy c.args.line.now c.args.asked c.in-Err.fault c.in-Err.is c.requires.answers c.requires.at_once)

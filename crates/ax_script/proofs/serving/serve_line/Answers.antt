@@ -1,43 +1,70 @@
--- The line was answered, and its reply was written, or a prefix of it.
+-- The line was answered, and its reply was written, or a prefix of it; of a READ line the engine has written it.
+use Rattle.std.proofs.Common.{◌≡◌, Ok, ap, ◌∙◌}
+use Rattle.ax_engine.specs.PolicyNow.{policy_now}
+use Rattle.ax_lines.specs.Lines.{line_of}
+use Rattle.ax_lines.specs.declared.line.Line.TheVariants as line
 use Rattle.ax_script.proofs.AnsweredLines.{line_answered}
 use Rattle.ax_script.proofs.DiskCounts.{line_counted}
+use Rattle.ax_script.proofs.ReadLines.{read_begun, read_served}
 use Rattle.ax_script.proofs.Replying.{whole_of, part_of, sound_of, stops_of}
 use Rattle.ax_script.proofs.serving.serve_line.Goals as goal
 
-pub returns-clause-whole : goal.returns-clause-whole
-returns-clause-whole g c = λ honest before holds.
+pub returns-in_default-clause-whole : goal.returns-in_default-clause-whole
+returns-in_default-clause-whole g c = λ honest before holds.
     whole_of g.C.PageCache.pages _ before c.args.line.now c.answer-answered.new.engine _ _ _ _ _ _ c.write_answer.result
     c.answer-answered.result (c.answer-answered.ensures.tells honest before holds) c.answer-answered.ensures.works
     (c.answer-answered.ensures.bound honest before holds.holds) c.write_answer.ensures.whole
 
-pub returns-clause-prefix : goal.returns-clause-prefix
-returns-clause-prefix g c = λ honest before holds.
+pub returns-in_default-clause-prefix : goal.returns-in_default-clause-prefix
+returns-in_default-clause-prefix g c = λ honest before holds.
     part_of g.C.PageCache.pages _ before c.args.line.now c.answer-answered.new.engine _ _ _ _ _ _ c.write_answer.result
     c.answer-answered.result (c.answer-answered.ensures.tells honest before holds) c.answer-answered.ensures.works
     (c.answer-answered.ensures.bound honest before holds.holds) c.write_answer.ensures.prefix
 
-pub returns-clause-sound : goal.returns-clause-sound
-returns-clause-sound g c = λ honest before holds.
+pub returns-in_default-clause-sound : goal.returns-in_default-clause-sound
+returns-in_default-clause-sound g c = λ honest before holds.
     sound_of _ before c.args.line.now c.answer-answered.new.engine _ _ c.write_answer.result c.answer-answered.result
     (c.answer-answered.ensures.tells honest before holds) c.write_answer.ensures.only c.write_answer.ensures.damage
 
-pub returns-clause-stops : goal.returns-clause-stops
-returns-clause-stops g c = λ unfaulted.
+pub returns-in_default-clause-stops : goal.returns-in_default-clause-stops
+returns-in_default-clause-stops g c = λ unfaulted.
     stops_of _ _ c.write_answer.result c.answer-answered.result c.write_answer.ensures.only c.write_answer.ensures.damage
     (λ honest. c.answer-answered.ensures.met honest unfaulted)
 
-pub returns-clause-again : goal.returns-clause-again
-returns-clause-again g c = λ fault kept.
+pub returns-in_default-clause-again : goal.returns-in_default-clause-again
+returns-in_default-clause-again g c = λ fault kept.
     let before = c.answer-answered.ensures.again fault kept in
     let told = c.write_answer.ensures.fault fault before.0 in
     (told.0, before.1, before.2, told.1, before.3)
 
-pub returns-clause-answered : goal.returns-clause-answered
-returns-clause-answered g c =
-    line_answered c.args.line.now c.write_answer.result c.answer-answered.result _ _ c.answer-answered.ensures.may_answer
-    c.write_answer.ensures.whole
+pub returns-in_default-clause-answered : goal.returns-in_default-clause-answered
+returns-in_default-clause-answered g c =
+    line_answered (policy_now c.args.engine.now.documents.table) c.args.line.now c.write_answer.result c.answer-answered.result _ _
+    c.answer-answered.ensures.may_answer c.write_answer.ensures.whole
 
-pub returns-clause-disk_counted : goal.returns-clause-disk_counted
-returns-clause-disk_counted g c = λ unfaulted.
+pub returns-in_default-clause-disk_counted : goal.returns-in_default-clause-disk_counted
+returns-in_default-clause-disk_counted g c = λ unfaulted.
     line_counted c.write_answer.result c.answer-answered.result _ _ c.write_answer.ensures.disk_cause
     (λ why is. (c.write_answer.ensures.fault why is).0) (c.answer-answered.ensures.counted unfaulted)
+
+pub returns-in-Ok-Read-clause-whole : goal.returns-in-Ok-Read-clause-whole
+returns-in-Ok-Read-clause-whole g c = λ honest before holds.
+    let asked : line_of c.args.line.now ≡ Ok (line.Read c.in-Ok-Read.id) =
+    c.in-Ok-Read.ensures.answers ∙ ap (λ a. Ok a) c.in-Ok-Read.field-0-is in
+    read_served g.C.PageCache.pages (g.D.Disk.is_honest c.args.disk.now) before c.args.line.now c.in-Ok-Read.id c.read_into.new.self
+    (g.K.Sink.written c.args.sink.now) (g.K.Sink.written c.read_into.new.sink)
+    (g.D.Disk.history c.args.disk.now (g.D.Disk.attached c.args.disk.now))
+    (g.D.Disk.history c.read_into.new.disk (g.D.Disk.attached c.read_into.new.disk)) c.args.steps.now c.read_into.new.steps
+    c.status_of_read.result c.read_into.result c.status_of_read.ensures asked (c.read_into.ensures.applies honest before holds)
+    c.read_into.ensures.works (c.read_into.ensures.bound honest before holds.holds)
+
+pub returns-in-Ok-Read-clause-prefix : goal.returns-in-Ok-Read-clause-prefix
+returns-in-Ok-Read-clause-prefix g c = λ honest before holds.
+    let asked : line_of c.args.line.now ≡ Ok (line.Read c.in-Ok-Read.id) =
+    c.in-Ok-Read.ensures.answers ∙ ap (λ a. Ok a) c.in-Ok-Read.field-0-is in
+    read_begun g.C.PageCache.pages (g.D.Disk.is_honest c.args.disk.now) before c.args.line.now c.in-Ok-Read.id c.read_into.new.self
+    (g.K.Sink.written c.args.sink.now) (g.K.Sink.written c.read_into.new.sink)
+    (g.D.Disk.history c.args.disk.now (g.D.Disk.attached c.args.disk.now))
+    (g.D.Disk.history c.read_into.new.disk (g.D.Disk.attached c.read_into.new.disk)) c.args.steps.now c.read_into.new.steps
+    c.status_of_read.result c.read_into.result c.status_of_read.ensures asked (c.read_into.ensures.applies honest before holds)
+    c.read_into.ensures.works (c.read_into.ensures.bound honest before holds.holds)

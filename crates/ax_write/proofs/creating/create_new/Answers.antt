@@ -1,5 +1,5 @@
 -- A creation is refused, or its changes are committed with those of the index behind them.
-use Rattle.std.proofs.Common.{◌≡◌, false, None, Some, Ok, Err, refl, sym, ap, subst, ◌∙◌, arith}
+use Rattle.std.proofs.Common.{◌≡◌, ℕ, false, None, Some, Ok, Err, refl, sym, ap, subst, ◌∙◌, arith}
 use Rattle.std.specs.FinMap as finite
 use Rattle.ax_area.specs.Parts.{changes_said}
 use Rattle.ax_container.specs.Writes.{created, creation}
@@ -11,6 +11,8 @@ use Rattle.ax_table.proofs.Agreeing.{room_created}
 use Rattle.ax_write.specs.Committed.{LeaveTerms}
 use Rattle.ax_write.specs.Exchanged.{IsExchanged}
 use Rattle.ax_write.specs.Full.{is_full_of}
+use Rattle.ax_write.specs.Learnt.{Puts}
+use Rattle.ax_write.specs.Small.{IsNew}
 use Rattle.ax_write.proofs.Fullness.{can_create, creates, full_same, never_full, refuses}
 use Rattle.ax_write.proofs.Numbered.{recent_created}
 use Rattle.ax_write.proofs.Owned.{created_carries}
@@ -87,7 +89,7 @@ returns-in-Ok-plan_and_commit-clause-tells g c = λ honest works before holds ow
     c.plan_and_commit.new.store (creation id tree before) (creates contents before holds.contents.documents id tree space) c.note_created.new.ids
     _ honest (c.in-Ok-plan_and_commit.ensures.made front said)
     (recent_created c.args.ids.now c.note_created.new.ids id number tree before absent (next ∙ holds.contents.documents.show.next)
-    c.note_created.ensures.ids holds.recent)
+    c.note_created.ensures.ids.1 holds.recent)
 
 pub returns-in-Ok-plan_and_commit-clause-full : goal.returns-in-Ok-plan_and_commit-clause-full
 returns-in-Ok-plan_and_commit-clause-full g c = λ before hold full.
@@ -117,8 +119,8 @@ returns-in-Ok-plan_and_commit-clause-small g c =
     let now = c.now-now.result in
     let can = can_create contents (sym c.is_full.ensures ∙ c.if-is_full.false) in
     let next = c.meta-number.ensures.next in
-    small_batch _ table number table.current now None (Some tree) _ _ _ contents _ (next, ap (finite.get contents.documents) next ∙ can.none)
-    c.in-Ok-created_pairs.ensures c.as_slice.ensures.value c.now-now.ensures.current c.in-Ok.ensures c.in-Ok-plan_and_commit.ensures.planned
+    small_batch (IsNew contents) _ table number table.current now None (Some tree) _ _ _ contents _ next
+    (next, ap (finite.get contents.documents) next ∙ can.none) c.in-Ok-created_pairs.ensures c.as_slice.ensures.value c.now-now.ensures.current c.in-Ok.ensures c.in-Ok-plan_and_commit.ensures.planned
 
 pub returns-in-Ok-plan_and_commit-clause-leaves : goal.returns-in-Ok-plan_and_commit-clause-leaves
 returns-in-Ok-plan_and_commit-clause-leaves g c =
@@ -185,3 +187,22 @@ returns-clause-leaves g c =
     c.plan_and_commit.ensures.readable honest works front set said (creating_readable number now tree c.requires.storable) index rests)
     c.in-Err.ensures.untouched c.in-Err.ensures.damage c.in-Err.ensures.fails c.plan_and_commit.ensures.agrees c.plan_and_commit.ensures.slots c.plan_and_commit.ensures.others
     c.plan_and_commit.ensures.area c.in-Err.ensures.cause c.plan_and_commit.ensures.never_falls
+
+pub returns-then-is_full-clause-full_only : goal.returns-then-is_full-clause-full_only
+returns-then-is_full-clause-full_only g c = sym c.is_full.ensures ∙ c.if-is_full.true
+
+pub returns-in_default-clause-full_only : goal.returns-in_default-clause-full_only
+returns-in_default-clause-full_only g c = sym c.is_full.ensures ∙ c.if-is_full.false
+
+pub returns-in_default-created_pairs-clause-full_only : goal.returns-in_default-created_pairs-clause-full_only
+returns-in_default-created_pairs-clause-full_only g c = sym c.is_full.ensures ∙ c.if-is_full.false
+
+pub returns-in-Ok-plan_and_commit-clause-full_only : goal.returns-in-Ok-plan_and_commit-clause-full_only
+returns-in-Ok-plan_and_commit-clause-full_only g c = sym c.is_full.ensures ∙ c.if-is_full.false
+
+pub returns-in-Ok-plan_and_commit-clause-learns : goal.returns-in-Ok-plan_and_commit-clause-learns
+returns-in-Ok-plan_and_commit-clause-learns g c =
+    subst (λ (n : ℕ). Puts c.args.id.now n c.args.ids.now c.note_created.new.ids) c.meta-number.ensures.next c.note_created.ensures.ids
+
+pub returns-clause-full_only : goal.returns-clause-full_only
+returns-clause-full_only g c = sym c.is_full.ensures ∙ c.if-is_full.false

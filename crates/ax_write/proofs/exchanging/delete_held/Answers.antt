@@ -8,7 +8,9 @@ use Rattle.ax_store.proofs.StoreLemmas.{agrees_says}
 use Rattle.ax_store.specs.Store.{store_contents}
 use Rattle.ax_write.specs.Committed.{LeaveTerms}
 use Rattle.ax_write.specs.Exchanged.{IsExchanged}
+use Rattle.ax_write.specs.Small.{IsFound}
 use Rattle.ax_write.proofs.Fronts.{deleting_beside}
+use Rattle.ax_write.proofs.Learning.{forgets}
 use Rattle.ax_write.proofs.Numbered.{recent_deleted}
 use Rattle.ax_write.proofs.Owned.{deleted_carries}
 use Rattle.ax_write.proofs.Saying.{deleting_said}
@@ -83,8 +85,8 @@ returns-in-Ok-plan_and_commit-clause-small g c =
     let contents = store_contents c.args.store.now in
     let table = c.args.table.now in
     let found = c.args.found.now in
-    small_batch _ table found.number found.document.policy table.current (Some found.document.tree) None _ _ _ contents _
-    (was_held _ contents found c.requires.held c.requires.text) c.in-Ok-deleted_pairs.ensures c.as_slice.ensures.value refl c.in-Ok.ensures
+    small_batch (IsFound found) _ table found.number found.document.policy table.current (Some found.document.tree) None _ _ _ contents _
+    (refl, refl) (was_held _ contents found c.requires.held c.requires.text) c.in-Ok-deleted_pairs.ensures c.as_slice.ensures.value refl c.in-Ok.ensures
     c.in-Ok-plan_and_commit.ensures.planned
 
 pub returns-in-Ok-plan_and_commit-clause-leaves : goal.returns-in-Ok-plan_and_commit-clause-leaves
@@ -129,3 +131,7 @@ returns-clause-leaves g c =
     c.plan_and_commit.ensures.readable honest works front set said (deleting_readable found.number) index rests)
     c.in-Err.ensures.untouched c.in-Err.ensures.damage c.in-Err.ensures.fails c.plan_and_commit.ensures.agrees c.plan_and_commit.ensures.slots
     c.plan_and_commit.ensures.others c.plan_and_commit.ensures.area c.in-Err.ensures.cause c.plan_and_commit.ensures.never_falls
+
+pub returns-in-Ok-plan_and_commit-clause-learns : goal.returns-in-Ok-plan_and_commit-clause-learns
+returns-in-Ok-plan_and_commit-clause-learns g c =
+    forgets c.args.id.now c.args.ids.now c.note_deleted.new.ids c.note_deleted.ensures.gone c.note_deleted.ensures.others

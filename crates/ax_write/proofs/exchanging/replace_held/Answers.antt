@@ -8,6 +8,7 @@ use Rattle.ax_store.proofs.StoreLemmas.{agrees_says}
 use Rattle.ax_store.specs.Store.{store_contents}
 use Rattle.ax_write.specs.Committed.{LeaveTerms}
 use Rattle.ax_write.specs.Exchanged.{IsExchanged}
+use Rattle.ax_write.specs.Small.{IsFound}
 use Rattle.ax_write.proofs.Numbered.{recent_replaced}
 use Rattle.ax_write.proofs.Owned.{replaced_carries}
 use Rattle.ax_write.proofs.Saying.{replacing_said}
@@ -93,8 +94,8 @@ returns-in-Ok-plan_and_commit-clause-small g c =
     let found = c.args.found.now in
     let tree = c.args.tree.now in
     let now = c.now-now.result in
-    small_batch _ table found.number found.document.policy now (Some found.document.tree) (Some tree) _ _ _ contents _
-    (was_held _ contents found c.requires.held c.requires.text) c.in-Ok-replaced_pairs.ensures c.as_slice.ensures.value c.now-now.ensures.current
+    small_batch (IsFound found) _ table found.number found.document.policy now (Some found.document.tree) (Some tree) _ _ _ contents _
+    (refl, refl) (was_held _ contents found c.requires.held c.requires.text) c.in-Ok-replaced_pairs.ensures c.as_slice.ensures.value c.now-now.ensures.current
     c.in-Ok.ensures c.in-Ok-plan_and_commit.ensures.planned
 
 pub returns-in-Ok-plan_and_commit-clause-leaves : goal.returns-in-Ok-plan_and_commit-clause-leaves

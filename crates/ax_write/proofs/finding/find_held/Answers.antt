@@ -5,6 +5,7 @@ use Rattle.ax_index.proofs.Unmoved.{same_contents}
 use Rattle.ax_store.specs.Store.{store_contents}
 use Rattle.ax_write.proofs.FoundNumbers.{found_under, holds_still, never_absent, one_under, zero_absent}
 use Rattle.ax_write.proofs.Meeting.{finds_held, finds_none, finds_unheld, finds_zero, held_still}
+use Rattle.ax_write.specs.Writes.{IsLookedUp}
 use Rattle.ax_write.proofs.finding.find_held.Goals as goal
 
 pub returns-in-Ok-None-clause-met : goal.returns-in-Ok-None-clause-met
@@ -87,3 +88,7 @@ pub returns-in-Err-held-clause-none : goal.returns-in-Err-held-clause-none
 returns-in-Err-held-clause-none g c = λ honest before holds absent.
     absurd (never_absent c.args.id.now before c.in-Ok-Some.number (sym c.in-Ok-Some.field-0-is ∙ c.in-Ok-Some.ensures.number honest before holds)
     absent)
+
+pub returns-in-Ok-Some-held-clause-number : goal.returns-in-Ok-Some-held-clause-number
+returns-in-Ok-Some-held-clause-number g c = λ honest.
+    subst (IsLookedUp c.args.ids.now c.args.id.now (store_contents c.args.store.now)) c.in-Ok-Some.field-0-is (c.in-Ok-Some.ensures.met honest)

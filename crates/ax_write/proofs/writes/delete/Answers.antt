@@ -3,9 +3,12 @@ use Rattle.std.proofs.Common.{Ok, refl, sym, subst, ◌∙◌}
 use Rattle.std.specs.Prelude.{IsTrue}
 use Rattle.ax_container.specs.Writes.{deleted, removed}
 use Rattle.ax_write.proofs.FoundNumbers.{found_is, no_removal, none_is, removal_is}
+use Rattle.ax_index.proofs.Unmoved.{same_contents}
 use Rattle.ax_store.specs.Store.{store_contents}
-use Rattle.ax_write.proofs.Meeting.{meets_absent, meets_held}
+use Rattle.ax_write.proofs.Learning.{learns_deleted}
+use Rattle.ax_write.proofs.Meeting.{meets_absent, meets_held, told_found}
 use Rattle.ax_write.proofs.Passing.{kept_by_look, leaves_absent, leaves_failed, leaves_then, tells_failed, tells_then}
+use Rattle.ax_write.proofs.Smallness.{small_told}
 use Rattle.ax_write.proofs.writes.delete.Goals as goal
 
 pub returns-in-Ok-Some-clause-tells : goal.returns-in-Ok-Some-clause-tells
@@ -62,3 +65,19 @@ returns-in-Err-clause-tells g c = λ honest works before holds.
 
 pub returns-in-Err-clause-leaves : goal.returns-in-Err-clause-leaves
 returns-in-Err-clause-leaves g c = leaves_failed g.C.PageCache.pages _ _ _ _ _ _ _ c.in-Err.fault c.in-Err.ensures.leaves
+
+pub returns-in-Ok-Some-clause-small : goal.returns-in-Ok-Some-clause-small
+returns-in-Ok-Some-clause-small g c =
+    let id = c.args.id.now in
+    let contents = store_contents c.args.store.now in
+    small_told c.delete_held-done.result _ _ c.find_held.ensures.honest _ _ contents (store_contents c.find_held.new.store)
+    (store_contents c.delete_held-done.new.store)
+    (same_contents c.args.store.now c.find_held.new.store c.in-Ok-Some.ensures.leaves.reads.same.same) c.args.ids.now id c.in-Ok-Some.found
+    (λ honest. told_found c.args.ids.now id id contents refl c.in-Ok-Some.field-0 c.in-Ok-Some.found c.in-Ok-Some.field-0-is
+    (c.in-Ok-Some.ensures.number honest))
+    c.delete_held-done.ensures.small
+
+pub returns-in-Ok-Some-clause-learns : goal.returns-in-Ok-Some-clause-learns
+returns-in-Ok-Some-clause-learns g c =
+    learns_deleted _ c.args.id.now (store_contents c.args.store.now) c.args.ids.now c.find_held.new.ids c.delete_held-done.new.ids
+    c.find_held.ensures.learns c.delete_held-done.result c.delete_held-done.ensures.learns

@@ -3,9 +3,12 @@ use Rattle.std.proofs.Common.{Ok, sym, subst, ◌∙◌}
 use Rattle.std.specs.Prelude.{IsTrue}
 use Rattle.ax_container.specs.Writes.{exchanged, replaced}
 use Rattle.ax_write.proofs.FoundNumbers.{exchange_is, found_is, no_exchange, none_is, own_document, own_id}
+use Rattle.ax_index.proofs.Unmoved.{same_contents}
 use Rattle.ax_store.specs.Store.{store_contents}
-use Rattle.ax_write.proofs.Meeting.{meets_absent, meets_held}
+use Rattle.ax_write.proofs.Learning.{learns_at}
+use Rattle.ax_write.proofs.Meeting.{meets_absent, meets_held, told_found}
 use Rattle.ax_write.proofs.Passing.{kept_by_look, leaves_absent, leaves_failed, leaves_then, tells_failed, tells_then}
+use Rattle.ax_write.proofs.Smallness.{small_told}
 use Rattle.ax_write.proofs.writes.replace.Goals as goal
 
 pub returns-in-Ok-Some-clause-tells : goal.returns-in-Ok-Some-clause-tells
@@ -72,3 +75,33 @@ returns-in-Err-clause-tells g c = λ honest works before id holds document.
 
 pub returns-in-Err-clause-leaves : goal.returns-in-Err-clause-leaves
 returns-in-Err-clause-leaves g c = leaves_failed g.C.PageCache.pages _ _ _ _ _ _ _ c.in-Err.fault c.in-Err.ensures.leaves
+
+pub returns-in-Ok-Some-clause-small : goal.returns-in-Ok-Some-clause-small
+returns-in-Ok-Some-clause-small g c = λ id document.
+    let own = c.as_bytes-id.result.now in
+    let same = own_id c.args.tree.now c.in-Some.id.now own id c.in-Some.ensures (c.as_bytes-id.ensures.value ∙ c.as_str.ensures.text) document in
+    let contents = store_contents c.args.store.now in
+    small_told c.replace_held-done.result _ _ c.find_held.ensures.honest _ _ contents (store_contents c.find_held.new.store)
+    (store_contents c.replace_held-done.new.store)
+    (same_contents c.args.store.now c.find_held.new.store c.in-Ok-Some.ensures.leaves.reads.same.same) c.args.ids.now id c.in-Ok-Some.found
+    (λ honest. told_found c.args.ids.now own id contents same c.in-Ok-Some.field-0 c.in-Ok-Some.found c.in-Ok-Some.field-0-is
+    (c.in-Ok-Some.ensures.number honest))
+    c.replace_held-done.ensures.small
+
+pub returns-in-Ok-Some-clause-learns : goal.returns-in-Ok-Some-clause-learns
+returns-in-Ok-Some-clause-learns g c = λ id document.
+    let own = c.as_bytes-id.result.now in
+    let same = own_id c.args.tree.now c.in-Some.id.now own id c.in-Some.ensures (c.as_bytes-id.ensures.value ∙ c.as_str.ensures.text) document in
+    learns_at own id same _ (store_contents c.args.store.now) c.args.ids.now c.find_held.new.ids c.find_held.ensures.learns
+
+pub returns-in-Ok-None-clause-learns : goal.returns-in-Ok-None-clause-learns
+returns-in-Ok-None-clause-learns g c = λ id document.
+    let own = c.as_bytes-id.result.now in
+    let same = own_id c.args.tree.now c.in-Some.id.now own id c.in-Some.ensures (c.as_bytes-id.ensures.value ∙ c.as_str.ensures.text) document in
+    learns_at own id same _ (store_contents c.args.store.now) c.args.ids.now c.find_held.new.ids c.find_held.ensures.learns
+
+pub returns-in-Err-clause-learns : goal.returns-in-Err-clause-learns
+returns-in-Err-clause-learns g c = λ id document.
+    let own = c.as_bytes-id.result.now in
+    let same = own_id c.args.tree.now c.in-Some.id.now own id c.in-Some.ensures (c.as_bytes-id.ensures.value ∙ c.as_str.ensures.text) document in
+    learns_at own id same _ (store_contents c.args.store.now) c.args.ids.now c.find_held.new.ids c.find_held.ensures.learns

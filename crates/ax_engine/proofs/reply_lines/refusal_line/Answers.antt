@@ -1,8 +1,8 @@
 -- Each text has the digits of its number.
 use Rattle.std.proofs.Common.{◌∷◌, [], arith}
 use Rattle.ax_lines.specs.declared.refusal.Refusal.TheVariants as refusal
-use Rattle.ax_script.proofs.Refusals.{digit, eleven, fifteen, ten, text_is}
-use Rattle.ax_script.proofs.reply_lines.refusal_line.Goals as goal
+use Rattle.ax_engine.proofs.Refusals.{digit, eleven, fifteen, ten, text_is}
+use Rattle.ax_engine.proofs.reply_lines.refusal_line.Goals as goal
 
 pub returns-in-Line : goal.returns-in-Line
 returns-in-Line c = text_is c.args.refusal refusal.Line (49 ∷ []) c.in-Line.is (digit 1 (omega arith))

@@ -1,0 +1,5 @@
+pub mod ByPaths
+pub mod Ordered
+pub mod Taken
+pub mod Terms
+pub mod Usable

@@ -1,0 +1,26 @@
+-- That a document has a term in each union of a plan: only such a document can have rows in its query.
+use Rattle.std.specs.Prelude.{◌≡◌, ℕ, List, true, Option, Some}
+use Rattle.std.specs.List.{Contains}
+use Rattle.ax_tree.specs.declared.tree.Tree.{Tree}
+use Rattle.ax_term.specs.declared.range.TermRange.{TermRange}
+use Rattle.ax_policy.specs.Table.{Table}
+use Rattle.ax_policy.specs.declared.policy.Policy.{Policy}
+use Rattle.ax_terms.specs.TermsOf.{HasTerm}
+use Rattle.ax_atoms.specs.Atoms.{Atom}
+use Rattle.ax_atoms.specs.Spans.{is_in_some, ranges_of}
+use Rattle.ax_plan.specs.Usable.{IsUsable}
+
+-- under the policy the document has a term in the union of ranges
+abbrev pub HasTermInUnion : Policy → Tree → List TermRange → Type 0
+HasTermInUnion policy given ranges =
+    (bytes : List ℕ) × HasTerm policy given bytes × (is_in_some ranges bytes ≡ true)
+
+-- and so in each of these unions
+abbrev pub HasTermInEach : Policy → Tree → List (List TermRange) → Type 0
+HasTermInEach policy given unions =
+    (ranges : List TermRange) → Contains unions ranges → HasTermInUnion policy given ranges
+
+-- the union has the ranges of one of these conditions, which is usable
+abbrev pub IsOfUsable : Table → List (Option Atom) → List TermRange → Type 0
+IsOfUsable table atoms ranges =
+    (atom : Atom) × Contains atoms (Some atom) × IsUsable table atom × (ranges ≡ ranges_of atom)
