@@ -7,7 +7,7 @@ pub mod Listed
 pub mod Whole
 pub mod Searching
 pub mod Taking
-pub mod Stepping
+pub mod Placing
 pub mod Ascending
 pub mod Grouping
 pub mod Steps

@@ -9,7 +9,7 @@ use Rattle.ax_delta.specs.declared.change.Change.{Change}
 use Rattle.ax_delta.specs.declared.changes_left.ChangesLeft.{ChangesLeft}
 use Rattle.ax_delta.specs.Changes.{TermChange, change_at, add_among, changes_with, changes_of}
 use Rattle.ax_delta.specs.ChangeList.{Begins, IsChangeList, Spells}
-use Rattle.ax_delta.specs.Pass.{adds_first, added_first, first_cmp, put_where}
+use Rattle.ax_delta.specs.Pass.{first_cmp}
 use Rattle.ax_delta.specs.Payload.{list_after, AreGood}
 use Rattle.ax_delta.specs.Reading.{changes_in}
 use Rattle.ax_delta.specs.View.{changes_left, IsReady, first_number}
@@ -110,16 +110,9 @@ not_end c add n e h =
 pub took : (c : ChangesLeft) (add : Bool) (n : ℕ) → first_is add n ≡ first_number c.added c.dropped → behind_first c add ≡ drop 1 (changes_left c)
 took c add n e = sym (ap (drop 1) (next_is c add n e))
 
-pub adds_it : (c : ChangesLeft) (add : Bool) (n : ℕ) → first_is add n ≡ first_number c.added c.dropped → add ≡ adds_first (changes_left c)
-adds_it c add n e = sym (ap adds_first (next_is c add n e))
-
 pub cmp_it : (c : ChangesLeft) (add : Bool) (n : ℕ) (p : Pair) (o : Ordering) → first_is add n ≡ first_number c.added c.dropped
     → o ≡ pair_cmp (the_pair c.term.items n) p → Some o ≡ first_cmp (changes_left c) p
 cmp_it c add n p o e f = ap (λ (r : Ordering). Some r) f ∙ sym (ap (λ cs. first_cmp cs p) (next_is c add n e))
-
-pub put_it : (c : ChangesLeft) (add : Bool) (n : ℕ) → first_is add n ≡ first_number c.added c.dropped
-    → added_first (changes_left c) ≡ put_where add (the_pair c.term.items n) []
-put_it c add n e = ap added_first (next_is c add n e)
 
 -- ---- the next term
 

@@ -2,14 +2,13 @@
 
 ghost use Rattle.std.specs.Prelude.{◌≡◌, ◌↔◌, [], ◌++◌, IsTrue, OnOk, IfOk, drop};
 ghost use Rattle.ax_delta.specs.ChangeList.{Spells};
-ghost use Rattle.ax_delta.specs.Pass.{adds_first, added_first, first_cmp};
+ghost use Rattle.ax_delta.specs.Pass.{first_cmp};
 ghost use Rattle.ax_delta.specs.View.{IsReady, changes_left, first_number};
 
 use crate::change::cmp_pair;
 use crate::numbers_left::NumbersLeft;
 use crate::out_of_memory::Memory;
 use crate::short_change::{ShortChange, split_change};
-use ax_pair_list::PairList;
 use std::cmp::Ordering;
 
 /// The changes of a delta that are not yet taken, in order: those of the term that was reached, and
@@ -63,61 +62,30 @@ impl<'a> ChangesLeft<'a> {
         Some(cmp_pair(self.term.as_slice(), first, term, number))
     }
 
-    /// Takes the first change: is it one that adds?
-    pub(crate) fn take(&mut self) -> Result<bool, Memory>
+    /// Takes the first change.
+    pub(crate) fn take(&mut self) -> Result<(), Memory>
         requires { IsReady self.old }
         ensures ready { OnOk result (IsReady self.new) }
         ensures rest { OnOk result (changes_left self.new ≡ drop 1 (changes_left self.old)) }
-        ensures add { IfOk result (λ add. add ≡ adds_first (changes_left self.old)) }
     {
-        let add = self.take_number();
-        self.reach()?;
-        Ok(add)
+        self.take_number();
+        self.reach()
     }
 
-    /// Takes the first change, and puts its pair at the end where it is one that adds.
-    pub(crate) fn put_first(&mut self, out: &mut PairList) -> Result<(), Memory>
-        requires { IsReady self.old }
-        ensures ready { OnOk result (IsReady self.new) }
-        ensures rest { OnOk result (changes_left self.new ≡ drop 1 (changes_left self.old)) }
-        ensures put { OnOk result (out.new ≡ out.old ++ added_first (changes_left self.old)) }
-    {
-        self.put_added(out)?;
-        self.take()?;
-        Ok(())
-    }
-
-    /// Puts the pair of the first change at the end where it is one that adds.
-    fn put_added(&self, out: &mut PairList) -> Result<(), Memory>
-        requires { IsReady self.now }
-        ensures { OnOk result (out.new ≡ out.old ++ added_first (changes_left self.now)) }
-    {
-        let Some((add, number)) = self.first() else {
-            return Ok(());
-        };
-        if !add {
-            return Ok(());
-        }
-        out.push(self.term.as_slice(), number)?;
-        Ok(())
-    }
-
-    /// Takes the first number of the term that was reached: is it one that is added?
-    fn take_number(&mut self) -> bool
+    /// Takes the first number of the term that was reached.
+    fn take_number(&mut self)
         requires { IsReady self.old }
         ensures spells { Spells self.new.term.items self.new.count self.new.rest.now }
         ensures rest { changes_left self.new ≡ drop 1 (changes_left self.old) }
-        ensures add { result ≡ adds_first (changes_left self.old) }
     {
         let Some((add, _)) = self.first() else {
-            return false;
+            return;
         };
         if add {
             self.added.pass();
         } else {
             self.dropped.pass();
         }
-        add
     }
 
     /// Goes to the next term, where no number of the one that was reached is left.

@@ -65,7 +65,7 @@ pub(crate) fn folded<D: Disk, C: PageCache>(
         Err(fault) => return Err(fault),
     };
     for i in first..parts {
-        pairs = match merge_at(alloc, store, disk, slot, page, i, &pairs) {
+        pairs = match merge_at(alloc, store, disk, slot, page, i, pairs) {
             Ok(after) => after,
             Err(fault) => return Err(fault),
         };
@@ -161,17 +161,17 @@ fn merge_at<D: Disk, C: PageCache>(
     slot: &mut StoreSlot,
     page: u32,
     i: usize,
-    pairs: &PairList,
+    pairs: PairList,
 ) -> Result<PairList, StoreFault>
     requires part { i < length (term_parts (term_page page (store_contents store.old).terms)) }
     requires delta { is_base_at (term_page page (store_contents store.old).terms) i ≡ false }
     requires slot { IsSlotOf store.old slot.old }
     requires agrees { AgreesUnlessFailed C.pages (D.is_honest disk.old) store.old
         (D.history disk.old (D.attached disk.old)) }
-    requires rise { Rise pairs.now }
+    requires rise { Rise pairs }
     ensures rise { IfOk result (λ after. Rise after) }
     ensures merged { IsTrue (D.is_honest disk.old) → (changes : List TermChange) → IsDelta (term_part page i (store_contents store.old).terms) changes
-        → IfOk result (λ after. IsMerge pairs.now changes after) }
+        → IfOk result (λ after. IsMerge pairs changes after) }
     ensures met { IsTrue (D.is_honest disk.old) → OnOk result ((changes : List TermChange) × IsDelta (term_part page i (store_contents store.old).terms) changes) }
     ensures told { IsTrue (D.is_honest disk.old) → IfErr result (TellsPart store.old) }
     ensures reads { Reads C.pages (D.is_honest disk.old) store.old store.new
@@ -200,11 +200,11 @@ fn merge_at<D: Disk, C: PageCache>(
 fn merge_payload(
     alloc: Global,
     payload: &[u8],
-    pairs: &PairList,
+    pairs: PairList,
 ) -> Result<Option<PairList>, ax_delta::Memory>
-    requires { Rise pairs.now }
+    requires { Rise pairs }
     ensures merged { (changes : List TermChange) → IsDelta payload.now changes
-        → IfOk result (λ found. MatchOption found ⊥ (λ after. IsMerge pairs.now changes after)) }
+        → IfOk result (λ found. MatchOption found ⊥ (λ after. IsMerge pairs changes after)) }
     ensures met { IfOk result (λ found. IfSome found (λ after. (changes : List TermChange) × IsDelta payload.now changes)) }
     ensures rise { IfOk result (λ found. MatchOption found
         ((changes : List TermChange) × IsDelta payload.now changes → ⊥)

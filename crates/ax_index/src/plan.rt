@@ -402,6 +402,6 @@ fn changed(alloc: Global, pairs: PairList, changes: &[Change]) -> Result<PairLis
     let Some(delta) = ax_delta::check(payload.as_slice()) else {
         unreachable!()
     };
-    let after = ax_delta::merge(alloc, &pairs, &delta)?;
+    let after = ax_delta::merge(alloc, pairs, &delta)?;
     Ok(after)
 }

@@ -14,7 +14,7 @@ same_between start end terms more h k =
     ap (take (end - start)) (drop-append-le start terms more (omega (arith, h, k)))
     ∙ take-append-le (end - start) (drop start terms) more (omega (arith, h, k, length-drop start terms))
 
-same_pairs : (terms more : List ℕ) (entries : List Entry) → All (IsWithin (length terms)) entries
+pub same_pairs : (terms more : List ℕ) (entries : List Entry) → All (IsWithin (length terms)) entries
     → pairs_of (terms ++ more) entries ≡ pairs_of terms entries
 same_pairs terms more [] all = refl
 same_pairs terms more (e ∷ entries) all =
@@ -22,7 +22,7 @@ same_pairs terms more (e ∷ entries) all =
     rw (same_between e.start e.end terms more within.0 within.1, same_pairs terms more entries (All-tail (IsWithin (length terms)) e entries all)) refl
 
 -- what was put at the end stands there
-put_between : (terms term : List ℕ) → bytes_between (length terms) (length (terms ++ term)) (terms ++ term) ≡ term
+pub put_between : (terms term : List ℕ) → bytes_between (length terms) (length (terms ++ term)) (terms ++ term) ≡ term
 put_between terms term =
     ap (take (length (terms ++ term) - length terms)) (drop_at terms term (length terms) refl)
     ∙ ap (λ (n : ℕ). take n term) (omega (arith, length-append terms term)) ∙ take_all (length term) term (omega arith)

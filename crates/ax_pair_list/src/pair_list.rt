@@ -1,6 +1,7 @@
 //! The list of pairs and its entries.
 
-ghost use Rattle.std.specs.Prelude.{◌≡◌, ◌<◌, [], ◌∷◌, ◌++◌, length, All, IfOk, IfSome, OnOk, OnErr, Some, slice_get};
+ghost use Rattle.std.specs.Prelude.{◌≡◌, ◌<◌, ◌≤◌, [], ◌∷◌, ◌++◌, length, vec_len, vec_capacity, All, IfOk, IfSome, OnOk, OnErr, Some, slice_get};
+ghost use Rattle.std.specs.List.{insert, remove};
 ghost use Rattle.ax_pair_list.specs.View.{IsWithin, bytes_between};
 
 use crate::out_of_memory::Memory;
@@ -48,16 +49,6 @@ impl PairList {
         }
     }
 
-    /// No pairs, with room for as many as another list has, and as many bytes of terms. `Memory` where
-    /// there is none.
-    pub fn with_room_of(alloc: Global, other: &PairList) -> Result<PairList, Memory>
-        ensures { IfOk result (λ list. list ≡ []) }
-    {
-        let terms = Vec::with_capacity(alloc, other.terms.len())?;
-        let entries = Vec::with_capacity(alloc, other.entries.len())?;
-        Ok(PairList { terms, entries })
-    }
-
     /// How many pairs there are.
     pub fn len(&self) -> usize
         ensures { result ≡ length self.now }
@@ -96,6 +87,27 @@ impl PairList {
         Ok(())
     }
 
+    /// Puts a pair before the one at a place, or at the end. After `Memory` the list is as before.
+    #[tactic(auto, using(crate::proofs::Changing::pairs_inserted))]
+    pub fn insert(&mut self, at: usize, term: &[u8], number: u32) -> Result<(), Memory>
+        requires { at ≤ length self.old }
+        ensures ok { OnOk result (self.new ≡ insert self.old at (record { term = term.now; number = number })) }
+        ensures err { OnErr result (self.new ≡ self.old) }
+    {
+        self.entries.reserve(1)?;
+        let (start, end) = put_term(&mut self.terms, term)?;
+        insert_reserved(&mut self.entries, at, Entry { start, end, number });
+        Ok(())
+    }
+
+    /// Takes the pair at a place out. Its term's bytes stay until the list goes.
+    pub fn remove(&mut self, at: usize)
+        requires { at < length self.old }
+        ensures { self.new ≡ remove self.old at }
+    {
+        take_out(&mut self.entries, at);
+    }
+
     /// The pairs, each with a term of its own. `Memory` where there is none for them.
     #[tactic(auto, using(crate::proofs::Reading::take_one))]
     pub fn to_pairs(&self, alloc: Global) -> Result<Vec<Pair>, Memory>
@@ -109,6 +121,36 @@ impl PairList {
         }
         Ok(pairs)
     }
+}
+
+/// Puts a term's bytes at the end, and answers where they stand. After `Memory` the bytes are as before.
+fn put_term(terms: &mut Vec<u8>, term: &[u8]) -> Result<(usize, usize), Memory>
+    ensures put { OnOk result (terms.new.items ≡ terms.old.items ++ term.now) }
+    ensures start { IfOk result (λ place. place.0 ≡ length terms.old.items) }
+    ensures end { IfOk result (λ place. place.1 ≡ length terms.new.items) }
+    ensures err { OnErr result (terms.new.items ≡ terms.old.items) }
+{
+    let start = terms.len();
+    terms.extend_from_slice(term)?;
+    Ok((start, terms.len()))
+}
+
+/// Puts an entry at a place, in the room that there is.
+fn insert_reserved(entries: &mut Vec<Entry>, at: usize, entry: Entry)
+    requires place { at ≤ vec_len entries.old }
+    requires room { vec_len entries.old < vec_capacity entries.old }
+    ensures { entries.new.items ≡ insert entries.old.items at entry }
+{
+    let put = entries.insert(at, entry);
+    prove!(put.is_ok());
+}
+
+/// Takes the entry at a place out.
+fn take_out(entries: &mut Vec<Entry>, at: usize)
+    requires { at < length entries.old.items }
+    ensures { entries.new.items ≡ remove entries.old.items at }
+{
+    entries.remove(at);
 }
 
 /// Where the term of the last entry stands, where it is this term.

@@ -108,7 +108,7 @@ fn a_page_is_merged(rt: HostRuntime) -> Result<(), Fail> {
         number: 0,
     };
     assert!(rt; is_in_order(&low, pairs.to_pairs(rt.alloc())?.as_slice()));
-    let after = merge(rt.alloc(), &pairs, &delta)?;
+    let after = merge(rt.alloc(), pairs, &delta)?;
     let rows: [(&[u8], u32); 6] = [
         (b"ab", 5),
         (b"abc", 2),
@@ -130,7 +130,7 @@ fn a_page_is_merged(rt: HostRuntime) -> Result<(), Fail> {
 #[test]
 fn a_worked_delta_is_read(rt: HostRuntime) -> Result<(), Fail> {
     let delta = check(&[1, 0, 2, 1, 0x61, 1, 1, 0]).ok_or("no delta")?;
-    let after = merge(rt.alloc(), &PairList::new(rt.alloc()), &delta)?;
+    let after = merge(rt.alloc(), PairList::new(rt.alloc()), &delta)?;
     assert_eq!(rt; after.len(), 1);
     let (term, number) = after.pair(0);
     let expected: &[u8] = &[1, 0x61];
