@@ -1,18 +1,20 @@
 -- What lines were answered, whatever the store holds: one, those of a piece, and all that a run took.
 use Rattle.std.proofs.Common.{◌≡◌, ◌==◌, ◌⊎◌, ◌+◌, ◌<◌, true, false, true≢false, inl, inr, ℕ, Bool, List, [], ◌∷◌, ◌++◌, length}
-use Rattle.std.proofs.Common.{Option, Result, Ok, Err, OnOk, refl, sym, ap, subst, ◌∙◌, append_assoc, append-nil, length-append, arith}
-use Rattle.std.specs.Prelude.{IfOk}
+use Rattle.std.proofs.Common.{Option, Result, Ok, Err, OnOk, OnErr, refl, sym, ap, subst, ◌∙◌, append_assoc, append-nil, length-append, arith}
+use Rattle.std.specs.Prelude.{◌≢◌, IfErr, IfOk}
 use Rattle.std.specs.Io.KnownBytes.{Consumes, IsAtEnd, Keeps}
 use Rattle.std.proofs.KnownBytes.{Appends-nil, Appends-trans, Consumes-kept, Consumes-nil, Consumes-trans}
 use Rattle.ax_disk.specs.model.Moments.{History}
-use Rattle.ax_engine.specs.Replies.{MayReply}
+use Rattle.ax_engine.specs.Reading.{IsWritten, Writes, text_of_reply}
+use Rattle.ax_engine.specs.Replies.{FitsRead, MayReply}
 use Rattle.ax_engine.specs.declared.engine.Fault.{Fault}
+use Rattle.ax_engine.specs.declared.engine.Fault.TheVariants as fault
 use Rattle.ax_engine.specs.declared.reply.Reply.{Reply}
 use Rattle.ax_engine.specs.declared.reply.Reply.TheVariants as given
-use Rattle.ax_lines.proofs.Splits.{AreLines-more, AreLines-none, AreLines-one, IsOneLine-append}
+use Rattle.ax_lines.proofs.Splits.{AreLines-more, AreLines-none, AreLines-one, IsOneLine-append, there_are_lines}
 use Rattle.ax_lines.specs.Answers.{Answers}
 use Rattle.ax_lines.specs.Lines.{is_judged_at_once, line_of}
-use Rattle.ax_lines.specs.ScriptLines.{IsOneLine, last_line, with_newline}
+use Rattle.ax_lines.specs.ScriptLines.{AreLines, IsOneLine, last_line, with_newline}
 use Rattle.ax_lines.specs.declared.line.Line.{Line}
 use Rattle.ax_lines.specs.declared.line.Line.TheVariants as line
 use Rattle.ax_lines.specs.declared.line.LineFault.{LineFault}
@@ -21,8 +23,9 @@ use Rattle.ax_lines.specs.declared.refusal.Refusal.{Refusal}
 use Rattle.ax_lines.specs.declared.refusal.Refusal.TheVariants as refusal
 use Rattle.ax_policy.specs.declared.policy.Policy.{Policy}
 use Rattle.ax_script.specs.Answered.{AnswersAll, AnswersLast, AnswersLine, AnswersLines, AnswersTaken, TellsAnswered}
-use Rattle.ax_script.specs.Progress.{EndsEarly, StopsBy}
-use Rattle.ax_script.specs.Replies.{AreTextsUnder, IsTextUnder, MayAnswer, MayAnswerTo, WritesWhole, unread_refusal}
+use Rattle.ax_script.specs.Answered.{BreaksFirst, BreaksLine, BreaksLines, BreaksRun}
+use Rattle.ax_script.specs.Progress.{EndsEarly, IsLineFault, StopsBy}
+use Rattle.ax_script.specs.Replies.{AreTextsUnder, IsTextUnder, MayAnswer, MayAnswerTo, WritesPart, WritesWhole, fault_status, read_status, unread_refusal}
 use Rattle.ax_script.specs.Script.{most_input}
 use Rattle.ax_script.specs.Streams.{Streams}
 use Rattle.ax_script.specs.declared.status.Status.{Status}
@@ -82,6 +85,66 @@ pub line_answered : (policy : Policy) (bytes : List ℕ) (result : Result (Unit 
 line_answered policy bytes result (Ok made) old new may whole =
     OnOk-map result (λ added. (added.0, (made, may, added.1), added.2)) whole
 line_answered policy bytes result (Err why) old new may whole = OnOk-map result (λ none. absurd none) whole
+
+-- one that is not answered has nothing written, or a first piece of its reply
+pub line_broken : (policy : Policy) (bytes : List ℕ) (result : Result (Unit {0}) Status) (answered : Result Reply Fault)
+    (old new : Option (List ℕ)) → IfOk answered (λ reply. MayAnswer policy bytes reply)
+    → OnErr result (WritesPart answered old new) → IfErr result IsLineFault
+    → (result ≡ Err status.DiskFault → answered ≡ Err fault.Disk)
+    → ((extent at : ℕ) → result ≡ Err (status.Damaged extent at) → answered ≡ Err (fault.Damaged extent at))
+    → ((why : Fault) → answered ≡ Err why → result ≡ Err (fault_status why)) → answered ≢ Err fault.Sink
+    → IfErr result (λ ended. BreaksLine ended policy bytes old new)
+line_broken policy bytes (Ok done) answered old new may part only disk damage told no_sink = tt
+line_broken policy bytes (Err status.WriteFault) (Ok made) old new may part only disk damage told no_sink =
+    (part.0, (made, may, part.1), part.2)
+line_broken policy bytes (Err status.WriteFault) (Err fault.Disk) old new may part only disk damage told no_sink =
+    absurd (let is : Err status.WriteFault ≡ Err status.DiskFault = told fault.Disk refl in cc)
+line_broken policy bytes (Err status.WriteFault) (Err (fault.Damaged extent at)) old new may part only disk damage told no_sink =
+    absurd (let is : Err status.WriteFault ≡ Err (status.Damaged extent at) = told (fault.Damaged extent at) refl in cc)
+line_broken policy bytes (Err status.WriteFault) (Err fault.Sink) old new may part only disk damage told no_sink =
+    absurd (no_sink refl)
+line_broken policy bytes (Err status.DiskFault) answered old new may part only disk damage told no_sink =
+    sym (subst (λ (a : Result Reply Fault). WritesPart a old new) (disk refl) part)
+line_broken policy bytes (Err (status.Damaged extent at)) answered old new may part only disk damage told no_sink =
+    sym (subst (λ (a : Result Reply Fault). WritesPart a old new) (damage extent at refl) part)
+line_broken policy bytes (Err status.Done) answered old new may part only disk damage told no_sink = absurd only
+line_broken policy bytes (Err status.Words) answered old new may part only disk damage told no_sink = absurd only
+line_broken policy bytes (Err status.ReadFault) answered old new may part only disk damage told no_sink = absurd only
+line_broken policy bytes (Err (status.Newer version)) answered old new may part only disk damage told no_sink = absurd only
+line_broken policy bytes (Err status.Memory) answered old new may part only disk damage told no_sink = absurd only
+line_broken policy bytes (Err status.Long) answered old new may part only disk damage told no_sink = absurd only
+
+-- the same of a READ line, whose reply the engine has written
+read_piece : (policy : Policy) (bytes id : List ℕ) (told : Result (Unit {0}) Fault) (answer : Result Reply Fault)
+    (old new : Option (List ℕ)) → line_of bytes ≡ Ok (line.Read id) → IfOk answer FitsRead → IsWritten answer told old new
+    → IfErr (read_status told) (λ ended. BreaksLine ended policy bytes old new)
+read_piece policy bytes id (Ok done) answer old new is fits written = tt
+read_piece policy bytes id (Err fault.Sink) (Ok made) old new is fits written =
+    (text_of_reply made, (made, read_may policy bytes (line.Read id) (Ok made) is fits, inl refl), written)
+read_piece policy bytes id (Err fault.Disk) (Ok made) old new is fits written = absurd written
+read_piece policy bytes id (Err (fault.Damaged extent at)) (Ok made) old new is fits written = absurd written
+read_piece policy bytes id (Err fault.Sink) (Err why) old new is fits written =
+    absurd (written.1 (let same : Err fault.Sink ≡ Err why = written.0 in cc))
+read_piece policy bytes id (Err fault.Disk) (Err why) old new is fits written = written.2
+read_piece policy bytes id (Err (fault.Damaged extent at)) (Err why) old new is fits written = written.2
+
+pub read_broken : (policy : Policy) (bytes id : List ℕ) (result : Result (Unit {0}) Status) (told : Result (Unit {0}) Fault)
+    (old new : Option (List ℕ)) → result ≡ read_status told → line_of bytes ≡ Ok (line.Read id)
+    → Writes (λ answer. IfOk answer FitsRead) told old new → IfErr result (λ ended. BreaksLine ended policy bytes old new)
+read_broken policy bytes id result told old new same is writes =
+    subst (λ (r : Result (Unit {0}) Status). IfErr r (λ ended. BreaksLine ended policy bytes old new)) (sym same)
+    (read_piece policy bytes id told writes.0 old new is writes.1 writes.2)
+
+-- nothing was written where memory ran out, or too much was taken
+none_by_memory : (policy : Policy) (left : List (List ℕ)) (written : Option (List ℕ))
+    → BreaksFirst status.Memory policy left written written
+none_by_memory policy [] written = ((λ is. cc), refl)
+none_by_memory policy (line ∷ left) written = refl
+
+none_by_length : (policy : Policy) (left : List (List ℕ)) (written : Option (List ℕ))
+    → BreaksFirst status.Long policy left written written
+none_by_length policy [] written = ((λ is. cc), refl)
+none_by_length policy (line ∷ left) written = refl
 
 module _ (policy : Policy) where
   -- ---- texts of lines
@@ -163,6 +226,52 @@ module _ (policy : Policy) where
           (answers_one pending head new later p.answers.split.no_newline plain answered));
     }
 
+    -- its serving broke off
+    pub answered_breaks : (head tail : List ℕ) (later : Option (List ℕ)) (ended : Status) → rest ≡ with_newline head ++ tail
+        → IsOneLine head → BreaksLine ended policy (pending ++ head) new later
+        → BreaksLines ended policy (first ++ piece) old later
+    answered_breaks head tail later ended split plain broken =
+        let others = there_are_lines tail in
+        record {
+          lines = p.answers.lines ++ (pending ++ head) ∷ others.0;
+          last = others.1;
+          served = p.answers.lines;
+          left = (pending ++ head) ∷ others.0;
+          text = p.answers.text;
+          between = new;
+          split = subst (λ bytes. AreLines bytes (p.answers.lines ++ (pending ++ head) ∷ others.0) others.1)
+              (append_assoc first p.done (with_newline head ++ tail) ∙ ap (λ l. first ++ l) (ap (λ l. p.done ++ l) (sym split) ∙ sym p.whole))
+              (AreLines-more (first ++ p.done) (with_newline head ++ tail) p.answers.lines ((pending ++ head) ∷ others.0) pending others.1
+              p.answers.split
+              (subst (λ bytes. AreLines bytes ((pending ++ head) ∷ others.0) others.1) (append_assoc pending (with_newline head) tail)
+              (AreLines-more (pending ++ with_newline head) tail ((pending ++ head) ∷ []) others.0 [] others.1
+              (AreLines-one pending head p.answers.split.no_newline plain) others.2)));
+          parted = refl;
+          answered = p.answers.answered;
+          appended = p.answers.appended;
+          broken = broken;
+        }
+
+    -- the rest could not be kept
+    pub answered_stops : BreaksLines status.Memory policy (first ++ piece) old new
+    answered_stops =
+        let others = there_are_lines (pending ++ rest) in
+        record {
+          lines = p.answers.lines ++ others.0;
+          last = others.1;
+          served = p.answers.lines;
+          left = others.0;
+          text = p.answers.text;
+          between = new;
+          split = subst (λ bytes. AreLines bytes (p.answers.lines ++ others.0) others.1)
+              (append_assoc first p.done rest ∙ ap (λ l. first ++ l) (sym p.whole))
+              (AreLines-more (first ++ p.done) rest p.answers.lines others.0 pending others.1 p.answers.split others.2);
+          parted = refl;
+          answered = p.answers.answered;
+          appended = p.answers.appended;
+          broken = none_by_memory policy others.0 new;
+        }
+
     -- no newline is left
     pub answered_ends : IsOneLine rest → AnswersLines policy (first ++ piece) (pending ++ rest) old new
     answered_ends plain =
@@ -178,6 +287,11 @@ module _ (policy : Policy) where
   last_answered [] old new some answered = absurd (true≢false (sym some))
   last_answered (byte ∷ bytes) old new some answered =
       (answered.0, one_text (byte ∷ bytes) answered.0 answered.1, answered.2)
+
+  pub last_broken : (last : List ℕ) (old new : Option (List ℕ)) (ended : Status) → false ≡ (length last == 0)
+      → BreaksLine ended policy last old new → BreaksFirst ended policy (last_line last) old new
+  last_broken [] old new ended some broken = absurd (true≢false (sym some))
+  last_broken (byte ∷ bytes) old new ended some broken = broken
 
   pub no_last : (last : List ℕ) (written : Option (List ℕ)) → last ≡ [] → AnswersLast policy last written written
   no_last last written none =
@@ -240,15 +354,68 @@ module _ (policy : Policy) where
       },
     )
 
+    -- the serving of a piece broke off
+    broken_in_piece : (remaining written : Option (List ℕ)) (steps : ℕ) (piece : List ℕ) (ended : Status)
+        → Consumes new.remaining remaining piece → BreaksLines ended policy (pending ++ piece) new.written written
+        → BreaksRun ended policy old (streams remaining written steps)
+    broken_in_piece remaining written steps piece ended consumed more = record {
+      taken = p.0.taken ++ piece;
+      lines = p.0.lines ++ more.lines;
+      last = more.last;
+      served = p.0.lines ++ more.served;
+      left = more.left;
+      text = p.0.text ++ more.text;
+      between = more.between;
+      consumed = Consumes-trans old.remaining new.remaining remaining p.0.taken piece p.0.moves.consumed consumed;
+      split = AreLines-more p.0.taken piece p.0.lines more.lines pending more.last p.0.split more.split;
+      parted = inl (append_assoc p.0.lines more.served more.left ∙ ap (λ (l : List (List ℕ)). p.0.lines ++ l) more.parted);
+      answered = texts_append p.0.lines more.served p.0.text more.text p.0.answered more.answered;
+      appended = Appends-trans old.written new.written more.between p.0.text more.text p.0.moves.appended more.appended;
+      broken = more.broken;
+    }
+
+    pub stopped_answered : (honest : Bool) (history : History) (remaining written : Option (List ℕ)) (steps : ℕ)
+        (piece : List ℕ) (ended : Status) → Consumes new.remaining remaining piece
+        → BreaksLines ended policy (pending ++ piece) new.written written → StopsBy honest ended history
+        → TellsAnswered policy ended old (streams remaining written steps)
+    stopped_answered honest history remaining written steps piece status.DiskFault consumed more stops =
+        broken_in_piece remaining written steps piece status.DiskFault consumed more
+    stopped_answered honest history remaining written steps piece status.WriteFault consumed more stops =
+        broken_in_piece remaining written steps piece status.WriteFault consumed more
+    stopped_answered honest history remaining written steps piece (status.Damaged extent at) consumed more stops =
+        broken_in_piece remaining written steps piece (status.Damaged extent at) consumed more
+    stopped_answered honest history remaining written steps piece status.Memory consumed more stops =
+        broken_in_piece remaining written steps piece status.Memory consumed more
+    stopped_answered honest history remaining written steps piece status.Done consumed more stops = absurd stops
+    stopped_answered honest history remaining written steps piece status.ReadFault consumed more stops = absurd stops
+    stopped_answered honest history remaining written steps piece status.Long consumed more stops = absurd stops
+    stopped_answered honest history remaining written steps piece status.Words consumed more stops = absurd stops
+    stopped_answered honest history remaining written steps piece (status.Newer version) consumed more stops = absurd stops
+
     -- more was taken than one run takes
     pub taken_long : (remaining : Option (List ℕ)) (piece : List ℕ) (n : ℕ) → Consumes new.remaining remaining piece
         → length piece ≡ n → most_input < count + n
         → TellsAnswered policy status.Long old (streams remaining new.written new.steps)
-    taken_long remaining piece n consumed size more = (
-      p.0.taken ++ piece,
-      Consumes-trans old.remaining new.remaining remaining p.0.taken piece p.0.moves.consumed consumed,
-      omega (arith, length-append p.0.taken piece, p.1, size, more),
-    )
+    taken_long remaining piece n consumed size more =
+        let others = there_are_lines (pending ++ piece) in
+        let enough : most_input < length (p.0.taken ++ piece) = omega (arith, length-append p.0.taken piece, p.1, size, more) in (
+          record {
+            taken = p.0.taken ++ piece;
+            lines = p.0.lines ++ others.0;
+            last = others.1;
+            served = p.0.lines;
+            left = others.0;
+            text = p.0.text;
+            between = new.written;
+            consumed = Consumes-trans old.remaining new.remaining remaining p.0.taken piece p.0.moves.consumed consumed;
+            split = AreLines-more p.0.taken piece p.0.lines others.0 pending others.1 p.0.split others.2;
+            parted = inl refl;
+            answered = p.0.answered;
+            appended = p.0.moves.appended;
+            broken = none_by_length policy others.0 new.written;
+          },
+          enough,
+        )
 
     answered_all : (remaining written : Option (List ℕ)) (steps : ℕ) → Consumes new.remaining remaining []
         → IsAtEnd remaining → AnswersLast policy pending new.written written
@@ -268,46 +435,93 @@ module _ (policy : Policy) where
       at_end = at_end;
     }
 
+    -- the serving of the last piece broke off
+    broken_at_end : (remaining written : Option (List ℕ)) (steps : ℕ) (ended : Status) → Consumes new.remaining remaining []
+        → IsAtEnd remaining → BreaksFirst ended policy (last_line pending) new.written written
+        → BreaksRun ended policy old (streams remaining written steps)
+    broken_at_end remaining written steps ended consumed at_end broken = record {
+      taken = p.0.taken;
+      lines = p.0.lines;
+      last = pending;
+      served = p.0.lines;
+      left = last_line pending;
+      text = p.0.text;
+      between = new.written;
+      consumed = subst (Consumes old.remaining remaining) (append-nil p.0.taken)
+          (Consumes-trans old.remaining new.remaining remaining p.0.taken [] p.0.moves.consumed consumed);
+      split = p.0.split;
+      parted = inr (at_end, refl);
+      answered = p.0.answered;
+      appended = p.0.moves.appended;
+      broken = broken;
+    }
+
     -- the source has ended, and the last piece was served, or its serving broke off
     pub answered_at_end : (honest : Bool) (history : History) (remaining written : Option (List ℕ)) (steps : ℕ)
         (ended : Status) → Consumes new.remaining remaining [] → IsAtEnd remaining
         → (ended ≡ status.Done → AnswersLast policy pending new.written written)
+        → (ended ≡ status.Done) ⊎ BreaksFirst ended policy (last_line pending) new.written written
         → (ended ≡ status.Done) ⊎ StopsBy honest ended history
         → TellsAnswered policy ended old (streams remaining written steps)
-    answered_at_end honest history remaining written steps status.Done consumed at_end last only =
+    answered_at_end honest history remaining written steps status.Done consumed at_end last broken only =
         answered_all remaining written steps consumed at_end (last refl)
-    answered_at_end honest history remaining written steps status.ReadFault consumed at_end last (inl is) = absurd cc
-    answered_at_end honest history remaining written steps status.ReadFault consumed at_end last (inr stops) = absurd stops
-    answered_at_end honest history remaining written steps status.Long consumed at_end last (inl is) = absurd cc
-    answered_at_end honest history remaining written steps status.Long consumed at_end last (inr stops) = absurd stops
-    answered_at_end honest history remaining written steps status.Words consumed at_end last only = tt
-    answered_at_end honest history remaining written steps status.DiskFault consumed at_end last only = tt
-    answered_at_end honest history remaining written steps status.WriteFault consumed at_end last only = tt
-    answered_at_end honest history remaining written steps (status.Damaged extent at) consumed at_end last only = tt
-    answered_at_end honest history remaining written steps (status.Newer version) consumed at_end last only = tt
-    answered_at_end honest history remaining written steps status.Memory consumed at_end last only = tt
+    answered_at_end honest history remaining written steps status.ReadFault consumed at_end last broken (inl is) = absurd cc
+    answered_at_end honest history remaining written steps status.ReadFault consumed at_end last broken (inr stops) = absurd stops
+    answered_at_end honest history remaining written steps status.Long consumed at_end last broken (inl is) = absurd cc
+    answered_at_end honest history remaining written steps status.Long consumed at_end last broken (inr stops) = absurd stops
+    answered_at_end honest history remaining written steps status.Words consumed at_end last broken (inl is) = absurd cc
+    answered_at_end honest history remaining written steps status.Words consumed at_end last broken (inr stops) = absurd stops
+    answered_at_end honest history remaining written steps (status.Newer version) consumed at_end last broken (inl is) = absurd cc
+    answered_at_end honest history remaining written steps (status.Newer version) consumed at_end last broken (inr stops) =
+        absurd stops
+    answered_at_end honest history remaining written steps status.DiskFault consumed at_end last (inl is) only = absurd cc
+    answered_at_end honest history remaining written steps status.DiskFault consumed at_end last (inr broken) only =
+        broken_at_end remaining written steps status.DiskFault consumed at_end broken
+    answered_at_end honest history remaining written steps status.WriteFault consumed at_end last (inl is) only = absurd cc
+    answered_at_end honest history remaining written steps status.WriteFault consumed at_end last (inr broken) only =
+        broken_at_end remaining written steps status.WriteFault consumed at_end broken
+    answered_at_end honest history remaining written steps (status.Damaged extent at) consumed at_end last (inl is) only = absurd cc
+    answered_at_end honest history remaining written steps (status.Damaged extent at) consumed at_end last (inr broken) only =
+        broken_at_end remaining written steps (status.Damaged extent at) consumed at_end broken
+    answered_at_end honest history remaining written steps status.Memory consumed at_end last (inl is) only = absurd cc
+    answered_at_end honest history remaining written steps status.Memory consumed at_end last (inr broken) only =
+        broken_at_end remaining written steps status.Memory consumed at_end broken
 
-  -- the serving of a piece broke off
-  pub stopped_answered : (honest : Bool) (history : History) (ended : Status) (old new : Streams)
-      → StopsBy honest ended history → TellsAnswered policy ended old new
-  stopped_answered honest history status.Done old new stops = absurd stops
-  stopped_answered honest history status.ReadFault old new stops = absurd stops
-  stopped_answered honest history status.Long old new stops = absurd stops
-  stopped_answered honest history status.Words old new stops = tt
-  stopped_answered honest history status.DiskFault old new stops = tt
-  stopped_answered honest history status.WriteFault old new stops = tt
-  stopped_answered honest history (status.Damaged extent at) old new stops = tt
-  stopped_answered honest history (status.Newer version) old new stops = tt
-  stopped_answered honest history status.Memory old new stops = tt
+  -- nothing was taken yet
+  nothing_broken : (remaining written : Option (List ℕ)) (before steps : ℕ) (ended : Status)
+      → ended ≢ status.WriteFault → BreaksRun ended policy (streams remaining written before) (streams remaining written steps)
+  nothing_broken remaining written before steps ended other = record {
+    taken = [];
+    lines = [];
+    last = [];
+    served = [];
+    left = [];
+    text = [];
+    between = written;
+    consumed = Consumes-nil remaining;
+    split = AreLines-none [] refl;
+    parted = inl refl;
+    answered = refl;
+    appended = Appends-nil written;
+    broken = (other, refl);
+  }
+
+  -- no memory was left for what serving takes
+  pub memory_answered : (remaining written : Option (List ℕ)) (before steps : ℕ)
+      → TellsAnswered policy status.Memory (streams remaining written before) (streams remaining written steps)
+  memory_answered remaining written before steps = nothing_broken remaining written before steps status.Memory (λ is. cc)
 
   -- the store was not opened
-  pub early_answered : (ended : Status) (old new : Streams) → EndsEarly ended → TellsAnswered policy ended old new
-  early_answered status.Done old new early = absurd early
-  early_answered status.ReadFault old new early = absurd early
-  early_answered status.Long old new early = absurd early
-  early_answered status.Words old new early = tt
-  early_answered status.DiskFault old new early = tt
-  early_answered status.WriteFault old new early = tt
-  early_answered (status.Damaged extent at) old new early = tt
-  early_answered (status.Newer version) old new early = tt
-  early_answered status.Memory old new early = tt
+  pub early_answered : (ended : Status) (remaining written : Option (List ℕ)) (before steps : ℕ) → EndsEarly ended
+      → TellsAnswered policy ended (streams remaining written before) (streams remaining written steps)
+  early_answered status.Done remaining written before steps early = absurd early
+  early_answered status.ReadFault remaining written before steps early = absurd early
+  early_answered status.Long remaining written before steps early = absurd early
+  early_answered status.WriteFault remaining written before steps early = absurd early
+  early_answered status.Words remaining written before steps early = absurd early
+  early_answered status.DiskFault remaining written before steps early =
+      nothing_broken remaining written before steps status.DiskFault (λ is. cc)
+  early_answered (status.Damaged extent at) remaining written before steps early =
+      nothing_broken remaining written before steps (status.Damaged extent at) (λ is. cc)
+  early_answered (status.Newer version) remaining written before steps early = (refl, refl)
+  early_answered status.Memory remaining written before steps early = memory_answered remaining written before steps

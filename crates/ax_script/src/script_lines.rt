@@ -5,11 +5,12 @@ ghost use Rattle.ax_container.specs.Container.{Container};
 ghost use Rattle.ax_engine.specs.Engine.{HoldsOver, Works};
 ghost use Rattle.ax_engine.specs.PolicyNow.{policy_now};
 ghost use Rattle.ax_engine.specs.declared.engine.Fault.{Fault};
-ghost use Rattle.ax_script.specs.Progress.{outlets, Serves, BeginsToServe, ServesLines, BeginsLines, ServesLast, BeginsLast, Ends, BreaksOffWith, EndsServing, IsOfServing, StopsBy};
-ghost use Rattle.ax_script.specs.Answered.{AnswersLast, AnswersLine, AnswersLines, TellsAnswered};
+ghost use Rattle.ax_script.specs.Progress.{outlets, Serves, BeginsToServe, ServesLines, BeginsLines, ServesLast, BeginsLast};
+ghost use Rattle.ax_script.specs.Progress.{Ends, BreaksOffWith, EndsServing, IsOfServing, StopsBy};
+ghost use Rattle.ax_script.specs.Answered.{AnswersLast, AnswersLine, AnswersLines, BreaksFirst, BreaksLine, BreaksLines, TellsAnswered};
 ghost use Rattle.ax_script.specs.Replies.{fault_status};
 ghost use Rattle.ax_script.specs.Statuses.{CallCountsDisk, CountsDisk};
-ghost use Rattle.ax_lines.specs.ScriptLines.{IsOneLine};
+ghost use Rattle.ax_lines.specs.ScriptLines.{IsOneLine, last_line};
 
 use crate::serving::serve_line;
 use crate::status::Status;
@@ -55,7 +56,8 @@ pub fn serve_source<D: Disk, C: PageCache, S: Source, K: Sink, L: Ledger>(
     ensures attached { D.attached disk.new ≡ D.attached disk.old }
     ensures honest { D.is_honest disk.new ≡ D.is_honest disk.old }
     ensures steps { steps.old ≤ steps.new }
-    ensures sound { IsTrue (D.is_honest disk.old) → (before : Container) → HoldsOver engine.old (D.history disk.old (D.attached disk.old)) before → IsOfServing result }
+    ensures sound { IsTrue (D.is_honest disk.old) → (before : Container) → HoldsOver engine.old (D.history disk.old (D.attached disk.old)) before
+        → IsOfServing result }
     ensures of_serving { EndsServing (D.is_honest disk.old) result (D.history disk.new (D.attached disk.new)) }
     ensures answered { TellsAnswered (policy_now engine.old.documents.table) result
         (record { remaining = S.rest source.old; written = K.written sink.old; steps = steps.old })
@@ -119,8 +121,11 @@ fn serve_piece<D: Disk, C: PageCache, K: Sink, L: Ledger>(
     ensures line { OnOk result (IsOneLine pending.new.items) }
     ensures answered { OnOk result (AnswersLines (policy_now engine.old.documents.table) (pending.old.items ++ piece.now) pending.new.items
         (K.written sink.old) (K.written sink.new)) }
+    ensures broken { IfErr result (λ status. BreaksLines status (policy_now engine.old.documents.table) (pending.old.items ++ piece.now)
+        (K.written sink.old) (K.written sink.new)) }
     ensures policy { policy_now engine.new.documents.table ≡ policy_now engine.old.documents.table }
-    ensures sound { IsTrue (D.is_honest disk.old) → (before : Container) → HoldsOver engine.old (D.history disk.old (D.attached disk.old)) before → IfErr result BreaksOffWith }
+    ensures sound { IsTrue (D.is_honest disk.old) → (before : Container) → HoldsOver engine.old (D.history disk.old (D.attached disk.old)) before
+        → IfErr result BreaksOffWith }
     ensures only { IfErr result (λ status. StopsBy (D.is_honest disk.old) status
         (D.history disk.new (D.attached disk.new))) }
     ensures disk_counted { CallCountsDisk result (D.faults disk.old) (D.faults disk.new) }
@@ -172,6 +177,8 @@ fn serve_head<D: Disk, C: PageCache, K: Sink, L: Ledger>(
     ensures empty { OnOk result (pending.new.items ≡ []) }
     ensures answered { OnOk result (AnswersLine (policy_now engine.old.documents.table) (pending.old.items ++ head.now)
         (K.written sink.old) (K.written sink.new)) }
+    ensures broken { IfErr result (λ status. BreaksLine status (policy_now engine.old.documents.table) (pending.old.items ++ head.now)
+        (K.written sink.old) (K.written sink.new)) }
     ensures policy { policy_now engine.new.documents.table ≡ policy_now engine.old.documents.table }
     ensures err { IsTrue (D.is_honest disk.old) → (before : Container) → HoldsOver engine.old (D.history disk.old (D.attached disk.old)) before
         → OnErr result (BeginsToServe (IsTrue (D.is_honest disk.old)) before (pending.old.items ++ head.now)
@@ -180,7 +187,8 @@ fn serve_head<D: Disk, C: PageCache, K: Sink, L: Ledger>(
     ensures works { OnOk result (Works C.pages (D.is_honest disk.old) engine.new (D.history disk.new (D.attached disk.new))) }
     ensures unfaulted { OnOk result (engine.new.fault ≡ None) }
     ensures kept { (fault : Fault) → engine.new.fault ≡ Some fault → result ≡ Err (fault_status fault) }
-    ensures sound { IsTrue (D.is_honest disk.old) → (before : Container) → HoldsOver engine.old (D.history disk.old (D.attached disk.old)) before → IfErr result BreaksOffWith }
+    ensures sound { IsTrue (D.is_honest disk.old) → (before : Container) → HoldsOver engine.old (D.history disk.old (D.attached disk.old)) before
+        → IfErr result BreaksOffWith }
     ensures only { IfErr result (λ status. StopsBy (D.is_honest disk.old) status
         (D.history disk.new (D.attached disk.new))) }
     ensures disk_counted { CallCountsDisk result (D.faults disk.old) (D.faults disk.new) }
@@ -230,6 +238,8 @@ fn serve_last<D: Disk, C: PageCache, K: Sink, L: Ledger>(
         (D.history disk.new (D.attached disk.new)) }
     ensures answered { result ≡ Status.Done
         → AnswersLast (policy_now engine.old.documents.table) pending.now (K.written sink.old) (K.written sink.new) }
+    ensures broken { (result ≡ Status.Done)
+        ⊎ BreaksFirst result (policy_now engine.old.documents.table) (last_line pending.now) (K.written sink.old) (K.written sink.new) }
     ensures kept { (fault : Fault) → engine.new.fault ≡ Some fault → result ≡ fault_status fault }
     ensures disk_counted { CountsDisk result (D.faults disk.old) (D.faults disk.new) }
     ensures sink_cause { result ≡ Status.WriteFault → Rose (K.faults sink.old) (K.faults sink.new) }

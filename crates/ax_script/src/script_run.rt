@@ -76,7 +76,9 @@ pub fn run<D: Disk, S: Source, K: Sink, L: Ledger>(
         (D.history disk.old (D.store_named (store_word words.now)))
         (D.history disk.new (D.store_named (store_word words.now))) }
 
-    // Over any store: at `Done` each line has a reply that it may have, all under one policy, and `Long` has its cause.
+    // Over any store: at `Done` each line has a reply that it may have, all under one policy. A run that breaks off has
+    // answered the first of the lines so, and of the next has written nothing, or where the sink failed a first piece of
+    // such a reply; `Long` has its cause.
     ensures answered { (policy : Policy) × TellsAnswered policy result
         (record { remaining = S.rest source.old; written = K.written sink.old; steps = steps.old })
         (record { remaining = S.rest source.new; written = K.written sink.new; steps = steps.new }) }
@@ -204,7 +206,8 @@ fn serve_opened<D: Disk, S: Source, K: Sink, L: Ledger>(
     ensures attached { D.attached disk.new ≡ D.attached disk.old }
     ensures honest { D.is_honest disk.new ≡ D.is_honest disk.old }
     ensures steps { steps.old ≤ steps.new }
-    ensures sound { IsTrue (D.is_honest disk.old) → (before : Container) → HoldsOver engine (D.history disk.old (D.attached disk.old)) before → IsOfServing result }
+    ensures sound { IsTrue (D.is_honest disk.old) → (before : Container) → HoldsOver engine (D.history disk.old (D.attached disk.old)) before
+        → IsOfServing result }
     ensures of_serving { EndsServing (D.is_honest disk.old) result (D.history disk.new (D.attached disk.new)) }
     ensures answered { TellsAnswered (policy_now engine.documents.table) result
         (record { remaining = S.rest source.old; written = K.written sink.old; steps = steps.old })
@@ -245,7 +248,8 @@ fn serve_cached<D: Disk, C: PageCache, S: Source, K: Sink, L: Ledger>(
     ensures attached { D.attached disk.new ≡ D.attached disk.old }
     ensures honest { D.is_honest disk.new ≡ D.is_honest disk.old }
     ensures steps { steps.old ≤ steps.new }
-    ensures sound { IsTrue (D.is_honest disk.old) → (before : Container) → HoldsOver engine.old (D.history disk.old (D.attached disk.old)) before → IsOfServing result }
+    ensures sound { IsTrue (D.is_honest disk.old) → (before : Container) → HoldsOver engine.old (D.history disk.old (D.attached disk.old)) before
+        → IsOfServing result }
     ensures of_serving { EndsServing (D.is_honest disk.old) result (D.history disk.new (D.attached disk.new)) }
     ensures answered { TellsAnswered (policy_now engine.old.documents.table) result
         (record { remaining = S.rest source.old; written = K.written sink.old; steps = steps.old })

@@ -12,7 +12,7 @@ ghost use Rattle.ax_lines.specs.declared.refusal.Refusal.{Refusal as RefusalOf};
 ghost use Rattle.ax_machine.specs.Needs.{most_steps};
 ghost use Rattle.ax_machine.specs.ReplyTexts.{doc_text};
 ghost use Rattle.ax_engine.specs.Damage.{Meets};
-ghost use Rattle.ax_script.specs.Answered.{AnswersLine};
+ghost use Rattle.ax_script.specs.Answered.{AnswersLine, BreaksLine};
 ghost use Rattle.ax_script.specs.Progress.{outlets, Serves, BeginsToServe, BreaksOffWith, IsLineFault, StopsBy};
 ghost use Rattle.ax_script.specs.Statuses.{CallCountsDisk};
 ghost use Rattle.ax_script.specs.Replies.{IsTextOf, MayAnswer, TellsLine, WritesPart, WritesWhole, fault_status, read_status, text_or_memory, unread_refusal};
@@ -31,13 +31,13 @@ use std::sync::ledger::Ledger;
 /// Serves one line, which comes without its newline: makes its change, durable where the disk is
 /// honest, or reads what it asks for, and then writes its reply. Out of memory is a reply of its own, which
 /// needs none, also where it comes while the text of rows is made; nothing of that text was
-/// written then. A document is written as the engine reads it, with no copy. The errors are `DiskFault`, `WriteFault` and
-/// `Damaged`: the sink was given some prefix of the reply. A disk fault comes where a call on the disk failed in this call, or in an earlier one of this engine,
-/// and a line served by an engine without a fault counts a fault of the disk nowhere else. A write fault comes
-/// only where one on the sink failed in this call. Over an honest disk damage comes only
-/// where the text of a document is none that a document can have, or a part of the index is outside its grammar, with the
-/// place of its part, and so never over documents that are those of a container with their index. A fault that the engine
-/// has afterwards is the error.
+/// written then. A document is written as the engine reads it, with no copy. The errors are `DiskFault` and `Damaged`, at
+/// which nothing was written, and `WriteFault`: the sink was given some prefix of the reply. A disk fault comes where a
+/// call on the disk failed in this call, or in an earlier one of this engine, and a line served by an engine without a
+/// fault counts a fault of the disk nowhere else. A write fault comes only where one on the sink failed in this call.
+/// Over an honest disk damage comes only where the text of a document is none that a document can have, or a part of the
+/// index is outside its grammar, with the place of its part, and so never over documents that are those of a container
+/// with their index. A fault that the engine has afterwards is the error.
 /// What is written at `Ok` is a reply that the line may have, whatever the documents are; a line that is judged at
 /// once (it is too long, none of the forms, or a `READ` or `DELETE` with a bad id) is told its refusal, whatever memory there is.
 pub fn serve_line<D: Disk, C: PageCache, K: Sink, L: Ledger>(
@@ -54,12 +54,14 @@ pub fn serve_line<D: Disk, C: PageCache, K: Sink, L: Ledger>(
         × Serves (IsTrue (D.is_honest disk.old)) before line.now now
         (outlets (K.written sink.old) (D.history disk.old (D.attached disk.old)) steps.old)
         (outlets (K.written sink.new) (D.history disk.new (D.attached disk.new)) steps.new)) }
-    ensures prefix { IsTrue (D.is_honest disk.old) → (before : Container) → HoldsOver engine.old (D.history disk.old (D.attached disk.old)) before → OnErr result
+    ensures prefix { IsTrue (D.is_honest disk.old) → (before : Container) → HoldsOver engine.old (D.history disk.old (D.attached disk.old)) before
+        → OnErr result
         (BeginsToServe (IsTrue (D.is_honest disk.old)) before line.now
         (outlets (K.written sink.old) (D.history disk.old (D.attached disk.old)) steps.old)
         (outlets (K.written sink.new) (D.history disk.new (D.attached disk.new)) steps.new)) }
     ensures works { Works C.pages (D.is_honest disk.old) engine.new (D.history disk.new (D.attached disk.new)) }
-    ensures sound { IsTrue (D.is_honest disk.old) → (before : Container) → HoldsOver engine.old (D.history disk.old (D.attached disk.old)) before → IfErr result BreaksOffWith }
+    ensures sound { IsTrue (D.is_honest disk.old) → (before : Container) → HoldsOver engine.old (D.history disk.old (D.attached disk.old)) before
+        → IfErr result BreaksOffWith }
     ensures only { IfErr result IsLineFault }
     ensures stops { engine.old.fault ≡ None → IfErr result (λ status. StopsBy (D.is_honest disk.old) status
         (D.history disk.new (D.attached disk.new))) }
@@ -77,6 +79,10 @@ pub fn serve_line<D: Disk, C: PageCache, K: Sink, L: Ledger>(
     ensures answered { OnOk result (AnswersLine (policy_now engine.old.documents.table) line.now
         (K.written sink.old) (K.written sink.new)) }
     ensures policy { policy_now engine.new.documents.table ≡ policy_now engine.old.documents.table }
+
+    // And a line that is not answered has nothing written, unless the sink failed: then a first piece of such a reply.
+    ensures broken { IfErr result (λ status. BreaksLine status (policy_now engine.old.documents.table) line.now
+        (K.written sink.old) (K.written sink.new)) }
 
     // A fault that the engine has answered is answered again, and then nothing is touched.
     ensures again { (fault : Fault) → engine.old.fault ≡ Some fault → (result ≡ Err (fault_status fault))

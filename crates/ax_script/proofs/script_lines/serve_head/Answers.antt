@@ -1,10 +1,11 @@
 -- The line is what is pending and the head.
 use Rattle.std.proofs.Common.{◌≡◌, List, ℕ, [], ◌++◌, OnOk, IsTrue, sym, subst, ◌∙◌, arith}
+use Rattle.std.specs.Prelude.{IfErr}
 use Rattle.ax_container.specs.Container.{Container}
 use Rattle.ax_machine.specs.Run.{Served}
 use Rattle.ax_engine.specs.Engine.{HoldsOver}
 use Rattle.ax_engine.specs.PolicyNow.{policy_now}
-use Rattle.ax_script.specs.Answered.{AnswersLine}
+use Rattle.ax_script.specs.Answered.{AnswersLine, BreaksLine}
 use Rattle.ax_script.specs.Progress.{Serves, outlets}
 use Rattle.ax_engine.proofs.Applying.{still_over}
 use Rattle.ax_script.proofs.Written.{begins_without, empty_list}
@@ -13,7 +14,8 @@ use Rattle.ax_script.proofs.script_lines.serve_head.Goals as goal
 pub returns-then-is_empty-clause-ok : goal.returns-then-is_empty-clause-ok
 returns-then-is_empty-clause-ok g c = λ honest before holds.
     let P : List ℕ → Type 0 = λ pending. OnOk c.serve_line.result ((now : Container)
-    × HoldsOver c.serve_line.new.engine (g.D.Disk.history c.serve_line.new.disk (g.D.Disk.attached c.serve_line.new.disk)) now × Serves (IsTrue (g.D.Disk.is_honest c.args.disk.now)) before
+    × HoldsOver c.serve_line.new.engine (g.D.Disk.history c.serve_line.new.disk (g.D.Disk.attached c.serve_line.new.disk)) now
+    × Serves (IsTrue (g.D.Disk.is_honest c.args.disk.now)) before
     (pending ++ c.args.head.now) now
     (outlets (g.K.Sink.written c.args.sink.now) (g.D.Disk.history c.args.disk.now
     (g.D.Disk.attached c.args.disk.now)) c.args.steps.now)
@@ -32,7 +34,8 @@ returns-in_default-clause-err g c = λ honest before holds.
 pub returns-clause-ok : goal.returns-clause-ok
 returns-clause-ok g c = λ honest before holds.
     let P : List ℕ → Type 0 = λ line. (now : Container)
-    × HoldsOver c.serve_line-served.new.engine (g.D.Disk.history c.serve_line-served.new.disk (g.D.Disk.attached c.serve_line-served.new.disk)) now × Serves (IsTrue (g.D.Disk.is_honest c.args.disk.now)) before
+    × HoldsOver c.serve_line-served.new.engine (g.D.Disk.history c.serve_line-served.new.disk (g.D.Disk.attached c.serve_line-served.new.disk)) now
+    × Serves (IsTrue (g.D.Disk.is_honest c.args.disk.now)) before
     line now
     (outlets (g.K.Sink.written c.args.sink.now) (g.D.Disk.history c.args.disk.now
     (g.D.Disk.attached c.args.disk.now)) c.args.steps.now)
@@ -54,3 +57,17 @@ returns-clause-answered g c =
     let P : List ℕ → Type 0 = λ line. AnswersLine (policy_now c.args.engine.now.documents.table) line
     (g.K.Sink.written c.args.sink.now) (g.K.Sink.written c.serve_line-served.new.sink) in
     subst P (c.as_slice.ensures.value ∙ c.in-Ok.ensures.items) c.in_default-served.ensures.answered
+
+pub returns-then-is_empty-clause-broken : goal.returns-then-is_empty-clause-broken
+returns-then-is_empty-clause-broken g c =
+    let P : List ℕ → Type 0 = λ pending. IfErr c.serve_line.result (λ ended. BreaksLine ended (policy_now c.args.engine.now.documents.table)
+    (pending ++ c.args.head.now) (g.K.Sink.written c.args.sink.now) (g.K.Sink.written c.serve_line.new.sink)) in
+    let none : c.args.pending.now.items ≡ [] =
+    empty_list c.args.pending.now.items c.args.pending.now.len (omega (arith, c.args.pending.now.ok)) (sym c.if-is_empty.true ∙ c.is_empty.ensures) in
+    subst P (sym none) c.serve_line.ensures.broken
+
+pub returns-in-Err-clause-broken : goal.returns-in-Err-clause-broken
+returns-in-Err-clause-broken g c =
+    let P : List ℕ → Type 0 = λ line. BreaksLine c.in-Err.status (policy_now c.args.engine.now.documents.table) line
+    (g.K.Sink.written c.args.sink.now) (g.K.Sink.written c.serve_line-served.new.sink) in
+    subst P (c.as_slice.ensures.value ∙ c.in-Ok.ensures.items) c.in-Err.ensures.broken

@@ -2,7 +2,7 @@
 use Rattle.std.proofs.Common.{◌≡◌, List, [], ℕ, length, inr, refl, IsTrue, ◌∙◌, sym, subst}
 use Rattle.ax_engine.specs.PolicyNow.{policy_now}
 use Rattle.ax_script.specs.Progress.{ServesLast, outlets}
-use Rattle.ax_script.proofs.AnsweredLines.{last_answered, no_last}
+use Rattle.ax_script.proofs.AnsweredLines.{last_answered, last_broken, no_last}
 use Rattle.ax_script.proofs.ServedLines.{serves_last, serves_no_last, begins_last}
 use Rattle.ax_engine.proofs.Applying.{rests_over}
 use Rattle.ax_script.proofs.Written.{empty_list}
@@ -37,3 +37,7 @@ returns-then-is_empty-clause-answered g c = λ _.
 
 pub returns-in-Err-clause-sound : goal.returns-in-Err-clause-sound
 returns-in-Err-clause-sound g c = λ honest before holds. inr (c.in-Err.ensures.sound honest before holds)
+
+pub returns-in-Err-clause-broken : goal.returns-in-Err-clause-broken
+returns-in-Err-clause-broken g c =
+    inr (last_broken (policy_now c.args.engine.now.documents.table) c.args.pending.now _ _ c.in-Err.status c.if-is_empty.ensures c.in-Err.ensures.broken)

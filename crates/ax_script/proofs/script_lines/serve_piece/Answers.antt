@@ -5,9 +5,9 @@ use Rattle.ax_lines.specs.ScriptLines.{IsOneLine}
 use Rattle.ax_lines.proofs.Splits.{IsOneLine-append}
 use Rattle.ax_engine.specs.Engine.{HoldsOver, Works}
 use Rattle.ax_engine.specs.PolicyNow.{policy_now}
-use Rattle.ax_script.specs.Answered.{AnswersLine, AnswersLines}
+use Rattle.ax_script.specs.Answered.{AnswersLine, AnswersLines, BreaksLine}
 use Rattle.ax_script.specs.Progress.{outlets, Serves, BeginsToServe, ServesLines, StopsBy}
-use Rattle.ax_script.proofs.AnsweredLines.{AnsweredIn, answered_begins, answered_ends, answered_goes_on}
+use Rattle.ax_script.proofs.AnsweredLines.{AnsweredIn, answered_begins, answered_breaks, answered_ends, answered_goes_on, answered_stops}
 use Rattle.ax_script.proofs.ServedLines.{InPiece, piece_begins, piece_goes_on, piece_fails}
 use Rattle.ax_script.proofs.ServedLines.{piece_ends, piece_breaks_off}
 use Rattle.ax_engine.proofs.Applying.{rests_over}
@@ -37,7 +37,8 @@ pub lines-preserved : goal.lines-preserved
 lines-preserved g c = record {
   part = λ honest before holds.
       let p = c.lines.invariant.part honest before holds in
-      let S : Bool → Type 0 = λ h. (now : Container) × HoldsOver c.serve_head.new.engine (g.D.Disk.history c.serve_head.new.disk (g.D.Disk.attached c.serve_head.new.disk)) now
+      let S : Bool → Type 0 = λ h. (now : Container)
+      × HoldsOver c.serve_head.new.engine (g.D.Disk.history c.serve_head.new.disk (g.D.Disk.attached c.serve_head.new.disk)) now
       × Serves (IsTrue h) p.0 (c.lines.pending.items ++ c.in-Some.head.now) now
       (outlets (g.K.Sink.written c.lines.sink) (g.D.Disk.history c.lines.disk
       (g.D.Disk.attached c.lines.disk)) c.lines.steps)
@@ -136,3 +137,14 @@ returns-in-Ok-clause-answered g c =
     (g.K.Sink.written c.args.sink.now) (g.K.Sink.written c.lines.sink) in
     subst P (sym c.in-Ok.ensures.items)
     (answered_ends (policy_now c.args.engine.now.documents.table) _ _ _ _ _ _ c.lines.invariant.answered c.in_default.ensures.none)
+
+pub returns-in-Err-clause-broken : goal.returns-in-Err-clause-broken
+returns-in-Err-clause-broken g c =
+    answered_breaks (policy_now c.args.engine.now.documents.table) _ _ _ _ _ _ c.lines.invariant.answered c.in-Some.head.now c.in-Some.tail.now _
+    c.in-Err.status c.in-Some.ensures.split c.in-Some.ensures.line
+    (subst (λ policy. BreaksLine c.in-Err.status policy (c.lines.pending.items ++ c.in-Some.head.now)
+    (g.K.Sink.written c.lines.sink) (g.K.Sink.written c.serve_head.new.sink)) c.lines.invariant.policy c.in-Err.ensures.broken)
+
+pub returns-in-Err-put_behind-clause-broken : goal.returns-in-Err-put_behind-clause-broken
+returns-in-Err-put_behind-clause-broken g c =
+    answered_stops (policy_now c.args.engine.now.documents.table) _ _ _ _ _ _ c.lines.invariant.answered

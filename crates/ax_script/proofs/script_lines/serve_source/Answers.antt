@@ -1,12 +1,13 @@
 -- Each way to end, from how far the run has come.
-use Rattle.std.proofs.Common.{ℕ, List, [], Bool, ◌++◌, ◌∙◌, IsTrue, take, inr, refl, sym, subst, arith}
+use Rattle.std.proofs.Common.{◌≡◌, ◌⊎◌, ℕ, List, [], Bool, ◌++◌, ◌∙◌, IsTrue, take, inr, refl, sym, subst, arith}
 use Rattle.std.specs.Io.KnownBytes.{Consumes}
 use Rattle.ax_container.specs.Container.{Container}
-use Rattle.ax_lines.specs.ScriptLines.{IsOneLine}
+use Rattle.ax_lines.specs.ScriptLines.{IsOneLine, last_line}
 use Rattle.ax_engine.specs.Engine.{HoldsOver, Works}
 use Rattle.ax_engine.specs.PolicyNow.{policy_now}
-use Rattle.ax_script.specs.Answered.{AnswersLast, AnswersLines}
+use Rattle.ax_script.specs.Answered.{AnswersLast, AnswersLines, BreaksFirst, BreaksLines}
 use Rattle.ax_script.specs.Progress.{outlets, ServesLines, BeginsLines, ServesLast, BeginsLast, Progress}
+use Rattle.ax_script.specs.declared.status.Status.TheVariants as status
 use Rattle.ax_script.proofs.AnsweredLines.{AnswersSoMany, answered_at_end, answered_to_a_fault, answers_begin}
 use Rattle.ax_script.proofs.AnsweredLines.{answers_go_on, stopped_answered, taken_long}
 use Rattle.ax_script.proofs.Endings.{streams, progress_begins, progress_goes_on, ends_by_read_fault}
@@ -74,9 +75,11 @@ returns-then-count-eq0-clause-script g c = λ honest before holds.
     (omega (arith, c.requires.some, c.pieces.auto.buffer, c.read_some.auto.buf)))
     c.pieces.invariant.within
     (λ is. subst (Whole (g.D.Disk.is_honest c.args.disk.now)) c.as_slice.ensures.value
-    (subst (λ b. Whole b c.as_slice.result.now) c.pieces.invariant.honest (c.serve_last.ensures.done (subst IsTrue (sym c.pieces.invariant.honest) honest) p.0 p.1 is)))
+    (subst (λ b. Whole b c.as_slice.result.now) c.pieces.invariant.honest
+    (c.serve_last.ensures.done (subst IsTrue (sym c.pieces.invariant.honest) honest) p.0 p.1 is)))
     (λ is. subst (Prefix (g.D.Disk.is_honest c.args.disk.now)) c.as_slice.ensures.value
-    (subst (λ b. Prefix b c.as_slice.result.now) c.pieces.invariant.honest (c.serve_last.ensures.prefix (subst IsTrue (sym c.pieces.invariant.honest) honest) p.0 p.1 is)))
+    (subst (λ b. Prefix b c.as_slice.result.now) c.pieces.invariant.honest
+    (c.serve_last.ensures.prefix (subst IsTrue (sym c.pieces.invariant.honest) honest) p.0 p.1 is)))
     (c.serve_last.ensures.sound (subst IsTrue (sym c.pieces.invariant.honest) honest) p.0 p.1)
 
 pub
@@ -110,7 +113,8 @@ pub pieces-preserved : goal.pieces-preserved
 pieces-preserved g c = record {
   progress = λ honest before holds.
       let p = c.pieces.invariant.progress honest before holds in
-      let S : Bool → Type 0 = λ h. (now : Container) × HoldsOver c.serve_piece-served.new.engine (g.D.Disk.history c.serve_piece-served.new.disk (g.D.Disk.attached c.serve_piece-served.new.disk)) now
+      let S : Bool → Type 0 = λ h. (now : Container)
+      × HoldsOver c.serve_piece-served.new.engine (g.D.Disk.history c.serve_piece-served.new.disk (g.D.Disk.attached c.serve_piece-served.new.disk)) now
       × ServesLines (IsTrue h) p.0
       (c.pieces.pending.items ++ take c.in-Ok.count c.read_some.new.buf) now c.serve_piece-served.new.pending.items
       (outlets (g.K.Sink.written c.pieces.sink)
@@ -180,6 +184,9 @@ returns-then-count-eq0-clause-answered g c =
     (g.S.Source.rest c.read_some.new.self) (take n c.read_some.new.buf) in
     let Last : List ℕ → Type 0 = λ last. AnswersLast (policy_now c.args.engine.now.documents.table) last
     (g.K.Sink.written c.pieces.sink) (g.K.Sink.written c.serve_last.new.sink) in
+    let Broken : List ℕ → Type 0 = λ last. (c.serve_last.result ≡ status.Done)
+    ⊎ BreaksFirst c.serve_last.result (policy_now c.args.engine.now.documents.table) (last_line last)
+    (g.K.Sink.written c.pieces.sink) (g.K.Sink.written c.serve_last.new.sink) in
     answered_at_end (policy_now c.args.engine.now.documents.table) _ _ _ _ c.pieces.invariant.answered _ _ _ _ _ c.serve_last.result
     (subst P c.if-count-eq0.true c.in-Ok.ensures.taken)
     (c.in-Ok.ensures.ended c.if-count-eq0.true
@@ -187,6 +194,9 @@ returns-then-count-eq0-clause-answered g c =
     (λ is. subst Last c.as_slice.ensures.value (subst (λ policy. AnswersLast policy c.as_slice.result.now
     (g.K.Sink.written c.pieces.sink) (g.K.Sink.written c.serve_last.new.sink))
     c.pieces.invariant.policy (c.serve_last.ensures.answered is)))
+    (subst Broken c.as_slice.ensures.value (subst (λ policy. (c.serve_last.result ≡ status.Done)
+    ⊎ BreaksFirst c.serve_last.result policy (last_line c.as_slice.result.now) (g.K.Sink.written c.pieces.sink) (g.K.Sink.written c.serve_last.new.sink))
+    c.pieces.invariant.policy c.serve_last.ensures.broken))
     c.serve_last.ensures.only
 
 pub returns-then-taken-gt-MOST_INPUT-clause-answered : goal.returns-then-taken-gt-MOST_INPUT-clause-answered
@@ -196,4 +206,8 @@ returns-then-taken-gt-MOST_INPUT-clause-answered g c =
 
 pub returns-in-Err-clause-answered : goal.returns-in-Err-clause-answered
 returns-in-Err-clause-answered g c =
-    stopped_answered (policy_now c.args.engine.now.documents.table) _ _ c.in-Err.status _ _ c.in-Err.ensures.only
+    stopped_answered (policy_now c.args.engine.now.documents.table) _ _ _ _ c.pieces.invariant.answered _ _ _ _ _
+    (take c.in-Ok.count c.read_some.new.buf) c.in-Err.status c.in-Ok.ensures.taken
+    (subst (λ policy. BreaksLines c.in-Err.status policy (c.pieces.pending.items ++ take c.in-Ok.count c.read_some.new.buf)
+    (g.K.Sink.written c.pieces.sink) (g.K.Sink.written c.serve_piece-served.new.sink)) c.pieces.invariant.policy c.in-Err.ensures.broken)
+    c.in-Err.ensures.only

@@ -12,7 +12,8 @@ use Rattle.ax_script.proofs.script_lines.serve_source.Given as goal
 
 abbrev pub invariant-pieces : goal.invariant-pieces
 invariant-pieces g l = record {
-  progress : IsTrue (g.D.Disk.is_honest l.fn.disk) → (before : Container) → HoldsOver l.fn.engine (g.D.Disk.history l.fn.disk (g.D.Disk.attached l.fn.disk)) before
+  progress : IsTrue (g.D.Disk.is_honest l.fn.disk) → (before : Container)
+      → HoldsOver l.fn.engine (g.D.Disk.history l.fn.disk (g.D.Disk.attached l.fn.disk)) before
       → (now : Container) × HoldsOver l.engine (g.D.Disk.history l.disk (g.D.Disk.attached l.disk)) now
       × Progress (IsTrue (g.D.Disk.is_honest l.fn.disk)) before
       (streams (g.S.Source.rest l.fn.source) (g.K.Sink.written l.fn.sink) l.fn.steps)

@@ -1,4 +1,5 @@
 -- Words that are not those of a run touch nothing.
+use Rattle.std.proofs.Common.{refl}
 use Rattle.ax_policy.specs.Default.{default_policy}
 use Rattle.ax_script.specs.declared.status.Status.TheVariants as status
 use Rattle.ax_script.proofs.Endings.{runs_words}
@@ -10,4 +11,4 @@ returns-then-not-is_run-clause-script g c = λ honest before store.
     on_disk_untouched before status.Words _ _ (runs_words before _)
 
 pub returns-then-not-is_run-clause-answered : goal.returns-then-not-is_run-clause-answered
-returns-then-not-is_run-clause-answered g c = (default_policy, tt)
+returns-then-not-is_run-clause-answered g c = (default_policy, (refl, refl))

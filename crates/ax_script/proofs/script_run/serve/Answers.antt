@@ -58,7 +58,7 @@ returns-in-Ok-clause-answered g c =
     (policy_now c.in-Ok.engine.documents.table, subst T c.open_named.ensures.steps c.serve_opened.ensures.answered)
 
 pub returns-in-Err-clause-answered : goal.returns-in-Err-clause-answered
-returns-in-Err-clause-answered g c = (default_policy, early_answered default_policy c.in-Err.status _ _ c.in-Err.ensures.only)
+returns-in-Err-clause-answered g c = (default_policy, early_answered default_policy c.in-Err.status _ _ _ _ c.in-Err.ensures.only)
 
 pub returns-in-Ok-clause-refused : goal.returns-in-Ok-clause-refused
 returns-in-Ok-clause-refused g c = λ honest.

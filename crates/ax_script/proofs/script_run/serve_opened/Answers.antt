@@ -7,6 +7,7 @@ use Rattle.ax_engine.proofs.Recaching.{over_still, works_still}
 use Rattle.ax_engine.specs.PolicyNow.{policy_now}
 use Rattle.ax_policy.specs.Table.{Table}
 use Rattle.ax_script.specs.Answered.{TellsAnswered}
+use Rattle.ax_script.proofs.AnsweredLines.{memory_answered}
 use Rattle.ax_script.proofs.Endings.{ends_without_memory, streams}
 use Rattle.ax_script.proofs.script_run.serve_opened.Goals as goal
 
@@ -37,3 +38,6 @@ returns-clause-answered g c =
     (streams (g.S.Source.rest c.args.source.now) (g.K.Sink.written c.args.sink.now) c.args.steps.now)
     (streams (g.S.Source.rest c.serve_cached.new.source) (g.K.Sink.written c.serve_cached.new.sink) c.serve_cached.new.steps))
     c.with_cache-engine.ensures.documents.table c.serve_cached.ensures.answered
+
+pub returns-in_default-clause-answered : goal.returns-in_default-clause-answered
+returns-in_default-clause-answered g c = memory_answered (policy_now c.args.engine.documents.table) _ _ _ _

@@ -1,5 +1,5 @@
 -- A line that is refused, and one for which memory ran out, change nothing.
-use Rattle.std.proofs.Common.{◌≡◌, Ok, Result, subst, sym}
+use Rattle.std.proofs.Common.{Ok, Result, subst, sym}
 use Rattle.std.specs.Prelude.{IsTrue}
 use Rattle.ax_lines.specs.declared.line.Line.{Line}
 use Rattle.ax_lines.specs.declared.line.LineFault.{LineFault}

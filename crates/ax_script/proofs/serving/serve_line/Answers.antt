@@ -3,7 +3,7 @@ use Rattle.std.proofs.Common.{◌≡◌, Ok, ap, ◌∙◌}
 use Rattle.ax_engine.specs.PolicyNow.{policy_now}
 use Rattle.ax_lines.specs.Lines.{line_of}
 use Rattle.ax_lines.specs.declared.line.Line.TheVariants as line
-use Rattle.ax_script.proofs.AnsweredLines.{line_answered}
+use Rattle.ax_script.proofs.AnsweredLines.{line_answered, line_broken, read_broken}
 use Rattle.ax_script.proofs.DiskCounts.{line_counted}
 use Rattle.ax_script.proofs.ReadLines.{read_begun, read_served}
 use Rattle.ax_script.proofs.Replying.{whole_of, part_of, sound_of, stops_of}
@@ -68,3 +68,16 @@ returns-in-Ok-Read-clause-prefix g c = λ honest before holds.
     (g.D.Disk.history c.read_into.new.disk (g.D.Disk.attached c.read_into.new.disk)) c.args.steps.now c.read_into.new.steps
     c.status_of_read.result c.read_into.result c.status_of_read.ensures asked (c.read_into.ensures.applies honest before holds)
     c.read_into.ensures.works (c.read_into.ensures.bound honest before holds.holds)
+
+pub returns-in_default-clause-broken : goal.returns-in_default-clause-broken
+returns-in_default-clause-broken g c =
+    line_broken (policy_now c.args.engine.now.documents.table) c.args.line.now c.write_answer.result c.answer-answered.result _ _
+    c.answer-answered.ensures.may_answer c.write_answer.ensures.prefix c.write_answer.ensures.only c.write_answer.ensures.disk_cause
+    c.write_answer.ensures.damage (λ why is. (c.write_answer.ensures.fault why is).0) c.answer-answered.ensures.no_sink
+
+pub returns-in-Ok-Read-clause-broken : goal.returns-in-Ok-Read-clause-broken
+returns-in-Ok-Read-clause-broken g c =
+    let asked : line_of c.args.line.now ≡ Ok (line.Read c.in-Ok-Read.id) =
+    c.in-Ok-Read.ensures.answers ∙ ap (λ a. Ok a) c.in-Ok-Read.field-0-is in
+    read_broken (policy_now c.args.engine.now.documents.table) c.args.line.now c.in-Ok-Read.id c.status_of_read.result c.read_into.result _ _
+    c.status_of_read.ensures asked c.read_into.ensures.may_reply
