@@ -1,5 +1,6 @@
 mod asking;
 mod by_id;
+mod candidates;
 mod crashes;
 mod few;
 mod largest;

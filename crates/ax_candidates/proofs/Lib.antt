@@ -1,0 +1,4 @@
+pub mod OfKind
+pub mod OneTerm
+pub mod Passing
+pub mod Shared

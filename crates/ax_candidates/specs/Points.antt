@@ -1,0 +1,14 @@
+-- Ranges of one term, and unions of such ranges: by them it is decided which unions are looked up first.
+-- Only clauses of private functions cite these. It is this project's own; it comes from no public document.
+use Rattle.std.specs.Prelude.{List, [], ◌∷◌, ◌++◌, Bool, true, ◌&&◌}
+use Rattle.std.specs.Str.{bytes_eq}
+use Rattle.ax_term.specs.declared.range.TermRange.{TermRange}
+
+-- the range ends at its first bytes with a byte 0 behind them: no bytes are between the two
+abbrev pub is_of_one_term : TermRange → Bool
+is_of_one_term range = bytes_eq range.below (range.from ++ 0 ∷ [])
+
+-- each of the ranges is that of one term
+abbrev pub are_of_one_term : List TermRange → Bool
+are_of_one_term [] = true
+are_of_one_term (range ∷ ranges) = is_of_one_term range && are_of_one_term ranges
