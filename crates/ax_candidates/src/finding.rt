@@ -22,10 +22,10 @@ use ax_store::{Store, StoreFault};
 use ax_term::TermRange;
 use std::alloc::Global;
 
-/// The rising numbers with a term in each of the unions, of the set that the term pages hold. The unions of points are
-/// looked up first, then the others, and none more once no number is left. The numbers rise whatever the pages hold and
-/// whatever the disk gives. Over an honest disk they are answered only where each part of the pages that were read is
-/// in its grammar: those of one union at least, and where there is a number those of all.
+/// The rising numbers with a term in each of the unions, of the set that the term pages hold. Unions of points, whose
+/// ranges have one term each, are looked up first, then the others, and none more once no number is left. The numbers
+/// rise whatever the pages hold and whatever the disk gives. Over an honest disk they are answered only where each part
+/// of the pages that were read is in its grammar: those of one union at least, and where there is a number those of all.
 ///
 /// `Disk`, `Damaged`: as `pairs_in_some`. `Memory` where there is no room for the pairs of a page or for the numbers.
 #[tactic(auto, using(crate::proofs::OfKind::not_none))]

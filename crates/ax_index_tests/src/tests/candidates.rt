@@ -74,9 +74,17 @@ fn candidates_have_a_term_in_each_union(rt: HostRuntime) -> Result<(), Fail> {
 
     let one = found_in(alloc, &mut disk, &[&[(b"a1", b"a1\x00")]])?;
     assert!(rt; one.is(&[1, 3], 1));
-    let both = found_in(alloc, &mut disk, &[&[(b"a1", b"b")], &[(b"b2", b"b2\x00"), (b"b3", b"b3\x00")]])?;
+    let both = found_in(
+        alloc,
+        &mut disk,
+        &[&[(b"a1", b"b")], &[(b"b2", b"b2\x00"), (b"b3", b"b3\x00")]],
+    )?;
     assert!(rt; both.is(&[3], 2));
-    let three = found_in(alloc, &mut disk, &[&[(b"a", b"b")], &[(b"b", b"c")], &[(b"a2", b"b2")]])?;
+    let three = found_in(
+        alloc,
+        &mut disk,
+        &[&[(b"a", b"b")], &[(b"b", b"c")], &[(b"a2", b"b2")]],
+    )?;
     assert!(rt; three.is(&[1], 3));
     Ok(())
 }
@@ -89,9 +97,17 @@ fn no_union_is_read_once_no_number_is_left(rt: HostRuntime) -> Result<(), Fail> 
     let changes = changes_of_rows(alloc, ROWS)?;
     change(alloc, &mut disk, &mut store, changes.as_slice())?;
 
-    let none = found_in(alloc, &mut disk, &[&[(b"a", b"b")], &[(b"b4", b"b4\x00")], &[(b"b", b"c")]])?;
+    let none = found_in(
+        alloc,
+        &mut disk,
+        &[&[(b"a", b"b")], &[(b"b4", b"b4\x00")], &[(b"b", b"c")]],
+    )?;
     assert!(rt; none.is(&[], 1));
-    let apart = found_in(alloc, &mut disk, &[&[(b"a2", b"a3")], &[(b"b", b"c")], &[(b"a", b"b")]])?;
+    let apart = found_in(
+        alloc,
+        &mut disk,
+        &[&[(b"a2", b"a3")], &[(b"b", b"c")], &[(b"a", b"b")]],
+    )?;
     assert!(rt; apart.is(&[], 2));
     Ok(())
 }
