@@ -19,11 +19,12 @@ use std::sync::ledger::Ledger;
 
 impl<C: PageCache> Store<C> {
     /// Finds the text of a document, which `ahead` shows from then on, and answers whether the number
-    /// is held. Where the texts of the next numbers lie together with it, and it lies together with the
-    /// text that was asked for last, they come from one read of at most 256 KiB, at least half of
-    /// which texts fill; else it is read alone. So a scan in the order of numbers reads the disk once
-    /// for many texts. The cache is not asked and not changed. No step is counted: this is for opening, and
-    /// for texts that are read again to be printed.
+    /// is held. Where the texts of the next numbers lie together with it, at most 8 KiB apart, and it lies
+    /// together with the text that was asked for last, they come from one read: of 16 KiB at first, and
+    /// then of four times the one before, up to 256 KiB. Else it is read alone, and so is the first. So a
+    /// scan in the order of numbers reads the disk once for many texts, and a query for one document reads
+    /// its text and no more. The cache is not asked and not changed. No step is counted: this is for texts
+    /// that are read again to be printed.
     ///
     /// `Disk` where a read failed or the store has failed before. `Memory` where there is none for
     /// what is read; the text shown is then the one before.
@@ -120,6 +121,6 @@ impl<C> Store<C> {
         }
         let left = self.log.end().saturating_sub(from);
         let stretch = self.pages.together(number, Stretch::of_text(from, len));
-        (stretch.min(left) as usize).max(len)
+        (stretch.min(left).min(ahead.reach()) as usize).max(len)
     }
 }

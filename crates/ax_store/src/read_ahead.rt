@@ -9,10 +9,13 @@ ghost use Rattle.ax_log.specs.Agreement.{Agrees};
 ghost use Rattle.ax_store.specs.Cached.{HasBytesAt};
 
 use crate::cached::read_disk;
-use crate::together::Stretch;
+use crate::together::{Stretch, WINDOW_BYTES};
 use ax_disk::{Disk, DiskFailed};
 use ax_log::Log;
 use std::alloc::{AllocError, Global};
+
+/// How many bytes the first read ahead takes.
+const LEAST_AHEAD: u64 = 16_384;
 
 /// Texts that were read ahead: bytes of the area that counts, and which of them is the text that was
 /// asked for last. It serves one store, from the first call on until that store is committed to.
@@ -82,14 +85,25 @@ impl ReadAhead {
         Some(at as usize)
     }
 
-    /// Whether a text lies together with the one that was asked for last, behind it; or none was asked
-    /// for yet. So a text that is asked for out of order is read alone.
+    /// Whether a text lies together with the one that was asked for last, behind it. So the first text is read
+    /// alone, and so is one that is asked for out of order.
     pub(crate) fn is_next(&self, from: u64, len: usize) -> bool {
         let last = self.from.saturating_add(self.at as u64);
-        self.filled == 0
-            || Stretch::of_text(last, self.len)
+        self.filled > 0
+            && Stretch::of_text(last, self.len)
                 .with_text(from, len)
                 .is_some()
+    }
+
+    /// How many bytes to read ahead at the most: four times what was read last, and a window in the end. So what a scan
+    /// reads in vain, where it stops, is no more than what it had use of.
+    pub(crate) fn reach(&self) -> u64
+        ensures { result ≤ WINDOW_BYTES }
+    {
+        (self.filled as u64)
+            .saturating_mul(4)
+            .max(LEAST_AHEAD)
+            .min(WINDOW_BYTES)
     }
 
     /// Makes room for so many bytes. `Err` where there is none; all is then as it was.

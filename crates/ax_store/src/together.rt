@@ -9,13 +9,14 @@ use crate::slot_reads::text_place;
 /// The most bytes that are read at once.
 pub(crate) const WINDOW_BYTES: u64 = 262_144;
 
-/// A stretch of the area that begins where a text begins. Texts fill at least half of it.
+/// The most bytes between two texts that are read with them: to read more would cost more than another read.
+const GAP_BYTES: u64 = 8192;
+
+/// A stretch of the area that begins where a text begins. No two texts in it that follow one another are far apart.
 #[derive(Clone, Copy)]
 pub(crate) struct Stretch {
     from: u64,
     pub(crate) len: u64,
-    // How many of its bytes are of texts.
-    filled: u64,
 }
 
 impl Stretch {
@@ -23,30 +24,26 @@ impl Stretch {
     pub(crate) fn of_text(from: u64, len: usize) -> Stretch
         ensures { result.len ≡ len }
     {
-        let len = len as u64;
         Stretch {
             from,
-            len,
-            filled: len,
+            len: len as u64,
         }
     }
 
-    /// The stretch up to the end of one more text. `None` where that text begins before the stretch,
-    /// where texts would fill less than half of it, and where it would be longer than a window.
+    /// The stretch up to the end of one more text. `None` where that text begins before the stretch or far behind it, and
+    /// where the stretch would be longer than a window.
     pub(crate) fn with_text(&self, from: u64, len: usize) -> Option<Stretch>
         ensures most { IfSome result (λ stretch. stretch.len ≤ WINDOW_BYTES) }
         ensures least { IfSome result (λ stretch. self.now.len ≤ stretch.len) }
     {
         let start = from.checked_sub(self.from)?;
         let end = start.saturating_add(len as u64).max(self.len);
-        let filled = self.filled.saturating_add(len as u64);
-        if end > WINDOW_BYTES || filled < end - end / 2 {
+        if end > WINDOW_BYTES || start.saturating_sub(self.len) > GAP_BYTES {
             return None;
         }
         Some(Stretch {
             from: self.from,
             len: end,
-            filled,
         })
     }
 }

@@ -11,8 +11,8 @@ use ax_store::{ReadAhead, Store};
 use std::alloc::Global;
 use std::test::Fail;
 
-/// Texts that lie together come from one read, the last of them before the log's end; the same texts
-/// out of order are read one by one, but for those that the window has which was read first.
+/// The first text is read alone. Those behind it that lie together come from one read, the last of them before the
+/// log's end; the same texts out of order are read one by one.
 #[test]
 fn texts_together_are_read_once(rt: HostRuntime) -> Result<(), Fail> {
     let alloc = rt.alloc();
@@ -22,25 +22,40 @@ fn texts_together_are_read_once(rt: HostRuntime) -> Result<(), Fail> {
     assert!(rt; opening.is_some());
     assert_eq!(rt;
         reads_for(alloc, &mut disk, &[1, 2, 3, 4, 5], 20),
-        more(opening, 1)
+        more(opening, 2)
     );
     assert_eq!(rt;
         reads_for(alloc, &mut disk, &[5, 4, 2], 20),
         more(opening, 3)
     );
     assert_eq!(rt;
-        reads_for(alloc, &mut disk, &[4, 5, 5], 20),
-        more(opening, 1)
+        reads_for(alloc, &mut disk, &[3, 4, 5, 5], 20),
+        more(opening, 2)
     );
     Ok(())
 }
 
-/// Where parts of another kind stand between, which are more than the texts, each text is read alone.
+/// Where less than 8 KiB of other parts stand between, they are read with the texts.
 #[test]
-fn scattered_texts_are_read_one_by_one(rt: HostRuntime) -> Result<(), Fail> {
+fn texts_with_little_between_are_read_once(rt: HostRuntime) -> Result<(), Fail> {
     let alloc = rt.alloc();
     let mut disk = room_for(alloc, 1000)?;
     assert!(rt; puts_texts(alloc, &mut disk, 5, 20, 60));
+    let opening = reads_for(alloc, &mut disk, &[], 20);
+    assert!(rt; opening.is_some());
+    assert_eq!(rt;
+        reads_for(alloc, &mut disk, &[1, 2, 3, 4, 5], 20),
+        more(opening, 2)
+    );
+    Ok(())
+}
+
+/// Where more stands between, each text is read alone.
+#[test]
+fn scattered_texts_are_read_one_by_one(rt: HostRuntime) -> Result<(), Fail> {
+    let alloc = rt.alloc();
+    let mut disk = room_for(alloc, 60_000)?;
+    assert!(rt; puts_texts(alloc, &mut disk, 5, 20, 9000));
     let opening = reads_for(alloc, &mut disk, &[], 20);
     assert!(rt; opening.is_some());
     assert_eq!(rt;
@@ -50,22 +65,26 @@ fn scattered_texts_are_read_one_by_one(rt: HostRuntime) -> Result<(), Fail> {
     Ok(())
 }
 
-/// A window has at most 262,144 bytes: four texts of 60,000, and the fifth, which crosses its end,
-/// begins the next one.
+/// What is read ahead is at most four times what was read before, and at most 262,144 bytes: the first text of 60,000 is
+/// read alone, then three more with the front of the next, which begins another window, of four.
 #[test]
 fn a_text_across_the_end_begins_a_window(rt: HostRuntime) -> Result<(), Fail> {
     let alloc = rt.alloc();
-    let mut disk = room_for(alloc, 400_000)?;
-    assert!(rt; puts_texts(alloc, &mut disk, 6, 60_000, 0));
+    let mut disk = room_for(alloc, 600_000)?;
+    assert!(rt; puts_texts(alloc, &mut disk, 9, 60_000, 0));
     let opening = reads_for(alloc, &mut disk, &[], 60_000);
     assert!(rt; opening.is_some());
     assert_eq!(rt;
         reads_for(alloc, &mut disk, &[1, 2, 3, 4], 60_000),
-        more(opening, 1)
+        more(opening, 2)
     );
     assert_eq!(rt;
-        reads_for(alloc, &mut disk, &[1, 2, 3, 4, 5, 6], 60_000),
-        more(opening, 2)
+        reads_for(alloc, &mut disk, &[1, 2, 3, 4, 5, 6, 7, 8], 60_000),
+        more(opening, 3)
+    );
+    assert_eq!(rt;
+        reads_for(alloc, &mut disk, &[1, 2, 3, 4, 5, 6, 7, 8, 9], 60_000),
+        more(opening, 4)
     );
     Ok(())
 }
@@ -80,7 +99,7 @@ fn a_text_of_the_largest_size_is_read(rt: HostRuntime) -> Result<(), Fail> {
     assert!(rt; opening.is_some());
     assert_eq!(rt;
         reads_for(alloc, &mut disk, &[1, 2], 65_535),
-        more(opening, 1)
+        more(opening, 2)
     );
     Ok(())
 }
