@@ -14,12 +14,12 @@ use Rattle.ax_candidates.specs.Meeting.{AreMet, AreShared}
 has_more : (n m : ℕ) (list : List ℕ) → has_number n list ≡ true → has_number n (m ∷ list) ≡ true
 has_more n m list h = ⊎_elim (λ (e : m ≡ n). rw (eq-eqb m n e) refl) (λ (e : m ≡ n → ⊥). rw (ne_eqb m n e) h) (cases_eq m n)
 
-has_from_contains : (xs : List ℕ) (n : ℕ) → Contains xs n → has_number n xs ≡ true
+pub has_from_contains : (xs : List ℕ) (n : ℕ) → Contains xs n → has_number n xs ≡ true
 has_from_contains [] n (k, l, e) = absurd (omega (arith, l))
 has_from_contains (x ∷ xs) n (zero, l, e) = rw (eq-eqb x n e) refl
 has_from_contains (x ∷ xs) n (suc k, l, e) = has_more n x xs (has_from_contains xs n (k, omega (arith, l), e))
 
-contains_from_has : (xs : List ℕ) (n : ℕ) → has_number n xs ≡ true → Contains xs n
+pub contains_from_has : (xs : List ℕ) (n : ℕ) → has_number n xs ≡ true → Contains xs n
 contains_from_has [] n h = absurd (false≢true h)
 contains_from_has (x ∷ xs) n h =
     ⊎_elim {C = Contains (x ∷ xs) n}

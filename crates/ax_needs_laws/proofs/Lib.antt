@@ -1,0 +1,4 @@
+pub mod Counting
+mod IdTerms
+pub mod Just
+pub mod SameUnions
