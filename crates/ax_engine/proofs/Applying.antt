@@ -34,7 +34,7 @@ use Rattle.ax_mean.specs.declared.query.Query.{Query}
 use Rattle.ax_policy.specs.declared.policy.Policy.{Policy}
 use Rattle.ax_pool.specs.Frames.{Frames}
 use Rattle.ax_store.specs.Faults.{HasDiskCause}
-use Rattle.ax_store.specs.Store.{store_contents}
+use Rattle.ax_store.specs.Store.{store_contents, store_failed}
 use Rattle.ax_store.specs.Kept.{Kept}
 use Rattle.ax_store.specs.Slots.{slot_count}
 use Rattle.ax_store.specs.declared.fault.StoreFault.{StoreFault}
@@ -46,25 +46,27 @@ use Rattle.ax_tree.specs.CanonicalText.{canonical_text}
 use Rattle.ax_tree.specs.Document.{document_id}
 use Rattle.ax_tree.specs.declared.tree.Tree.{Tree}
 use Rattle.ax_write.proofs.FoundNumbers.{undamaged}
-use Rattle.ax_write.specs.Writes.{IdlesUnlessMade, IsKept, TellsDamage, TellsWrite, left_by, of_store}
+use Rattle.ax_index.proofs.Unmoved.{same_contents}
+use Rattle.ax_index.specs.Reads.{Reads}
+use Rattle.ax_policy.specs.Table.{Table}
+use Rattle.ax_write.specs.Writes.{IdlesUnlessMade, IsKept, Looks, TellsDamage, TellsWrite, left_by, of_store}
 use Rattle.ax_write.specs.declared.fault.WriteFault.{WriteFault}
 use Rattle.ax_write.specs.declared.fault.WriteFault.TheVariants as write
 use Rattle.ax_documents.specs.Damage.{IsMetIn, MeetsBy}
 use Rattle.ax_documents.specs.Documents.{DocumentsHold, DocumentsWork, IsReadOf, WorkUnlessDisk}
 use Rattle.ax_documents.specs.Opening.{IsImageOf}
 use Rattle.ax_documents.specs.declared.documents.Documents.{Documents}
-use Rattle.ax_engine.specs.Damage.{Meets, MeetsDocuments, PassesOverNone}
+use Rattle.ax_engine.specs.Damage.{IfRows, Meets, MeetsPlanned, PassesOverNone}
 use Rattle.ax_engine.specs.Engine.{Applies, CountsAnswer, HoldsOver, IdlesUnlessDone, IsWrite, MayFail, Tells, Works, by_document, made_by, made_of}
 use Rattle.ax_engine.specs.Judging.{Judges, MeetsLine}
-use Rattle.ax_engine.specs.Replies.{FitsRead, FitsRefusal, IsOfReading, IsReply, MayReply, OnRows, look_up_answer, own_refusal, read_answer, write_answer}
-use Rattle.ax_engine.specs.Scans.{Scanned, Scans}
+use Rattle.ax_engine.specs.Replies.{FitsRead, FitsRefusal, IsReply, MayReply, look_up_answer, own_refusal, read_answer, write_answer}
 use Rattle.ax_engine.specs.StoreSays.{kept_says}
 use Rattle.ax_engine.specs.declared.engine.Engine.{Engine}
 use Rattle.ax_engine.specs.declared.engine.Fault.{Fault}
 use Rattle.ax_engine.specs.declared.engine.Fault.TheVariants as fault
 use Rattle.ax_engine.specs.declared.reply.Reply.{Reply}
 use Rattle.ax_engine.specs.declared.reply.Reply.TheVariants as given
-use Rattle.ax_engine.proofs.Damaging.{met_outside, on_rows}
+use Rattle.ax_engine.proofs.Damaging.{if_rows}
 use Rattle.ax_engine.proofs.Holding.{holds_read, idled, image_of, images_rest, images_turn, rests_of}
 
 -- ---- a write
@@ -359,100 +361,77 @@ tells_looked honest was documents old new before id bytes (Err store_fault.Memor
 
 -- ---- a query changes nothing
 
--- what reading left, and answered
+-- what it left, and answered
 module _ {C : Type 0} (pages : C → CachedPages) (honest : Bool) (documents : Documents C) (store : Store C)
-    (ahead : ReadAhead) (old new : History) (l m : ℕ) (works : DocumentsWork pages honest documents old) where
+    (old new : History) (l m : ℕ) (works : DocumentsWork pages honest documents old) where
   abbrev after : Documents C
   after = record documents { store = store }
 
-  works_scanned : Scanned pages honest documents.store store ahead old new l m → DocumentsWork pages honest after new
-  works_scanned scanned = record {
-    unfailed = scanned.ready.works;
-    agrees = λ h. (scanned.ready.agrees h).agrees;
-    table = subst (λ (kept : Kept). TableAgrees honest documents.table (kept_says kept)) (sym scanned.same.pages) works.table;
-    free = subst (λ (frames : Frames). frames.taken ≡ replicate slot_count false) (sym scanned.slots) works.free;
+  -- the store has not failed
+  works_looked_on : Reads pages honest documents.store store old new l m → store_failed store ≡ store_failed documents.store
+      → DocumentsWork pages honest after new
+  works_looked_on reads still = record {
+    unfailed = still ∙ works.unfailed;
+    agrees = λ h. reads.agrees h (still ∙ works.unfailed);
+    table = subst (λ (contents : Contents). TableAgrees honest documents.table contents)
+        (sym (same_contents documents.store store reads.same.same)) works.table;
+    free = reads.same.taken ∙ works.free;
   }
 
-  pub works_read : (read : Result Reply StoreFault) → Scans pages honest read documents.store store ahead old new l m
+  pub works_read : (read : Result Reply StoreFault) → Looks pages honest read documents.store store old new l m
       → OnOk (read_answer read) (DocumentsWork pages honest after new)
-  works_read (Ok reply) scans = works_scanned scans
-  works_read (Err store_fault.Disk) scans = tt
-  works_read (Err (store_fault.Damaged extent at)) scans = tt
-  works_read (Err (store_fault.Newer version)) scans = absurd scans
-  works_read (Err store_fault.Memory) scans = works_scanned scans
+  works_read (Ok reply) looks = works_looked_on looks.reads looks.fails
+  works_read (Err store_fault.Disk) looks = tt
+  works_read (Err (store_fault.Damaged extent at)) looks = tt
+  works_read (Err (store_fault.Newer version)) looks = works_looked_on looks.reads looks.fails
+  works_read (Err store_fault.Memory) looks = works_looked_on looks.reads looks.fails
 
-  pub lists_read : (read : Result Reply StoreFault) → Scans pages honest read documents.store store ahead old new l m
-      → IsTrue honest → Idles old new
-  lists_read (Ok reply) scans h = scans.lists h
-  lists_read (Err store_fault.Disk) scans h = scans.lists h
-  lists_read (Err (store_fault.Damaged extent at)) scans h = scans.0.lists h
-  lists_read (Err (store_fault.Newer version)) scans h = absurd scans
-  lists_read (Err store_fault.Memory) scans h = scans.lists h
-
-  pub never_falls_read : (read : Result Reply StoreFault) → Scans pages honest read documents.store store ahead old new l m → l ≤ m
-  never_falls_read (Ok reply) scans = omega (arith, scans.uncounted)
-  never_falls_read (Err store_fault.Disk) scans = scans.never_falls
-  never_falls_read (Err (store_fault.Damaged extent at)) scans = omega (arith, scans.0.uncounted)
-  never_falls_read (Err (store_fault.Newer version)) scans = absurd scans
-  never_falls_read (Err store_fault.Memory) scans = omega (arith, scans.uncounted)
-
-  pub counted_read : (read : Result Reply StoreFault) → Scans pages honest read documents.store store ahead old new l m
+  pub counted_read : (read : Result Reply StoreFault) → Looks pages honest read documents.store store old new l m
       → CountsAnswer (read_answer read) l m
-  counted_read (Ok reply) scans = scans.uncounted
-  counted_read (Err store_fault.Disk) scans = scans.rose
-  counted_read (Err (store_fault.Damaged extent at)) scans = scans.0.uncounted
-  counted_read (Err (store_fault.Newer version)) scans = absurd scans
-  counted_read (Err store_fault.Memory) scans = scans.uncounted
-
-  pub met_read : (read : Result Reply StoreFault) → Scans pages honest read documents.store store ahead old new l m
-      → MayLeave new.unsynced new.reads → IsTrue honest
-      → IfErr (read_answer read) (λ why. Meets why new.reads)
-  met_read (Ok reply) scans may h = tt
-  met_read (Err store_fault.Disk) scans may h = tt
-  met_read (Err (store_fault.Damaged extent at)) scans may h =
-      met_outside pages store ahead new extent at (scans.0.ready.agrees h) may (scans.1 h)
-  met_read (Err (store_fault.Newer version)) scans may h = absurd scans
-  met_read (Err store_fault.Memory) scans may h = tt
+  counted_read (Ok reply) looks = (looks.cause works.unfailed).uncounted
+  counted_read (Err store_fault.Disk) looks = (looks.cause works.unfailed).failed tt
+  counted_read (Err (store_fault.Damaged extent at)) looks = (looks.cause works.unfailed).uncounted
+  counted_read (Err (store_fault.Newer version)) looks = (looks.cause works.unfailed).uncounted
+  counted_read (Err store_fault.Memory) looks = (looks.cause works.unfailed).uncounted
 
   module _ (before : Container) (body : Body) (holds : DocumentsHold documents before) where
-    turns_scanned : Idles old new → IsTrue honest → Turns old new (HasAll before) (HasAll before)
-    turns_scanned idles h = idled pages honest documents old before works holds new idles h
+    stands_looked : Reads pages honest documents.store store old new l m → DocumentsHold after before
+    stands_looked reads = holds_read documents store before reads.same.same holds
 
-    stands_scanned : Scanned pages honest documents.store store ahead old new l m → DocumentsHold after before
-    stands_scanned scanned = holds_read documents store before scanned.same holds
-
-    has_then : Idles old new → MayLeave new.unsynced new.reads → IsTrue honest → HasAll before new.reads
-    has_then idles may h =
-        (idles_rest old new (HasAll before) (rests_of pages honest documents old before works holds h) idles).each new.reads may
-
-    pub tells_read : (read : Result Reply StoreFault) → Scans pages honest read documents.store store ahead old new l m
-        → MayLeave new.unsynced new.reads → SaysReadable new.reads
+    pub tells_read : (read : Result Reply StoreFault) → Looks pages honest read documents.store store old new l m
         → IfOk read (λ reply. IsReply reply (query_reply body before)) → IsTrue honest
         → Tells (IsTrue honest) before (line.Query body) (read_answer read) after old new
-    tells_read (Ok made) scans may readable is h = (Served, is, stands_scanned scans, turns_scanned (scans.lists h))
-    tells_read (Err store_fault.Disk) scans may readable is h = turns_scanned (scans.lists h)
-    tells_read (Err (store_fault.Damaged extent at)) scans may readable is h =
-        none_met new.reads before extent at (has_then (scans.0.lists h) may h) readable
-        (met_outside pages store ahead new extent at (scans.0.ready.agrees h) may (scans.1 h))
-    tells_read (Err (store_fault.Newer version)) scans may readable is h = absurd scans
-    tells_read (Err store_fault.Memory) scans may readable is h = (OutOfMemory, refl, stands_scanned scans, turns_scanned (scans.lists h))
+    tells_read (Ok made) looks is h =
+        (Served, is, stands_looked looks.reads, λ t. idled pages honest documents old before works holds new (looks.reads.lists h) h)
+    tells_read (Err store_fault.Disk) looks is h =
+        λ t. idled pages honest documents old before works holds new (looks.reads.lists h) h
+    tells_read (Err (store_fault.Damaged extent at)) looks is h =
+        undamaged documents.store before extent at holds.contents (looks.told h)
+    tells_read (Err (store_fault.Newer version)) looks is h = absurd (looks.told h)
+    tells_read (Err store_fault.Memory) looks is h =
+        (OutOfMemory, refl, stands_looked looks.reads, λ t. idled pages honest documents old before works holds new (looks.reads.lists h) h)
 
--- rows over documents among which the query meets none are so over the image that has them
-pub passes_read : (version : ℕ) (told : List Told) (contents : Contents) (body : Body) (image : Image)
+pub met_read : (read : Result Reply StoreFault) (image : Image) → IfErr read (λ why. MeetsBy why image)
+    → IfErr (read_answer read) (λ why. Meets why image)
+met_read (Ok reply) image met = tt
+met_read (Err store_fault.Disk) image met = tt
+met_read (Err (store_fault.Damaged extent at)) image met = met
+met_read (Err (store_fault.Newer version)) image met = tt
+met_read (Err store_fault.Memory) image met = tt
+
+-- what a query has met over the contents is so over the image that says them
+pub passes_read : (table : Table) (version : ℕ) (told : List Told) (contents : Contents) (body : Body) (image : Image)
     → Says newest version told contents image
     → (read : Result Reply StoreFault)
     → ((query : Query) → query_in body.params body.text ≡ Some query
-    → IfOk read (λ reply. OnRows reply (MeetsDocuments query contents)))
-    → IfOk (read_answer read) (λ reply. PassesOverNone (line.Query body) reply image)
-passes_read version told contents body image says (Ok reply) met = λ query is.
-    on_rows reply (MeetsDocuments query contents)
-    ((version : ℕ) × (told : List Told) × (there : Contents) × Says newest version told there image
-    × MeetsDocuments query there)
-    (λ none. (version, told, contents, says, none)) (met query is)
-passes_read version told contents body image says (Err store_fault.Disk) met = tt
-passes_read version told contents body image says (Err (store_fault.Damaged extent at)) met = tt
-passes_read version told contents body image says (Err (store_fault.Newer later)) met = λ query is. tt
-passes_read version told contents body image says (Err store_fault.Memory) met = λ query is. tt
+    → IfOk read (λ reply. IfRows reply (MeetsPlanned table query contents)))
+    → IfOk (read_answer read) (λ reply. PassesOverNone table (line.Query body) reply image)
+passes_read table version told contents body image says (Ok reply) met = λ query is.
+    if_rows reply (MeetsPlanned table query contents) _ (λ rows met. (version, told, contents, says, met)) (met query is)
+passes_read table version told contents body image says (Err store_fault.Disk) met = tt
+passes_read table version told contents body image says (Err (store_fault.Damaged extent at)) met = tt
+passes_read table version told contents body image says (Err (store_fault.Newer later)) met = λ query is. tt
+passes_read table version told contents body image says (Err store_fault.Memory) met = λ query is. tt
 
 -- what fits the own refusal of the query may be its reply, and so may want of memory
 pub may_read : (policy : Policy) (body : Body) (read : Result Reply StoreFault)
@@ -463,14 +442,6 @@ may_read policy body (Err store_fault.Disk) fits = tt
 may_read policy body (Err (store_fault.Damaged extent at)) fits = tt
 may_read policy body (Err (store_fault.Newer version)) fits = inr refl
 may_read policy body (Err store_fault.Memory) fits = inr refl
-
-pub of_reading : {C : Type 0} (pages : C → CachedPages) (honest : Bool) (read : Result Reply StoreFault) (old new : Store C) (ahead : ReadAhead)
-    (entry exit : History) (l m : ℕ) → Scans pages honest read old new ahead entry exit l m → IfErr read IsOfReading
-of_reading pages honest (Ok reply) old new ahead entry exit l m scans = tt
-of_reading pages honest (Err store_fault.Disk) old new ahead entry exit l m scans = tt
-of_reading pages honest (Err (store_fault.Damaged extent at)) old new ahead entry exit l m scans = tt
-of_reading pages honest (Err (store_fault.Newer version)) old new ahead entry exit l m scans = absurd scans
-of_reading pages honest (Err store_fault.Memory) old new ahead entry exit l m scans = tt
 
 -- ---- an engine
 

@@ -31,14 +31,14 @@ use Rattle.ax_store.specs.Listed.{IsNextAfter}
 use Rattle.ax_store.specs.Store.{store_contents}
 use Rattle.ax_documents.proofs.Meeting.{text_met}
 use Rattle.ax_documents.specs.Damage.{IsMetIn}
-use Rattle.ax_engine.specs.Damage.{AreDocuments, MeetsDocuments}
+use Rattle.ax_engine.specs.Damage.{AreDocuments, IfRows, MeetsDocuments}
 use Rattle.ax_engine.specs.InPages.{HasOutside, IsOutsideAt, IsPlaced}
 use Rattle.ax_engine.specs.StoreSays.{kept_says, text_of}
 use Rattle.ax_engine.specs.Printing.{IsPrinted}
-use Rattle.ax_engine.specs.Replies.{OnRows}
 use Rattle.ax_engine.specs.Scans.{ScanFails, Scanned}
 use Rattle.ax_engine.specs.declared.reply.Reply.{Reply}
 use Rattle.ax_engine.specs.declared.reply.Reply.TheVariants as given
+use Rattle.ax_engine.specs.declared.rows.Rows.{Rows}
 
 -- ---- a document that is held has one part
 
@@ -125,16 +125,6 @@ text_fails pages honest text_fault.Outside given old store ahead before after l 
     by_fault (store_fault.Newer version) placed = absurd placed
     by_fault store_fault.Memory placed = absurd placed
 
--- ---- on the disk
-
-pub met_outside : {C : Type 0} (pages : C → CachedPages) (store : Store C) (ahead : ReadAhead) (history : History) (extent at : ℕ)
-    → AgreesAhead pages store ahead history → MayLeave history.unsynced history.reads → IsOutsideAt store extent at
-    → IsMetIn history.reads extent at
-met_outside pages store ahead history extent at agrees may outside =
-    subst (λ e. IsMetIn history.reads e at) (sym outside.0)
-    (text_met pages store history agrees.agrees may outside.1.number at outside.1.document outside.1.held outside.1.placed
-    outside.1.outside)
-
 -- what was read ahead of a document that has this text is this text
 pub text_ahead : (document : Option Stored) (found : Bool) (text meant : List ℕ) → IsAhead document found text
     → text_of document ≡ Some meant → text ≡ meant
@@ -171,8 +161,8 @@ module _ (contents : Contents) (IsRead : List ℕ → Type 0) (n : ℕ) (before 
       ]
 
   -- none comes behind
-  pub all_documents : ((b : ℕ) → n < b → finite.get contents.documents b ≡ None) → AreDocuments IsRead contents
-  all_documents last number document low is read =
+  pub all_documents : ((b : ℕ) → n < b → finite.get contents.documents b ≡ None) → AreDocuments (λ number. Unit {0}) IsRead contents
+  all_documents last number document low one is read =
       elim (cases_lt n number) as (λ _. IsDocumentText newest document.text) [
         | inl behind ↦
             let none : None ≡ Some document = sym (last number behind) ∙ is in
@@ -186,12 +176,12 @@ no_documents contents IsRead number document low high is read =
     absurd not
 
 -- rows that are written
-pub rows_met : (query : Query) (contents : Contents)
-    → (query.limit ≡ None → AreDocuments (IsTakenWhole query) contents) → MeetsDocuments query contents
-rows_met query contents met unlimited number document low is (inl none, kept) =
-    met unlimited number document low is (inr none, kept)
-rows_met query contents met unlimited number document low is (inr (all, printed), kept) =
-    met unlimited number document low is (inl all, kept)
+pub rows_met : (IsOne : ℕ → Type 0) (query : Query) (contents : Contents)
+    → (query.limit ≡ None → AreDocuments IsOne (IsTakenWhole query) contents) → MeetsDocuments IsOne query contents
+rows_met IsOne query contents met unlimited number document low one is (inl none, kept) =
+    met unlimited number document low one is (inr none, kept)
+rows_met IsOne query contents met unlimited number document low one is (inr (all, printed), kept) =
+    met unlimited number document low one is (inl all, kept)
 
 -- what has rows in a query has rows in that for the keys of its rows
 kept_for_keys : (query : Query) (text : List ℕ) → IsKept query text → IsKept (without_pick query) text
@@ -199,12 +189,12 @@ kept_for_keys query text (inl none) = inl none
 kept_for_keys query text (inr has) = inr (record { tree = has.tree; spelled = has.spelled; rows = has.rows })
 
 -- rows that are printed as they are stored, found by their keys
-pub keys_met : (query keys : Query) (contents : Contents) → keys ≡ without_pick query → IsPrinted query
-    → (keys.limit ≡ None → AreDocuments (IsTakenWhole keys) contents) → MeetsDocuments query contents
-keys_met query keys contents these printed met unlimited number document low is (inl none, kept) =
-    subst (λ (q : Query). q.limit ≡ None → AreDocuments (IsTakenWhole q) contents) these met
-    unlimited number document low is (inr none, kept_for_keys query document.text kept)
-keys_met query keys contents these printed met unlimited number document low is (inr (all, other), kept) =
+pub keys_met : (IsOne : ℕ → Type 0) (query keys : Query) (contents : Contents) → keys ≡ without_pick query → IsPrinted query
+    → (keys.limit ≡ None → AreDocuments IsOne (IsTakenWhole keys) contents) → MeetsDocuments IsOne query contents
+keys_met IsOne query keys contents these printed met unlimited number document low one is (inl none, kept) =
+    subst (λ (q : Query). q.limit ≡ None → AreDocuments IsOne (IsTakenWhole q) contents) these met
+    unlimited number document low one is (inr none, kept_for_keys query document.text kept)
+keys_met IsOne query keys contents these printed met unlimited number document low one is (inr (all, other), kept) =
     absurd (other printed)
 
 pub one_query : (a b : Query) → Some a ≡ Some b → a ≡ b
@@ -214,8 +204,8 @@ pub on_ok : {T E : Type 0} → (result : Result T E) (Is : Type 0) → Is → On
 on_ok (Ok value) Is is = is
 on_ok (Err error) Is is = tt
 
-pub on_rows : (reply : Reply) (One Other : Type 0) → (One → Other) → OnRows reply One → OnRows reply Other
-on_rows given.Ok One Other to is = tt
-on_rows (given.Doc text) One Other to is = tt
-on_rows (given.Rows rows) One Other to is = to is
-on_rows (given.Refused why) One Other to is = tt
+pub if_rows : (reply : Reply) (One Other : Rows → Type 0) → ((rows : Rows) → One rows → Other rows) → IfRows reply One → IfRows reply Other
+if_rows given.Ok One Other to is = tt
+if_rows (given.Doc text) One Other to is = tt
+if_rows (given.Rows rows) One Other to is = to rows is
+if_rows (given.Refused why) One Other to is = tt

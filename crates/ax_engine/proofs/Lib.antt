@@ -1,8 +1,11 @@
 pub mod Applying
 mod Batching
+mod ByNumbers
+mod Choosing
 mod Damaging
 pub mod Holding
 mod InOrder
+mod Looking
 mod Numbers
 pub mod Opened
 mod OwnRefusals

@@ -40,6 +40,11 @@ in_order before next (entry ∷ entries) rise =
       in_order entry.number next entries rise.1,
     )
 
+-- of none
+pub none_rise : IsStrictlySortedBy nat_cmp []
+unfolding IsStrictlySortedBy
+none_rise = tt
+
 -- those of a container
 pub numbers_rise : (container : Container) → IsSound container
     → IsStrictlySortedBy nat_cmp (map (λ (e : ℕ × Tree). e.0) (numbered container))

@@ -14,9 +14,14 @@ use Rattle.ax_policy.specs.Table.{Table, policy_at}
 use Rattle.ax_policy.specs.declared.policy.Policy.{Policy}
 use Rattle.ax_store.specs.Store.{store_contents}
 use Rattle.ax_table.specs.TableAgrees.{TableAgrees}
+use Rattle.ax_needs_laws.proofs.Just.{just_in_use, now_taken}
+use Rattle.ax_skips.proofs.FewNumbers.{few_numbers}
+use Rattle.ax_skips.proofs.InUse.{all_in_use}
+use Rattle.ax_skips.specs.Planned.{AreInUse, HasFewNumbers}
 use Rattle.ax_write.specs.Writes.{SamePolicies}
 use Rattle.ax_documents.specs.Documents.{DocumentsHold, DocumentsWork}
 use Rattle.ax_documents.specs.declared.documents.Documents.{Documents}
+use Rattle.ax_engine.specs.Candidates.{HasJustPolicies}
 use Rattle.ax_engine.specs.PolicyNow.{policy_now}
 
 found_is : (found : Option Policy) (policy : Policy) → IsSome found → ((there : Policy) → found ≡ Some there → there ≡ policy)
@@ -37,6 +42,27 @@ pub policy_held : {C : Type 0} (pages : C → CachedPages) (honest : Bool) (docu
 policy_held pages honest documents history container works holds trusted =
     agrees_now honest documents.table (store_contents documents.store) container.policy works.table trusted
     holds.contents.documents.show.policy
+
+-- ---- the policies in use
+
+module _ {C : Type 0} (pages : C → CachedPages) (honest : Bool) (documents : Documents C) (history : History)
+    (container : Container) (works : DocumentsWork pages honest documents history) (holds : DocumentsHold documents container)
+    (trusted : IsTrue honest) where
+  few : HasFewNumbers documents.table
+  few = few_numbers pages documents.store history honest documents.table (works.agrees trusted) works.table
+
+  -- those of all documents are in use in the table
+  pub all_used : AreInUse documents.table container
+  all_used = all_in_use honest trusted documents.table (store_contents documents.store) few works.table container holds.contents.documents
+
+  -- and these alone, with the one now
+  pub just_policies : HasJustPolicies documents.table container
+  just_policies = record {
+    used = all_used;
+    just = just_in_use honest trusted documents.table (store_contents documents.store) container works.table holds.contents.documents;
+    now = now_taken honest trusted documents.table (store_contents documents.store) container works.table holds.contents.documents few;
+    policies = works.table.policies;
+  }
 
 -- ---- tables with the same policies
 

@@ -1,5 +1,5 @@
 -- Calls that read texts of documents, one after another.
-use Rattle.std.proofs.Common.{◌≡◌, ◌⊎◌, inl, inr, ℕ, Bool, false, Result, Ok, Err, OnOk, refl, sym, subst, ◌∙◌, arith}
+use Rattle.std.proofs.Common.{◌≡◌, ◌⊎◌, inl, inr, ℕ, Bool, true, false, Result, Ok, Err, OnOk, refl, sym, subst, ◌∙◌, arith}
 use Rattle.std.specs.Prelude.{IsTrue, IfErr}
 use Rattle.ax_cache.specs.Pages.{CachedPages}
 use Rattle.ax_disk.specs.laws.StaysLaws.{idles_start, idles_join}
@@ -51,6 +51,8 @@ module _ {C : Type 0} (pages : C → CachedPages) (now then : Bool) (a b c : Sto
   fails : (why : StoreFault) → ScanFails pages then why b c later y z m n → ScanFails pages then why a c later x z l n
   fails fault.Disk failed = record {
     same = reads_on a b c first.same failed.same;
+    slots = failed.slots ∙ first.slots;
+    failed = failed.failed;
     lists = λ h. idles_join x y z (first.lists h) (failed.lists h);
     never_falls = omega (arith, first.uncounted, failed.never_falls);
     rose = rose_since l m n n (omega (arith, first.uncounted)) (omega arith) failed.rose;
@@ -74,27 +76,29 @@ module _ {C : Type 0} (pages : C → CachedPages) (now then : Bool) (a b c : Sto
 pub scans_of : {T C : Type 0} (pages : C → CachedPages) (honest : Bool) (result : Result T StoreFault) (old new : Store C)
     (ahead : ReadAhead) (before after : History) (earlier later : ℕ) → store_failed old ≡ false → SameButReads old new
     → store_slots new ≡ store_slots old → AgreesAheadUnlessFailed pages honest new ahead after → OnOk result (store_failed new ≡ false)
-    → (result ≡ Err fault.Memory → store_failed new ≡ store_failed old)
+    → (result ≡ Err fault.Disk → store_failed new ≡ true) → (result ≡ Err fault.Memory → store_failed new ≡ store_failed old)
     → IfErr result (λ why. (why ≡ fault.Disk) ⊎ (why ≡ fault.Memory)) → (IsTrue honest → Idles before after)
     → (store_failed old ≡ false → HasDiskCause result earlier later) → Scans pages honest result old new ahead before after earlier later
-scans_of pages honest (Ok value) old new ahead before after earlier later works same slots agrees ok memory only lists cause = record {
+scans_of pages honest (Ok value) old new ahead before after earlier later works same slots agrees ok disk memory only lists cause = record {
   same = same;
   slots = slots;
   ready = record { works = ok; agrees = λ h. agrees h ok };
   lists = lists;
   uncounted = (cause works).uncounted;
 }
-scans_of pages honest (Err fault.Disk) old new ahead before after earlier later works same slots agrees ok memory only lists cause = record {
+scans_of pages honest (Err fault.Disk) old new ahead before after earlier later works same slots agrees ok disk memory only lists cause = record {
   same = same;
+  slots = slots;
+  failed = disk refl;
   lists = lists;
   never_falls = (cause works).never_falls;
   rose = (cause works).failed tt;
 }
-scans_of pages honest (Err (fault.Damaged extent at)) old new ahead before after earlier later works same slots agrees ok memory (inl is) lists cause = absurd cc
-scans_of pages honest (Err (fault.Damaged extent at)) old new ahead before after earlier later works same slots agrees ok memory (inr is) lists cause = absurd cc
-scans_of pages honest (Err (fault.Newer version)) old new ahead before after earlier later works same slots agrees ok memory (inl is) lists cause = absurd cc
-scans_of pages honest (Err (fault.Newer version)) old new ahead before after earlier later works same slots agrees ok memory (inr is) lists cause = absurd cc
-scans_of pages honest (Err fault.Memory) old new ahead before after earlier later works same slots agrees ok memory only lists cause =
+scans_of pages honest (Err (fault.Damaged extent at)) old new ahead before after earlier later works same slots agrees ok disk memory (inl is) lists cause = absurd cc
+scans_of pages honest (Err (fault.Damaged extent at)) old new ahead before after earlier later works same slots agrees ok disk memory (inr is) lists cause = absurd cc
+scans_of pages honest (Err (fault.Newer version)) old new ahead before after earlier later works same slots agrees ok disk memory (inl is) lists cause = absurd cc
+scans_of pages honest (Err (fault.Newer version)) old new ahead before after earlier later works same slots agrees ok disk memory (inr is) lists cause = absurd cc
+scans_of pages honest (Err fault.Memory) old new ahead before after earlier later works same slots agrees ok disk memory only lists cause =
     let still : store_failed new ≡ false = memory refl ∙ works in
     record {
       same = same;

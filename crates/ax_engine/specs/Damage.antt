@@ -1,26 +1,43 @@
--- What damage a line tells, and which texts a query without a limit has met before it answers rows.
+-- What damage a line tells; what a query has met of the index and of documents before it answers rows, and how much work that is.
 -- It is this project's own; it comes from no public document.
-use Rattle.std.specs.Prelude.{◌≡◌, ◌⊎◌, ℕ, ◌<◌, List, Some, None}
-use Rattle.std.specs.FinMap as map
+use Rattle.std.specs.Prelude.{◌≡◌, ◌⊎◌, ℕ, ◌<◌, ◌≤◌, ◌+◌, ◌*◌, List, [], ◌∷◌, length, map, Some, None}
+use Rattle.std.specs.FinMap as finite
 use Rattle.ax_answer_text.specs.Parts.{IsKept}
 use Rattle.ax_area.specs.Contents.{Contents, Stored}
 use Rattle.ax_area.specs.Image.{Says}
 use Rattle.ax_area.specs.Told.{Told}
+use Rattle.ax_atoms.specs.Conjuncts.{atoms}
+use Rattle.ax_candidates.specs.Candidates.{AreAllInGrammar, AreCandidates, IsOneInGrammar}
+use Rattle.ax_container.specs.Container.{Container}
 use Rattle.ax_disk.specs.model.Image.{Image}
 use Rattle.ax_documents.specs.Damage.{IsMetIn}
 use Rattle.ax_excerpt.specs.Needs.{NeedsAll}
 use Rattle.ax_excerpt_text.specs.Wholes.{IsNoMap}
 use Rattle.ax_grammar.specs.Query.{query_in}
+use Rattle.ax_image.specs.Documents.{ContentsHold}
 use Rattle.ax_image.specs.Readable.{newest}
 use Rattle.ax_image_grammar.specs.Payloads.{IsDocumentText}
 use Rattle.ax_lines.specs.declared.line.Line.{Line}
 use Rattle.ax_lines.specs.declared.line.Line.TheVariants as line
+use Rattle.ax_lines.specs.declared.refusal.Refusal.{Refusal}
 use Rattle.ax_mean.specs.declared.query.Query.{Query}
+use Rattle.ax_pages.specs.Contents.{TermPage}
+use Rattle.ax_pairs.specs.Index.{IsIndex}
+use Rattle.ax_pairs.specs.PairSets.{PairSet}
+use Rattle.ax_plan.specs.Usable.{AreUnions}
+use Rattle.ax_policy.specs.Table.{Table}
+use Rattle.ax_result.specs.Answers.{answer_of}
+use Rattle.ax_skips.specs.Candidates.{IsCandidate}
+use Rattle.ax_term.specs.declared.range.TermRange.{TermRange}
+use Rattle.ax_tree.specs.CanonicalText.{canonical_text}
+use Rattle.ax_engine.specs.PolicyNow.{policy_now}
 use Rattle.ax_engine.specs.Printing.{IsPrinted}
-use Rattle.ax_engine.specs.Replies.{OnRows}
+use Rattle.ax_engine.specs.Replies.{AreRows, own_refusal}
 use Rattle.ax_engine.specs.declared.engine.Fault.{Fault}
 use Rattle.ax_engine.specs.declared.engine.Fault.TheVariants as fault
 use Rattle.ax_engine.specs.declared.reply.Reply.{Reply}
+use Rattle.ax_engine.specs.declared.reply.Reply.TheVariants as given
+use Rattle.ax_engine.specs.declared.rows.Rows.{Rows}
 
 -- ---- damage, and its place
 
@@ -32,10 +49,10 @@ Meets fault.Sink image = Unit {0}
 
 -- ---- what a query has met
 
--- of each document the text is one that a document can have, where it is one that is read
-abbrev pub AreDocuments : (List ℕ → Type 0) → Contents → Type 0
-AreDocuments IsRead contents =
-    (number : ℕ) (document : Stored) → 0 < number → map.get contents.documents number ≡ Some document
+-- of each document of these numbers the text is one that a document can have, where it is one that is read
+abbrev pub AreDocuments : (ℕ → Type 0) → (List ℕ → Type 0) → Contents → Type 0
+AreDocuments IsOne IsRead contents =
+    (number : ℕ) (document : Stored) → 0 < number → IsOne number → finite.get contents.documents number ≡ Some document
     → IsRead document.text → IsDocumentText newest document.text
 
 -- The text is read whole for the rows of the query: it does not begin as that of a map, or no part of a
@@ -43,21 +60,74 @@ AreDocuments IsRead contents =
 abbrev pub IsReadWhole : Query → List ℕ → Type 0
 IsReadWhole query text = IsNoMap text ⊎ (NeedsAll query × (IsPrinted query → ⊥))
 
--- Among these documents a query that has no limit at which it ends meets none whose text is that of no
+-- Among the documents of these numbers a query that has no limit at which it ends meets none whose text is that of no
 -- document: of those that it reads whole and does not pass over.
-abbrev pub MeetsDocuments : Query → Contents → Type 0
-MeetsDocuments query contents =
-    query.limit ≡ None → AreDocuments (λ text. IsReadWhole query text × IsKept query text) contents
+abbrev pub MeetsDocuments : (ℕ → Type 0) → Query → Contents → Type 0
+MeetsDocuments IsOne query contents =
+    query.limit ≡ None → AreDocuments IsOne (λ text. IsReadWhole query text × IsKept query text) contents
 
--- Rows are the reply to a query only where it meets no such text among the documents of the image: none is
--- passed over.
-abbrev pub PassesOverNone : Line → Reply → Image → Type 0
-PassesOverNone (line.Create tree) reply image = Unit {0}
-PassesOverNone (line.Upsert tree) reply image = Unit {0}
-PassesOverNone (line.Replace tree) reply image = Unit {0}
-PassesOverNone (line.Delete id) reply image = Unit {0}
-PassesOverNone (line.Read id) reply image = Unit {0}
-PassesOverNone (line.Query body) reply image =
+-- the rows are those of the query over no document at all
+abbrev pub AreRowsOfNone : Query → Rows → Type 0
+AreRowsOfNone query rows = AreRows rows (map (λ row. canonical_text row.shown) (answer_of query []))
+
+-- The index leaves the document of that number, where it is asked for terms in each of these unions: it has a term in each, of
+-- the set that the pages hold. Without a union it leaves all.
+abbrev pub IsLeft : List (List TermRange) → List TermPage → ℕ → Type 0
+IsLeft [] pages number = Unit {0}
+IsLeft (ranges ∷ unions) pages number = (set : PairSet) × IsIndex pages set × IsCandidate (ranges ∷ unions) set number
+
+-- What a query has met that is answered these rows, over these contents. The unions of terms in which the index is asked are
+-- those of its plan under the policies of the table. The pages of the index with terms in them are in their grammar: those of all
+-- unions; or those of one, and the rows are those over no document. And it has met no text that is none of a document, among
+-- the documents that the index leaves.
+pub record MeetsPlanned (table : Table) (query : Query) (contents : Contents) (rows : Rows) : Type 0 where
+  pub unions : List (List TermRange)
+  pub planned : AreUnions table (atoms query) unions
+  pub index : AreAllInGrammar unions contents.terms ⊎ (AreRowsOfNone query rows × IsOneInGrammar unions contents.terms)
+  pub documents : MeetsDocuments (IsLeft unions contents.terms) query contents
+
+-- where the reply is rows, this is so of them
+abbrev pub IfRows : Reply → (Rows → Type 0) → Type 0
+IfRows given.Ok Is = Unit {0}
+IfRows (given.Doc text) Is = Unit {0}
+IfRows (given.Rows rows) Is = Is rows
+IfRows (given.Refused why) Is = Unit {0}
+
+-- Rows are the reply to a query only where it meets no damage in the image at which it looks: none is passed over.
+abbrev pub PassesOverNone : Table → Line → Reply → Image → Type 0
+PassesOverNone table (line.Create tree) reply image = Unit {0}
+PassesOverNone table (line.Upsert tree) reply image = Unit {0}
+PassesOverNone table (line.Replace tree) reply image = Unit {0}
+PassesOverNone table (line.Delete id) reply image = Unit {0}
+PassesOverNone table (line.Read id) reply image = Unit {0}
+PassesOverNone table (line.Query body) reply image =
     (query : Query) → query_in body.params body.text ≡ Some query
-    → OnRows reply ((version : ℕ) × (told : List Told) × (contents : Contents)
-    × Says newest version told contents image × MeetsDocuments query contents)
+    → IfRows reply (λ rows. (version : ℕ) × (told : List Told) × (contents : Contents)
+    × Says newest version told contents image × MeetsPlanned table query contents rows)
+
+-- ---- how much work that is
+
+-- At most two steps for each document that the index leaves: for each number with a term in each of these unions, of the set
+-- that the pages hold. Without a union, for each document.
+abbrev pub CountsLeft : List (List TermRange) → Contents → ℕ → ℕ → Type 0
+CountsLeft [] contents old new =
+    (container : Container) → ContentsHold contents container → new ≤ old + 2 * length container.entries
+CountsLeft (ranges ∷ unions) contents old new =
+    (set : PairSet) → IsIndex contents.terms set
+    → (numbers : List ℕ) → AreCandidates (ranges ∷ unions) set numbers → new ≤ old + 2 * length numbers
+
+-- the unions are those of the query's plan
+abbrev pub CountsPlanned : Table → Query → Contents → ℕ → ℕ → Type 0
+CountsPlanned table query contents old new =
+    (unions : List (List TermRange)) → AreUnions table (atoms query) unions → CountsLeft unions contents old new
+
+-- The steps of a query. One that has a refusal of its own counts none.
+abbrev pub CountsFew : Table → Line → Contents → ℕ → ℕ → Type 0
+CountsFew table (line.Create tree) contents old new = Unit {0}
+CountsFew table (line.Upsert tree) contents old new = Unit {0}
+CountsFew table (line.Replace tree) contents old new = Unit {0}
+CountsFew table (line.Delete id) contents old new = Unit {0}
+CountsFew table (line.Read id) contents old new = Unit {0}
+CountsFew table (line.Query body) contents old new =
+    ((query : Query) → query_in body.params body.text ≡ Some query → CountsPlanned table query contents old new)
+    × ((why : Refusal) → own_refusal (policy_now table) (query_in body.params body.text) ≡ Some why → new ≡ old)

@@ -1,4 +1,5 @@
 pub mod Batched
+pub mod Candidates
 pub mod Damage
 pub mod Engine
 pub mod InPages

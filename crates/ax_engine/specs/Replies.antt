@@ -41,13 +41,6 @@ IsReply (given.Rows rows) meant =
     (texts : List (List ℕ)) × AreRows rows texts × (meant ≡ reply.Rows texts reply.End)
 IsReply (given.Refused why) meant = meant ≡ reply.Refused why
 
--- where the reply is rows, this is so
-abbrev pub OnRows : Reply → Type 0 → Type 0
-OnRows given.Ok Is = Unit {0}
-OnRows (given.Doc text) Is = Unit {0}
-OnRows (given.Rows rows) Is = Is
-OnRows (given.Refused why) Is = Unit {0}
-
 -- ---- what a line may be answered, whatever the store holds
 
 -- the refusal that was answered, if one was
@@ -105,13 +98,6 @@ MayReply policy (line.Query body) made =
     FitsRefusal (own_refusal policy (query_in body.params body.text)) made ⊎ (made ≡ given.Refused refusal.Memory)
 
 -- ---- what the parts of the engine answered, as the answer to a line
-
--- the fault is one that reading an open store may answer: not that it is of a later version
-abbrev pub IsOfReading : StoreFault → Type 0
-IsOfReading store_fault.Disk = Unit {0}
-IsOfReading (store_fault.Damaged extent at) = Unit {0}
-IsOfReading (store_fault.Newer version) = ⊥
-IsOfReading store_fault.Memory = Unit {0}
 
 -- what reading answered, as the answer to a line: want of memory is a refusal
 abbrev pub read_answer : Result Reply StoreFault → Result Reply Fault

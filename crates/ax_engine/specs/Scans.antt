@@ -1,7 +1,7 @@
 -- What calls leave that read texts of documents: the pages as they were, the agreement with the disk
 -- until a read has failed, and the disk's lists.
 -- It is this project's own; it comes from no public document.
-use Rattle.std.specs.Prelude.{◌≡◌, ℕ, ◌≤◌, Bool, false, IsTrue, Result, Ok, Err}
+use Rattle.std.specs.Prelude.{◌≡◌, ℕ, ◌≤◌, Bool, true, false, IsTrue, Result, Ok, Err}
 use Rattle.ax_cache.specs.Pages.{CachedPages}
 use Rattle.ax_disk.specs.model.Calls.{Idles}
 use Rattle.ax_disk.specs.model.Moments.{History}
@@ -29,10 +29,12 @@ pub record Scanned {C : Type 0} (pages : C → CachedPages) (honest : Bool) (old
   pub lists : IsTrue honest → Idles before after
   pub uncounted : later ≡ earlier
 
--- a read failed, and the disk's count of faults rose
+-- a read failed, and so the store, and the disk's count of faults rose
 pub record ReadFailed {C : Type 0} (honest : Bool) (old new : Store C) (before after : History)
     (earlier later : ℕ) : Type 0 where
   pub same : SameButReads old new
+  pub slots : store_slots new ≡ store_slots old
+  pub failed : store_failed new ≡ true
   pub lists : IsTrue honest → Idles before after
   pub never_falls : earlier ≤ later
   pub rose : Rose earlier later

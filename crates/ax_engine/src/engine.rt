@@ -23,13 +23,12 @@ ghost use Rattle.ax_documents.specs.Damage.{MeetsBy};
 ghost use Rattle.ax_documents.specs.Documents.{DocumentsHold, DocumentsWork, SameDocuments, WorkUnlessDisk};
 ghost use Rattle.ax_documents.specs.Opening.{IsAnswerUnlessDisk, IsImageOf, IsStore, IsWithin, RefusesBy};
 ghost use Rattle.ax_engine.specs.Batched.{AnswersSmall, MakesSmall};
-ghost use Rattle.ax_engine.specs.Damage.{Meets, PassesOverNone};
+ghost use Rattle.ax_engine.specs.Damage.{CountsFew, Meets, PassesOverNone};
 ghost use Rattle.ax_engine.specs.Engine.{Applies, CountsAnswer, Holds, HoldsOver, IdlesUnlessDone, IsWrite, LeavesLists, MayFail, Tells, Works, made_of};
 ghost use Rattle.ax_engine.specs.Judging.{Judges, MeetsLine};
 ghost use Rattle.ax_engine.specs.PolicyNow.{policy_now};
-ghost use Rattle.ax_engine.specs.Replies.{FitsRead, IsOfReading, MayReply, look_up_answer, read_answer, write_answer};
+ghost use Rattle.ax_engine.specs.Replies.{FitsRead, MayReply, look_up_answer, read_answer, write_answer};
 
-use crate::policy_now::current_policy;
 use crate::querying::reply_to_query;
 use crate::reply::Reply;
 use ax_base::Steps;
@@ -37,7 +36,7 @@ use ax_cache::PageCache;
 use ax_disk::Disk;
 use ax_documents::{Documents, WriteFault, open_documents};
 use ax_lines::{Body, Line, Refusal};
-use ax_store::{NoPages, ReadAhead, StoreFault};
+use ax_store::{NoPages, StoreFault};
 use ax_tree::Text;
 use std::alloc::Global;
 use std::sync::ledger::Ledger;
@@ -164,8 +163,13 @@ impl<C: PageCache> Engine<C> {
     /// `Disk` where a call on the disk failed, and nowhere else does the disk count a fault. `Damaged` where the text of a
     /// document is none that a document can have, or a part of the index is outside its grammar, over an honest disk with
     /// the place at which its part stands; the disk's lists are then as they were, and so they are at a refusal. A
-    /// query without LIMIT answers no rows over such
-    /// a text that it reads whole, where it has no WHERE, or the text is that of a tree that has rows in it.
+    /// query without LIMIT answers no rows over such a text that it reads whole, of a document that the index leaves, where it
+    /// has no WHERE, or the text is that of a tree that has rows in it; nor any but those over no document, where a part of the
+    /// index in which it is to look is outside its grammar.
+    ///
+    /// A query looks only at the documents that the index leaves: those with a term in each union of terms of its plan, one for
+    /// each condition that the index answers, and takes at most two steps of work for each. One that is refused for its text or
+    /// its ORDER BY takes none.
     ///
     /// Whatever the store holds, a query is answered rows only where it has no refusal of its own (of its text,
     /// or of its ORDER BY under the policy now), and is refused by that one alone, or for want of memory; a write is answered `Ok`,
@@ -190,7 +194,9 @@ impl<C: PageCache> Engine<C> {
         ensures met { IsTrue (D.is_honest disk.old) → self.old.fault ≡ None
             → IfErr result (λ fault. Meets fault (D.history disk.new (D.attached disk.new)).reads) }
         ensures passes_over_none { IsTrue (D.is_honest disk.old) → self.old.fault ≡ None
-            → IfOk result (λ reply. PassesOverNone line reply (D.history disk.new (D.attached disk.new)).reads) }
+            → IfOk result (λ reply. PassesOverNone self.old.documents.table line reply (D.history disk.new (D.attached disk.new)).reads) }
+        ensures few { IsTrue (D.is_honest disk.old) → self.old.fault ≡ None
+            → CountsFew self.old.documents.table line (store_contents self.old.documents.store) steps.old steps.new }
         ensures judged { IsTrue (D.is_honest disk.old) → self.old.fault ≡ None
             → IfOk result (λ reply. Judges line self.old.documents.ids (store_contents self.old.documents.store) reply) }
         ensures lists { IsTrue (D.is_honest disk.old) → self.old.fault ≡ None
@@ -262,7 +268,9 @@ fn answer<D: Disk, C: PageCache, L: Ledger>(
     ensures met { IsTrue (D.is_honest disk.old)
         → IfErr result (λ fault. Meets fault (D.history disk.new (D.attached disk.new)).reads) }
     ensures passes_over_none { IsTrue (D.is_honest disk.old)
-        → IfOk result (λ reply. PassesOverNone line.now reply (D.history disk.new (D.attached disk.new)).reads) }
+        → IfOk result (λ reply. PassesOverNone documents.old.table line.now reply (D.history disk.new (D.attached disk.new)).reads) }
+    ensures few { IsTrue (D.is_honest disk.old)
+        → CountsFew documents.old.table line.now (store_contents documents.old.store) steps.old steps.new }
     ensures works { OnOk result (DocumentsWork C.pages (D.is_honest disk.old) documents.new (D.history disk.new (D.attached disk.new))) }
     ensures readable { IsTrue (D.is_honest disk.old) → (before : Container) → DocumentsHold documents.old before
         → Rests (D.history disk.old (D.attached disk.old)) SaysReadable
@@ -490,7 +498,9 @@ fn query<D: Disk, C: PageCache, L: Ledger>(
     ensures met { IsTrue (D.is_honest disk.old)
         → IfErr result (λ fault. Meets fault (D.history disk.new (D.attached disk.new)).reads) }
     ensures passes_over_none { IsTrue (D.is_honest disk.old)
-        → IfOk result (λ reply. PassesOverNone (line.Query body.now) reply (D.history disk.new (D.attached disk.new)).reads) }
+        → IfOk result (λ reply. PassesOverNone documents.old.table (line.Query body.now) reply (D.history disk.new (D.attached disk.new)).reads) }
+    ensures few { IsTrue (D.is_honest disk.old)
+        → CountsFew documents.old.table (line.Query body.now) (store_contents documents.old.store) steps.old steps.new }
     ensures works { OnOk result (DocumentsWork C.pages (D.is_honest disk.old) documents.new
         (D.history disk.new (D.attached disk.new))) }
     ensures readable { IsTrue (D.is_honest disk.old)
@@ -505,14 +515,11 @@ fn query<D: Disk, C: PageCache, L: Ledger>(
         → steps.new ≤ steps.old + most_steps_of before (Ok (line.Query body.now)) }
     ensures steps { steps.old ≤ steps.new }
 {
-    let mut ahead = ReadAhead::new(alloc);
-    let policy = current_policy(&documents.table);
     let read = reply_to_query(
         alloc,
         &mut documents.store,
         disk,
-        &mut ahead,
-        policy,
+        &documents.table,
         body,
         steps,
     );
@@ -521,7 +528,6 @@ fn query<D: Disk, C: PageCache, L: Ledger>(
 
 /// What reading answered, as the answer to a line.
 fn answer_of_read(read: Result<Reply, StoreFault>) -> Result<Reply, Fault>
-    requires { IfErr read IsOfReading }
     ensures { result ≡ read_answer read }
 {
     match read {
@@ -529,6 +535,7 @@ fn answer_of_read(read: Result<Reply, StoreFault>) -> Result<Reply, Fault>
         Err(StoreFault::Memory) => Ok(Reply::Refused(Refusal::Memory)),
         Err(StoreFault::Disk) => Err(Fault::Disk),
         Err(StoreFault::Damaged { extent, at }) => Err(Fault::Damaged { extent, at }),
-        Err(StoreFault::Newer { .. }) => unreachable!(),
+        // No allocation: a store that is open is of no later version.
+        Err(StoreFault::Newer { .. }) => Ok(Reply::Refused(Refusal::Memory)),
     }
 }

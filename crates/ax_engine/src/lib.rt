@@ -12,6 +12,7 @@
 //! damage, with their place.
 #![tactic(auto)]
 
+mod candidates;
 mod engine;
 mod policy_now;
 mod querying;

@@ -1,28 +1,41 @@
-//! The rows of a query over all documents of an open store, and the reply that has them.
+//! The rows of a query over the documents that its plan leaves, and the reply that has them.
 
-ghost use Rattle.std.specs.Prelude.{◌≡◌, ◌≤◌, ◌+◌, ◌*◌, ◌<◌, ℕ, List, [], ◌∷◌, ◌++◌, length, Some, None, IsTrue, IfOk, OnOk, true, drop, option_map};
-ghost use Rattle.std.specs.FinMap as map;
+ghost use Rattle.std.specs.Prelude.{◌≡◌, ◌≤◌, ◌+◌, ◌*◌, ◌<◌, ℕ, List, [], ◌∷◌, ◌++◌, length, Some, None, IsTrue, IfOk, OnOk, true, false, map};
+ghost use Rattle.std.specs.FinMap as finite;
 ghost use Rattle.ax_answer_text.specs.Parts.{IsTakenWhole};
 ghost use Rattle.ax_answer_text.specs.TextAnswers.{Answers, IsTo};
 ghost use Rattle.ax_container.specs.Container.{Container};
+ghost use Rattle.ax_delta.specs.Said.{has_number};
 ghost use Rattle.ax_grammar.specs.Query.{query_in};
 ghost use Rattle.ax_image.specs.Documents.{ContentsHold};
 ghost use Rattle.ax_image.specs.Readable.{newest};
 ghost use Rattle.ax_image_grammar.specs.Payloads.{IsDocumentText};
+ghost use Rattle.ax_image_pairs.specs.Indexed.{ContentsHoldAll};
 ghost use Rattle.ax_lines.specs.Asked.{IsStorable};
+ghost use Rattle.ax_lines.specs.declared.refusal.Refusal as refusals;
 ghost use Rattle.ax_machine.specs.Needs.{query_need};
 ghost use Rattle.ax_machine.specs.Querying.{numbered, rows_of, rows_reply, rows_under};
 ghost use Rattle.ax_mean.specs.declared.query.Query as queries;
+ghost use Rattle.ax_needs.specs.Needs.{need_of_query};
+ghost use Rattle.ax_policy.specs.Sameness.{is_orderable};
+ghost use Rattle.ax_pool.specs.Frames.{free_count};
 ghost use Rattle.ax_result.specs.Answers.{answer_of};
+ghost use Rattle.ax_skips.specs.Chosen.{fetched as fetched_of};
+ghost use Rattle.ax_skips.specs.Planned.{AreInUse};
 ghost use Rattle.ax_tree.specs.CanonicalText.{canonical_text};
 ghost use Rattle.ax_tree.specs.declared.tree.Tree.{Tree as TreeOf};
-ghost use Rattle.ax_store.specs.Store.{store_contents};
-ghost use Rattle.ax_engine.specs.Damage.{AreDocuments, MeetsDocuments};
+ghost use Rattle.ax_store.specs.Store.{AgreesUnlessFailed, store_contents, store_failed, store_slots};
+ghost use Rattle.ax_write.specs.Writes.{Looks};
+ghost use Rattle.ax_engine.specs.Candidates.{AreNone, CountsOneEach, CountsTwoEach, HasAllOf, HasJustPolicies, IsAmong};
+ghost use Rattle.ax_engine.specs.Damage.{AreDocuments, AreRowsOfNone, CountsPlanned, IfRows, MeetsDocuments, MeetsPlanned};
+ghost use Rattle.ax_engine.specs.PolicyNow.{policy_now};
 ghost use Rattle.ax_engine.specs.Printing.{IsPrinted};
-ghost use Rattle.ax_engine.specs.Replies.{AreRows, FitsRefusal, IsReply, OnRows, own_refusal};
+ghost use Rattle.ax_engine.specs.Replies.{AreRows, FitsRefusal, IsReply, own_refusal};
 ghost use Rattle.ax_engine.specs.Scans.{IsReady, Scans};
 ghost use Rattle.ax_engine.specs.StoreSays.{text_of};
 
+use crate::candidates::{Candidates, candidates_of};
+use crate::policy_now::current_policy;
 use crate::reading::{fetch_document, next_held, text_fault};
 use crate::reply::Reply;
 use crate::rows::{Rows, rows_shown};
@@ -36,47 +49,55 @@ use ax_lines::{Body, Refusal};
 use ax_machine::refusal_of;
 use ax_mean::{KeyedRow, Query};
 use ax_parse::{ParseFault, parse};
-use ax_policy::Policy;
+use ax_policy::PolicyTable;
+use ax_skips::laws::candidates_have_the_answer;
 use ax_store::{ReadAhead, Store, StoreFault};
 use ax_tree::Memory;
 use std::alloc::Global;
 use std::sync::ledger::Ledger;
 
-/// The reply to a query under a policy, which changes nothing: a refusal where the body's text is no
-/// query, or one for whose ORDER BY the policy keeps no order; else the rows of its answer over all documents, and how
-/// many there are. Each document that is fetched to find the rows takes one step of work, and each that is
-/// evaluated another.
+/// The reply to a query under the policies of a table, which changes nothing: a refusal where the body's text is no
+/// query, or one for whose ORDER BY the policy now keeps no order; else the rows of its answer over all documents, and how
+/// many there are. It looks only at the documents that the query's plan leaves: each of them takes one step of work where it
+/// is fetched, and another where it is evaluated.
 ///
-/// `Disk` where a read failed; `Damaged` where the text of a document that was evaluated is outside the
-/// format, with the place of its part; `Memory`.
+/// `Disk` where a read failed; `Damaged` where a part of the index that was read, or the text of a document that was
+/// evaluated, is outside the format, with the place of its part; `Memory`.
 pub(crate) fn reply_to_query<D: Disk, C: PageCache, L: Ledger>(
     alloc: Global,
     store: &mut Store<C>,
     disk: &mut D,
-    ahead: &mut ReadAhead,
-    policy: &Policy,
+    table: &PolicyTable,
     body: &Body,
     steps: &mut Steps<L>,
 ) -> Result<Reply, StoreFault>
-    requires ready { IsReady C.pages (D.is_honest disk.old) store.old ahead.old (D.history disk.old (D.attached disk.old)) }
-    ensures reply { IsTrue (D.is_honest disk.old) → (container : Container) → ContentsHold (store_contents store.old) container
+    requires works { store_failed store.old ≡ false }
+    requires free { 2 ≤ free_count (store_slots store.old) }
+    requires agrees { AgreesUnlessFailed C.pages (D.is_honest disk.old) store.old (D.history disk.old (D.attached disk.old)) }
+    ensures reply { IsTrue (D.is_honest disk.old) → (container : Container)
+        → ContentsHoldAll (store_contents store.old) container → AreInUse table.now container
         → IfOk result (λ reply. IsReply reply
-        (rows_reply (rows_under policy.now (query_in body.now.params body.now.text) container))) }
-    ensures fits { IfOk result (λ reply. FitsRefusal (own_refusal policy.now (query_in body.now.params body.now.text)) reply) }
+        (rows_reply (rows_under (policy_now table.now) (query_in body.now.params body.now.text) container))) }
+    ensures fits { IfOk result (λ reply. FitsRefusal (own_refusal (policy_now table.now) (query_in body.now.params body.now.text)) reply) }
     ensures met { IsTrue (D.is_honest disk.old) → (query : queries.Query) → query_in body.now.params body.now.text ≡ Some query
-        → IfOk result (λ reply. OnRows reply (MeetsDocuments query (store_contents store.old))) }
-    ensures bound { (container : Container) → ContentsHold (store_contents store.old) container
-        → steps.new ≤ steps.old
-        + 2 * query_need (rows_under policy.now (query_in body.now.params body.now.text) container) container }
+        → IfOk result (λ reply. IfRows reply (MeetsPlanned table.now query (store_contents store.old))) }
+    ensures few { IsTrue (D.is_honest disk.old) → (query : queries.Query) → query_in body.now.params body.now.text ≡ Some query
+        → CountsPlanned table.now query (store_contents store.old) steps.old steps.new }
+    ensures none { (why : refusals.Refusal) → own_refusal (policy_now table.now) (query_in body.now.params body.now.text) ≡ Some why
+        → steps.new ≡ steps.old }
+    ensures bound { IsTrue (D.is_honest disk.old) → (container : Container)
+        → ContentsHoldAll (store_contents store.old) container → HasJustPolicies table.now container → steps.new ≤ steps.old
+        + 2 * query_need (rows_under (policy_now table.now) (query_in body.now.params body.now.text) container)
+        (query_in body.now.params body.now.text) container }
     ensures never_falls { steps.old ≤ steps.new }
-    ensures scans { Scans C.pages (D.is_honest disk.old) result store.old store.new ahead.new
+    ensures looks { Looks C.pages (D.is_honest disk.old) result store.old store.new
         (D.history disk.old (D.attached disk.old)) (D.history disk.new (D.attached disk.new))
         (D.faults disk.old) (D.faults disk.new) }
     ensures attached { D.attached disk.new ≡ D.attached disk.old }
     ensures honest { D.is_honest disk.new ≡ D.is_honest disk.old }
 {
     match query_of(alloc, body) {
-        Ok(Some(query)) => reply_to_read(alloc, store, disk, ahead, policy, query, steps),
+        Ok(Some(query)) => reply_to_read(alloc, store, disk, table, query, steps),
         Ok(None) => Ok(Reply::Refused(Refusal::Query)),
         Err(_) => Err(StoreFault::Memory),
     }
@@ -94,56 +115,107 @@ fn query_of(alloc: Global, body: &Body) -> Result<Option<Query>, Memory>
     }
 }
 
-/// The reply to a query that was read, under a policy.
+/// The reply to a query that was read, under the policies of a table.
 #[tactic(auto, using(crate::proofs::OwnRefusals::is_answered))]
 fn reply_to_read<D: Disk, C: PageCache, L: Ledger>(
     alloc: Global,
     store: &mut Store<C>,
     disk: &mut D,
-    ahead: &mut ReadAhead,
-    policy: &Policy,
+    table: &PolicyTable,
     query: Query,
     steps: &mut Steps<L>,
 ) -> Result<Reply, StoreFault>
-    requires ready { IsReady C.pages (D.is_honest disk.old) store.old ahead.old (D.history disk.old (D.attached disk.old)) }
-    ensures reply { IsTrue (D.is_honest disk.old) → (container : Container) → ContentsHold (store_contents store.old) container
-        → IfOk result (λ reply. IsReply reply (rows_reply (rows_under policy.now (Some query) container))) }
-    ensures fits { IfOk result (λ reply. FitsRefusal (own_refusal policy.now (Some query)) reply) }
+    requires works { store_failed store.old ≡ false }
+    requires free { 2 ≤ free_count (store_slots store.old) }
+    requires agrees { AgreesUnlessFailed C.pages (D.is_honest disk.old) store.old (D.history disk.old (D.attached disk.old)) }
+    ensures reply { IsTrue (D.is_honest disk.old) → (container : Container)
+        → ContentsHoldAll (store_contents store.old) container → AreInUse table.now container
+        → IfOk result (λ reply. IsReply reply (rows_reply (rows_under (policy_now table.now) (Some query) container))) }
+    ensures fits { IfOk result (λ reply. FitsRefusal (own_refusal (policy_now table.now) (Some query)) reply) }
     ensures met { IsTrue (D.is_honest disk.old)
-        → IfOk result (λ reply. OnRows reply (MeetsDocuments query (store_contents store.old))) }
-    ensures bound { (container : Container) → ContentsHold (store_contents store.old) container
-        → steps.new ≤ steps.old + 2 * query_need (rows_under policy.now (Some query) container) container }
+        → IfOk result (λ reply. IfRows reply (MeetsPlanned table.now query (store_contents store.old))) }
+    ensures few { IsTrue (D.is_honest disk.old) → CountsPlanned table.now query (store_contents store.old) steps.old steps.new }
+    ensures none { (why : refusals.Refusal) → own_refusal (policy_now table.now) (Some query) ≡ Some why → steps.new ≡ steps.old }
+    ensures bound { IsTrue (D.is_honest disk.old) → (container : Container)
+        → ContentsHoldAll (store_contents store.old) container → HasJustPolicies table.now container → steps.new ≤ steps.old
+        + 2 * query_need (rows_under (policy_now table.now) (Some query) container) (Some query) container }
     ensures never_falls { steps.old ≤ steps.new }
-    ensures scans { Scans C.pages (D.is_honest disk.old) result store.old store.new ahead.new
+    ensures looks { Looks C.pages (D.is_honest disk.old) result store.old store.new
         (D.history disk.old (D.attached disk.old)) (D.history disk.new (D.attached disk.new))
         (D.faults disk.old) (D.faults disk.new) }
     ensures attached { D.attached disk.new ≡ D.attached disk.old }
     ensures honest { D.is_honest disk.new ≡ D.is_honest disk.old }
 {
-    if let Some(refusal) = refusal_of(&query, policy) {
+    if let Some(refusal) = refusal_of(&query, current_policy(table)) {
         drop(query);
         return Ok(Reply::Refused(refusal));
     }
-    match rows_of_query(alloc, store, disk, ahead, query, steps) {
+    match rows_by_plan(alloc, store, disk, table, query, steps) {
         Ok(rows) => Ok(Reply::Rows(rows)),
         Err(fault) => Err(fault),
     }
 }
 
-/// The rows of a query that is not refused.
+/// The rows of a query that is not refused: it looks at the documents that its plan leaves.
+fn rows_by_plan<D: Disk, C: PageCache, L: Ledger>(
+    alloc: Global,
+    store: &mut Store<C>,
+    disk: &mut D,
+    table: &PolicyTable,
+    query: Query,
+    steps: &mut Steps<L>,
+) -> Result<Rows, StoreFault>
+    requires kept { is_orderable (policy_now table.now) query.orders ≡ true }
+    requires works { store_failed store.old ≡ false }
+    requires free { 2 ≤ free_count (store_slots store.old) }
+    requires agrees { AgreesUnlessFailed C.pages (D.is_honest disk.old) store.old (D.history disk.old (D.attached disk.old)) }
+    ensures rows { IsTrue (D.is_honest disk.old) → (container : Container)
+        → ContentsHoldAll (store_contents store.old) container → AreInUse table.now container
+        → IfOk result (λ rows. AreRows rows (rows_of query container)) }
+    ensures met { IsTrue (D.is_honest disk.old) → IfOk result (MeetsPlanned table.now query (store_contents store.old)) }
+    ensures few { IsTrue (D.is_honest disk.old) → CountsPlanned table.now query (store_contents store.old) steps.old steps.new }
+    ensures bound { IsTrue (D.is_honest disk.old) → (container : Container)
+        → ContentsHoldAll (store_contents store.old) container → HasJustPolicies table.now container
+        → steps.new ≤ steps.old + 2 * need_of_query query container }
+    ensures never_falls { steps.old ≤ steps.new }
+    ensures looks { Looks C.pages (D.is_honest disk.old) result store.old store.new
+        (D.history disk.old (D.attached disk.old)) (D.history disk.new (D.attached disk.new))
+        (D.faults disk.old) (D.faults disk.new) }
+    ensures attached { D.attached disk.new ≡ D.attached disk.old }
+    ensures honest { D.is_honest disk.new ≡ D.is_honest disk.old }
+{
+    let found = candidates_of(alloc, store, disk, table, &query);
+    let candidates = match found {
+        Ok(candidates) => candidates,
+        Err(fault) => {
+            drop(query);
+            return Err(fault);
+        }
+    };
+    let mut ahead = ReadAhead::new(alloc);
+    let rows = rows_of_query(alloc, store, disk, &mut ahead, query, &candidates, steps);
+    drop(candidates);
+    rows
+}
+
+/// The rows of a query over these documents, which are those of its answer over all where they have all that have rows
+/// in it.
 fn rows_of_query<D: Disk, C: PageCache, L: Ledger>(
     alloc: Global,
     store: &mut Store<C>,
     disk: &mut D,
     ahead: &mut ReadAhead,
     query: Query,
+    candidates: &Candidates,
     steps: &mut Steps<L>,
 ) -> Result<Rows, StoreFault>
     requires ready { IsReady C.pages (D.is_honest disk.old) store.old ahead.old (D.history disk.old (D.attached disk.old)) }
     ensures rows { IsTrue (D.is_honest disk.old) → (container : Container) → ContentsHold (store_contents store.old) container
-        → IfOk result (λ rows. AreRows rows (rows_of query container)) }
-    ensures met { IsTrue (D.is_honest disk.old) → OnOk result (MeetsDocuments query (store_contents store.old)) }
-    ensures bound { (container : Container) → ContentsHold (store_contents store.old) container → steps.new ≤ steps.old + 2 * length container.entries }
+        → HasAllOf query candidates.now container → IfOk result (λ rows. AreRows rows (rows_of query container)) }
+    ensures none { AreNone candidates.now → IfOk result (AreRowsOfNone query) }
+    ensures met { IsTrue (D.is_honest disk.old)
+        → OnOk result (MeetsDocuments (IsAmong candidates.now) query (store_contents store.old)) }
+    ensures bound { CountsTwoEach candidates.now (store_contents store.old) steps.old steps.new }
     ensures never_falls { steps.old ≤ steps.new }
     ensures scans { Scans C.pages (D.is_honest disk.old) result store.old store.new ahead.new
         (D.history disk.old (D.attached disk.old)) (D.history disk.new (D.attached disk.new))
@@ -155,10 +227,10 @@ fn rows_of_query<D: Disk, C: PageCache, L: Ledger>(
         drop(query);
         return Err(StoreFault::Memory);
     };
-    if is_printed {
-        return rows_of_documents(alloc, store, disk, ahead, query, steps);
+    if is_printed && !candidates.is_empty() {
+        return rows_of_documents(alloc, store, disk, ahead, query, candidates, steps);
     }
-    let rows = answer_rows(alloc, store, disk, ahead, &query, steps);
+    let rows = answer_rows(alloc, store, disk, ahead, &query, candidates, steps);
     drop(query);
     let rows = match rows {
         Ok(rows) => rows,
@@ -197,14 +269,16 @@ fn rows_of_documents<D: Disk, C: PageCache, L: Ledger>(
     disk: &mut D,
     ahead: &mut ReadAhead,
     query: Query,
+    candidates: &Candidates,
     steps: &mut Steps<L>,
 ) -> Result<Rows, StoreFault>
     requires printed { IsPrinted query }
     requires ready { IsReady C.pages (D.is_honest disk.old) store.old ahead.old (D.history disk.old (D.attached disk.old)) }
     ensures rows { IsTrue (D.is_honest disk.old) → (container : Container) → ContentsHold (store_contents store.old) container
-        → IfOk result (λ rows. AreRows rows (rows_of query container)) }
-    ensures met { IsTrue (D.is_honest disk.old) → OnOk result (MeetsDocuments query (store_contents store.old)) }
-    ensures bound { (container : Container) → ContentsHold (store_contents store.old) container → steps.new ≤ steps.old + 2 * length container.entries }
+        → HasAllOf query candidates.now container → IfOk result (λ rows. AreRows rows (rows_of query container)) }
+    ensures met { IsTrue (D.is_honest disk.old)
+        → OnOk result (MeetsDocuments (IsAmong candidates.now) query (store_contents store.old)) }
+    ensures bound { CountsTwoEach candidates.now (store_contents store.old) steps.old steps.new }
     ensures never_falls { steps.old ≤ steps.new }
     ensures scans { Scans C.pages (D.is_honest disk.old) result store.old store.new ahead.new
         (D.history disk.old (D.attached disk.old)) (D.history disk.new (D.attached disk.new))
@@ -215,7 +289,7 @@ fn rows_of_documents<D: Disk, C: PageCache, L: Ledger>(
     let Ok(keys) = keys_of(alloc, query) else {
         return Err(StoreFault::Memory);
     };
-    let rows = answer_rows(alloc, store, disk, ahead, &keys, steps);
+    let rows = answer_rows(alloc, store, disk, ahead, &keys, candidates, steps);
     drop(keys);
     match rows {
         Ok(rows) => document_rows(alloc, store, disk, ahead, rows.as_slice()),
@@ -223,23 +297,26 @@ fn rows_of_documents<D: Disk, C: PageCache, L: Ledger>(
     }
 }
 
-/// The rows of the answer over all documents.
+/// The rows of the answer over these documents.
 fn answer_rows<D: Disk, C: PageCache, L: Ledger>(
     alloc: Global,
     store: &mut Store<C>,
     disk: &mut D,
     ahead: &mut ReadAhead,
     query: &Query,
+    candidates: &Candidates,
     steps: &mut Steps<L>,
 ) -> Result<Vec<KeyedRow>, StoreFault>
     requires ready { IsReady C.pages (D.is_honest disk.old) store.old ahead.old (D.history disk.old (D.attached disk.old)) }
     ensures rows { IsTrue (D.is_honest disk.old) → (container : Container) → ContentsHold (store_contents store.old) container
+        → HasAllOf query.now candidates.now container
         → IfOk result (λ rows. rows.items ≡ answer_of query.now (numbered container)) }
+    ensures none { AreNone candidates.now → IfOk result (λ rows. rows.items ≡ answer_of query.now []) }
     ensures met { IsTrue (D.is_honest disk.old) → query.now.limit ≡ None
-        → OnOk result (AreDocuments (IsTakenWhole query.now) (store_contents store.old)) }
-    ensures fetched { (container : Container) → ContentsHold (store_contents store.old) container
-        → query.now.limit ≡ None → OnOk result (steps.old + length container.entries ≤ steps.new) }
-    ensures bound { (container : Container) → ContentsHold (store_contents store.old) container → steps.new ≤ steps.old + 2 * length container.entries }
+        → OnOk result (AreDocuments (IsAmong candidates.now) (IsTakenWhole query.now) (store_contents store.old)) }
+    ensures fetched { query.now.limit ≡ None
+        → OnOk result (CountsOneEach candidates.now (store_contents store.old) steps.old steps.new) }
+    ensures bound { CountsTwoEach candidates.now (store_contents store.old) steps.old steps.new }
     ensures never_falls { steps.old ≤ steps.new }
     ensures scans { Scans C.pages (D.is_honest disk.old) result store.old store.new ahead.new
         (D.history disk.old (D.attached disk.old)) (D.history disk.new (D.attached disk.new))
@@ -250,7 +327,7 @@ fn answer_rows<D: Disk, C: PageCache, L: Ledger>(
     let Ok(mut answer) = TextAnswer::begin(alloc, query) else {
         return Err(StoreFault::Memory);
     };
-    if let Err(fault) = add_documents(alloc, store, disk, ahead, &mut answer, steps) {
+    if let Err(fault) = add_candidates(alloc, store, disk, ahead, candidates, &mut answer, steps) {
         drop(answer);
         return Err(fault);
     }
@@ -260,7 +337,87 @@ fn answer_rows<D: Disk, C: PageCache, L: Ledger>(
     }
 }
 
-/// Takes documents into the answer in the order of their numbers, all or as many as can change it. The
+/// Takes these documents into the answer in the order of their numbers, all or as many as can change it.
+fn add_candidates<D: Disk, C: PageCache, L: Ledger>(
+    alloc: Global,
+    store: &mut Store<C>,
+    disk: &mut D,
+    ahead: &mut ReadAhead,
+    candidates: &Candidates,
+    answer: &mut TextAnswer<'_>,
+    steps: &mut Steps<L>,
+) -> Result<(), StoreFault>
+    requires ready { IsReady C.pages (D.is_honest disk.old) store.old ahead.old (D.history disk.old (D.attached disk.old)) }
+    ensures added { IsTrue (D.is_honest disk.old) → (container : Container) → ContentsHold (store_contents store.old) container
+        → (query : queries.Query) → HasAllOf query candidates.now container → Answers answer.old query []
+        → OnOk result (Answers answer.new query (numbered container)) }
+    ensures none { AreNone candidates.now → (query : queries.Query) → Answers answer.old query []
+        → OnOk result (Answers answer.new query []) }
+    ensures met { IsTrue (D.is_honest disk.old) → (query : queries.Query) → IsTo answer.old query → query.limit ≡ None
+        → OnOk result (AreDocuments (IsAmong candidates.now) (IsTakenWhole query) (store_contents store.old)) }
+    ensures fetched { (query : queries.Query) → IsTo answer.old query → query.limit ≡ None
+        → OnOk result (CountsOneEach candidates.now (store_contents store.old) steps.old steps.new) }
+    ensures bound { CountsTwoEach candidates.now (store_contents store.old) steps.old steps.new }
+    ensures never_falls { steps.old ≤ steps.new }
+    ensures scans { Scans C.pages (D.is_honest disk.old) result store.old store.new ahead.new
+        (D.history disk.old (D.attached disk.old)) (D.history disk.new (D.attached disk.new))
+        (D.faults disk.old) (D.faults disk.new) }
+    ensures attached { D.attached disk.new ≡ D.attached disk.old }
+    ensures honest { D.is_honest disk.new ≡ D.is_honest disk.old }
+{
+    match candidates {
+        Candidates::All => add_documents(alloc, store, disk, ahead, answer, steps),
+        Candidates::Numbers(numbers) => {
+            candidates_have_the_answer();
+            if numbers.as_slice().is_empty() {
+                return Ok(());
+            }
+            add_numbered(alloc, store, disk, ahead, numbers.as_slice(), answer, steps)
+        }
+    }
+}
+
+/// Takes the documents of these numbers into the answer, in this order, or as many as can change it; under a number that
+/// is not held there is none. A text that is none of a document is damage, where the query reads it: then nothing is
+/// answered.
+fn add_numbered<D: Disk, C: PageCache, L: Ledger>(
+    alloc: Global,
+    store: &mut Store<C>,
+    disk: &mut D,
+    ahead: &mut ReadAhead,
+    numbers: &[u32],
+    answer: &mut TextAnswer<'_>,
+    steps: &mut Steps<L>,
+) -> Result<(), StoreFault>
+    requires ready { IsReady C.pages (D.is_honest disk.old) store.old ahead.old (D.history disk.old (D.attached disk.old)) }
+    ensures added { IsTrue (D.is_honest disk.old) → (container : Container) → ContentsHold (store_contents store.old) container
+        → (query : queries.Query) → Answers answer.old query []
+        → OnOk result (Answers answer.new query (fetched_of numbers.now container)) }
+    ensures met { IsTrue (D.is_honest disk.old) → (query : queries.Query) → IsTo answer.old query → query.limit ≡ None
+        → OnOk result (AreDocuments (λ number. has_number number numbers.now ≡ true) (IsTakenWhole query) (store_contents store.old)) }
+    ensures fetched { (query : queries.Query) → IsTo answer.old query → query.limit ≡ None
+        → OnOk result (steps.old + length numbers.now ≤ steps.new) }
+    ensures bound { steps.new ≤ steps.old + 2 * length numbers.now }
+    ensures never_falls { steps.old ≤ steps.new }
+    ensures scans { Scans C.pages (D.is_honest disk.old) result store.old store.new ahead.new
+        (D.history disk.old (D.attached disk.old)) (D.history disk.new (D.attached disk.new))
+        (D.faults disk.old) (D.faults disk.new) }
+    ensures attached { D.attached disk.new ≡ D.attached disk.old }
+    ensures honest { D.is_honest disk.new ≡ D.is_honest disk.old }
+{
+    for number in numbers {
+        if answer.is_done() {
+            return Ok(());
+        }
+        match add_document(alloc, store, disk, ahead, *number, answer, steps) {
+            Ok(()) => {}
+            Err(fault) => return Err(fault),
+        }
+    }
+    Ok(())
+}
+
+/// Takes all documents into the answer in the order of their numbers, or as many as can change it. The
 /// first text of these that is none of a document is damage, where the query reads it: then nothing is
 /// answered.
 fn add_documents<D: Disk, C: PageCache, L: Ledger>(
@@ -276,7 +433,7 @@ fn add_documents<D: Disk, C: PageCache, L: Ledger>(
         → (query : queries.Query) → Answers answer.old query []
         → OnOk result (Answers answer.new query (numbered container)) }
     ensures met { IsTrue (D.is_honest disk.old) → (query : queries.Query) → IsTo answer.old query → query.limit ≡ None
-        → OnOk result (AreDocuments (IsTakenWhole query) (store_contents store.old)) }
+        → OnOk result (AreDocuments (λ number. Unit {0}) (IsTakenWhole query) (store_contents store.old)) }
 
     // Without a limit each document is fetched, for one step of work.
     ensures fetched { (container : Container) → ContentsHold (store_contents store.old) container
@@ -304,8 +461,8 @@ fn add_documents<D: Disk, C: PageCache, L: Ledger>(
     Ok(())
 }
 
-/// Takes a document that is held into the answer, for one step of work or two. A text that is none of a
-/// document is damage.
+/// Takes the document of a number into the answer, for one step of work or two; nothing, where none is held. A text that
+/// is none of a document is damage.
 fn add_document<D: Disk, C: PageCache, L: Ledger>(
     alloc: Global,
     store: &mut Store<C>,
@@ -315,16 +472,19 @@ fn add_document<D: Disk, C: PageCache, L: Ledger>(
     answer: &mut TextAnswer<'_>,
     steps: &mut Steps<L>,
 ) -> Result<(), StoreFault>
-    requires held { IsTrue (map.contains_key (store_contents store.old).documents number) }
     requires ready { IsReady C.pages (D.is_honest disk.old) store.old ahead.old (D.history disk.old (D.attached disk.old)) }
     ensures added { IsTrue (D.is_honest disk.old) → (tree : TreeOf)
-        → text_of (map.get (store_contents store.old).documents number) ≡ Some (canonical_text tree)
+        → text_of (finite.get (store_contents store.old).documents number) ≡ Some (canonical_text tree)
         → IsStorable tree → OnOk result ((query : queries.Query) → (entries : List (ℕ × TreeOf))
         → Answers answer.old query entries → Answers answer.new query (entries ++ (number, tree) ∷ [])) }
 
+    ensures unheld { finite.get (store_contents store.old).documents number ≡ None
+        → OnOk result ((query : queries.Query) → (entries : List (ℕ × TreeOf))
+        → Answers answer.old query entries → Answers answer.new query entries) }
+
     // Bytes that are read whole and are no document's are never taken in, and passed over by a condition alone.
     ensures outside { IsTrue (D.is_honest disk.old) → (text : List ℕ)
-        → text_of (map.get (store_contents store.old).documents number) ≡ Some text
+        → text_of (finite.get (store_contents store.old).documents number) ≡ Some text
         → (query : queries.Query) → IsTo answer.old query → IsTakenWhole query text
         → OnOk result (IsDocumentText newest text) }
     ensures asked { (query : queries.Query) → IsTo answer.old query → IsTo answer.new query }
@@ -337,7 +497,8 @@ fn add_document<D: Disk, C: PageCache, L: Ledger>(
     ensures honest { D.is_honest disk.new ≡ D.is_honest disk.old }
 {
     match fetch_document(store, disk, ahead, number, steps) {
-        Ok(_) => {}
+        Ok(true) => {}
+        Ok(false) => return Ok(()),
         Err(fault) => return Err(fault),
     }
     match answer.add(alloc, number, ahead.text(), steps) {

@@ -56,6 +56,7 @@ pub(crate) fn fetch_document<D: Disk, C: PageCache, L: Ledger>(
     requires ready { IsReady C.pages (D.is_honest disk.old) store.old ahead.old (D.history disk.old (D.attached disk.old)) }
     ensures text { IsTrue (D.is_honest disk.old)
         → IfOk result (λ found. IsAhead (map.get (store_contents store.old).documents number) found (ahead_text ahead.new)) }
+    ensures found { IfOk result (λ found. found ≡ map.contains_key (store_contents store.old).documents number) }
     ensures scans { Scans C.pages (D.is_honest disk.old) result store.old store.new ahead.new
         (D.history disk.old (D.attached disk.old)) (D.history disk.new (D.attached disk.new))
         (D.faults disk.old) (D.faults disk.new) }

@@ -14,24 +14,20 @@ use Rattle.ax_engine.proofs.querying.add_document.Goals as goal
 
 pub returns-in-Err-add-clause-scans : goal.returns-in-Err-add-clause-scans
 returns-in-Err-add-clause-scans g c =
-    let same = c.in-Ok.ensures.scans.same.pages in
+    let same = c.in-Ok-true.ensures.scans.same.pages in
     text_fails g.C.PageCache.pages _ c.in-Err-add.fault c.text_fault.result _ c.fetch_document.new.store c.fetch_document.new.ahead _ _ _ _
-    c.args.number (ahead_text c.fetch_document.new.ahead) c.in-Ok.field-0 c.in-Ok.ensures.scans
-    (subst (λ (kept : Kept). IsTrue (map.contains_key (kept_says kept).documents c.args.number)) (sym same) c.requires.held)
-    (λ honest. subst (λ (kept : Kept). IsAhead (map.get (kept_says kept).documents c.args.number) c.in-Ok.field-0
-    (ahead_text c.fetch_document.new.ahead)) (sym same) (c.in-Ok.ensures.text honest))
+    c.args.number (ahead_text c.fetch_document.new.ahead) c.in-Ok-true.field-0 c.in-Ok-true.ensures.scans
+    (subst (λ (kept : Kept). IsTrue (map.contains_key (kept_says kept).documents c.args.number)) (sym same)
+    (sym c.in-Ok-true.ensures.found ∙ c.in-Ok-true.field-0-test))
+    (λ honest. subst (λ (kept : Kept). IsAhead (map.get (kept_says kept).documents c.args.number) c.in-Ok-true.field-0
+    (ahead_text c.fetch_document.new.ahead)) (sym same) (c.in-Ok-true.ensures.text honest))
     (λ tree is storable outside. c.add.ensures.inside tree (c.text.ensures ∙ is) storable
     (c.in-Err-add.is ∙ ap (λ why. Err why) outside))
     c.text_fault.ensures.memory c.text_fault.ensures.outside
 
-pub returns-in-Ok-add-clause-added : goal.returns-in-Ok-add-clause-added
-returns-in-Ok-add-clause-added g c = λ honest tree is storable query entries answers.
-    c.in-Ok-add.ensures.added tree (c.text.ensures ∙ text_ahead _ _ _ _ (c.in-Ok.ensures.text honest) is) storable
-    query entries answers
-
-pub returns-in-Ok-add-clause-outside : goal.returns-in-Ok-add-clause-outside
-returns-in-Ok-add-clause-outside g c = λ honest text is query asked taken.
-    let same = c.text.ensures ∙ text_ahead _ _ _ _ (c.in-Ok.ensures.text honest) is in
+pub returns-in-Ok-clause-outside : goal.returns-in-Ok-clause-outside
+returns-in-Ok-clause-outside g c = λ honest text is query asked taken.
+    let same = c.text.ensures ∙ text_ahead _ _ _ _ (c.in-Ok-true.ensures.text honest) is in
     subst (IsDocumentText newest) same
-    (of_document _ (taken_whole c.args.answer.now query _ asked c.in-Ok-add.ensures.outside c.in-Ok-add.ensures.kept
+    (of_document _ (taken_whole c.args.answer.now query _ asked c.in-Ok.ensures.outside c.in-Ok.ensures.kept
     (subst (IsTakenWhole query) (sym same) taken)))

@@ -73,9 +73,10 @@ texts-preserved g c =
       honest = c.in-Ok.ensures.honest ∙ inv.honest;
     }
 
-pub add_document-requires-clause-ready : goal.add_document-requires-clause-ready
-add_document-requires-clause-ready g c =
-    ready_now g.C.PageCache.pages _ _ c.texts.store _ _ c.texts.invariant.honest c.texts.invariant.scans.ready
+pub add_document-requires : goal.add_document-requires
+add_document-requires g c = record {
+  ready = ready_now g.C.PageCache.pages _ _ c.texts.store _ _ c.texts.invariant.honest c.texts.invariant.scans.ready;
+}
 
 pub returns-then-is_done-clause-added : goal.returns-then-is_done-clause-added
 returns-then-is_done-clause-added g c = λ honest container hold query answers.

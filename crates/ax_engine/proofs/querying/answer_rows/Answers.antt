@@ -1,18 +1,24 @@
 -- The documents were taken in the order of their numbers.
+use Rattle.std.proofs.Common.{[]}
 use Rattle.ax_machine.specs.Querying.{numbered}
-use Rattle.ax_engine.proofs.Numbers.{numbers_rise}
+use Rattle.ax_engine.proofs.Numbers.{none_rise, numbers_rise}
 use Rattle.ax_engine.proofs.querying.answer_rows.Goals as goal
 
 pub returns-in-Ok-finish-clause-rows : goal.returns-in-Ok-finish-clause-rows
-returns-in-Ok-finish-clause-rows g c = λ honest container hold.
+returns-in-Ok-finish-clause-rows g c = λ honest container hold all.
     c.in-Ok-finish.ensures c.args.query.now (numbered container)
-    (c.in_default-add_documents.ensures.added honest container hold c.args.query.now c.in-Ok.ensures)
+    (c.in_default-add_candidates.ensures.added honest container hold c.args.query.now all c.in-Ok.ensures)
     (numbers_rise container hold.show.sound)
+
+pub returns-in-Ok-finish-clause-none : goal.returns-in-Ok-finish-clause-none
+returns-in-Ok-finish-clause-none g c = λ none.
+    c.in-Ok-finish.ensures c.args.query.now []
+    (c.in_default-add_candidates.ensures.none none c.args.query.now c.in-Ok.ensures) none_rise
 
 pub returns-in-Ok-finish-clause-met : goal.returns-in-Ok-finish-clause-met
 returns-in-Ok-finish-clause-met g c = λ honest unlimited.
-    c.in_default-add_documents.ensures.met honest c.args.query.now c.in-Ok.ensures.asked unlimited
+    c.in_default-add_candidates.ensures.met honest c.args.query.now c.in-Ok.ensures.asked unlimited
 
 pub returns-in-Ok-finish-clause-fetched : goal.returns-in-Ok-finish-clause-fetched
-returns-in-Ok-finish-clause-fetched g c = λ container hold unlimited.
-    c.in_default-add_documents.ensures.fetched container hold c.args.query.now c.in-Ok.ensures.asked unlimited
+returns-in-Ok-finish-clause-fetched g c = λ unlimited.
+    c.in_default-add_candidates.ensures.fetched c.args.query.now c.in-Ok.ensures.asked unlimited

@@ -7,18 +7,22 @@ use Rattle.ax_result.specs.Answers.{answer_of}
 use Rattle.ax_store.specs.Kept.{Kept}
 use Rattle.ax_store.specs.Store.{store_contents}
 use Rattle.ax_engine.specs.Replies.{AreRows}
+use Rattle.ax_engine.specs.Candidates.{HasAllOf, IsAmong}
 use Rattle.ax_engine.specs.Damage.{MeetsDocuments}
 use Rattle.ax_engine.specs.StoreSays.{kept_says}
 use Rattle.ax_engine.proofs.Damaging.{keys_met, on_ok}
+use Rattle.ax_engine.proofs.Choosing.{for_keys}
 use Rattle.ax_engine.proofs.Numbers.{shown_rows}
 use Rattle.ax_engine.proofs.Scanning.{scans_on}
 use Rattle.ax_engine.proofs.querying.rows_of_documents.Goals as goal
 
 pub returns-in-Ok-rows-clause-rows : goal.returns-in-Ok-rows-clause-rows
-returns-in-Ok-rows-clause-rows g c = λ honest container hold.
+returns-in-Ok-rows-clause-rows g c = λ honest container hold all.
+    let keys : HasAllOf c.in-Ok.keys c.args.candidates.now container =
+    for_keys c.args.query c.in-Ok.keys c.args.candidates.now container c.in-Ok.ensures all in
     subst (λ texts. IfOk c.document_rows.result (λ rows. AreRows rows texts))
     (shown_rows c.args.query container c.requires.printed.0 hold.show.sound c.as_slice.result.now
-    (c.as_slice.ensures.value ∙ c.in-Ok-rows.ensures.rows honest container hold
+    (c.as_slice.ensures.value ∙ c.in-Ok-rows.ensures.rows honest container hold keys
     ∙ ap (λ query. answer_of query (numbered container)) c.in-Ok.ensures))
     (c.document_rows.ensures.rows (subst IsTrue (sym c.in-Ok-rows.ensures.honest) honest) container
     (subst (λ (kept : Kept). ContentsHold (kept_says kept) container) (sym c.in-Ok-rows.ensures.scans.same.pages) hold))
@@ -30,6 +34,6 @@ returns-in-Ok-rows-clause-scans g c =
 
 pub returns-in-Ok-rows-clause-met : goal.returns-in-Ok-rows-clause-met
 returns-in-Ok-rows-clause-met g c = λ honest.
-    on_ok c.document_rows.result (MeetsDocuments c.args.query (store_contents c.args.store.now))
-    (keys_met c.args.query _ (store_contents c.args.store.now) c.in-Ok.ensures c.requires.printed
+    on_ok c.document_rows.result (MeetsDocuments (IsAmong c.args.candidates.now) c.args.query (store_contents c.args.store.now))
+    (keys_met (IsAmong c.args.candidates.now) c.args.query _ (store_contents c.args.store.now) c.in-Ok.ensures c.requires.printed
     (c.in-Ok-rows.ensures.met honest))

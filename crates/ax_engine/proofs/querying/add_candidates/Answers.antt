@@ -1,0 +1,50 @@
+-- Whichever documents they are, the answer over them is that over all.
+use Rattle.std.proofs.Common.{◌≡◌, ℕ, List, OnOk, subst, sym, true, ◌∙◌}
+use Rattle.ax_answer_text.specs.Parts.{IsTakenWhole}
+use Rattle.ax_answer_text.specs.TextAnswers.{Answers}
+use Rattle.ax_delta.specs.Said.{has_number}
+use Rattle.ax_machine.specs.Querying.{numbered}
+use Rattle.ax_skips.specs.Chosen.{fetched}
+use Rattle.ax_store.specs.Store.{store_contents}
+use Rattle.ax_engine.specs.Candidates.{CountsOneEach, HasAllOf, IsAmong}
+use Rattle.ax_engine.specs.Damage.{AreDocuments}
+use Rattle.ax_engine.proofs.ByNumbers.{all_by_law, counts_each, nil_of, on_ok_by}
+use Rattle.ax_engine.proofs.querying.add_candidates.Goals as goal
+
+pub returns-then-is_empty-clause-added : goal.returns-then-is_empty-clause-added
+returns-then-is_empty-clause-added g c = λ honest container hold query all answers.
+    let numbers = c.in-Numbers.numbers.items in
+    all_by_law c.candidates_have_the_answer.ensures.taken c.args.answer.now query container numbers
+    (subst (λ found. HasAllOf query found container) c.in-Numbers.is all)
+    (subst (λ (list : List ℕ). Answers c.args.answer.now query (fetched list container))
+    (sym (sym c.as_slice.ensures.value ∙ nil_of c.as_slice.result.now c.if-is_empty.ensures)) answers)
+
+pub returns-in-All-clause-met : goal.returns-in-All-clause-met
+returns-in-All-clause-met g c = λ honest query asked unlimited.
+    subst (λ found. OnOk c.add_documents.result
+    (AreDocuments (IsAmong found) (IsTakenWhole query) (store_contents c.args.store.now))) (sym c.in-All.is)
+    (c.add_documents.ensures.met honest query asked unlimited)
+
+pub returns-in-All-clause-fetched : goal.returns-in-All-clause-fetched
+returns-in-All-clause-fetched g c = λ query asked unlimited.
+    subst (λ found. OnOk c.add_documents.result
+    (CountsOneEach found (store_contents c.args.store.now) c.args.steps.now c.add_documents.new.steps)) (sym c.in-All.is)
+    (counts_each c.add_documents.result (store_contents c.args.store.now) _ _
+    (λ container hold. c.add_documents.ensures.fetched container hold query asked unlimited))
+
+pub returns-else-is_empty-clause-added : goal.returns-else-is_empty-clause-added
+returns-else-is_empty-clause-added g c = λ honest container hold query all answers.
+    on_ok_by c.add_numbered.result (Answers c.add_numbered.new.answer query (fetched c.as_slice-in-Numbers.result.now container))
+    (Answers c.add_numbered.new.answer query (numbered container))
+    (λ taken. all_by_law c.candidates_have_the_answer.ensures.taken c.add_numbered.new.answer query container c.in-Numbers.numbers.items
+    (subst (λ found. HasAllOf query found container) c.in-Numbers.is all)
+    (subst (λ (list : List ℕ). Answers c.add_numbered.new.answer query (fetched list container)) c.as_slice-in-Numbers.ensures.value taken))
+    (c.add_numbered.ensures.added honest container hold query answers)
+
+pub returns-else-is_empty-clause-met : goal.returns-else-is_empty-clause-met
+returns-else-is_empty-clause-met g c = λ honest query asked unlimited.
+    let contents = store_contents c.args.store.now in
+    subst (λ found. OnOk c.add_numbered.result (AreDocuments (IsAmong found) (IsTakenWhole query) contents)) (sym c.in-Numbers.is)
+    (subst (λ (list : List ℕ). OnOk c.add_numbered.result
+    (AreDocuments (λ number. has_number number list ≡ true) (IsTakenWhole query) contents)) c.as_slice-in-Numbers.ensures.value
+    (c.add_numbered.ensures.met honest query asked unlimited))
