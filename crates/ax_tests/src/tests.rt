@@ -1,12 +1,5 @@
-mod bodies;
 mod caches;
-mod crashes;
-mod disks;
 mod faults;
-mod limits;
-mod lines;
+mod growth;
 mod outputs;
-mod plain_machine;
-mod queries;
-mod script;
 mod statuses;

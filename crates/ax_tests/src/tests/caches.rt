@@ -4,12 +4,12 @@ ghost use Rattle.std.specs.FinMap as map;
 ghost use Rattle.ax_disk.specs.mem_disk.MemDisk.{disk_history};
 ghost use Rattle.ax_engine.specs.Engine.{Works};
 
-use crate::tests::script::{ROOM, fresh_disk};
 use ax_base::{MemSink, Steps};
 use ax_cache::{LruPages, NoPages, PageCache};
 use ax_disk::MemDisk;
 use ax_engine::{Engine, Fault};
 use ax_script::{Status, serve_line};
+use ax_script_support::{ROOM, fresh_disk};
 use ax_tree::Text;
 use std::alloc::Global;
 use std::marker::Brand;
@@ -105,7 +105,7 @@ fn replies(alloc: Global) -> Result<Vec<u8>, Fail> {
 }
 
 /// The engine with this cache over the store of a disk.
-fn engine_over<C: PageCache + Drop, L: Ledger>(
+pub fn engine_over<C: PageCache + Drop, L: Ledger>(
     alloc: Global,
     disk: &mut MemDisk,
     cache: C,

@@ -1,5 +1,5 @@
-use crate::tests::script::{ROOM, output_of};
 use ax_script::Status;
+use ax_script_support::{ROOM, output_of};
 use std::test::Fail;
 
 const SCRIPT: &[u8] = b"UPSERT {\"id\":\"a\",\"n\":1}\nFOO\nQUERY {\"query\":\"SELECT * FROM c\"}";

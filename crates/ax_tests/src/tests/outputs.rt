@@ -1,6 +1,6 @@
-use crate::tests::limits::{built, with_numbers};
-use crate::tests::script::{ROOM, output_by_bytes, output_of};
+use ax_built_texts::{built, with_numbers};
 use ax_script::Status;
+use ax_script_support::{ROOM, output_by_bytes, output_of};
 use std::test::Fail;
 
 // The outputs by hand, from the meaning of each line.

@@ -1,6 +1,6 @@
-use crate::tests::script::{fresh_disk, run_words};
 use ax_base::{MemSink, MemSource};
 use ax_script::Status;
+use ax_script_support::{fresh_disk, run_words};
 use std::test::Fail;
 
 // By hand, from the list of exit codes.

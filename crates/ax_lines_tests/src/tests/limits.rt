@@ -1,22 +1,7 @@
 use crate::tests::lines::word_of;
+use ax_built_texts::{built, with_numbers};
 use std::alloc::{AllocError, Global};
 use std::test::Fail;
-
-/// A text, then a piece so many times, then another text.
-pub fn built(
-    alloc: Global,
-    front: &str,
-    piece: &str,
-    count: usize,
-    back: &str,
-) -> Result<String, AllocError> {
-    let mut line = String::from_str(alloc, front)?;
-    for _ in 0..count {
-        line.push_str(piece)?;
-    }
-    line.push_str(back)?;
-    Ok(line)
-}
 
 /// A text with lists that nest so many times in the middle.
 fn nested(alloc: Global, front: &str, count: usize) -> Result<String, AllocError> {
@@ -179,23 +164,6 @@ fn the_word_of_a_parameter_has_255_bytes_at_most(rt: HostRuntime) -> Result<(), 
         assert_eq!(rt; word_of(alloc, line.as_bytes()), expected, "{count}");
     }
     Ok(())
-}
-
-/// Two texts, and between them the numbers from 0 on, so many, with commas.
-pub fn with_numbers(
-    alloc: Global,
-    front: &str,
-    count: usize,
-    back: &str,
-) -> Result<String, AllocError> {
-    let mut line = String::from_str(alloc, front)?;
-    line.push_str("0")?;
-    for number in 1..count {
-        let item = format!(in alloc; ",{number}")?;
-        line.push_str(item.as_str())?;
-    }
-    line.push_str(back)?;
-    Ok(line)
 }
 
 // The term of the id's text is one. A number that stands twice has one term.

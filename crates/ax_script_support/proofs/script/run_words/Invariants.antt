@@ -1,5 +1,5 @@
 -- The ledger is that of the blank.
-use Rattle.ax_tests.proofs.tests.script.run_words.Given as goal
+use Rattle.ax_script_support.proofs.script.run_words.Given as goal
 
 abbrev pub ghosts-run_counted : goal.ghosts-run_counted
 ghosts-run_counted g a = record { name = a.blank.name; parts = a.blank.parts }

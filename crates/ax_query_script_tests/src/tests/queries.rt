@@ -1,8 +1,8 @@
 //! Queries through the whole program, each over a fresh store with a few documents. The replies are
 //! from the meaning of each form, worked out by hand. A reply's lines stand in one row here, with
 //! ` / ` between them.
-use crate::tests::script::{ROOM, output_of};
 use ax_script::Status;
+use ax_script_support::{ROOM, output_of};
 use std::alloc::Global;
 use std::process::Abort;
 use std::test::Fail;

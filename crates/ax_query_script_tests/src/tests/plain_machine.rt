@@ -1,6 +1,6 @@
-use crate::tests::script::{ROOM, output_by_bytes, output_of};
 use ax_plain::PlainMachine;
 use ax_script::Status;
+use ax_script_support::{ROOM, output_by_bytes, output_of};
 use std::alloc::{AllocError, Global};
 use std::process::Abort;
 use std::test::Fail;
@@ -109,7 +109,7 @@ const SOURCES: [&str; 6] = [
     "c.tags[1] AS c",
 ];
 
-const CONDITIONS: [&str; 10] = [
+const CONDITIONS: [&str; 17] = [
     "",
     "WHERE c.n > @k",
     "WHERE c.id >= 'd2' AND c.n % 2 = 0",
@@ -120,6 +120,13 @@ const CONDITIONS: [&str; 10] = [
     "WHERE IS_DEFINED(c.tags) AND t != 'x'",
     "WHERE c.zz",
     "WHERE",
+    "WHERE c.tags[2] = @k",
+    "WHERE c.n < 500 AND c.id > 'd2'",
+    "WHERE c.n <= '5' AND STARTSWITH(c.id, 'd1')",
+    "WHERE c.n BETWEEN @k AND 700",
+    "WHERE c.id IN ('d3', 'd17', 'd30')",
+    "WHERE ARRAY_CONTAINS(c.tags, @k)",
+    "WHERE @k <= c.n AND IS_DEFINED(c.tags[1])",
 ];
 
 const ENDINGS: [&str; 10] = [

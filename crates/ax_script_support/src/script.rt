@@ -16,12 +16,12 @@ pub const CALLS: usize = 4096;
 
 /// A source that gives one byte at each read.
 #[derive(Drop)]
-pub struct OneByteSource {
+struct OneByteSource {
     inner: MemSource,
 }
 
 impl OneByteSource {
-    pub fn new(inner: MemSource) -> OneByteSource {
+    fn new(inner: MemSource) -> OneByteSource {
         OneByteSource { inner }
     }
 }

@@ -1,9 +1,9 @@
 //! A run that the disk stops: what a later run finds is what was there after some of the lines, with
 //! every line whose reply was written, and it goes on from there.
-use crate::tests::script::{CALLS, ROOM, fresh_disk, output_over};
 use ax_disk::{Disk, FuseDisk, MemDisk};
 use ax_plain::PlainMachine;
 use ax_script::Status;
+use ax_script_support::{CALLS, ROOM, fresh_disk, output_over};
 use std::alloc::{AllocError, Global};
 use std::process::Abort;
 use std::test::Fail;

@@ -1,0 +1,3 @@
+mod bodies;
+mod limits;
+mod lines;

@@ -1,0 +1,3 @@
+mod filters;
+mod plain_machine;
+mod queries;
