@@ -20,8 +20,8 @@ use std::sync::ledger::Ledger;
 impl<C: PageCache> Store<C> {
     /// Finds the text of a document, which `ahead` shows from then on, and answers whether the number
     /// is held. Where the texts of the next numbers lie together with it, at most 8 KiB apart, and it lies
-    /// together with the text that was asked for last, they come from one read: of 16 KiB at first, and
-    /// then of four times the one before, up to 256 KiB. Else it is read alone, and so is the first. So a
+    /// together with the text that was found last, they come from one read: of 16 KiB at first, or of four
+    /// times the first text where that is more, and then of four times the read before, up to 256 KiB. Else it is read alone, and so is the first. So a
     /// scan in the order of numbers reads the disk once for many texts, and a query for one document reads
     /// its text and no more. The cache is not asked and not changed. No step is counted: this is for texts
     /// that are read again to be printed.

@@ -14,7 +14,7 @@ use ax_disk::{Disk, DiskFailed};
 use ax_log::Log;
 use std::alloc::{AllocError, Global};
 
-/// How many bytes the first read ahead takes.
+/// How many bytes the first read ahead may take at the least.
 const LEAST_AHEAD: u64 = 16_384;
 
 /// Texts that were read ahead: bytes of the area that counts, and which of them is the text that was
@@ -50,7 +50,7 @@ impl ReadAhead {
         }
     }
 
-    /// The text that was asked for last.
+    /// The text that was found last: of a number that is not held there is none, and this stays as it was.
     pub fn text(&self) -> &[u8]
         ensures { result.now ≡ ahead_text self.now }
     {
@@ -95,8 +95,8 @@ impl ReadAhead {
                 .is_some()
     }
 
-    /// How many bytes to read ahead at the most: four times what was read last, and a window in the end. So what a scan
-    /// reads in vain, where it stops, is no more than what it had use of.
+    /// How many bytes to read ahead at the most: four times what was read last, 16 KiB where that is more, and a window in
+    /// the end. So a scan that stops soon has read some four times what it had use of, or 16 KiB, and not a whole window.
     pub(crate) fn reach(&self) -> u64
         ensures { result ≤ WINDOW_BYTES }
     {
