@@ -1,5 +1,5 @@
--- What a store that was opened stands for with its index.
-use Rattle.std.proofs.Common.{◌≡◌, ◌⊎◌, inl, inr, ℕ, List, [], Result, Ok, Err, sym, ap, subst, arith}
+-- What a store that was opened stands for with its index, and which table of policies it has.
+use Rattle.std.proofs.Common.{◌≡◌, ◌⊎◌, inl, inr, refl, ℕ, Bool, List, [], Result, Ok, Err, Option, Some, None, IsSome, IsTrue, sym, ap, subst, arith}
 use Rattle.std.specs.List.{Contains}
 use Rattle.ax_area.proofs.OneOutcome.{one_contents}
 use Rattle.ax_area.specs.Contents.{Contents}
@@ -16,9 +16,13 @@ use Rattle.ax_disk.specs.model.Image.{Image}
 use Rattle.ax_disk.specs.model.Moments.{History}
 use Rattle.ax_disk.specs.model.Stays.{Rests, SinceBarrier}
 use Rattle.ax_image.specs.Readable.{SaysReadable, newest}
+use Rattle.ax_image_grammar.specs.Payloads.{IsPolicyText}
+use Rattle.ax_image_grammar.specs.Table.{AreApart, IsTaken, policy_text}
 use Rattle.ax_image_pairs.proofs.Standing.{all_back, readable_with_index}
 use Rattle.ax_image_pairs.specs.Indexed.{ContentsHoldAll, StandsForAll}
 use Rattle.ax_log.specs.Opening.{Keeps}
+use Rattle.ax_policy.specs.Table.{Table, policy_at}
+use Rattle.ax_policy.specs.declared.policy.Policy.{Policy}
 use Rattle.ax_store.proofs.StoreLemmas.{barrier_weaken}
 use Rattle.ax_store.specs.Faults.{IsRefused}
 use Rattle.ax_store.specs.Kept.{Kept}
@@ -26,8 +30,9 @@ use Rattle.ax_store.specs.Store.{Has, IsOpened, TellsFault, store_contents}
 use Rattle.ax_store.specs.declared.fault.StoreFault.{StoreFault}
 use Rattle.ax_store.specs.declared.fault.StoreFault.TheVariants as fault
 use Rattle.ax_store.specs.declared.store.Store.{Store}
+use Rattle.ax_table.specs.TableAgrees.{TableAgrees}
 use Rattle.ax_write.specs.Writes.{HoldsAll}
-use Rattle.ax_documents.specs.Opening.{IsAnswerUnlessDisk, IsImageOf, IsStore, IsWithin, RefusesBy}
+use Rattle.ax_documents.specs.Opening.{HaveTable, IsAnswerUnlessDisk, IsImageOf, IsStore, IsWithin, RefusesBy}
 
 -- an image that says what one says that stands for a container stands for it too
 image_by : (image : Image) (container : Container) (stand : StandsForAll image container)
@@ -44,9 +49,23 @@ image_by image container stand other says = record {
   hold = stand.hold;
 }
 
--- an image that says contents is within the format
-pub within_by : {contents : Contents} {image : Image} → Has contents image → IsWithin image
-within_by {contents} (version, told, says) = (version, told, contents, says)
+-- an image that says contents which have a table is within the format
+pub within_by : {contents : Contents} {image : Image} → Has contents image → HaveTable contents → IsWithin image
+within_by {contents} (version, told, says) have = (version, told, contents, says, have)
+
+some_policy : (found : Option Policy) → IsSome found → (policy : Policy) × (found ≡ Some policy)
+some_policy None some = absurd cc
+some_policy (Some policy) some = (policy, refl)
+
+-- contents with which a table agrees that was read over an honest disk have one
+pub have_table : (honest : Bool) (table : Table) (contents : Contents) → IsTrue honest → TableAgrees honest table contents
+    → AreApart contents → HaveTable contents
+have_table honest table contents h agrees apart = record {
+  texts = λ number taken.
+      let there = some_policy (policy_at table number) (agrees.known number taken) in
+      record { policy = there.0; is = agrees.texts h number there.0 there.1 };
+  apart = apart;
+}
 
 module _ (old mid : History) where
   pub since_opening : (before : Container) → IsStore before old

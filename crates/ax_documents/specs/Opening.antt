@@ -12,6 +12,8 @@ use Rattle.ax_disk.specs.model.Stays.{Rests}
 use Rattle.ax_image.specs.Readable.{newest}
 use Rattle.ax_image_grammar.specs.Grammar.{HasTwins}
 use Rattle.ax_image_grammar.specs.Met.{IsPolicyMet}
+use Rattle.ax_image_grammar.specs.Payloads.{IsPolicyText}
+use Rattle.ax_image_grammar.specs.Table.{AreApart, IsTaken, policy_text}
 use Rattle.ax_image_pairs.specs.Indexed.{StandsForAll}
 use Rattle.ax_log.specs.Opening.{Keeps}
 use Rattle.ax_pages.specs.Area.{extent_number}
@@ -23,10 +25,16 @@ use Rattle.ax_table.specs.Damage.{IsNeeded}
 abbrev pub IsImageOf : Container → Image → Type 0
 IsImageOf container image = StandsForAll image container
 
--- the image is within the format in root, frames and heads of parts
+-- the contents have a table of policies: the text of each policy in use or now is that of one, and no two of these
+-- have one text
+pub record HaveTable (contents : Contents) : Type 0 where
+  pub texts : (number : ℕ) → IsTaken number contents → IsPolicyText (policy_text number contents)
+  pub apart : AreApart contents
+
+-- the image is within the format in root, frames and heads of parts, and has a table of policies
 abbrev pub IsWithin : Image → Type 0
 IsWithin image =
-    (version : ℕ) × (told : List Told) × (contents : Contents) × Says newest version told contents image
+    (version : ℕ) × (told : List Told) × (contents : Contents) × Says newest version told contents image × HaveTable contents
 
 -- Each image that a crash may leave stands for some container with its index, and what reads give stands for this one. An
 -- empty store is such, and so is every store that these calls leave.

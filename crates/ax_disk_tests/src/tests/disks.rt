@@ -29,6 +29,9 @@ pub fn disk_of(alloc: Global, root: &[u8], a: &[u8]) -> Result<MemDisk, Fail> {
 fn what_one_run_stores_the_next_one_answers(rt: HostRuntime) -> Result<(), Fail> {
     let alloc = rt.alloc();
     let mut disk = fresh_disk(alloc)?;
+    let (status, output) = output_over(alloc, &mut disk, b"")?;
+    assert_eq!(rt; status, Status::Done);
+    assert!(rt; output.is_empty());
     let (status, output) = output_over(alloc, &mut disk, UPSERT)?;
     assert_eq!(rt; status, Status::Done);
     assert_eq!(rt; output.as_slice(), b"ok\n".as_slice());

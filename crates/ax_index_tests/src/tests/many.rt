@@ -4,7 +4,7 @@ ghost use Rattle.ax_index_support.specs.Ready.{IsReady};
 
 use crate::tests::asking::{fresh_disk, numbers};
 use ax_cache::{NoPages, PageCache};
-use ax_disk::Disk;
+use ax_disk::{Disk, MemDisk};
 use ax_index::Change;
 use ax_index_support::{change, merge, open, put};
 use ax_pages::Page;
@@ -171,6 +171,15 @@ fn count_on<D: Disk>(alloc: Global, disk: &mut D) -> Result<usize, Fail> {
     Ok(found.len())
 }
 
+/// Drops the pairs of one list: how many pages were merged, and how often the disk was read.
+fn dropped_once(alloc: Global, disk: &mut MemDisk) -> Result<(u32, u64), Fail> {
+    let changes = list_of(alloc, false, 0)?;
+    let mut store = open(alloc, disk, NoPages)?;
+    let before = disk.reads();
+    let merged = change(alloc, disk, &mut store, changes.as_slice())?;
+    Ok((merged, disk.reads().abs_diff(before)))
+}
+
 #[test]
 fn many_pairs_are_split_merged_and_dropped(rt: HostRuntime) -> Result<(), Fail> {
     let alloc = rt.alloc();
@@ -184,6 +193,9 @@ fn many_pairs_are_split_merged_and_dropped(rt: HostRuntime) -> Result<(), Fail> 
     assert_eq!(rt; merged(alloc, &mut disk)?, (2, 0));
     let whole = found_on(alloc, &mut disk)?;
     assert!(rt; whole.all && whole.pages >= split.pages && whole.most_parts == 1);
+
+    // Changes on several pages that merge none read nothing.
+    assert_eq!(rt; dropped_once(alloc, &mut disk)?, (0, 0));
 
     let most = changed(alloc, &mut disk, false)?;
     assert!(rt; most.merged > 0 && most.merged <= 16, "{}", most.merged);

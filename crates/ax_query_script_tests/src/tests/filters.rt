@@ -82,19 +82,47 @@ fn a_hundred_documents_are_filtered(rt: HostRuntime) -> Result<(), Fail> {
     Ok(())
 }
 
-/// Documents with numbers at the ends of 64 bits, with lists inside lists, and with texts of 127, 128 and
-/// 129 bytes: each `X` stands for 127 letters. Terms tell texts apart by their first 128 bytes.
-const EDGES: [&str; 6] = [
+/// The condition that the id is one of so many numbers, from 0 on, and `k` is 3.
+fn one_of(alloc: Global, count: usize) -> Result<String, Fail> {
+    let mut condition = format!(in alloc; "c.id IN ('0'")?;
+    for number in 1..count {
+        condition = format!(in alloc; "{condition},'{number}'")?;
+    }
+    Ok(format!(in alloc; "{condition}) AND c.k = 3")?)
+}
+
+// As many ids as a list may have are asked for at once.
+#[test]
+fn two_hundred_and_fifty_six_ids_are_found(rt: HostRuntime) -> Result<(), Fail> {
+    let alloc = rt.alloc();
+    let mut disk = store_of(alloc, COUNT)?;
+    let condition = one_of(alloc, 256)?;
+    let answer = answer_over(alloc, &mut disk, condition.as_str())?;
+    drop(condition);
+    assert_eq!(rt;
+        answer.as_slice(),
+        b"row \"3\"\nrow \"13\"\nrow \"23\"\nrow \"33\"\nrow \"43\"\nrow \"53\"\nrow \"63\"\nrow \"73\"\nrow \"83\"\nrow \"93\"\nend 10\n".as_slice()
+    );
+    Ok(())
+}
+
+/// Documents with numbers at the ends of 64 bits, with lists inside lists, with texts of 127, 128 and
+/// 129 bytes, where each `X` stands for 127 letters, and with names and texts that have zero bytes, quotation marks and
+/// backslashes. Terms tell texts apart by their first 128 bytes.
+const EDGES: [&str; 9] = [
     r#"{"id":"a","n":9223372036854775807,"s":"X","t":[[1,[2]],"X"]}"#,
     r#"{"id":"b","n":-9223372036854775808,"s":"Xa","t":[[1,[3]],"Xa"]}"#,
     r#"{"id":"c","n":9223372036854775806,"s":"Xab","t":[[2],[[1]],"Xab"]}"#,
     r#"{"id":"d","n":-9223372036854775807,"s":"Xac","t":[]}"#,
     r#"{"id":"e","n":0,"s":"Xb","t":{"u":[[1]]}}"#,
     r#"{"id":"f","s":null,"t":[[]]}"#,
+    r#"{"id":"g","w":["a\u0000"],"x\"y":1,"z":"a\u0000b"}"#,
+    r#"{"id":"h","w":["a"],"x\\y":{"\u0000":2},"z":"a"}"#,
+    r#"{"id":"i","q'":[5],"x\"y":3,"z":"a\u0000"}"#,
 ];
 
-/// Conditions on them, and the ids of those that pass, in order.
-const PASSING: [(&str, &str); 32] = [
+/// Conditions on them, as they stand in a JSON text, and the ids of those that pass, in order.
+const PASSING: [(&str, &str); 47] = [
     ("c.n = 9223372036854775807", "a"),
     ("c.n = -9223372036854775808", "b"),
     ("c.n < -9223372036854775807", "b"),
@@ -133,6 +161,21 @@ const PASSING: [(&str, &str); 32] = [
         "c.t[0][0] = 1 AND ARRAY_CONTAINS(c.t, 'Xa') AND c.n < 0",
         "b",
     ),
+    (r#"c.z = 'a\\u0000b'"#, "g"),
+    ("c.z = 'a'", "h"),
+    (r#"c.z > 'a' AND c.z < 'a\\u0001'"#, "gi"),
+    (r#"c.z <= 'a\\u0000b'"#, "ghi"),
+    (r#"STARTSWITH(c.z, 'a\\u0000')"#, "gi"),
+    (r#"c.z IN ('a\\u0000', 'a')"#, "hi"),
+    (r#"c.z BETWEEN 'a\\u0000' AND 'a\\u0000b'"#, "gi"),
+    (r#"ARRAY_CONTAINS(c.w, 'a\\u0000')"#, "g"),
+    ("ARRAY_CONTAINS(c.w, 'a')", "h"),
+    (r#"c[\"x\\\"y\"] = 1"#, "g"),
+    (r#"c[\"x\\\"y\"] >= 1"#, "gi"),
+    (r#"IS_DEFINED(c[\"x\\\"y\"])"#, "gi"),
+    (r#"c[\"x\\\\y\"][\"\\u0000\"] = 2"#, "h"),
+    (r#"IS_DEFINED(c[\"x\\\\y\"])"#, "h"),
+    (r#"c[\"q'\"][0] = 5"#, "i"),
 ];
 
 /// A line with 127 letters in place of each `X`.

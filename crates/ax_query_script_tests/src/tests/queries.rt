@@ -15,7 +15,7 @@ fn add_line(script: &mut Vec<u8>, command: &[u8], argument: &str) -> Result<(), 
 
 fn add_writes(script: &mut Vec<u8>, documents: &[&str]) -> Result<(), Fail> {
     for document in documents {
-        add_line(script, b"UPSERT ", document)?;
+        add_line(script, b"CREATE ", document)?;
     }
     Ok(())
 }

@@ -1,7 +1,7 @@
 -- The store is opened as it stands, and then the texts of its policies are read.
 use Rattle.std.proofs.Common.{IsTrue, sym, subst}
 use Rattle.ax_store.proofs.OpenLemmas.{keeps_idle}
-use Rattle.ax_documents.proofs.Opened.{holds_opened, never_answered, opened_rests, passed_on, readable_still, refuses_by, since_opening, since_reading, within_by}
+use Rattle.ax_documents.proofs.Opened.{have_table, holds_opened, never_answered, opened_rests, passed_on, readable_still, refuses_by, since_opening, since_reading, within_by}
 use Rattle.ax_documents.proofs.Refusing.{table_refuses}
 use Rattle.ax_documents.proofs.opening.open_documents.Goals as goal
 
@@ -98,4 +98,7 @@ returns-in-Ok-make-clause-readable g c = λ honest before store.
     (c.read_table.ensures.reads.lists (subst IsTrue (sym c.open_store.ensures.honest) honest))
 
 pub returns-in-Ok-make-clause-opened : goal.returns-in-Ok-make-clause-opened
-returns-in-Ok-make-clause-opened g c = λ honest. within_by (c.in-Ok.ensures.tells honest).has
+returns-in-Ok-make-clause-opened g c = λ honest.
+    let still = subst IsTrue (sym c.open_store.ensures.honest) honest in
+    within_by (c.in-Ok.ensures.tells honest).has
+    (have_table _ _ _ still c.in-Ok-read_table.ensures.table (c.in-Ok-read_table.ensures.apart still))
