@@ -69,6 +69,10 @@ pub fn in_common(a: &[u8], b: &[u8]) -> usize
     ensures first { result ≤ length a.now }
     ensures second { result ≤ length b.now }
 {
+    // Neighbours among pairs are mostly of one term, and whether terms are the same is told fast.
+    if a == b {
+        return a.len();
+    }
     let shorter = a.len().min(b.len());
     for place in 0..shorter {
         if a[place] != b[place] {
