@@ -26,7 +26,7 @@ no_more xs ys i h =
     (one_is_past (length xs) (length ys) i h)
 
 -- a term has all its bytes in common with itself
-pub all_in_common : (xs : List ℕ) → common_prefix_len nat_eq xs xs ≡ length xs
+all_in_common : (xs : List ℕ) → common_prefix_len nat_eq xs xs ≡ length xs
 all_in_common [] = refl
 all_in_common (x ∷ xs) = cond-true (nat_eq x x) (1 + common_prefix_len nat_eq xs xs) 0 (eq-eqb x x refl) ∙ omega (arith, all_in_common xs)
 

@@ -13,7 +13,8 @@ use crate::out_of_memory::Memory;
 use crate::short_term::{put_length, put_term};
 use ax_gap::put_gaps;
 use ax_gap::varint::put_varint;
-use ax_pair::{Pair, comes_before};
+use ax_pair::comes_before;
+use ax_pair_list::PairRef;
 use std::alloc::Global;
 
 /// The payload of a base with these pairs, whose page has this low pair. The pairs have to rise,
@@ -21,7 +22,7 @@ use std::alloc::Global;
 ///
 /// `Memory` also where a term has 2^32 bytes or more, or where there are so many terms: no payload
 /// has them.
-pub fn encode(alloc: Global, low: &Pair, pairs: &[Pair]) -> Result<Vec<u8>, Memory>
+pub fn encode(alloc: Global, low: &PairRef<'_>, pairs: &[PairRef<'_>]) -> Result<Vec<u8>, Memory>
     requires rise { Rise pairs.now }
     requires begins { BeginsFrom low.now pairs.now }
     ensures { IfOk result (λ payload. IsLeaf payload.items low.now (postings_of pairs.now)) }
@@ -32,7 +33,7 @@ pub fn encode(alloc: Global, low: &Pair, pairs: &[Pair]) -> Result<Vec<u8>, Memo
 
 /// The payload, by its parts.
 #[tactic(auto, using(std::proofs::lemmas::List::append_assoc), unfolding(crate::specs::Payload::leaf))]
-fn spelled(alloc: Global, low: &Pair, pairs: &[Pair]) -> Result<Vec<u8>, Memory>
+fn spelled(alloc: Global, low: &PairRef<'_>, pairs: &[PairRef<'_>]) -> Result<Vec<u8>, Memory>
     requires { Rise pairs.now }
     ensures bytes { IfOk result (λ payload. payload.items ≡ leaf low.now (postings_of pairs.now)) }
     ensures short { OnOk result (length low.now.term < 2 ^ 32) }
@@ -50,7 +51,7 @@ fn spelled(alloc: Global, low: &Pair, pairs: &[Pair]) -> Result<Vec<u8>, Memory>
 }
 
 /// Do the pairs rise, and is none before the low pair? `encode` requires it.
-pub fn is_in_order(low: &Pair, pairs: &[Pair]) -> bool
+pub fn is_in_order(low: &PairRef<'_>, pairs: &[PairRef<'_>]) -> bool
     ensures { IsTrue result ↔ (Rise pairs.now × BeginsFrom low.now pairs.now) }
 {
     if pairs.len() == 0 {
@@ -68,29 +69,28 @@ pub fn is_in_order(low: &Pair, pairs: &[Pair]) -> bool
 }
 
 /// Is one pair before another, by term and then by number?
-fn is_before(first: &Pair, second: &Pair) -> bool
+fn is_before(first: &PairRef<'_>, second: &PairRef<'_>) -> bool
     ensures { result ≡ is_lt (pair_cmp first.now second.now) }
 {
-    let term = first.term.as_slice();
-    comes_before(term, first.number, second.term.as_slice(), second.number)
+    comes_before(first.term(), first.number(), second.term(), second.number())
 }
 
 /// Writes a low pair at the end.
 #[tactic(auto, using(std::proofs::lemmas::List::append_assoc))]
-fn put_low(out: &mut Vec<u8>, low: &Pair) -> Result<(), Memory>
+fn put_low(out: &mut Vec<u8>, low: &PairRef<'_>) -> Result<(), Memory>
     ensures short { OnOk result (length low.now.term < 2 ^ 32) }
     ensures number { OnOk result (low.now.number < 2 ^ 32) }
     ensures written { OnOk result (out.new.items ≡ out.old.items ++ varint (length low.now.term) ++ low.now.term ++ varint low.now.number) }
 {
-    let term = low.term.as_slice();
+    let term = low.term();
     put_length(out, term.len())?;
     out.extend_from_slice(term)?;
-    put_varint(out, low.number)?;
+    put_varint(out, low.number())?;
     Ok(())
 }
 
 /// Writes the postings of the pairs at the end, and answers how many they are.
-fn put_list(alloc: Global, out: &mut Vec<u8>, pairs: &[Pair]) -> Result<usize, Memory>
+fn put_list(alloc: Global, out: &mut Vec<u8>, pairs: &[PairRef<'_>]) -> Result<usize, Memory>
     requires { Rise pairs.now }
     ensures count { IfOk result (λ count. count ≡ length (postings_of pairs.now)) }
     ensures written { OnOk result (out.new.items ≡ out.old.items ++ list_after [] (postings_of pairs.now)) }
@@ -101,22 +101,22 @@ fn put_list(alloc: Global, out: &mut Vec<u8>, pairs: &[Pair]) -> Result<usize, M
     }
     let mut numbers = Vec::new(alloc);
     let first = &pairs[0];
-    numbers.push(first.number)?;
+    numbers.push(first.number())?;
     let mut last: &[u8] = &[];
-    let mut term = first.term.as_slice();
+    let mut term = first.term();
     let mut count = 0usize;
     for i in 1..pairs.len() {
         let pair = &pairs[i];
-        if pair.term.as_slice() == term {
-            numbers.push(pair.number)?;
+        if pair.term() == term {
+            numbers.push(pair.number())?;
             continue;
         }
         put_posting(out, last, term, numbers.as_slice())?;
         count += 1;
         numbers.clear();
-        numbers.push(pair.number)?;
+        numbers.push(pair.number())?;
         last = term;
-        term = pair.term.as_slice();
+        term = pair.term();
     }
     put_posting(out, last, term, numbers.as_slice())?;
     Ok(count + 1)

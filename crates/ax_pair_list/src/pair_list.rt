@@ -5,7 +5,7 @@ ghost use Rattle.std.specs.List.{insert, remove};
 ghost use Rattle.ax_pair_list.specs.View.{IsWithin, bytes_between};
 
 use crate::out_of_memory::Memory;
-use ax_pair::{Bytes, Pair};
+use crate::pair_ref::PairRef;
 use std::alloc::Global;
 use std::marker::Model;
 
@@ -108,18 +108,17 @@ impl PairList {
         take_out(&mut self.entries, at);
     }
 
-    /// The pairs, each with a term of its own. `Memory` where there is none for them.
+    /// The pairs, each borrowed from the list. `Memory` where there is none for them.
     #[tactic(auto, using(crate::proofs::Reading::take_one))]
-    pub fn to_pairs(&self, alloc: Global) -> Result<Vec<Pair>, Memory>
-        ensures { IfOk result (λ pairs. pairs.items ≡ self.now) }
+    pub fn refs(&self, alloc: Global) -> Result<Vec<PairRef<'_>>, Memory>
+        ensures { IfOk result (λ refs. refs.items ≡ self.now) }
     {
-        let mut pairs = Vec::with_capacity(alloc, self.len())?;
+        let mut refs = Vec::with_capacity(alloc, self.len())?;
         for at in 0..self.len() {
             let (term, number) = self.pair(at);
-            let term = copied(alloc, term)?;
-            pairs.push(Pair { term, number })?;
+            refs.push(PairRef::new(term, number))?;
         }
-        Ok(pairs)
+        Ok(refs)
     }
 }
 
@@ -165,13 +164,4 @@ fn last_place(terms: &[u8], entries: &[Entry], term: &[u8]) -> Option<(usize, us
         return None;
     }
     Some((last.start, last.end))
-}
-
-/// A term of its own with these bytes.
-fn copied(alloc: Global, term: &[u8]) -> Result<Bytes, Memory>
-    ensures { IfOk result (λ copy. copy ≡ term.now) }
-{
-    let mut bytes = Vec::with_capacity(alloc, term.len())?;
-    bytes.extend_from_slice(term)?;
-    Ok(Bytes::from_vec(bytes))
 }

@@ -11,14 +11,14 @@ fn pairs_come_back(rt: HostRuntime) -> Result<(), Fail> {
         list.push(term, number)?;
     }
     assert_eq!(rt; list.len(), 5);
-    let pairs = list.to_pairs(rt.alloc())?;
-    assert_eq!(rt; pairs.len(), 5);
+    let refs = list.refs(rt.alloc())?;
+    assert_eq!(rt; refs.len(), 5);
     for at in 0..5usize {
         let (term, number) = rows[at];
         let (found, with) = list.pair(at);
         assert!(rt; found == term && with == number, "{at}");
         assert!(rt;
-            pairs[at].term.as_slice() == term && pairs[at].number == number,
+            refs[at].term() == term && refs[at].number() == number,
             "{at}"
         );
     }

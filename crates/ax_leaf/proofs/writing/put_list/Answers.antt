@@ -10,7 +10,7 @@ use Rattle.ax_leaf.proofs.Grouping.{AreFit, fit}
 use Rattle.ax_leaf.proofs.Steps.{IsUnderWay, start, from_parts, fit_first, same_step, other_step, last_step, with_posting, posting_from, at_end}
 use Rattle.ax_leaf.proofs.Steps.{nothing, nothing_written}
 use Rattle.ax_leaf.proofs.writing.put_list.Goals as goal
-use Rattle.ax_leaf.proofs.writing.put_list.Goals.{After-as_slice-in-loop-i, After-as_slice-2}
+use Rattle.ax_leaf.proofs.writing.put_list.Goals.{After-as_slice, After-as_slice-2}
 
 nil_from : (pairs : List Pair) → length pairs ≡ 0 → pairs ≡ []
 nil_from [] h = refl
@@ -35,11 +35,12 @@ loop-i-init c =
     drop_more c.args.pairs.now 0 p (omega arith) ∙ ap (λ (q : Pair). q ∷ drop 1 c.args.pairs.now) (sym c.index-pairs-0.is)
     in
     let numbers : c.push.new.self.items ≡ p.number ∷ [] =
-    c.in_ok-push.ensures.items ∙ ap (λ (ns : List ℕ). ns ++ p.number ∷ []) c.new-numbers.ensures.items
+    c.in_ok-push.ensures.items ∙ ap (λ (ns : List ℕ). ns ++ c.number.result ∷ []) c.new-numbers.ensures.items
+    ∙ ap (λ (n : ℕ). n ∷ []) c.number.ensures
     in
-    let e : postings_of c.args.pairs.now ≡ postings_from c.as_slice-term.result.now c.push.new.self.items (drop 1 c.args.pairs.now) =
+    let e : postings_of c.args.pairs.now ≡ postings_from c.term-term.result.now c.push.new.self.items (drop 1 c.args.pairs.now) =
     start p c.args.pairs.now (drop 1 c.args.pairs.now) split
-    ∙ from_parts _ _ _ _ (drop 1 c.args.pairs.now) (sym c.as_slice-term.ensures) (sym numbers)
+    ∙ from_parts _ _ _ _ (drop 1 c.args.pairs.now) (sym c.term-term.ensures) (sym numbers)
     in (
       record {
         written = ap (λ es. c.args.out.now.items ++ list_after [] es) (sym e);
@@ -58,19 +59,20 @@ loop-i-preserved-then-eq c =
     drop_more c.args.pairs.now c.loop-i.i p (omega arith) ∙ ap (λ (q : Pair). q ∷ rest) (sym c.index-pairs-i.is)
     in
     let test : bytes_eq p.term c.loop-i.term.now ≡ true =
-    ap (λ bs. bytes_eq bs c.loop-i.term.now) (sym c.as_slice.ensures) ∙ sym c.eq.ensures ∙ c.if-eq.true
+    ap (λ bs. bytes_eq bs c.loop-i.term.now) (sym c.term.ensures) ∙ sym c.eq.ensures ∙ c.if-eq.true
     in
     let e : postings_from c.loop-i.term.now c.loop-i.numbers.items (drop c.loop-i.i c.args.pairs.now)
     ≡ postings_from c.loop-i.term.now c.push-then-eq.new.self.items rest =
     same_step c.loop-i.term.now c.loop-i.numbers.items p _ rest next test
-    ∙ from_parts _ _ _ _ rest refl (sym c.in_ok-push-2.ensures.items)
+    ∙ from_parts _ _ _ _ rest refl
+    (sym (c.in_ok-push-2.ensures.items ∙ ap (λ (n : ℕ). c.loop-i.numbers.items ++ n ∷ []) c.number-then-eq.ensures))
     in (
       subst (λ es. IsUnderWay c.args.out.now.items c.loop-i.out.items c.loop-i.last.now es (postings_of c.args.pairs.now) c.loop-i.count) e
           c.loop-i.invariant.0,
       omega (arith, c.loop-i.invariant.1),
     )
 
-fit_here : (c : After-as_slice-in-loop-i) → IsStrictlyIncreasing c.loop-i.numbers.items × (0 < length c.loop-i.numbers.items)
+fit_here : (c : After-as_slice) → IsStrictlyIncreasing c.loop-i.numbers.items × (0 < length c.loop-i.numbers.items)
 fit_here c =
     let p : Pair = c.index-pairs-i.result in
     let rest : List Pair = drop (c.loop-i.i + 1) c.args.pairs.now in
@@ -78,15 +80,15 @@ fit_here c =
     drop_more c.args.pairs.now c.loop-i.i p (omega arith) ∙ ap (λ (q : Pair). q ∷ rest) (sym c.index-pairs-i.is)
     in
     let test : bytes_eq p.term c.loop-i.term.now ≡ false =
-    ap (λ bs. bytes_eq bs c.loop-i.term.now) (sym c.as_slice.ensures) ∙ sym c.eq.ensures ∙ c.if-eq.false
+    ap (λ bs. bytes_eq bs c.loop-i.term.now) (sym c.term.ensures) ∙ sym c.eq.ensures ∙ c.if-eq.false
     in
     fit_first c.loop-i.term.now c.loop-i.numbers.items _ _ (other_step c.loop-i.term.now c.loop-i.numbers.items p _ rest next test) c.loop-i.invariant.0.fit
 
 pub put_posting-requires-clause-rising : goal.put_posting-requires-clause-rising
-put_posting-requires-clause-rising c = subst IsStrictlyIncreasing (sym c.as_slice-in-loop-i.ensures.value) (fit_here c).0
+put_posting-requires-clause-rising c = subst IsStrictlyIncreasing (sym c.as_slice.ensures.value) (fit_here c).0
 
 pub put_posting-requires-clause-some : goal.put_posting-requires-clause-some
-put_posting-requires-clause-some c = let f = fit_here c in omega (arith, f.1, ap length c.as_slice-in-loop-i.ensures.value)
+put_posting-requires-clause-some c = let f = fit_here c in omega (arith, f.1, ap length c.as_slice.ensures.value)
 
 pub loop-i-preserved : goal.loop-i-preserved
 loop-i-preserved c =
@@ -96,22 +98,23 @@ loop-i-preserved c =
     drop_more c.args.pairs.now c.loop-i.i p (omega arith) ∙ ap (λ (q : Pair). q ∷ rest) (sym c.index-pairs-i.is)
     in
     let test : bytes_eq p.term c.loop-i.term.now ≡ false =
-    ap (λ bs. bytes_eq bs c.loop-i.term.now) (sym c.as_slice.ensures) ∙ sym c.eq.ensures ∙ c.if-eq.false
+    ap (λ bs. bytes_eq bs c.loop-i.term.now) (sym c.term.ensures) ∙ sym c.eq.ensures ∙ c.if-eq.false
     in
     let numbers : c.push-in-loop-i.new.self.items ≡ p.number ∷ [] =
-    c.in_ok-push-3.ensures.items ∙ ap (λ (ns : List ℕ). ns ++ p.number ∷ []) c.clear.ensures.items
+    c.in_ok-push-3.ensures.items ∙ ap (λ (ns : List ℕ). ns ++ c.number-in-loop-i.result ∷ []) c.clear.ensures.items
+    ∙ ap (λ (n : ℕ). n ∷ []) c.number-in-loop-i.ensures
     in
     let e : postings_from c.loop-i.term.now c.loop-i.numbers.items (drop c.loop-i.i c.args.pairs.now)
     ≡ record { term = c.loop-i.term.now; numbers = c.loop-i.numbers.items }
-    ∷ postings_from c.as_slice-term-in-loop-i.result.now c.push-in-loop-i.new.self.items rest =
+    ∷ postings_from c.term-term-in-loop-i.result.now c.push-in-loop-i.new.self.items rest =
     other_step c.loop-i.term.now c.loop-i.numbers.items p _ rest next test
     ∙ ap (λ es. record { term = c.loop-i.term.now; numbers = c.loop-i.numbers.items } ∷ es)
-    (from_parts _ _ _ _ rest (sym c.as_slice-term-in-loop-i.ensures) (sym numbers))
+    (from_parts _ _ _ _ rest (sym c.term-term-in-loop-i.ensures) (sym numbers))
     in (
       with_posting c.args.out.now.items c.loop-i.out.items _ c.loop-i.last.now c.loop-i.term.now c.loop-i.numbers.items _ _ _
           (c.in_ok-put_posting.ensures.written ∙ ap (λ ns. c.loop-i.out.items ++ term_after c.loop-i.last.now c.loop-i.term.now ++ gaps ns)
-          c.as_slice-in-loop-i.ensures.value)
-          (posting_from c.loop-i.term.now c.loop-i.numbers.items _ c.as_slice-in-loop-i.ensures.value c.in_ok-put_posting.ensures.short
+          c.as_slice.ensures.value)
+          (posting_from c.loop-i.term.now c.loop-i.numbers.items _ c.as_slice.ensures.value c.in_ok-put_posting.ensures.short
           c.in_ok-put_posting.ensures.some c.in_ok-put_posting.ensures.list)
           (subst (λ es. IsUnderWay c.args.out.now.items c.loop-i.out.items c.loop-i.last.now es (postings_of c.args.pairs.now) c.loop-i.count) e
           c.loop-i.invariant.0),
