@@ -32,6 +32,10 @@ is_less Greater e = absurd (cc)
 pub not_less : (o : Ordering) → is_lt o ≡ false → o ≡ Less → ⊥
 not_less o e less = let so : is_lt o ≡ true = ap is_lt less in absurd (cc)
 
+-- what the test of a borrowed pair tells of the pair that it was borrowed from
+pub same_before : (p q bound : Pair) (before told : Bool) → before ≡ is_lt (pair_cmp q bound) → q ≡ p → before ≡ told → is_lt (pair_cmp p bound) ≡ told
+same_before p q bound before told is same so = ap (λ (r : Pair). is_lt (pair_cmp r bound)) (sym same) ∙ sym is ∙ so
+
 -- ---- changes before a pair
 
 pub before_one_more : (bound : Pair) (first : List Change) (change : Change) → AreBefore (changed_pairs first) bound → pair_cmp change.pair bound ≡ Less

@@ -17,16 +17,14 @@ use crate::out_of_memory::Memory;
 use crate::parts::put_base;
 use crate::runs::all_belong;
 use crate::sizes::{are_short, base_len, new_pages};
-use ax_pair::{Bytes, Pair};
-use ax_pair_list::PairList;
+use ax_pair_list::{PairList, PairRef};
 use ax_store::{Batch, Store};
 use std::alloc::Global;
 
 /// The most term pages that there may be.
 const MOST_PAGES: u32 = 2_147_483_648;
 
-/// Writes a page anew with rising pairs that stand in one buffer, as `rewrite` does: here each gets a term
-/// of its own.
+/// Writes a page anew with rising pairs that stand in one buffer, as `rewrite` does.
 pub(crate) fn rewrite_list<C>(
     alloc: Global,
     store: &Store<C>,
@@ -46,8 +44,8 @@ pub(crate) fn rewrite_list<C>(
     ensures full { IfOk result (λ done. done ≡ false → AllBelong pairs.now page (store_contents store.now).terms
         → AreStuck next.old (low_pair page (store_contents store.now).terms) pairs.now) }
 {
-    let pairs = pairs.to_pairs(alloc)?;
-    rewrite(alloc, store, batch, next, page, pairs.as_slice())
+    let refs = pairs.refs(alloc)?;
+    rewrite(alloc, store, batch, next, page, refs.as_slice())
 }
 
 /// Writes a page anew with these rising pairs, and new pages behind it where they are many; the next new
@@ -60,7 +58,7 @@ pub(crate) fn rewrite<C>(
     batch: &mut Batch,
     next: &mut u32,
     page: u32,
-    pairs: &[Pair],
+    pairs: &[PairRef<'_>],
 ) -> Result<bool, Memory>
     requires page { page < length (store_contents store.now).terms }
     requires rise { Rise pairs.now }
@@ -73,7 +71,7 @@ pub(crate) fn rewrite<C>(
     ensures full { IfOk result (λ done. done ≡ false → AllBelong pairs.now page (store_contents store.now).terms
         → AreStuck next.old (low_pair page (store_contents store.now).terms) pairs.now) }
 {
-    let low = low_of(alloc, store, page)?;
+    let low = low_of(store, page);
     if !all_belong(store, page, pairs) || !has_room(*next, &low, pairs) {
         return Ok(false);
     }
@@ -82,7 +80,7 @@ pub(crate) fn rewrite<C>(
 }
 
 /// Whether no term is too long for a base, and there are numbers for the new pages that the pairs need.
-fn has_room(next: u32, low: &Pair, pairs: &[Pair]) -> bool
+fn has_room(next: u32, low: &PairRef<'_>, pairs: &[PairRef<'_>]) -> bool
     ensures short { IsTrue result → AreShort low.now pairs.now }
     ensures few { IsTrue result → HasNumbers next (rest_of pairs.now) }
     ensures stuck { IsTrue result ⊎ AreStuck next low.now pairs.now }
@@ -94,7 +92,7 @@ fn has_room(next: u32, low: &Pair, pairs: &[Pair]) -> bool
 }
 
 /// Whether there are numbers for the new pages that the pairs need.
-fn has_numbers(next: u32, pairs: &[Pair]) -> bool
+fn has_numbers(next: u32, pairs: &[PairRef<'_>]) -> bool
     ensures few { IsTrue result → HasNumbers next (rest_of pairs.now) }
     ensures many { IsTrue result ⊎ NeedsTooMany next pairs.now }
 {
@@ -102,13 +100,12 @@ fn has_numbers(next: u32, pairs: &[Pair]) -> bool
 }
 
 /// The low pair of a page.
-fn low_of<C>(alloc: Global, store: &Store<C>, page: u32) -> Result<Pair, Memory>
+fn low_of<C>(store: &Store<C>, page: u32) -> PairRef<'_>
     requires { page < length (store_contents store.now).terms }
-    ensures { IfOk result (λ low. low ≡ low_pair page (store_contents store.now).terms) }
+    ensures { result ≡ low_pair page (store_contents store.now).terms }
 {
     let (term, number) = store.low(page);
-    let term = Bytes::from_vec(Vec::from_slice(alloc, term)?);
-    Ok(Pair { term, number })
+    PairRef::new(term, number)
 }
 
 /// Puts the base of a page, and first bases of new pages for the pairs that it is not to have.
@@ -117,8 +114,8 @@ fn put_bases(
     batch: &mut Batch,
     next: &mut u32,
     page: u32,
-    low: &Pair,
-    pairs: &[Pair],
+    low: &PairRef<'_>,
+    pairs: &[PairRef<'_>],
 ) -> Result<(), Memory>
     requires rise { Rise pairs.now }
     requires begins { BeginsFrom low.now pairs.now }
@@ -143,8 +140,8 @@ fn put_new_page(
     alloc: Global,
     batch: &mut Batch,
     next: &mut u32,
-    low: &Pair,
-    pairs: &[Pair],
+    low: &PairRef<'_>,
+    pairs: &[PairRef<'_>],
 ) -> Result<(), Memory>
     requires rise { Rise pairs.now }
     requires begins { BeginsFrom low.now pairs.now }

@@ -15,7 +15,7 @@ use crate::sizes::delta_len;
 use ax_delta::Change;
 use ax_frame::{MOST_PAYLOAD, Part};
 use ax_pages::numbers::{BASE, DELTA};
-use ax_pair::Pair;
+use ax_pair_list::PairRef;
 use ax_store::Batch;
 use std::alloc::Global;
 
@@ -83,8 +83,8 @@ pub(crate) fn put_base(
     alloc: Global,
     batch: &mut Batch,
     page: u32,
-    low: &Pair,
-    pairs: &[Pair],
+    low: &PairRef<'_>,
+    pairs: &[PairRef<'_>],
 ) -> Result<(), Memory>
     requires rise { Rise pairs.now }
     requires begins { BeginsFrom low.now pairs.now }

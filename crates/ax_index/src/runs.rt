@@ -11,7 +11,8 @@ ghost use Rattle.ax_store.specs.Store.{store_contents};
 ghost use Rattle.ax_index.specs.Planning.{IsFirstOf, IsPartedAt, IsPartedBy};
 
 use ax_delta::Change;
-use ax_pair::Pair;
+use ax_pair::{Pair, comes_before};
+use ax_pair_list::PairRef;
 use ax_store::Store;
 
 /// Changes of one page.
@@ -62,7 +63,7 @@ fn count_before(changes: &[Change], term: &[u8], number: u32) -> usize
     ensures parted { IsPartedBy (record { term = term.now; number = number }) (take result changes.now) (drop result changes.now) }
 {
     for (i, change) in changes.iter().enumerate() {
-        if !is_before(&change.pair, term, number) {
+        if !is_before(&PairRef::of(&change.pair), term, number) {
             return i;
         }
     }
@@ -70,7 +71,7 @@ fn count_before(changes: &[Change], term: &[u8], number: u32) -> usize
 }
 
 /// Whether all of rising pairs belong to a page: the first and the last tell it.
-pub(crate) fn all_belong<C>(store: &Store<C>, page: u32, pairs: &[Pair]) -> bool
+pub(crate) fn all_belong<C>(store: &Store<C>, page: u32, pairs: &[PairRef<'_>]) -> bool
     requires page { page < length (store_contents store.now).terms }
     requires rise { Rise pairs.now }
     ensures { IsTrue result ↔ AllBelong pairs.now page (store_contents store.now).terms }
@@ -85,7 +86,7 @@ pub(crate) fn all_belong<C>(store: &Store<C>, page: u32, pairs: &[Pair]) -> bool
 }
 
 /// Whether a pair belongs to a page.
-fn belongs<C>(store: &Store<C>, page: u32, pair: &Pair) -> bool
+fn belongs<C>(store: &Store<C>, page: u32, pair: &PairRef<'_>) -> bool
     requires { page < length (store_contents store.now).terms }
     ensures { IsTrue result ↔ IsPageOf pair.now page (store_contents store.now).terms }
 {
@@ -103,9 +104,8 @@ fn belongs<C>(store: &Store<C>, page: u32, pair: &Pair) -> bool
 }
 
 /// Whether a pair is before that of a term and a number.
-pub(crate) fn is_before(pair: &Pair, term: &[u8], number: u32) -> bool
+pub(crate) fn is_before(pair: &PairRef<'_>, term: &[u8], number: u32) -> bool
     ensures { result ≡ is_lt (pair_cmp pair.now (record { term = term.now; number = number })) }
 {
-    let terms = pair.term.as_slice().cmp(term);
-    terms.then(pair.number.cmp(&number)).is_lt()
+    comes_before(pair.term(), pair.number(), term, number)
 }

@@ -13,7 +13,7 @@ ghost use Rattle.ax_index.specs.PageSizes.{TakePages, base_bytes, bytes_beside, 
 
 use ax_delta::Change;
 use ax_leaf::short_term::in_common;
-use ax_pair::Pair;
+use ax_pair_list::PairRef;
 
 /// The most parts that a page is to have: one that has them and is changed is merged.
 pub(crate) const MOST_PARTS: usize = 17;
@@ -42,7 +42,7 @@ const BESIDE_TERM: usize = 25;
 
 /// How many of rising pairs a base is to have: all, where they are few enough. The term of the first is not
 /// counted: it names the page too, whatever the page holds, and a long one must not leave it alone there.
-pub(crate) fn base_len(pairs: &[Pair]) -> usize
+pub(crate) fn base_len(pairs: &[PairRef<'_>]) -> usize
     ensures within { result ≤ length pairs.now }
     ensures some { 0 < length pairs.now → 0 < result }
     ensures cut { drop result pairs.now ≡ rest_of pairs.now }
@@ -73,7 +73,7 @@ fn front_after(bytes: usize, front: usize, i: usize) -> usize
 }
 
 /// How many new pages the pairs of one take beside it.
-pub(crate) fn new_pages(pairs: &[Pair]) -> usize
+pub(crate) fn new_pages(pairs: &[PairRef<'_>]) -> usize
     ensures within { result ≤ length pairs.now }
     ensures take { TakePages result (rest_of pairs.now) }
 {
@@ -89,17 +89,17 @@ pub(crate) fn new_pages(pairs: &[Pair]) -> usize
 
 /// How many bytes of a base a pair takes behind another, counted from above where they are of two terms,
 /// and about so many where they are of one.
-fn bytes_of_pair(before: &Pair, pair: &Pair) -> usize
+fn bytes_of_pair(before: &PairRef<'_>, pair: &PairRef<'_>) -> usize
     ensures few { result ≤ 2 ^ 63 + 8 }
     ensures is { result ≡ bytes_beside before.now pair.now }
 {
-    let term = pair.term.as_slice();
-    let last = before.term.as_slice();
+    let term = pair.term();
+    let last = before.term();
     let shared = in_common(last, term);
     if shared == term.len() && shared == last.len() {
-        return bytes_of_number(pair.number.saturating_sub(before.number));
+        return bytes_of_number(pair.number().saturating_sub(before.number()));
     }
-    4 + bytes_of_number(pair.number) + (term.len() - shared)
+    4 + bytes_of_number(pair.number()) + (term.len() - shared)
 }
 
 /// How many bytes a number takes, seven bits a byte.
@@ -124,13 +124,13 @@ pub fn have_short_terms(changes: &[Change]) -> bool
 }
 
 /// Has no term of a page's low pair and of these pairs more than 4,096 bytes? `put_base` requires it.
-pub(crate) fn are_short(low: &Pair, pairs: &[Pair]) -> bool
+pub(crate) fn are_short(low: &PairRef<'_>, pairs: &[PairRef<'_>]) -> bool
     ensures { IsTrue result ↔ AreShort low.now pairs.now }
 {
-    low.term.as_slice().len() <= MOST_TERM_BYTES
+    low.term().len() <= MOST_TERM_BYTES
         && pairs
             .iter()
-            .all(|pair| pair.term.as_slice().len() <= MOST_TERM_BYTES)
+            .all(|pair| pair.term().len() <= MOST_TERM_BYTES)
 }
 
 /// How many of rising changes a delta is to have: as many as surely fit a part.

@@ -12,7 +12,7 @@ mod pair_ref;
 
 pub use out_of_memory::Memory;
 pub use pair_list::PairList;
-pub use pair_ref::PairRef;
+pub use pair_ref::{PairRef, refs_of};
 
 #[cfg(test)]
 mod tests;

@@ -1,8 +1,10 @@
 //! A pair whose term is borrowed.
 
-ghost use Rattle.std.specs.Prelude.{◌≡◌};
+ghost use Rattle.std.specs.Prelude.{◌≡◌, IfOk};
 
+use crate::out_of_memory::Memory;
 use ax_pair::Pair;
+use std::alloc::Global;
 use std::marker::Model;
 
 /// A term that stands elsewhere, and the number of a document that has it. Many of them take one
@@ -52,4 +54,16 @@ impl<'a> PairRef<'a> {
     {
         self.number
     }
+}
+
+/// Pairs, each borrowed. `Memory` where there is none for them.
+#[tactic(auto, using(crate::proofs::Reading::take_one))]
+pub fn refs_of(alloc: Global, pairs: &[Pair]) -> Result<Vec<PairRef<'_>>, Memory>
+    ensures { IfOk result (λ refs. refs.items ≡ pairs.now) }
+{
+    let mut refs = Vec::with_capacity(alloc, pairs.len())?;
+    for at in 0..pairs.len() {
+        refs.push(PairRef::of(&pairs[at]))?;
+    }
+    Ok(refs)
 }

@@ -1,7 +1,7 @@
 use ax_delta::{Change, are_in_order, check, encode, merge};
 use ax_leaf::is_in_order;
 use ax_pair::{Bytes, Pair};
-use ax_pair_list::PairList;
+use ax_pair_list::{PairList, PairRef};
 use std::test::Fail;
 
 // ab with 5 is added and with 7 dropped; abc, which begins as ab does, is dropped with 1; b is added
@@ -103,11 +103,10 @@ fn a_page_is_merged(rt: HostRuntime) -> Result<(), Fail> {
     for (term, number) in before {
         pairs.push(term, number)?;
     }
-    let low = Pair {
-        term: Bytes::new(rt.alloc()),
-        number: 0,
-    };
-    assert!(rt; is_in_order(&low, pairs.to_pairs(rt.alloc())?.as_slice()));
+    let refs = pairs.refs(rt.alloc())?;
+    let in_order = is_in_order(&PairRef::new(&[], 0), refs.as_slice());
+    drop(refs);
+    assert!(rt; in_order);
     let after = merge(rt.alloc(), pairs, &delta)?;
     let rows: [(&[u8], u32); 6] = [
         (b"ab", 5),

@@ -1,15 +1,12 @@
 use ax_leaf::{check, encode, is_in_order};
-use ax_pair::{Bytes, Pair, split_low};
+use ax_pair::split_low;
+use ax_pair_list::PairRef;
 use std::test::Fail;
 
 // A page with no pairs: an empty low term, number 0, no terms.
 #[test]
 fn a_base_with_no_pairs_is_its_low_pair(rt: HostRuntime) -> Result<(), Fail> {
-    let low = Pair {
-        term: Bytes::new(rt.alloc()),
-        number: 0,
-    };
-    let payload = encode(rt.alloc(), &low, &[])?;
+    let payload = encode(rt.alloc(), &PairRef::new(&[], 0), &[])?;
     let expected: &[u8] = &[0, 0, 0];
     assert_eq!(rt; payload.as_slice(), expected);
     Ok(())
@@ -22,17 +19,9 @@ fn a_base_with_three_terms_is_written(rt: HostRuntime) -> Result<(), Fail> {
     let rows: [(&[u8], u32); 4] = [(b"ab", 5), (b"ab", 7), (b"abc", 1), (b"b", 300)];
     let mut pairs = Vec::new(rt.alloc());
     for (term, number) in rows {
-        let mut bytes = Vec::new(rt.alloc());
-        bytes.extend_from_slice(term)?;
-        let term = Bytes::from_vec(bytes);
-        pairs.push(Pair { term, number })?;
+        pairs.push(PairRef::new(term, number))?;
     }
-    let mut bytes = Vec::new(rt.alloc());
-    bytes.extend_from_slice(b"ab")?;
-    let low = Pair {
-        term: Bytes::from_vec(bytes),
-        number: 5,
-    };
+    let low = PairRef::new(b"ab", 5);
     assert!(rt; is_in_order(&low, pairs.as_slice()));
     let payload = encode(rt.alloc(), &low, pairs.as_slice())?;
     let expected: &[u8] = &[
@@ -64,24 +53,8 @@ fn pairs_out_of_order_are_refused(rt: HostRuntime) -> Result<(), Fail> {
         (b"", 0, b"a", 2),
     ];
     for (term, number, other, second) in rows {
-        let mut pairs = Vec::new(rt.alloc());
-        let mut bytes = Vec::new(rt.alloc());
-        bytes.extend_from_slice(term)?;
-        let term = Bytes::from_vec(bytes);
-        pairs.push(Pair { term, number })?;
-        let mut bytes = Vec::new(rt.alloc());
-        bytes.extend_from_slice(other)?;
-        let term = Bytes::from_vec(bytes);
-        pairs.push(Pair {
-            term,
-            number: second,
-        })?;
-        let mut bytes = Vec::new(rt.alloc());
-        bytes.extend_from_slice(b"a")?;
-        let low = Pair {
-            term: Bytes::from_vec(bytes),
-            number: 2,
-        };
+        let pairs = [PairRef::new(term, number), PairRef::new(other, second)];
+        let low = PairRef::new(b"a", 2);
         assert!(rt; !is_in_order(&low, pairs.as_slice()), "{number}");
     }
     Ok(())
@@ -192,17 +165,15 @@ fn other_bytes_are_refused(rt: HostRuntime) {
 // Terms with 5,000 bytes in common, and one more: the third byte from the end is that of the second.
 #[test]
 fn long_terms_are_read(rt: HostRuntime) -> Result<(), Fail> {
-    let mut pairs = Vec::new(rt.alloc());
-    for last in [1, 2] {
-        let mut bytes = vec![in rt.alloc(); 7u8; 5000]?;
-        bytes.push(last)?;
-        let term = Bytes::from_vec(bytes);
-        pairs.push(Pair { term, number: 1 })?;
-    }
-    let low = Pair {
-        term: Bytes::new(rt.alloc()),
-        number: 0,
-    };
+    let mut first = vec![in rt.alloc(); 7u8; 5000]?;
+    first.push(1)?;
+    let mut second = vec![in rt.alloc(); 7u8; 5000]?;
+    second.push(2)?;
+    let pairs = [
+        PairRef::new(first.as_slice(), 1),
+        PairRef::new(second.as_slice(), 1),
+    ];
+    let low = PairRef::new(&[], 0);
     assert!(rt; is_in_order(&low, pairs.as_slice()));
     let mut payload = encode(rt.alloc(), &low, pairs.as_slice())?;
     assert_eq!(rt; payload.len(), 5015);

@@ -2,17 +2,18 @@
 //! empty term and number 0, has two bytes.
 use ax_leaf::{encode, is_in_order};
 use ax_pair::{Bytes, Pair};
+use ax_pair_list::{PairRef, refs_of};
 use std::alloc::{AllocError, Global};
 use std::test::Fail;
 
 /// The length of the base with these pairs; 0 where they do not rise.
 fn base_length(alloc: Global, pairs: &[Pair]) -> Result<usize, Fail> {
-    let term = Bytes::new(alloc);
-    let low = Pair { term, number: 0 };
-    if !is_in_order(&low, pairs) {
+    let refs = refs_of(alloc, pairs)?;
+    let low = PairRef::new(&[], 0);
+    if !is_in_order(&low, refs.as_slice()) {
         return Ok(0);
     }
-    Ok(encode(alloc, &low, pairs)?.len())
+    Ok(encode(alloc, &low, refs.as_slice())?.len())
 }
 
 /// The pair of number 1 and a term that is one letter so many times.

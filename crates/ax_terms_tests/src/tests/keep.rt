@@ -1,4 +1,4 @@
-ghost use Rattle.std.specs.Prelude.{IfOk, IfSome};
+ghost use Rattle.std.specs.Prelude.{IfOk, IfSome, IsTrue};
 ghost use Rattle.ax_tree.specs.Document.{IsDocument};
 ghost use Rattle.ax_pair.specs.Order.{Rise};
 
@@ -6,6 +6,7 @@ use ax_keep::{Change, Memory, changes, exchanged};
 use ax_leaf::is_in_order;
 use ax_mean::{Tree, id_of};
 use ax_pair::{Bytes, Pair};
+use ax_pair_list::{PairRef, refs_of};
 use ax_policy::{Policy, read_policy};
 use ax_text::read_tree;
 use std::alloc::Global;
@@ -214,6 +215,17 @@ fn a_document_of_the_most_terms_changes(rt: HostRuntime) -> Result<(), Fail> {
     Ok(())
 }
 
+/// Do the pairs rise?
+fn do_rise(alloc: Global, pairs: &[Pair]) -> Result<bool, Memory>
+    ensures { IfOk result (λ rise. IsTrue rise → Rise pairs.now) }
+{
+    let refs = match refs_of(alloc, pairs) {
+        Ok(refs) => refs,
+        Err(_) => return Err(Memory),
+    };
+    Ok(is_in_order(&PairRef::new(&[], 0), refs.as_slice()))
+}
+
 /// Pairs that rise, each of a term of one letter and a number.
 fn pairs(alloc: Global, rows: &[(u8, u32)]) -> Result<Vec<Pair>, Memory>
     ensures { IfOk result (λ pairs. Rise pairs.items) }
@@ -227,11 +239,7 @@ fn pairs(alloc: Global, rows: &[(u8, u32)]) -> Result<Vec<Pair>, Memory>
             number: *number,
         })?;
     }
-    let least = Pair {
-        term: Bytes::from_vec(Vec::new(alloc)),
-        number: 0,
-    };
-    if !is_in_order(&least, pairs.as_slice()) {
+    if !do_rise(alloc, pairs.as_slice())? {
         return Err(Memory);
     }
     Ok(pairs)

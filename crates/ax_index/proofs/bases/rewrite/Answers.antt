@@ -5,5 +5,5 @@ use Rattle.ax_index.proofs.bases.rewrite.Goals as goal
 
 pub put_bases-requires-clause-begins : goal.put_bases-requires-clause-begins
 put_bases-requires-clause-begins g c =
-    belong_begins (store_contents c.args.store.now).terms c.args.page c.in_ok-low.low c.args.pairs.now c.in_ok-low.ensures
+    belong_begins (store_contents c.args.store.now).terms c.args.page c.low_of-low.result c.args.pairs.now c.low_of-low.ensures
     (c.all_belong.ensures.0 (search rules))
