@@ -10,7 +10,7 @@ use Rattle.ax_gap.proofs.VarintLaws.{found, same_number, same_after, first_varin
 use Rattle.ax_gap.proofs.GapLaws.{spells_list_grammar}
 use Rattle.ax_gap.proofs.CursorLaws.{one_list_form}
 use Rattle.ax_pair.specs.declared.pair.Pair.{Pair}
-use Rattle.ax_pair.proofs.PairOrder.{the_pair, same_pair}
+use Rattle.ax_pair.proofs.PairOrder.{same_pair}
 use Rattle.ax_leaf.specs.Pairs.{Posting}
 use Rattle.ax_leaf.specs.Payload.{common, term_after, list_after, leaf, IsLeaf, AreAfter, ArePostings}
 

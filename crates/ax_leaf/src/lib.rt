@@ -1,6 +1,7 @@
 //! The payload of a base of a term page: its low pair, and its pairs, with the terms shortened by
 //! what each has in common with the term before. The crate stands on `ax_gap`, whose gap lists hold
-//! the numbers of each term, and on `ax_pair`, which has pairs and low pairs.
+//! the numbers of each term, on `ax_pair`, which has pairs and low pairs, and on `ax_pair_list`, whose
+//! borrowed pairs it writes.
 //!
 //! Its one contract: rising pairs under a low pair have one payload, `IsLeaf` of
 //! `specs/Payload.antt`. `encode` writes it. `check` reads it, and answers `None` exactly where the

@@ -1,4 +1,4 @@
-use Rattle.std.proofs.Common.{◌≡◌, ◌∙◌, arith, sym, subst}
+use Rattle.std.proofs.Common.{arith}
 use Rattle.std.proofs.lemmas.Bool.{false≢true}
 use Rattle.ax_leaf.proofs.InListing.{listed_none, no_first, first_shares, listed_behind}
 use Rattle.ax_leaf.proofs.listing.is_listing.Goals as goal
