@@ -43,7 +43,7 @@ use Rattle.ax_atoms.specs.Spans.{before, behind_texts, is_in_some, next_bytes, n
 use Rattle.ax_atoms.proofs.Found.{Found, single_scalar, by_scalar, in_own, one_range, term_at, within, yes_of}
 use Rattle.ax_atoms.proofs.Parts.{leaf_at, leaf_of_item, scalar_leaves, some_leaf}
 use Rattle.ax_atoms.proofs.Between.{IsFit, all_behind, at_path, front_least, front_taken, in_before, in_below, texts_behind}
-use Rattle.ax_atoms.proofs.Sequences.{contains_first, contains_later}
+use Rattle.ax_terms.proofs.Sequences.{contains_first, contains_later}
 use Rattle.ax_atoms.proofs.Split.{conjunction_yes, truth_again}
 use Rattle.ax_atoms.proofs.Values.{alike, compared_true, equal_true, ge_le}
 

@@ -17,7 +17,7 @@ use Rattle.ax_terms.specs.Leaves.{Leaf, alone, behind, item_leaves, leaves, leav
 use Rattle.ax_atoms.proofs.Found.{LeavesFit}
 use Rattle.ax_atoms.proofs.Parts.{leaves-roll}
 use Rattle.ax_atoms.proofs.Between.{IsFit}
-use Rattle.ax_atoms.proofs.Sequences.{from_map, none_in_nil, only_one}
+use Rattle.ax_terms.proofs.Sequences.{from_map, none_in_nil, only_one}
 
 fits-roll : (x : Tree-F Tree) → numbers_fit (roll-Tree x) ≡ numbers_level (map-Tree Tree Bool numbers_fit x)
 fits-roll = fold-roll-Tree Bool numbers_level

@@ -47,7 +47,7 @@ use Rattle.ax_atoms.proofs.Exact.{values_back}
 use Rattle.ax_atoms.proofs.Found.{single_scalar}
 use Rattle.ax_atoms.proofs.OneKind.{IsBoundCut, bound_cut, number, text}
 use Rattle.ax_atoms.proofs.Nexts.{short_cut}
-use Rattle.ax_atoms.proofs.Sequences.{contains_first, contains_later}
+use Rattle.ax_terms.proofs.Sequences.{contains_first, contains_later}
 use Rattle.ax_atoms.proofs.Split.{conjunction_yes, truth_again}
 use Rattle.ax_atoms.proofs.Table.{IsOfTable, recognised_of_table}
 use Rattle.ax_atoms.proofs.Values.{Alike, alike, compared_true, equal_true, ge_le, numbers, texts, value_total}

@@ -13,7 +13,6 @@ pub mod OneKind
 pub mod Parts
 pub mod Passes
 pub mod Rows
-pub mod Sequences
 pub mod Split
 pub mod Table
 pub mod Values

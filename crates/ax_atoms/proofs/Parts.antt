@@ -24,7 +24,7 @@ use Rattle.ax_mean.specs.Steps.{step_from, steps_from}
 use Rattle.ax_mean.specs.Values.{of_tree, list_level, kind_level}
 use Rattle.ax_terms.specs.Leaves.{Leaf, alone, behind, below, item_leaves, leaves, leaves_in, leaves_level, list_leaves, map_leaves, member_leaves}
 use Rattle.ax_atoms.specs.Recognised.{step_of}
-use Rattle.ax_atoms.proofs.Sequences.{contains_first, contains_later, contains_map, contains_flat_map, none_in_nil}
+use Rattle.ax_terms.proofs.Sequences.{contains_first, contains_later, contains_map, contains_flat_map, none_in_nil}
 
 pub leaves-roll : (x : Tree-F Tree)
     → leaves (roll-Tree x) ≡ leaves_level (map-Tree Tree (List Leaf) leaves x)

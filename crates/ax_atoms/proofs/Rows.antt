@@ -29,7 +29,7 @@ use Rattle.ax_atoms.specs.Recognised.{recognised}
 use Rattle.ax_atoms.specs.Silent.{IsSilent}
 use Rattle.ax_atoms.proofs.FitLeaves.{leaves_fit}
 use Rattle.ax_atoms.proofs.Passes.{recognised_found}
-use Rattle.ax_atoms.proofs.Sequences.{contains_first, contains_later, from_flat_map, from_map, none_in_nil, only_one}
+use Rattle.ax_terms.proofs.Sequences.{contains_first, contains_later, from_flat_map, from_map, none_in_nil, only_one}
 use Rattle.ax_atoms.proofs.Split.{true_where_operands_are}
 
 -- ---- what a row binds first stays bound

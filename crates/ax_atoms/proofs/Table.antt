@@ -36,7 +36,7 @@ use Rattle.ax_atoms.proofs.Found.{no_atom, one_range, where_is_so}
 use Rattle.ax_atoms.proofs.Fronts.{paths_begin, texts_begin}
 use Rattle.ax_atoms.proofs.OneKind.{IsBoundCut, before_next, bound_cut, bound_fit, from_least, kind_before_next, kind_up_to, least_fit, next_fit, single_fit}
 use Rattle.ax_atoms.proofs.Passes.{plain_only, side_cases}
-use Rattle.ax_atoms.proofs.Sequences.{contains_first, contains_later}
+use Rattle.ax_terms.proofs.Sequences.{contains_first, contains_later}
 
 abbrev bytes_of : List Step → CutValue → List ℕ
 bytes_of path value = term_bytes (Term.Plain path value)

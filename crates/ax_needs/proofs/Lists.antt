@@ -2,7 +2,7 @@
 use Rattle.std.proofs.Common.{◌≡◌, ℕ, ◌<◌, zero, suc, List, [], ◌∷◌, length, get_or, Bool, true, ⊎_elim, refl, sym, ap, ◌∙◌, arith}
 use Rattle.std.proofs.lemmas.Bool.{and_from, and_parts, false≢true, or_cases, or_left, or_right}
 use Rattle.std.specs.List.{Contains, list_all, list_any}
-use Rattle.ax_atoms.proofs.Sequences.{contains_first, contains_later}
+use Rattle.ax_terms.proofs.Sequences.{contains_first, contains_later}
 
 module _ {A : Type 0} (p : A → Bool) where
   passes_at : (xs : List A) (x : A) (k : ℕ) → k < length xs → get_or xs k x ≡ x → list_all p xs ≡ true → p x ≡ true

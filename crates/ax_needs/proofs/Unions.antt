@@ -5,7 +5,7 @@ use Rattle.std.specs.List.{Contains, cons_option}
 use Rattle.ax_term.specs.declared.range.TermRange.{TermRange}
 use Rattle.ax_atoms.specs.Atoms.{Atom}
 use Rattle.ax_atoms.specs.Spans.{ranges_of}
-use Rattle.ax_atoms.proofs.Sequences.{contains_first, contains_later, none_in_nil}
+use Rattle.ax_terms.proofs.Sequences.{contains_first, contains_later, none_in_nil}
 use Rattle.ax_container.specs.Container.{Container}
 use Rattle.ax_needs.specs.Needs.{is_usable, union_of, unions_of}
 

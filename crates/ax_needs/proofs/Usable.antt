@@ -16,7 +16,7 @@ use Rattle.ax_needs.specs.Read.{AreRead, IsRead}
 use Rattle.ax_needs.proofs.Deciding.{all_covered, all_covered_is, covered, covers_is}
 use Rattle.ax_needs.proofs.Lists.{all_pass, each_passes}
 use Rattle.ax_needs.proofs.ReadRules.{AreInOrder, read_in_order}
-use Rattle.ax_atoms.proofs.Sequences.{contains_first, contains_later, none_in_nil}
+use Rattle.ax_terms.proofs.Sequences.{contains_first, contains_later, none_in_nil}
 
 module _ (policy : Policy) (at : List Step) where
   covered_there : (whole : Bool) → cond whole (is_all_covered policy at) (is_covered policy at) ≡ true

@@ -21,7 +21,7 @@ use Rattle.ax_index.specs.Wanted.{HasInSome}
 use Rattle.ax_candidates.specs.Candidates.{AreCandidates}
 use Rattle.ax_atoms.specs.Conjuncts.{atoms}
 use Rattle.ax_atoms.specs.Spans.{is_in_some, ranges_of}
-use Rattle.ax_atoms.proofs.Sequences.{contains_first, contains_later}
+use Rattle.ax_terms.proofs.Sequences.{contains_first, contains_later}
 use Rattle.ax_skips.specs.Chosen.{chosen, document_at, fetched}
 use Rattle.ax_skips.specs.Planned.{IsPlannedOver}
 use Rattle.ax_skips.proofs.Fetching.{document, fetched_are_chosen, is_in}

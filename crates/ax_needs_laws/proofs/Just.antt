@@ -16,7 +16,7 @@ use Rattle.ax_image_grammar.proofs.OneContainer.{same_policy}
 use Rattle.ax_policy.specs.Table.{Table, count_at, policy_at}
 use Rattle.ax_policy.specs.declared.policy.Policy.{Policy}
 use Rattle.ax_table.specs.TableAgrees.{TableAgrees, is_under}
-use Rattle.ax_atoms.proofs.Sequences.{contains_first, contains_later, contains_map}
+use Rattle.ax_terms.proofs.Sequences.{contains_first, contains_later, contains_map}
 use Rattle.ax_plan.specs.Taken.{IsTaken}
 use Rattle.ax_skips.specs.Planned.{HasFewNumbers}
 use Rattle.ax_needs.specs.Needs.{policies_of}

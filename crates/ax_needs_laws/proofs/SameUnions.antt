@@ -9,7 +9,7 @@ use Rattle.ax_policy.specs.Table.{Table}
 use Rattle.ax_policy.specs.declared.policy.Policy.{Policy}
 use Rattle.ax_atoms.specs.Atoms.{Atom}
 use Rattle.ax_atoms.specs.Spans.{ranges_of}
-use Rattle.ax_atoms.proofs.Sequences.{from_map}
+use Rattle.ax_terms.proofs.Sequences.{from_map}
 use Rattle.ax_container.specs.Container.{Container, Entry}
 use Rattle.ax_table.specs.TableAgrees.{ArePolicies}
 use Rattle.ax_plan.specs.Taken.{IsTaken}

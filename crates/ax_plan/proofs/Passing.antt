@@ -22,7 +22,7 @@ use Rattle.ax_atoms.specs.Silent.{IsSilent}
 use Rattle.ax_atoms.proofs.FitLeaves.{leaves_fit}
 use Rattle.ax_atoms.proofs.Passes.{recognised_found}
 use Rattle.ax_atoms.proofs.Rows.{silent}
-use Rattle.ax_atoms.proofs.Sequences.{from_map, none_in_nil}
+use Rattle.ax_terms.proofs.Sequences.{from_map, none_in_nil}
 use Rattle.ax_atoms.proofs.Split.{true_where_operands_are}
 use Rattle.ax_plan.specs.Taken.{IsTaken}
 use Rattle.ax_plan.specs.Terms.{HasTermInEach, HasTermInUnion}

@@ -16,7 +16,7 @@ use Rattle.ax_atoms.specs.Conjuncts.{conjunct_of}
 use Rattle.ax_atoms.specs.Passing.{IsAtOrBelow}
 use Rattle.ax_atoms.specs.Spans.{ranges_of}
 use Rattle.ax_atoms.specs.declared.conjunct.Conjunct.{Conjunct}
-use Rattle.ax_atoms.proofs.Sequences.{contains_first, contains_later, none_in_nil}
+use Rattle.ax_terms.proofs.Sequences.{contains_first, contains_later, none_in_nil}
 use Rattle.ax_plan.specs.Taken.{HoldsOfTaken}
 use Rattle.ax_plan.specs.ByPaths.{AreCovered, AreOfConjuncts, CoversPath, covered, empty, uncovered, without_ranges}
 use Rattle.ax_plan.specs.Terms.{IsOfUsable}

@@ -21,7 +21,7 @@ use Rattle.ax_index.specs.Wanted.{HasInSome}
 use Rattle.ax_atoms.specs.Conjuncts.{atoms}
 use Rattle.ax_atoms.specs.Silent.{IsSilent}
 use Rattle.ax_atoms.specs.Spans.{is_in_some}
-use Rattle.ax_atoms.proofs.Sequences.{contains_first, contains_later}
+use Rattle.ax_terms.proofs.Sequences.{contains_first, contains_later}
 use Rattle.ax_plan.specs.Taken.{IsTaken}
 use Rattle.ax_plan.specs.Terms.{HasTermInEach, HasTermInUnion}
 use Rattle.ax_plan.specs.Usable.{AreUnions}

@@ -7,6 +7,6 @@ mod Nowhere
 mod PathNumbers
 mod Rising
 mod SameCounts
-mod Sequences
+pub mod Sequences
 mod Telling
 mod TermSets
