@@ -94,10 +94,14 @@ scans_of pages honest (Err fault.Disk) old new ahead before after earlier later 
   never_falls = (cause works).never_falls;
   rose = (cause works).failed tt;
 }
-scans_of pages honest (Err (fault.Damaged extent at)) old new ahead before after earlier later works same slots agrees ok disk memory (inl is) lists cause = absurd cc
-scans_of pages honest (Err (fault.Damaged extent at)) old new ahead before after earlier later works same slots agrees ok disk memory (inr is) lists cause = absurd cc
-scans_of pages honest (Err (fault.Newer version)) old new ahead before after earlier later works same slots agrees ok disk memory (inl is) lists cause = absurd cc
-scans_of pages honest (Err (fault.Newer version)) old new ahead before after earlier later works same slots agrees ok disk memory (inr is) lists cause = absurd cc
+scans_of pages honest (Err (fault.Damaged extent at)) old new ahead before after earlier later works same slots agrees ok disk memory (inl is) lists cause =
+    absurd cc
+scans_of pages honest (Err (fault.Damaged extent at)) old new ahead before after earlier later works same slots agrees ok disk memory (inr is) lists cause =
+    absurd cc
+scans_of pages honest (Err (fault.Newer version)) old new ahead before after earlier later works same slots agrees ok disk memory (inl is) lists cause =
+    absurd cc
+scans_of pages honest (Err (fault.Newer version)) old new ahead before after earlier later works same slots agrees ok disk memory (inr is) lists cause =
+    absurd cc
 scans_of pages honest (Err fault.Memory) old new ahead before after earlier later works same slots agrees ok disk memory only lists cause =
     let still : store_failed new ≡ false = memory refl ∙ works in
     record {

@@ -1,7 +1,8 @@
 -- The store is opened as it stands, and then the texts of its policies are read.
 use Rattle.std.proofs.Common.{IsTrue, sym, subst}
 use Rattle.ax_store.proofs.OpenLemmas.{keeps_idle}
-use Rattle.ax_documents.proofs.Opened.{have_table, holds_opened, never_answered, opened_rests, passed_on, readable_still, refuses_by, since_opening, since_reading, within_by}
+use Rattle.ax_documents.proofs.Opened.{have_table, holds_opened, never_answered, opened_rests, passed_on, readable_still, refuses_by, since_opening}
+use Rattle.ax_documents.proofs.Opened.{since_reading, within_by}
 use Rattle.ax_documents.proofs.Refusing.{table_refuses}
 use Rattle.ax_documents.proofs.opening.open_documents.Goals as goal
 

@@ -120,7 +120,8 @@ returns-in-Ok-plan_and_commit-clause-small g c =
     let can = can_create contents (sym c.is_full.ensures ∙ c.if-is_full.false) in
     let next = c.meta-number.ensures.next in
     small_batch (IsNew contents) _ table number table.current now None (Some tree) _ _ _ contents _ next
-    (next, ap (finite.get contents.documents) next ∙ can.none) c.in-Ok-created_pairs.ensures c.as_slice.ensures.value c.now-now.ensures.current c.in-Ok.ensures c.in-Ok-plan_and_commit.ensures.planned
+    (next, ap (finite.get contents.documents) next ∙ can.none) c.in-Ok-created_pairs.ensures c.as_slice.ensures.value
+    c.now-now.ensures.current c.in-Ok.ensures c.in-Ok-plan_and_commit.ensures.planned
 
 pub returns-in-Ok-plan_and_commit-clause-leaves : goal.returns-in-Ok-plan_and_commit-clause-leaves
 returns-in-Ok-plan_and_commit-clause-leaves g c =
@@ -137,7 +138,8 @@ returns-in-Ok-plan_and_commit-clause-leaves g c =
     left_behind g.C.PageCache.pages _ store c.plan_and_commit.new.store _ _ _ _ (Ok tt) tt
     (λ honest works set index rests.
     c.plan_and_commit.ensures.readable honest works front set said (creating_readable number now tree c.requires.storable) index rests)
-    (λ honest. tt) (λ honest. tt) c.in-Ok-plan_and_commit.ensures.fails c.plan_and_commit.ensures.agrees c.plan_and_commit.ensures.slots c.plan_and_commit.ensures.others
+    (λ honest. tt) (λ honest. tt) c.in-Ok-plan_and_commit.ensures.fails c.plan_and_commit.ensures.agrees
+    c.plan_and_commit.ensures.slots c.plan_and_commit.ensures.others
     c.plan_and_commit.ensures.area c.in-Ok-plan_and_commit.ensures.cause c.plan_and_commit.ensures.never_falls
 
 pub returns-clause-tells : goal.returns-clause-tells
@@ -185,7 +187,8 @@ returns-clause-leaves g c =
     left_behind g.C.PageCache.pages _ store c.plan_and_commit.new.store _ _ _ _ (Err c.in-Err.fault) c.in-Err.ensures.kept
     (λ honest works set index rests.
     c.plan_and_commit.ensures.readable honest works front set said (creating_readable number now tree c.requires.storable) index rests)
-    c.in-Err.ensures.untouched c.in-Err.ensures.damage c.in-Err.ensures.fails c.plan_and_commit.ensures.agrees c.plan_and_commit.ensures.slots c.plan_and_commit.ensures.others
+    c.in-Err.ensures.untouched c.in-Err.ensures.damage c.in-Err.ensures.fails c.plan_and_commit.ensures.agrees
+    c.plan_and_commit.ensures.slots c.plan_and_commit.ensures.others
     c.plan_and_commit.ensures.area c.in-Err.ensures.cause c.plan_and_commit.ensures.never_falls
 
 pub returns-then-is_full-clause-full_only : goal.returns-then-is_full-clause-full_only

@@ -49,7 +49,8 @@ pub returns-in-Err-text_under-clause-leaves : goal.returns-in-Err-text_under-cla
 returns-in-Err-text_under-clause-leaves g c =
     looks_behind g.C.PageCache.pages (g.D.Disk.is_honest c.args.disk.now) (g.D.Disk.is_honest c.find_number.new.disk) c.find_number.ensures.honest
     c.in-Ok-Some.field-0 _ c.args.self.now.store c.find_number.new.store c.text_under.new.store _ _ _ _ _ _
-    c.in-Ok-Some.ensures.leaves c.in-Err-text_under.ensures.only c.in-Err-text_under.ensures.reads c.in-Err-text_under.ensures.slots c.in-Err-text_under.ensures.fails c.in-Err-text_under.ensures.cause
+    c.in-Ok-Some.ensures.leaves c.in-Err-text_under.ensures.only c.in-Err-text_under.ensures.reads
+    c.in-Err-text_under.ensures.slots c.in-Err-text_under.ensures.fails c.in-Err-text_under.ensures.cause
 
 pub returns-in-Ok-clause-met : goal.returns-in-Ok-clause-met
 returns-in-Ok-clause-met g c = λ honest.
