@@ -1,3 +1,4 @@
+mod DifferentPairs
 mod Exchanging
 mod NetLaws
 mod Owning

@@ -37,13 +37,13 @@ both_true : (a b : Bool) → (a && b) ≡ true → (a ≡ true) × (b ≡ true)
 both_true true b h = (refl, h)
 both_true false b h = absurd (cc)
 
-rises_on : (t : List ℕ) (number : ℕ) (terms : List (List ℕ)) → is_rising (t ∷ terms) ≡ true → RiseAfter (the_pair t number) (with_number number terms)
+pub rises_on : (t : List ℕ) (number : ℕ) (terms : List (List ℕ)) → is_rising (t ∷ terms) ≡ true → RiseAfter (the_pair t number) (with_number number terms)
 rises_on t number [] h = tt
 rises_on t number (u ∷ terms) h =
     let both = both_true (is_before t u) (is_rising (u ∷ terms)) h in
     (before_then t u number both.0, rises_on u number terms both.1)
 
-rises_behind : (id : List ℕ) (number : ℕ) (terms : List (List ℕ)) → ((t : List ℕ) → Contains terms t → is_before id t ≡ true)
+pub rises_behind : (id : List ℕ) (number : ℕ) (terms : List (List ℕ)) → ((t : List ℕ) → Contains terms t → is_before id t ≡ true)
     → is_rising terms ≡ true → Rise (the_pair id number ∷ with_number number terms)
 rises_behind id number [] above h = tt
 rises_behind id number (t ∷ terms) above h = (before_then id t number (above t (in_first t terms t refl)), rises_on t number terms h)
@@ -51,20 +51,20 @@ rises_behind id number (t ∷ terms) above h = (before_then id t number (above t
 -- ---- the term of an id is before all others
 
 -- a term that is none of an id begins with 2 or 3
-begins_later : (policy : Policy) (given : Tree) (t id : List ℕ) → HasTerm policy given t → is_before (term_bytes (Term.Id id)) t ≡ true
+pub begins_later : (policy : Policy) (given : Tree) (t id : List ℕ) → HasTerm policy given t → is_before (term_bytes (Term.Id id)) t ≡ true
 begins_later policy given t id (inl (leaf, there, covers, is)) = ap (is_before (term_bytes (Term.Id id))) is
 begins_later policy given t id (inr (composite, there, is)) = ap (is_before (term_bytes (Term.Id id))) is
 
 -- ---- what it has
 
-has_first : (p x : Pair) (pairs : List Pair) → p ≡ x → has x (p ∷ pairs) ≡ true
+pub has_first : (p x : Pair) (pairs : List Pair) → p ≡ x → has x (p ∷ pairs) ≡ true
 has_first p x pairs e = ap (λ b. cond b true (has x pairs)) (same_to p x e)
 
-has_later : (p x : Pair) (pairs : List Pair) → has x pairs ≡ true → has x (p ∷ pairs) ≡ true
+pub has_later : (p x : Pair) (pairs : List Pair) → has x pairs ≡ true → has x (p ∷ pairs) ≡ true
 has_later p x pairs h =
     elim (is_same p x) as (λ b. cond b true (has x pairs) ≡ true) [ true ↦ refl | false ↦ h ]
 
-has_cases : (p x : Pair) (pairs : List Pair) → has x (p ∷ pairs) ≡ true → (p ≡ x) ⊎ (has x pairs ≡ true)
+pub has_cases : (p x : Pair) (pairs : List Pair) → has x (p ∷ pairs) ≡ true → (p ≡ x) ⊎ (has x pairs ≡ true)
 has_cases p x pairs h =
     ⊎_elim
     (λ (s : is_same p x ≡ true). inl (same_from p x s))

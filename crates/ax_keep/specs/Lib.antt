@@ -1,3 +1,4 @@
+pub mod Different
 pub mod Exchanges
 pub mod Net
 pub mod Owned

@@ -49,7 +49,7 @@ fn document_pairs(
 }
 
 /// Puts the pair of a document's id at the end.
-fn put_id(alloc: Global, pairs: &mut Vec<Pair>, number: u32, document: &Tree) -> Result<(), Memory>
+pub(crate) fn put_id(alloc: Global, pairs: &mut Vec<Pair>, number: u32, document: &Tree) -> Result<(), Memory>
     requires { IsDocument document.now }
     ensures { (id : List ℕ) → document_id document.now ≡ Some id
         → OnOk result (pairs.new.items
@@ -65,7 +65,7 @@ fn put_id(alloc: Global, pairs: &mut Vec<Pair>, number: u32, document: &Tree) ->
 }
 
 /// Puts terms, each with the number, at the end.
-fn put_terms(pairs: &mut Vec<Pair>, number: u32, terms: Vec<Bytes>) -> Result<(), Memory>
+pub(crate) fn put_terms(pairs: &mut Vec<Pair>, number: u32, terms: Vec<Bytes>) -> Result<(), Memory>
     ensures { OnOk result (pairs.new.items ≡ pairs.old.items ++ with_number number terms.items) }
 {
     for term in terms {

@@ -15,7 +15,7 @@ use ax_term::Bytes;
 use std::alloc::Global;
 
 /// What the term of a leaf begins with.
-const PLAIN: u8 = 0x02;
+pub(crate) const PLAIN: u8 = 0x02;
 
 /// The terms of a document under a policy, rising by bytes, without repeats: one for each leaf that
 /// is covered, and one for each composite that is offered. The term of its id is not among them.

@@ -8,7 +8,7 @@ ghost use Rattle.ax_table.specs.TableAgrees.{ArePolicies};
 ghost use Rattle.ax_write.specs.Exchanged.{IsExchanged};
 
 use ax_index::Change;
-use ax_keep::{Memory, changes};
+use ax_keep::{Memory, changes, changes_under};
 use ax_policy::PolicyTable;
 use ax_tree::Tree;
 use std::alloc::Global;
@@ -37,5 +37,8 @@ pub(crate) fn pair_changes(
     let Some(new_under) = table.policy(after) else {
         unreachable!()
     };
+    if before == after {
+        return changes_under(alloc, number, old_under, old, new);
+    }
     changes(alloc, number, old_under, old, new_under, new)
 }
