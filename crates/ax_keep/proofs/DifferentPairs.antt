@@ -1,8 +1,8 @@
 -- The pairs by which two documents with one number differ, from the terms by which they do.
 use Rattle.std.proofs.Common.{◌≡◌, ℕ, List, [], ◌∷◌, ◌++◌, refl, ap, ◌∙◌, sym, subst, Bool, true, false, ⊎_elim, ◌⊎◌, inl, inr, Option, Some, None}
-use Rattle.std.specs.Prelude.{◌↔◌, IsSome}
+use Rattle.std.specs.Prelude.{IsSome}
 use Rattle.std.specs.List.{Contains}
-use Rattle.ax_tree.specs.Rising.{is_before, is_rising}
+use Rattle.ax_tree.specs.Rising.{is_rising}
 use Rattle.ax_tree.specs.declared.tree.Tree.{Tree}
 use Rattle.ax_tree.specs.Document.{document_id}
 use Rattle.ax_pair.specs.declared.pair.Pair.{Pair}
@@ -19,7 +19,7 @@ use Rattle.ax_terms.proofs.TermLists.{term_list, are_terms}
 use Rattle.ax_keep.specs.Different.{AreDifferent, id_pairs}
 use Rattle.ax_keep.specs.Exchanges.{IsIn, IsNetted, Exchanges}
 use Rattle.ax_keep.specs.Owned.{IsIdTerm, Owns, with_number}
-use Rattle.ax_keep.proofs.Owning.{begins_later, document_owns, document_pairs, has_cases, has_first, has_later, id_term_is, rises_behind, rises_on, with_number_has}
+use Rattle.ax_keep.proofs.Owning.{begins_later, document_owns, document_pairs, has_cases, has_first, has_later, rises_behind, rises_on, with_number_has}
 
 -- ---- a pair of a document, or none
 
@@ -54,16 +54,21 @@ pairs_rise number policy given id true terms are h = numbers_rise number terms h
 pairs_rise number policy given id false terms are h =
     rises_behind (term_bytes (Term.Id id)) number terms (λ t there. begins_later policy given t id (are t there)) h
 
+terms_are : (number : ℕ) (policy : Policy) (given : Tree) (terms : List (List ℕ))
+    → ((bytes : List ℕ) → Contains terms bytes → HasTerm policy given bytes)
+    → (x : Pair) → IsIn (with_number number terms) x → Owns number policy (Some given) x
+terms_are number policy given terms are x h =
+    let k = (with_number_has number terms x).0 h in (k.0, inr (are x.term k.1))
+
 pairs_are : (number : ℕ) (policy : Policy) (given : Tree) (id : List ℕ) (same : Bool) (terms : List (List ℕ))
     → document_id given ≡ Some id → ((bytes : List ℕ) → Contains terms bytes → HasTerm policy given bytes)
     → (x : Pair) → IsIn (id_pairs same id number ++ with_number number terms) x → Owns number policy (Some given) x
-pairs_are number policy given id true terms own are x h =
-    let k = (with_number_has number terms x).0 h in (k.0, inr (are x.term k.1))
+pairs_are number policy given id true terms own are x h = terms_are number policy given terms are x h
 pairs_are number policy given id false terms own are x h =
     ⊎_elim
     (λ (e : the_pair (term_bytes (Term.Id id)) number ≡ x).
     (ap (λ (p : Pair). p.number) (sym e), inl (record { id = id; own = own; is = ap (λ (p : Pair). p.term) (sym e) })))
-    (λ (k : has x (with_number number terms) ≡ true). pairs_are number policy given id true terms own are x k)
+    (λ (k : has x (with_number number terms) ≡ true). terms_are number policy given terms are x k)
     (has_cases (the_pair (term_bytes (Term.Id id)) number) x (with_number number terms) h)
 
 -- a pair of a term is in the list where the term is in the terms, whatever becomes of the id
@@ -89,11 +94,11 @@ module _ (number : ℕ) (policy : Policy) (old new : Tree) (old_id new_id : List
     (alike : same ≡ true → document_id old ≡ document_id new)
     (stay : (bytes : List ℕ) → HasTerm policy old bytes → (Contains gone bytes → ⊥) → HasTerm policy new bytes × (Contains come bytes → ⊥))
     (come_are : (bytes : List ℕ) → Contains come bytes → HasTerm policy new bytes) where
-  abbrev before : List Pair
-  before = id_pairs same old_id number ++ with_number number gone
+  abbrev old_pairs : List Pair
+  old_pairs = id_pairs same old_id number ++ with_number number gone
 
-  abbrev after : List Pair
-  after = id_pairs same new_id number ++ with_number number come
+  abbrev new_pairs : List Pair
+  new_pairs = id_pairs same new_id number ++ with_number number come
 
   -- the pair of the id stays where both documents have one id
   id_stays : (b : Bool) → same ≡ b → (x : Pair) → x.number ≡ number → IsIdTerm old x.term
@@ -114,8 +119,8 @@ module _ (number : ℕ) (policy : Policy) (old new : Tree) (old_id new_id : List
       same_some : (x y : List ℕ) → Some x ≡ Some y → x ≡ y
       same_some x y e = cc
 
-  pairs_stay : (x : Pair) → Owns number policy (Some old) x → (IsIn before x → ⊥)
-      → Owns number policy (Some new) x × (IsIn after x → ⊥)
+  pairs_stay : (x : Pair) → Owns number policy (Some old) x → (IsIn old_pairs x → ⊥)
+      → Owns number policy (Some new) x × (IsIn new_pairs x → ⊥)
   pairs_stay x owns none =
       ⊎_elim
       (λ (id : IsIdTerm old x.term). id_stays same refl x owns.0 id none)

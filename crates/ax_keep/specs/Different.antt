@@ -1,7 +1,7 @@
 -- The pairs by which two documents with one number differ under one policy: some pairs of the one and some
 -- of the other, so that each other pair of the one is one of the other too. Only clauses of private functions
 -- cite it: what comes of it, `Exchanges` says.
-use Rattle.std.specs.Prelude.{◌≡◌, ℕ, List, [], ◌∷◌, Bool, true, false, Some}
+use Rattle.std.specs.Prelude.{ℕ, List, [], ◌∷◌, Bool, true, false, Some}
 use Rattle.ax_tree.specs.declared.tree.Tree.{Tree}
 use Rattle.ax_pair.specs.declared.pair.Pair.{Pair}
 use Rattle.ax_pair.specs.Order.{Rise}

@@ -14,7 +14,6 @@ use std::alloc::Global;
 
 /// Pairs of the old document and pairs of the new one, each rising; what is in neither list is in the
 /// index for both documents or for none.
-#[tactic(auto, using(crate::proofs::DifferentPairs::are_different))]
 pub(crate) fn differing_pairs(
     alloc: Global,
     number: u32,

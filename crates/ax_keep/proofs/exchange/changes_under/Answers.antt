@@ -1,4 +1,4 @@
-use Rattle.std.proofs.Common.{ap, subst, sym}
+use Rattle.std.proofs.Common.{Some, ap, subst, sym}
 use Rattle.std.specs.Prelude.{IfOk}
 use Rattle.std.specs.Option.{option_copied}
 use Rattle.ax_keep.specs.Exchanges.{Exchanges}
@@ -14,4 +14,4 @@ returns c =
     (subst
     (λ d. IfOk c.changes_between.result (λ changes. Exchanges (Owns c.args.number c.args.under.now (Some c.in-Some.before.now))
     (Owns c.args.number c.args.under.now d) changes.items))
-    (sym (ap option_copied c.in-Some-after.is)) c.changes_between.ensures)
+    (sym (ap option_copied c.in-Some-new.is)) c.changes_between.ensures)
