@@ -2,7 +2,7 @@ ghost use Rattle.std.specs.Prelude.{IfOk, IfSome, IsTrue};
 ghost use Rattle.ax_tree.specs.Document.{IsDocument};
 ghost use Rattle.ax_pair.specs.Order.{Rise};
 
-use ax_keep::{Change, Memory, changes, exchanged};
+use ax_keep::{Change, Memory, changes, changes_under, exchanged};
 use ax_leaf::is_in_order;
 use ax_mean::{Tree, id_of};
 use ax_pair::{Bytes, Pair};
@@ -39,6 +39,10 @@ const TWO_IN_L: &[u8] = b"\x02\x03l\0\x01\x02\x01\x14\x80\0\0\0\0\0\0\x02";
 const ONE_AND_NONE: &[u8] =
     b"\x03\x02\0\x03v\0\x01\x01\0\x03w\0\x01\x01\x14\x80\0\0\0\0\0\0\x01\x10";
 
+const X_AND_NONE: &[u8] = b"\x03\x02\0\x03v\0\x01\x01\0\x03w\0\x01\x01\x15x\0\x01\x10";
+
+const ONE_AT_V_W: &[u8] = b"\x02\x03v\0\x01\x03w\0\x01\x01\x14\x80\0\0\0\0\0\0\x01";
+
 /// Is the term added, and its bytes.
 type Row = (bool, &'static [u8]);
 
@@ -47,6 +51,14 @@ type Case = (
     &'static str,
     Option<&'static str>,
     &'static str,
+    Option<&'static str>,
+    &'static [Row],
+);
+
+/// The same under one policy.
+type CaseUnder = (
+    &'static str,
+    Option<&'static str>,
     Option<&'static str>,
     &'static [Row],
 );
@@ -164,6 +176,73 @@ fn a_document_changes_by_its_terms(rt: HostRuntime) -> Result<(), Fail> {
     ];
     for (old_under, old, new_under, new, expected) in cases {
         let made = changes_of(alloc, old_under, old, new_under, new)?;
+        assert_eq!(rt; made.len(), expected.len());
+        for (change, (add, term)) in made.iter().zip(expected) {
+            assert_eq!(rt; change.add, *add);
+            assert_eq!(rt; change.pair.term.as_slice(), *term);
+            assert_eq!(rt; change.pair.number, 7);
+        }
+    }
+    Ok(())
+}
+
+/// The same under one policy.
+fn changes_under_one(
+    alloc: Global,
+    under: &str,
+    old: Option<&str>,
+    new: Option<&str>,
+) -> Result<Vec<Change>, Memory> {
+    let under = policy(alloc, under)?;
+    let old = document(alloc, old)?;
+    let new = document(alloc, new)?;
+    changes_under(alloc, 7, &under, old.as_ref(), new.as_ref())
+}
+
+// By hand, as above: the changes are the same, whatever is passed over.
+#[test]
+fn a_document_changes_under_one_policy(rt: HostRuntime) -> Result<(), Fail> {
+    let alloc = rt.alloc();
+    let a = Some(r#"{"id":"a"}"#);
+    let a_with_one = Some(r#"{"id":"a","v":1}"#);
+    let a_with_x = Some(r#"{"id":"a","v":"x"}"#);
+    let a_with_map = Some(r#"{"id":"a","v":{"w":1}}"#);
+    let b_with_map = Some(r#"{"id":"b","v":{"w":1}}"#);
+    let one_twice = Some(r#"{"id":"a","l":[1,1]}"#);
+    let one_and_two = Some(r#"{"id":"a","l":[1,2]}"#);
+    let cases: [CaseUnder; 9] = [
+        (ALL, one_twice, one_and_two, &[(true, TWO_IN_L)]),
+        (ALL, one_and_two, one_twice, &[(false, TWO_IN_L)]),
+        (
+            ALL,
+            a_with_map,
+            a_with_one,
+            &[(true, ONE_AT_V), (false, ONE_AT_V_W)],
+        ),
+        (ALL, a_with_map, a, &[(false, ONE_AT_V_W)]),
+        (ALL, a, a_with_map, &[(true, ONE_AT_V_W)]),
+        (ALL, a_with_map, a_with_map, &[]),
+        (
+            ALL,
+            a_with_map,
+            b_with_map,
+            &[
+                (false, ID_A),
+                (true, ID_B),
+                (false, A_AT_ID),
+                (true, B_AT_ID),
+            ],
+        ),
+        (
+            TWO,
+            a_with_one,
+            a_with_x,
+            &[(false, ONE_AND_NONE), (true, X_AND_NONE)],
+        ),
+        (ALL, None, a, &[(true, ID_A), (true, A_AT_ID)]),
+    ];
+    for (under, old, new, expected) in cases {
+        let made = changes_under_one(alloc, under, old, new)?;
         assert_eq!(rt; made.len(), expected.len());
         for (change, (add, term)) in made.iter().zip(expected) {
             assert_eq!(rt; change.add, *add);

@@ -1,9 +1,40 @@
 use ax_policy::{Policy, read_policy};
-use ax_terms::{Bytes, Memory, TermCount, count_all, terms_of};
+use ax_terms::{Bytes, Memory, TermCount, count_all, differing_terms, terms_of};
 use ax_text::read_tree;
 use ax_tree::Tree;
 use std::alloc::Global;
 use std::test::Fail;
+
+/// Every leaf is covered.
+const ALL: &str = r#"{"includedPaths":[{"path":"/*"}]}"#;
+
+const A_AT_ID: &[u8] = b"\x02\x03id\0\x01\x01\x15a\0\x01";
+
+const B_AT_ID: &[u8] = b"\x02\x03id\0\x01\x01\x15b\0\x01";
+
+const ONE_AT_B: &[u8] = b"\x02\x03b\0\x01\x01\x14\x80\0\0\0\0\0\0\x01";
+
+const ONE_AT_V: &[u8] = b"\x02\x03v\0\x01\x01\x14\x80\0\0\0\0\0\0\x01";
+
+const X_AT_V: &[u8] = b"\x02\x03v\0\x01\x01\x15x\0\x01";
+
+const NONE_IN_V: &[u8] = b"\x02\x03v\0\x01\x01\x17{}\0\x01";
+
+const ONE_AT_V_W: &[u8] = b"\x02\x03v\0\x01\x03w\0\x01\x01\x14\x80\0\0\0\0\0\0\x01";
+
+const ONE_AT_Z: &[u8] = b"\x02\x03z\0\x01\x01\x14\x80\0\0\0\0\0\0\x01";
+
+const ONE_IN_L: &[u8] = b"\x02\x03l\0\x01\x02\x01\x14\x80\0\0\0\0\0\0\x01";
+
+const TWO_IN_L: &[u8] = b"\x02\x03l\0\x01\x02\x01\x14\x80\0\0\0\0\0\0\x02";
+
+/// Two documents, and the terms of each by which they differ.
+type Differing = (
+    &'static str,
+    &'static str,
+    &'static [&'static [u8]],
+    &'static [&'static [u8]],
+);
 
 fn tree(alloc: Global, text: &str) -> Result<Tree, Memory> {
     match read_tree(alloc, text.as_bytes()) {
@@ -107,6 +138,74 @@ fn terms_are_counted_once(rt: HostRuntime) -> Result<(), Fail> {
             longest_path,
         };
         assert_eq!(rt; counted, expected, "{document}");
+    }
+    Ok(())
+}
+
+/// Whether these are the terms.
+fn are(terms: &[Bytes], expected: &[&[u8]]) -> bool {
+    terms.len() == expected.len()
+        && terms
+            .iter()
+            .zip(expected)
+            .all(|(term, expected)| term.as_slice() == *expected)
+}
+
+// By hand: what is equal and reached by names alone is in neither list; a list that differs is in both, whole.
+#[test]
+fn documents_differ_by_their_terms(rt: HostRuntime) -> Result<(), Fail> {
+    let alloc = rt.alloc();
+    let policy = policy(alloc, ALL)?;
+    let cases: [Differing; 7] = [
+        (
+            r#"{"id":"a","l":[1,1]}"#,
+            r#"{"id":"a","l":[1,2]}"#,
+            &[ONE_IN_L],
+            &[ONE_IN_L, TWO_IN_L],
+        ),
+        (
+            r#"{"id":"a","m":{"x":{"y":1},"z":[1,{}]},"v":1}"#,
+            r#"{"id":"a","m":{"x":{"y":1},"z":[1,{}]},"v":"x"}"#,
+            &[ONE_AT_V],
+            &[X_AT_V],
+        ),
+        (
+            r#"{"id":"a","v":{"w":1}}"#,
+            r#"{"id":"a","v":1}"#,
+            &[ONE_AT_V_W],
+            &[ONE_AT_V],
+        ),
+        (
+            r#"{"id":"a","v":{}}"#,
+            r#"{"id":"a","v":{"w":1}}"#,
+            &[NONE_IN_V],
+            &[ONE_AT_V_W],
+        ),
+        (
+            r#"{"b":1,"id":"a"}"#,
+            r#"{"id":"a","v":1,"z":1}"#,
+            &[ONE_AT_B],
+            &[ONE_AT_V, ONE_AT_Z],
+        ),
+        (
+            r#"{"id":"a","v":1}"#,
+            r#"{"id":"b","v":1}"#,
+            &[A_AT_ID],
+            &[B_AT_ID],
+        ),
+        (
+            r#"{"id":"a","l":[1,1],"m":{},"v":{"w":1}}"#,
+            r#"{"id":"a","l":[1,1],"m":{},"v":{"w":1}}"#,
+            &[],
+            &[],
+        ),
+    ];
+    for (old, new, gone, come) in cases {
+        let before = tree(alloc, old)?;
+        let after = tree(alloc, new)?;
+        let (found_gone, found_come) = differing_terms(alloc, &policy, &before, &after)?;
+        assert!(rt; are(found_gone.as_slice(), gone), "{old}");
+        assert!(rt; are(found_come.as_slice(), come), "{new}");
     }
     Ok(())
 }
