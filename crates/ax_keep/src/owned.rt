@@ -49,7 +49,12 @@ fn document_pairs(
 }
 
 /// Puts the pair of a document's id at the end.
-pub(crate) fn put_id(alloc: Global, pairs: &mut Vec<Pair>, number: u32, document: &Tree) -> Result<(), Memory>
+pub(crate) fn put_id(
+    alloc: Global,
+    pairs: &mut Vec<Pair>,
+    number: u32,
+    document: &Tree,
+) -> Result<(), Memory>
     requires { IsDocument document.now }
     ensures { (id : List ℕ) → document_id document.now ≡ Some id
         → OnOk result (pairs.new.items

@@ -64,11 +64,12 @@ stays_plain : (policy : Policy) (old new : Tree) (going coming : List Leaf) (gon
 stays_plain policy old new going coming gone come stay is_gone is_come bytes h none =
     ⊎_elim
     (λ (k : Contains going h.0). absurd (none ((is_gone bytes).1 (h.0, k, h.2, h.3))))
-    (λ (k : Contains (leaves new) h.0 × IsFree h.0.path coming).
-    ((h.0, k.0, h.2, h.3),
+    (λ (k : Contains (leaves new) h.0 × IsFree h.0.path coming). (
+      (h.0, k.0, h.2, h.3),
       (λ (there : Contains come bytes).
-      let m = (is_come bytes).0 there in
-      k.1 m.0 m.1 (one_leaf_path m.0 h.0 (sym m.3 ∙ h.3)))))
+          let m = (is_come bytes).0 there in
+          k.1 m.0 m.1 (one_leaf_path m.0 h.0 (sym m.3 ∙ h.3))),
+    ))
     (stay h.0 h.1)
 
 pub plain_differ : (walk : RuleWalk) (policy : Policy) (old new : Tree) (front front_before : List ℕ)
@@ -120,14 +121,15 @@ stays_all : (policy : Policy) (old new : Tree) (gone gone_all come come_all : Li
 stays_all policy old new gone gone_all come come_all stay e f bytes h none =
     ⊎_elim
     (λ (plain : HasPlain policy old bytes).
-    let stays = stay bytes plain (λ k. none (subst (λ ts. Contains ts bytes) (sym e) (Contains-append_left gone _ bytes k))) in
-    (inl stays.0,
+    let stays = stay bytes plain (λ k. none (subst (λ ts. Contains ts bytes) (sym e) (Contains-append_left gone _ bytes k))) in (
+      inl stays.0,
       (λ (there : Contains come_all bytes).
-      ⊎_elim (λ k. stays.1 k)
-      (λ k.
+          ⊎_elim (λ k. stays.1 k)
+          (λ k.
           let x = from_map (composite_term_of new) (offered policy) bytes k in
           other_family policy new plain.0 x.0 (sym plain.3 ∙ sym x.2))
-      (Contains-append_cases come _ bytes (subst (λ ts. Contains ts bytes) f there)))))
+          (Contains-append_cases come _ bytes (subst (λ ts. Contains ts bytes) f there))),
+    ))
     (λ (composite : HasComposite policy old bytes).
     absurd (none (subst (λ ts. Contains ts bytes) (sym e)
     (Contains-append_right gone _ bytes

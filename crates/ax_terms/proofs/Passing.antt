@@ -70,12 +70,12 @@ stays_left : (leaf : Leaf) (g h new more come come_more : List Leaf)
 stays_left leaf g h new more come come_more apart stays =
     ⊎_elim (λ k. inl (Contains-append_left g h leaf k))
     (λ k.
-        inr (
-          Contains-append_left new more leaf k.0,
-          (λ m there e.
-              ⊎_elim (λ a. k.1 m a e) (λ b. apart m b e)
-              (Contains-append_cases come come_more m there)),
-        ))
+    inr (
+      Contains-append_left new more leaf k.0,
+      (λ m there e.
+          ⊎_elim (λ a. k.1 m a e) (λ b. apart m b e)
+          (Contains-append_cases come come_more m there)),
+    ))
     stays
 
 stays_right : (leaf : Leaf) (g h new more come come_more : List Leaf)
@@ -85,12 +85,12 @@ stays_right : (leaf : Leaf) (g h new more come come_more : List Leaf)
 stays_right leaf g h new more come come_more apart stays =
     ⊎_elim (λ k. inl (Contains-append_right g h leaf k))
     (λ k.
-        inr (
-          Contains-append_right new more leaf k.0,
-          (λ m there e.
-              ⊎_elim (λ a. apart m a e) (λ b. k.1 m b e)
-              (Contains-append_cases come come_more m there)),
-        ))
+    inr (
+      Contains-append_right new more leaf k.0,
+      (λ m there e.
+          ⊎_elim (λ a. apart m a e) (λ b. k.1 m b e)
+          (Contains-append_cases come come_more m there)),
+    ))
     stays
 
 module _ (xs ys more_xs more_ys going coming more_going more_coming : List Leaf) where
@@ -109,20 +109,20 @@ module _ (xs ys more_xs more_ys going coming more_going more_coming : List Leaf)
     old_stay = λ leaf h.
         ⊎_elim
         (λ k.
-            stays_left leaf going more_going ys more_ys coming more_coming
-            (λ m there e. old_apart leaf m k (two.coming_are m there) (sym e)) (one.old_stay leaf k))
+        stays_left leaf going more_going ys more_ys coming more_coming
+        (λ m there e. old_apart leaf m k (two.coming_are m there) (sym e)) (one.old_stay leaf k))
         (λ k.
-            stays_right leaf going more_going ys more_ys coming more_coming
-            (λ m there e. new_apart m leaf (one.coming_are m there) k e) (two.old_stay leaf k))
+        stays_right leaf going more_going ys more_ys coming more_coming
+        (λ m there e. new_apart m leaf (one.coming_are m there) k e) (two.old_stay leaf k))
         (Contains-append_cases xs more_xs leaf h);
     new_stay = λ leaf h.
         ⊎_elim
         (λ k.
-            stays_left leaf coming more_coming xs more_xs going more_going
-            (λ m there e. new_apart leaf m k (two.going_are m there) (sym e)) (one.new_stay leaf k))
+        stays_left leaf coming more_coming xs more_xs going more_going
+        (λ m there e. new_apart leaf m k (two.going_are m there) (sym e)) (one.new_stay leaf k))
         (λ k.
-            stays_right leaf coming more_coming xs more_xs going more_going
-            (λ m there e. old_apart m leaf (one.going_are m there) k e) (two.new_stay leaf k))
+        stays_right leaf coming more_coming xs more_xs going more_going
+        (λ m there e. old_apart m leaf (one.going_are m there) k e) (two.new_stay leaf k))
         (Contains-append_cases ys more_ys leaf h);
   }
 
@@ -429,10 +429,10 @@ unnamed name (f ∷ members) rise before named =
         let first : is_before name f.name ≡ true =
         other_way f.name name is (λ k. false≢true (sym same ∙ (bytes_eq-Decides f.name name).1 k)) in
         λ m there e.
-            ⊎_elim (λ (k : f ≡ m). not_behind name f.name first (ap (λ (n : Member Tree). n.name) k ∙ e))
-            (λ (k : Contains members m).
-            not_behind name m.name (is_before_trans name f.name m.name first (behind_first f members rise m k)) e)
-            (first_or_later f members m there)
+        ⊎_elim (λ (k : f ≡ m). not_behind name f.name first (ap (λ (n : Member Tree). n.name) k ∙ e))
+        (λ (k : Contains members m).
+        not_behind name m.name (is_before_trans name f.name m.name first (behind_first f members rise m k)) e)
+        (first_or_later f members m there)
 
     by_before : (b : Bool) → is_before f.name name ≡ b → if_found b f members ≡ None
         → IsNameless (f ∷ members) name

@@ -84,7 +84,15 @@ fn plain_differing(
     let mut come = Vec::new(alloc);
     let mut front = Vec::new(alloc);
     front.push(PLAIN)?;
-    append_differing(alloc, &mut gone, &mut come, &mut front, policy.walk(), old, new)?;
+    append_differing(
+        alloc,
+        &mut gone,
+        &mut come,
+        &mut front,
+        policy.walk(),
+        old,
+        new,
+    )?;
     Ok((gone, come))
 }
 

@@ -78,26 +78,26 @@ append_maps-loop-member-preserved t c =
       front = same;
       rise =
           behind_rises c.args.walk c.args.front.now.items c.loop-member.front.items c.as_str-name.result.now
-      c.as_slice-member-items.result.now c.as_slice-others.result.now c.loop-member.others.now c.in_ok-ahead.ahead.now
-      c.loop-member.member-index c.member-item.result c.args.gone.now.items c.args.come.now.items
-      c.loop-member.gone.items c.loop-member.come.items c.append_before.new.terms.items c.loop-member-test.true
-      c.member-item.is c.as_str-name.ensures.text
-      (subst (λ (ms : List (Member Tree)). HaveRisingNames ms) (sym c.as_slice-member-items.ensures.members)
-      c.as_slice-member-items.ensures.rising)
-      c.loop-member.invariant.rise c.in_ok-ahead.ensures.terms c.in_ok-ahead.ensures.left
-      c.loop-member.invariant.terms
-      c.in-Some.value.now c.in-Some.behind.now c.in-Some.ensures;
+          c.as_slice-member-items.result.now c.as_slice-others.result.now c.loop-member.others.now c.in_ok-ahead.ahead.now
+          c.loop-member.member-index c.member-item.result c.args.gone.now.items c.args.come.now.items
+          c.loop-member.gone.items c.loop-member.come.items c.append_before.new.terms.items c.loop-member-test.true
+          c.member-item.is c.as_str-name.ensures.text
+          (subst (λ (ms : List (Member Tree)). HaveRisingNames ms) (sym c.as_slice-member-items.ensures.members)
+          c.as_slice-member-items.ensures.rising)
+          c.loop-member.invariant.rise c.in_ok-ahead.ensures.terms c.in_ok-ahead.ensures.left
+          c.loop-member.invariant.terms
+          c.in-Some.value.now c.in-Some.behind.now c.in-Some.ensures;
       terms =
           turn_down c.args.walk c.args.front.now.items c.loop-member.front.items c.as_str-name.result.now
-      c.as_slice-member-items.result.now c.as_slice-others.result.now c.loop-member.others.now c.in_ok-ahead.ahead.now
-      c.loop-member.member-index c.member-item.result c.args.gone.now.items c.args.come.now.items
-      c.loop-member.gone.items c.loop-member.come.items c.append_before.new.terms.items c.loop-member-test.true
-      c.member-item.is c.as_str-name.ensures.text
-      (subst (λ (ms : List (Member Tree)). HaveRisingNames ms) (sym c.as_slice-member-items.ensures.members)
-      c.as_slice-member-items.ensures.rising)
-      c.loop-member.invariant.rise c.in_ok-ahead.ensures.terms c.in_ok-ahead.ensures.left
-      c.loop-member.invariant.terms
-      c.in-Some.value.now c.in-Some.behind.now c.in-Some.ensures
+          c.as_slice-member-items.result.now c.as_slice-others.result.now c.loop-member.others.now c.in_ok-ahead.ahead.now
+          c.loop-member.member-index c.member-item.result c.args.gone.now.items c.args.come.now.items
+          c.loop-member.gone.items c.loop-member.come.items c.append_before.new.terms.items c.loop-member-test.true
+          c.member-item.is c.as_str-name.ensures.text
+          (subst (λ (ms : List (Member Tree)). HaveRisingNames ms) (sym c.as_slice-member-items.ensures.members)
+          c.as_slice-member-items.ensures.rising)
+          c.loop-member.invariant.rise c.in_ok-ahead.ensures.terms c.in_ok-ahead.ensures.left
+          c.loop-member.invariant.terms
+          c.in-Some.value.now c.in-Some.behind.now c.in-Some.ensures
           c.name_near-below.result c.append_name.new.out.items c.truncate.new.self.items
           c.append_differing.new.gone.items c.append_differing.new.come.items
           (same ∙ sym c.loop-member.invariant.front) c.name_near-below.ensures
