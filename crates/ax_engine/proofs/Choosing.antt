@@ -6,12 +6,10 @@ use Rattle.std.proofs.lemmas.Bool.{eq-eqb}
 use Rattle.std.specs.Prelude.{IfOk, OnOk}
 use Rattle.std.specs.Option.{unwrap_or}
 use Rattle.ax_area.specs.Contents.{Contents}
-use Rattle.ax_atoms.specs.Atoms.{Atom}
 use Rattle.ax_atoms.specs.Conjuncts.{atoms}
-use Rattle.ax_atoms.specs.Spans.{ranges_of}
 use Rattle.ax_candidates.proofs.Shared.{contains_from_has, has_from_contains}
 use Rattle.ax_candidates.specs.Candidates.{AreAllInGrammar, AreCandidates, IsOneInGrammar}
-use Rattle.ax_container.specs.Container.{Container}
+use Rattle.ax_container.specs.Container.{Container, Entry}
 use Rattle.ax_delta.specs.Said.{has_number}
 use Rattle.ax_gap.proofs.Members.{same_members}
 use Rattle.ax_image_pairs.specs.Indexed.{ContentsHoldAll}
@@ -20,15 +18,16 @@ use Rattle.ax_pages.specs.Contents.{TermPage}
 use Rattle.ax_pairs.specs.Index.{IsIndex}
 use Rattle.ax_pairs.specs.PairSets.{PairSet}
 use Rattle.ax_plan.specs.Ordered.{IsOrdered}
-use Rattle.ax_plan.specs.Usable.{AreUnions, nothing, unanswered, unusable, usable}
+use Rattle.ax_plan.specs.Usable.{AreUnions}
+use Rattle.ax_plan.proofs.OneList.{same_unions}
 use Rattle.ax_policy.proofs.Orders.{orderable}
 use Rattle.ax_policy.specs.Default.{default_policy}
 use Rattle.ax_policy.specs.Sameness.{is_orderable}
 use Rattle.ax_policy.specs.Table.{Table, policy_at}
 use Rattle.ax_policy.specs.declared.policy.Policy.{Policy}
-use Rattle.ax_needs.specs.Needs.{need_of_query, unions_of}
+use Rattle.ax_needs.specs.Needs.{is_candidate, need_of_query, unions_of}
 use Rattle.ax_needs_laws.proofs.Counting.{all_needed, as_many as needs_as_many}
-use Rattle.ax_needs_laws.proofs.SameUnions.{same_unions as unions_needed}
+use Rattle.ax_needs_laws.proofs.SameCandidates.{same_candidates}
 use Rattle.ax_skips.specs.Planned.{AreInUse, IsPlannedOver}
 use Rattle.ax_store.specs.declared.fault.StoreFault.{StoreFault}
 use Rattle.ax_term.specs.declared.range.TermRange.{TermRange}
@@ -51,17 +50,6 @@ pub never_unordered : (table : Table) (query : Query) → is_orderable (policy_n
 never_unordered table query kept never =
     never (λ policy at. orderable policy query.orders
     (subst (λ now. is_orderable now query.orders ≡ true) (now_is table policy at) kept))
-
--- the unions of a plan are one list
-pub same_unions : (table : Table) (list : List (Option Atom)) (a b : List (List TermRange)) → AreUnions table list a
-    → AreUnions table list b → a ≡ b
-same_unions table [] _ _ nothing nothing = refl
-same_unions table (None ∷ list) _ _ (unanswered o a more) (unanswered p b others) = same_unions table list a b more others
-same_unions table (Some atom ∷ list) _ _ (unusable x o a not more) (unusable y p b never others) = same_unions table list a b more others
-same_unions table (Some atom ∷ list) _ _ (unusable x o a not more) (usable y p b each others) = absurd (not each)
-same_unions table (Some atom ∷ list) _ _ (usable x o a each more) (unusable y p b never others) = absurd (never each)
-same_unions table (Some atom ∷ list) _ _ (usable x o a each more) (usable y p b all others) =
-    ap (λ (unions : List (List TermRange)). ranges_of atom ∷ unions) (same_unions table list a b more others)
 
 -- what was found for these unions was found for the query
 pub found_by : (table : Table) (query : Query) (pages : List TermPage) (unions : List (List TermRange)) → AreUnions table (atoms query) unions
@@ -215,8 +203,10 @@ within_need table query contents found container old new hold just are two = by 
     over : IsPlannedOver query table are.unions container hold.pairs.set
     over = record { sound = hold.documents.show.sound; pairs = hold.pairs.exact; used = just.used; planned = are.planned }
 
-    same : are.unions ≡ unions_of container (atoms query)
-    same = unions_needed table container just.policies just.used just.just just.now (atoms query) are.unions are.planned
+    same : (entry : Entry) → Contains container.entries entry
+        → is_candidate are.unions entry ≡ is_candidate (unions_of container (atoms query)) entry
+    same = same_candidates table container just.policies just.used just.just just.now query are.unions are.planned
+        hold.documents.show.sound
 
     by : (found : Candidates) → AreOfUnions are.unions contents.terms found → CountsTwoEach found contents old new
         → new ≤ old + 2 * need_of_query query container

@@ -29,8 +29,9 @@ use Rattle.ax_skips.proofs.Silence.{held_where_in_some}
 use Rattle.ax_needs.specs.Needs.{candidates_of, is_candidate, need_of_query, unions_of}
 use Rattle.ax_needs.proofs.Lists.{one_passes, some_pass}
 use Rattle.ax_needs.proofs.Terms.{HasTermIn, candidate_told, is_candidate_where}
-use Rattle.ax_needs.proofs.Unions.{of_usable}
+use Rattle.ax_plan.proofs.Passing.{of_usable}
 use Rattle.ax_needs_laws.proofs.IdTerms.{no_id_in}
+use Rattle.ax_needs_laws.proofs.SameCandidates.{alike}
 
 -- ---- entries by their numbers
 
@@ -54,11 +55,6 @@ entry_is (x ∷ es) before next e rise (suc k, low, is) =
 
 -- ---- tests that agree, and how many pass
 
-alike : (a b : Bool) → (a ≡ true → b ≡ true) → (b ≡ true → a ≡ true) → a ≡ b
-alike true b there back = sym (there refl)
-alike false true there back = back refl
-alike false false there back = refl
-
 as_many_more : {A B : Type 0} (test : Bool) (a : A) (left : List A) (b : B) (right : List B) → length left ≡ length right
     → length (cond test (a ∷ left) left) ≡ length (cond test (b ∷ right) right)
 as_many_more true a left b right same = ap suc same
@@ -73,6 +69,14 @@ as_many_chosen unions numbers (e ∷ es) each =
     ap (λ b. length (cond b (document e ∷ rest) rest)) (each e (contains_first e es))
     ∙ as_many_more (is_candidate unions e) (document e) rest e (filter (is_candidate unions) es)
     (as_many_chosen unions numbers es (λ x there. each x (contains_later e es x there)))
+
+as_many_pass : (f g : Entry → Bool) (es : List Entry) → ((e : Entry) → Contains es e → f e ≡ g e)
+    → length (filter f es) ≡ length (filter g es)
+as_many_pass f g [] each = refl
+as_many_pass f g (e ∷ es) each =
+    let rest : List Entry = filter f es in
+    ap (λ b. length (cond b (e ∷ rest) rest)) (each e (contains_first e es))
+    ∙ as_many_more (g e) e rest e (filter g es) (as_many_pass f g es (λ x there. each x (contains_later e es x there)))
 
 -- where there is no union all entries are candidates
 pub all_are : (es : List Entry) → length (filter (is_candidate []) es) ≡ length es
@@ -103,18 +107,17 @@ one_union (ranges ∷ unions) some = (ranges, contains_first ranges unions)
 -- ---- the candidates of a plan
 
 module _ (query : Query) (table : Table) (unions : List (List TermRange)) (container : Container) (set : PairSet)
-    (over : IsPlannedOver query table unions container set) (same : unions ≡ unions_of container (atoms query)) where
+    (over : IsPlannedOver query table unions container set)
+    (same : (entry : Entry) → Contains container.entries entry
+    → is_candidate unions entry ≡ is_candidate (unions_of container (atoms query)) entry) where
   module _ (entry : Entry) (there : Contains container.entries entry) where
     -- the term of its id is in no union
     not_by_id : (ranges : List TermRange) → Contains unions ranges → (bytes : List ℕ) → is_in_some ranges bytes ≡ true
         → IsIdTerm entry.tree bytes → ⊥
     not_by_id ranges one bytes within id =
-        let of = of_usable container (atoms query) ranges (subst (λ us. Contains us ranges) same one) in
+        let of = of_usable table (atoms query) unions over.planned ranges one in
         false≢true
-        (sym (no_id_in of.0 id.id)
-        ∙ ap (is_in_some (ranges_of of.0)) (sym id.is)
-        ∙ ap (λ rs. is_in_some rs bytes) (sym of.3)
-        ∙ within)
+        (sym (no_id_in of.atom id.id) ∙ ap (is_in_some (ranges_of of.atom)) (sym id.is) ∙ of.within bytes within)
 
     term_in : (ranges : List TermRange) → Contains unions ranges → HasInSome ranges set entry.number
         → HasTermIn entry.indexed_by entry.tree ranges
@@ -155,8 +158,10 @@ module _ (query : Query) (table : Table) (unions : List (List TermRange)) (conta
         held_where_in_some query table unions container set over one.0 n ((are.are n).0 given one.0 one.1)))
         ∙ ap length (fetched_are_chosen container numbers over.sound are.rising)
         ∙ as_many_chosen unions numbers container.entries tests_agree
-        ∙ ap (λ us. length (filter (is_candidate us) container.entries)) same
+        ∙ as_many_pass (is_candidate unions) (is_candidate (unions_of container (atoms query))) container.entries same
 
   pub all_needed : unions ≡ [] → need_of_query query container ≡ length container.entries
   all_needed none =
-      ap (λ us. length (filter (is_candidate us) container.entries)) (sym same ∙ none) ∙ all_are container.entries
+      sym (as_many_pass (is_candidate unions) (is_candidate (unions_of container (atoms query))) container.entries same)
+      ∙ ap (λ us. length (filter (is_candidate us) container.entries)) none
+      ∙ all_are container.entries

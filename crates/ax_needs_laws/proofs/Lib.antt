@@ -1,4 +1,4 @@
 pub mod Counting
 mod IdTerms
 pub mod Just
-pub mod SameUnions
+pub mod SameCandidates

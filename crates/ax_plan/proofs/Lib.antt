@@ -1,2 +1,7 @@
-mod Passing
+mod Combined
+mod OneLeaf
+pub mod OneList
+mod OwnTerms
+pub mod Passing
+mod SharedRanges
 mod Unions

@@ -7,6 +7,7 @@ use Rattle.ax_policy.specs.Covering.{Covers, CoversAll}
 use Rattle.ax_policy.specs.Table.{Table, is_taken, policy_at}
 use Rattle.ax_atoms.specs.declared.conjunct.Conjunct.{Conjunct}
 use Rattle.ax_plan.specs.Taken.{HoldsOfTaken}
+use Rattle.ax_plan.specs.declared.sought.Sought.{Sought}
 
 -- the leaf at the path is covered, or every leaf there and below
 abbrev pub CoversPath : Bool → List Step → Policy → Type 0
@@ -22,14 +23,18 @@ HoldsAt table P number =
 abbrev pub AreCovered : Table → Bool → List (List Step) → Type 0
 AreCovered table whole paths = All (λ path. HoldsOfTaken table (CoversPath whole path)) paths
 
--- of conjuncts those of which that is so, the ranges of each
-pub data AreOfConjuncts (table : Table) : List Conjunct → List (List TermRange) → Type 0 where
+-- what is sought for a conjunct that has these ranges
+abbrev pub sought_in : Conjunct → List TermRange → Sought
+sought_in conjunct ranges = record { paths = conjunct.paths; whole = conjunct.whole; ranges = ranges }
+
+-- of conjuncts those of which that is so, what is sought for each
+pub data AreOfConjuncts (table : Table) : List Conjunct → List Sought → Type 0 where
   empty : AreOfConjuncts table [] []
-  without_ranges : (conjunct : Conjunct) (conjuncts : List Conjunct) (unions : List (List TermRange))
-      → conjunct.ranges ≡ None → AreOfConjuncts table conjuncts unions → AreOfConjuncts table (conjunct ∷ conjuncts) unions
-  uncovered : (conjunct : Conjunct) (conjuncts : List Conjunct) (unions : List (List TermRange))
-      → (AreCovered table conjunct.whole conjunct.paths → ⊥) → AreOfConjuncts table conjuncts unions
-      → AreOfConjuncts table (conjunct ∷ conjuncts) unions
-  covered : (conjunct : Conjunct) (ranges : List TermRange) (conjuncts : List Conjunct) (unions : List (List TermRange))
+  without_ranges : (conjunct : Conjunct) (conjuncts : List Conjunct) (sought : List Sought)
+      → conjunct.ranges ≡ None → AreOfConjuncts table conjuncts sought → AreOfConjuncts table (conjunct ∷ conjuncts) sought
+  uncovered : (conjunct : Conjunct) (conjuncts : List Conjunct) (sought : List Sought)
+      → (AreCovered table conjunct.whole conjunct.paths → ⊥) → AreOfConjuncts table conjuncts sought
+      → AreOfConjuncts table (conjunct ∷ conjuncts) sought
+  covered : (conjunct : Conjunct) (ranges : List TermRange) (conjuncts : List Conjunct) (sought : List Sought)
       → conjunct.ranges ≡ Some ranges → AreCovered table conjunct.whole conjunct.paths
-      → AreOfConjuncts table conjuncts unions → AreOfConjuncts table (conjunct ∷ conjuncts) (ranges ∷ unions)
+      → AreOfConjuncts table conjuncts sought → AreOfConjuncts table (conjunct ∷ conjuncts) (sought_in conjunct ranges ∷ sought)

@@ -1,4 +1,5 @@
 pub mod ByPaths
+pub mod Combining
 pub mod Ordered
 pub mod Taken
 pub mod Terms

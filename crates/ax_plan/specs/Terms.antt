@@ -20,7 +20,24 @@ abbrev pub HasTermInEach : Policy → Tree → List (List TermRange) → Type 0
 HasTermInEach policy given unions =
     (ranges : List TermRange) → Contains unions ranges → HasTermInUnion policy given ranges
 
--- the union has the ranges of one of these conditions, which is usable
-abbrev pub IsOfUsable : Table → List (Option Atom) → List TermRange → Type 0
-IsOfUsable table atoms ranges =
-    (atom : Atom) × Contains atoms (Some atom) × IsUsable table atom × (ranges ≡ ranges_of atom)
+-- each term that is in the one union is in the other
+abbrev pub IsWithin : List TermRange → List TermRange → Type 0
+IsWithin ranges others = (bytes : List ℕ) → is_in_some ranges bytes ≡ true → is_in_some others bytes ≡ true
+
+-- the union is within the ranges of one of these conditions, which is usable
+pub record IsOfUsable (table : Table) (atoms : List (Option Atom)) (ranges : List TermRange) : Type 0 where
+  pub atom : Atom
+  pub is : Contains atoms (Some atom)
+  pub usable : IsUsable table atom
+  pub within : IsWithin ranges (ranges_of atom)
+
+-- one of the unions is within the ranges of the condition
+pub record HasUnion (unions : List (List TermRange)) (atom : Atom) : Type 0 where
+  pub ranges : List TermRange
+  pub is : Contains unions ranges
+  pub within : IsWithin ranges (ranges_of atom)
+
+-- under the policy the document has a term in the ranges of each of these conditions that is usable
+abbrev pub HasTermForEach : Table → List (Option Atom) → Policy → Tree → Type 0
+HasTermForEach table atoms policy given =
+    (atom : Atom) → Contains atoms (Some atom) → IsUsable table atom → HasTermInUnion policy given (ranges_of atom)

@@ -1,7 +1,7 @@
 //! Laws of the definitions, each the contract of a function that does nothing.
 ghost use Rattle.std.specs.Prelude.{◌≡◌, ◌↔◌, ℕ, List, Some, true};
 ghost use Rattle.std.specs.List.{Contains};
-ghost use Rattle.ax_tree.specs.WellFormed.{NumbersFit};
+ghost use Rattle.ax_tree.specs.WellFormed.{IsWellFormed};
 ghost use Rattle.ax_tree.specs.declared.tree.Tree.{Tree};
 ghost use Rattle.ax_mean.specs.Meaning.{Env, bound};
 ghost use Rattle.ax_mean.specs.Rows.{passes};
@@ -10,17 +10,29 @@ ghost use Rattle.ax_mean.specs.declared.value.Value.TheVariants.{Defined};
 ghost use Rattle.ax_term.specs.declared.range.TermRange.{TermRange};
 ghost use Rattle.ax_policy.specs.Table.{Table};
 ghost use Rattle.ax_policy.specs.declared.policy.Policy.{Policy};
+ghost use Rattle.ax_atoms.specs.Atoms.{Atom};
 ghost use Rattle.ax_atoms.specs.Conjuncts.{atoms, document_alias};
 ghost use Rattle.ax_atoms.specs.Silent.{IsSilent};
 ghost use Rattle.ax_plan.specs.Taken.{IsTaken};
-ghost use Rattle.ax_plan.specs.Terms.{HasTermInEach, IsOfUsable};
-ghost use Rattle.ax_plan.specs.Usable.{AreUnions};
+ghost use Rattle.ax_plan.specs.Terms.{HasTermForEach, HasTermInEach, HasUnion, IsOfUsable};
+ghost use Rattle.ax_plan.specs.Usable.{AreUnions, IsUsable};
 
-/// The unions of a plan are those of the usable conditions, and of no others.
+/// Each union of a plan is within the ranges of a usable condition, and each usable condition has such a union.
 pub fn unions_are_of_exactly_the_usable_conditions()
-    ensures { (query : Query) (table : Table) (unions : List (List TermRange))
+    ensures of_usable { (query : Query) (table : Table) (unions : List (List TermRange))
         → AreUnions table (atoms query) unions
-        → (ranges : List TermRange) → Contains unions ranges ↔ IsOfUsable table (atoms query) ranges }
+        → (ranges : List TermRange) → Contains unions ranges → IsOfUsable table (atoms query) ranges }
+    ensures each { (query : Query) (table : Table) (unions : List (List TermRange))
+        → AreUnions table (atoms query) unions
+        → (atom : Atom) → Contains (atoms query) (Some atom) → IsUsable table atom → HasUnion unions atom }
+{}
+
+/// A document has a term in each union exactly where it has one in the ranges of each usable condition: that conditions on
+/// one property are answered together leaves out no document that each of them leaves.
+pub fn unions_have_the_terms_of_their_conditions()
+    ensures { (query : Query) (table : Table) (unions : List (List TermRange)) (policy : Policy) (given : Tree)
+        → AreUnions table (atoms query) unions → IsWellFormed given
+        → HasTermInEach policy given unions ↔ HasTermForEach table (atoms query) policy given }
 {}
 
 /// A document of which WHERE is true, with the alias of the first source standing for it, has a term in each union,
@@ -28,7 +40,7 @@ pub fn unions_are_of_exactly_the_usable_conditions()
 pub fn a_passing_document_has_a_term_in_each_union()
     ensures { (query : Query) (table : Table) (unions : List (List TermRange)) (policy : Policy) (given : Tree)
         (alias : List ℕ) (env : Env)
-        → AreUnions table (atoms query) unions → IsTaken table policy → NumbersFit given
+        → AreUnions table (atoms query) unions → IsTaken table policy → IsWellFormed given
         → document_alias query.froms ≡ Some alias → bound env alias ≡ Defined given
         → passes query.condition env ≡ true → HasTermInEach policy given unions }
 {}
@@ -36,6 +48,6 @@ pub fn a_passing_document_has_a_term_in_each_union()
 /// So a document that has not such a term in each union has no rows in the query.
 pub fn a_document_without_a_term_in_each_union_has_no_rows()
     ensures { (query : Query) (table : Table) (unions : List (List TermRange)) (policy : Policy) (given : Tree)
-        → AreUnions table (atoms query) unions → IsTaken table policy → NumbersFit given
+        → AreUnions table (atoms query) unions → IsTaken table policy → IsWellFormed given
         → (HasTermInEach policy given unions → ⊥) → IsSilent query given }
 {}

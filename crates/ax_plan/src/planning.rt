@@ -1,28 +1,32 @@
 //! The plan of a query.
-ghost use Rattle.std.specs.Prelude.{◌≡◌, ◌↔◌, ◌∷◌, ◌++◌, List, IsTrue, IfOk, OnOk};
+ghost use Rattle.std.specs.Prelude.{◌≡◌, ◌↔◌, ◌∷◌, ◌++◌, List, IsTrue, IfOk, OnOk, option_map};
 ghost use Rattle.std.specs.Option.{option_to_list};
-ghost use Rattle.ax_term.specs.declared.range.TermRange as range_spec;
 ghost use Rattle.ax_atoms.specs.declared.conjunct.Conjunct as conjunct_spec;
 ghost use Rattle.ax_atoms.specs.Conjuncts.{atoms};
 ghost use Rattle.ax_plan.specs.Ordered.{IsOrdered};
-ghost use Rattle.ax_plan.specs.ByPaths.{AreOfConjuncts};
+ghost use Rattle.ax_plan.specs.ByPaths.{AreOfConjuncts, sought_in as sought_for};
 ghost use Rattle.ax_plan.specs.Usable.{AreUnions};
+ghost use Rattle.ax_plan.specs.declared.sought.Sought as sought_spec;
 
+use crate::combining::combined;
 use crate::covering::are_covered;
 use crate::fault::PlanFault;
 use crate::parts::{Plan, Source, UnionList};
-use ax_atoms::{Conjunct, RangeList, conjuncts};
-use ax_mean::{Items, Memory, Query};
+use crate::sought::Sought;
+use ax_atoms::{Conjunct, conjuncts};
+use ax_mean::{Memory, Query};
 use ax_policy::PolicyTable;
 use std::alloc::Global;
 
 /// The plan of a query over documents under the policies of that table: one union for each of its conditions that an
 /// index answers and of which the policy now, and each under which documents are, covers all leaves on which it rests,
-/// in the order of the text. `PlanFault::NoOrder` exactly where the policy now keeps no order for its ORDER BY,
-/// whatever memory there is.
+/// in the order of the text. Conditions on one property, to which names alone lead, are combined: their union has the terms
+/// that are in the ranges of all; of those that have several ranges (IN) each keeps a union of its own.
+/// `PlanFault::NoOrder` exactly where the policy now keeps no order for its ORDER BY, whatever memory there is.
 ///
-/// Under the default policy `c.n > 1 AND c.m != 2 AND c.k IN (1, 2)` gives two unions, of one range and of two; where
-/// documents are left under a policy that excludes `/n/?`, only the one of `c.k`.
+/// Under the default policy `c.n > 1 AND c.m != 2 AND c.k IN (1, 2) AND c.n < 5` gives two unions, of one range and of
+/// two; where documents are left under a policy that excludes `/n/?`, only the one of `c.k`. `c.t[0] > 1 AND c.t[1] < 5`
+/// gives two, of one range each.
 pub fn plan(alloc: Global, query: &Query, table: &PolicyTable) -> Result<Plan, PlanFault>
     ensures unions { IfOk result (λ plan. AreUnions table.now (atoms query.now) plan.unions) }
     ensures ordered { OnOk result (IsOrdered table.now query.now) }
@@ -50,46 +54,56 @@ fn is_ordered(query: &Query, table: &PolicyTable) -> bool
     }
 }
 
+/// The unions of the usable conditions, with those on one property combined.
 fn unions_of(alloc: Global, query: &Query, table: &PolicyTable) -> Result<UnionList, Memory>
     ensures { IfOk result (λ unions. AreUnions table.now (atoms query.now) unions) }
 {
-    usable(alloc, conjuncts(alloc, query)?, table)
+    combined(alloc, usable(alloc, conjuncts(alloc, query)?, table)?)
 }
 
-/// The ranges of each usable condition.
-fn usable(alloc: Global, found: Vec<Conjunct>, table: &PolicyTable) -> Result<UnionList, Memory>
-    ensures { IfOk result (λ unions. AreOfConjuncts table.now found.items unions) }
+/// What is sought for each usable condition.
+fn usable(alloc: Global, found: Vec<Conjunct>, table: &PolicyTable) -> Result<Vec<Sought>, Memory>
+    ensures { IfOk result (λ sought. AreOfConjuncts table.now found.items sought.items) }
 {
-    let mut unions = Vec::new(alloc);
+    let mut sought = Vec::new(alloc);
     for conjunct in found {
-        if let Some(ranges) = ranges_where_covered(conjunct, table) {
-            unions.push(ranges)?;
+        if let Some(one) = sought_where_covered(conjunct, table) {
+            sought.push(one)?;
         }
     }
-    Ok(Items::from_vec(unions))
+    Ok(sought)
 }
 
-/// The ranges of a condition, where it is usable.
-fn ranges_where_covered(conjunct: Conjunct, table: &PolicyTable) -> Option<RangeList>
-    ensures { (conjuncts : List conjunct_spec.Conjunct) → (unions : List (List range_spec.TermRange))
-        → AreOfConjuncts table.now conjuncts unions
-        → AreOfConjuncts table.now (conjunct ∷ conjuncts) (option_to_list result ++ unions) }
+/// What is sought for a condition, where it is usable.
+fn sought_where_covered(conjunct: Conjunct, table: &PolicyTable) -> Option<Sought>
+    ensures { (conjuncts : List conjunct_spec.Conjunct) → (sought : List sought_spec.Sought)
+        → AreOfConjuncts table.now conjuncts sought
+        → AreOfConjuncts table.now (conjunct ∷ conjuncts) (option_to_list result ++ sought) }
 {
     if are_covered(table, conjunct.whole, conjunct.paths.as_slice()) {
-        ranges_in(conjunct)
+        sought_in(conjunct)
     } else {
         None
     }
 }
 
-fn ranges_in(conjunct: Conjunct) -> Option<RangeList>
-    ensures { result ≡ conjunct.ranges }
+fn sought_in(conjunct: Conjunct) -> Option<Sought>
+    ensures { result ≡ option_map (sought_for conjunct) conjunct.ranges }
 {
     let Conjunct {
         paths,
-        whole: _,
+        whole,
         ranges,
     } = conjunct;
-    drop(paths);
-    ranges
+    match ranges {
+        Some(ranges) => Some(Sought {
+            paths,
+            whole,
+            ranges,
+        }),
+        None => {
+            drop(paths);
+            None
+        }
+    }
 }

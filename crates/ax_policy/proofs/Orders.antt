@@ -21,7 +21,7 @@ step_same : (a : Step) → same_step a a ≡ true
 step_same (Name a) = bytes_eq_same a
 step_same Item = refl
 
-path_is : (a b : List Step) → same_path a b ≡ true → a ≡ b
+pub path_is : (a b : List Step) → same_path a b ≡ true → a ≡ b
 path_is [] [] e = refl
 path_is [] (t ∷ b) e = absurd (cc)
 path_is (s ∷ a) [] e = absurd (cc)

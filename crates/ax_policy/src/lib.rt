@@ -42,6 +42,7 @@ mod with_rule;
 
 pub use default::default_policy;
 pub use mode::Mode;
+pub use overlap::same_path;
 pub use policy::{Composite, Policy};
 pub use policy_fault::PolicyFault;
 pub use read::read_policy;

@@ -18,8 +18,8 @@ pub(crate) fn overlap(steps: &[Step], others: &[Step]) -> bool
     same_step(step, other) && overlap(steps, others)
 }
 
-/// Whether the paths are equal.
-pub(crate) fn same_path(steps: &[Step], others: &[Step]) -> bool
+/// Whether the paths are equal, step by step.
+pub fn same_path(steps: &[Step], others: &[Step]) -> bool
     ensures { result ≡ same steps.now others.now }
 {
     let Some((step, steps)) = steps.split_first() else {

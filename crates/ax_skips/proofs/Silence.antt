@@ -4,8 +4,7 @@ use Rattle.std.proofs.Common.{inr, ⊎_elim, refl, sym, subst, ◌∙◌, arith}
 use Rattle.std.proofs.lemmas.Bool.{false≢true, or_cases}
 use Rattle.std.specs.List.{AllByRecursion, Contains, filter}
 use Rattle.ax_tree.specs.declared.tree.Tree.{Tree}
-use Rattle.ax_tree.specs.WellFormed.{NumbersFit}
-use Rattle.ax_tree.proofs.Fitting.{numbers_fit-well_formed}
+use Rattle.ax_tree.specs.WellFormed.{IsWellFormed}
 use Rattle.ax_mean.specs.declared.query.Query.{Query}
 use Rattle.ax_pair.specs.declared.pair.Pair.{Pair}
 use Rattle.ax_pairs.specs.PairSets.{PairSet}
@@ -48,7 +47,7 @@ in_one (range ∷ ranges) term is =
 
 -- ---- entries
 
-stored_there : (es : List Entry) (e : Entry) → AllByRecursion IsStored es → Contains es e → IsStored e
+pub stored_there : (es : List Entry) (e : Entry) → AllByRecursion IsStored es → Contains es e → IsStored e
 stored_there [] e all (k, less, is) = absurd (omega (arith, less))
 stored_there (x ∷ es) e all (zero, less, is) = subst IsStored is all.0
 stored_there (x ∷ es) e all (suc k, less, is) = stored_there es e all.1 (k, omega (arith, less), is)
@@ -57,7 +56,7 @@ stored_there (x ∷ es) e all (suc k, less, is) = stored_there es e all.1 (k, om
 abbrev pub PlanLaw : Type 0
 PlanLaw =
     (query : Query) (table : Table) (unions : List (List TermRange)) (policy : Policy) (given : Tree)
-    → AreUnions table (atoms query) unions → IsTaken table policy → NumbersFit given
+    → AreUnions table (atoms query) unions → IsTaken table policy → IsWellFormed given
     → (HasTermInEach policy given unions → ⊥) → IsSilent query given
 
 module _ (query : Query) (table : Table) (unions : List (List TermRange)) (container : Container) (set : PairSet)
@@ -75,7 +74,7 @@ module _ (query : Query) (table : Table) (unions : List (List TermRange)) (conta
   silent_unless_candidate law entry there out =
       let stored : IsStored entry = stored_there container.entries entry over.sound.stored there in
       law query table unions entry.indexed_by entry.tree over.planned (over.used entry there)
-      (numbers_fit-well_formed entry.tree stored.storable.well_formed)
+      stored.storable.well_formed
       (λ terms. out (λ ranges one. number_in entry there ranges (terms ranges one)))
 
   -- a number with a term is that of a document

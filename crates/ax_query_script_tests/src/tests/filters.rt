@@ -82,6 +82,29 @@ fn a_hundred_documents_are_filtered(rt: HostRuntime) -> Result<(), Fail> {
     Ok(())
 }
 
+/// What the program answers to the query with a condition over a store, and how often it reads the disk for that.
+fn reads_for(alloc: Global, disk: &mut MemDisk, condition: &str) -> Result<(u64, Vec<u8>), Fail> {
+    let before = disk.reads();
+    let answer = answer_over(alloc, disk, condition)?;
+    Ok((disk.reads().abs_diff(before), answer))
+}
+
+// Of a range with two ends, written as two conditions, what lies between is read, as of BETWEEN: not all that is above
+// the one and all that is below the other, which stands on further pages.
+#[test]
+fn two_ends_of_a_range_read_what_lies_between(rt: HostRuntime) -> Result<(), Fail> {
+    let alloc = rt.alloc();
+    let mut disk = store_of(alloc, 4 * COUNT)?;
+    let (one, answer) = reads_for(alloc, &mut disk, "c.id BETWEEN '200' AND '209'")?;
+    let (two, again) = reads_for(alloc, &mut disk, "c.id >= '200' AND c.id <= '209'")?;
+    let (all, _) = reads_for(alloc, &mut disk, "c.id >= '1'")?;
+    assert!(rt; answer.ends_with(b"\nend 10\n"));
+    assert_eq!(rt; again.as_slice(), answer.as_slice());
+    assert_eq!(rt; two, one);
+    assert!(rt; all > one);
+    Ok(())
+}
+
 /// The condition that the id is one of so many numbers, from 0 on, and `k` is 3.
 fn one_of(alloc: Global, count: usize) -> Result<String, Fail> {
     let mut condition = format!(in alloc; "c.id IN ('0'")?;
@@ -109,7 +132,7 @@ fn two_hundred_and_fifty_six_ids_are_found(rt: HostRuntime) -> Result<(), Fail> 
 /// Documents with numbers at the ends of 64 bits, with lists inside lists, with texts of 127, 128 and
 /// 129 bytes, where each `X` stands for 127 letters, and with names and texts that have zero bytes, quotation marks and
 /// backslashes. Terms tell texts apart by their first 128 bytes.
-const EDGES: [&str; 9] = [
+const EDGES: [&str; 10] = [
     r#"{"id":"a","n":9223372036854775807,"s":"X","t":[[1,[2]],"X"]}"#,
     r#"{"id":"b","n":-9223372036854775808,"s":"Xa","t":[[1,[3]],"Xa"]}"#,
     r#"{"id":"c","n":9223372036854775806,"s":"Xab","t":[[2],[[1]],"Xab"]}"#,
@@ -119,10 +142,11 @@ const EDGES: [&str; 9] = [
     r#"{"id":"g","w":["a\u0000"],"x\"y":1,"z":"a\u0000b"}"#,
     r#"{"id":"h","w":["a"],"x\\y":{"\u0000":2},"z":"a"}"#,
     r#"{"id":"i","q'":[5],"x\"y":3,"z":"a\u0000"}"#,
+    r#"{"id":"j","m":[9,0],"o":{"p":7}}"#,
 ];
 
 /// Conditions on them, as they stand in a JSON text, and the ids of those that pass, in order.
-const PASSING: [(&str, &str); 47] = [
+const PASSING: [(&str, &str); 58] = [
     ("c.n = 9223372036854775807", "a"),
     ("c.n = -9223372036854775808", "b"),
     ("c.n < -9223372036854775807", "b"),
@@ -176,6 +200,23 @@ const PASSING: [(&str, &str); 47] = [
     (r#"c[\"x\\\\y\"][\"\\u0000\"] = 2"#, "h"),
     (r#"IS_DEFINED(c[\"x\\\\y\"])"#, "h"),
     (r#"c[\"q'\"][0] = 5"#, "i"),
+    (
+        "c.n > -9223372036854775808 AND c.n < 9223372036854775807",
+        "cde",
+    ),
+    ("c.n >= 1 AND c.n <= -1", ""),
+    ("c.n > 0 AND c.n < 'x'", ""),
+    ("c.n > 0 AND c.n IN (0, 9223372036854775806, 5)", "c"),
+    (
+        "c.n IN (0, 9223372036854775807) AND c.n IN (0, 5) AND c.n < 9",
+        "e",
+    ),
+    ("c.s >= 'Xa' AND c.s != 'Xab' AND 'Xb' > c.s", "bd"),
+    ("c.o.p > 6 AND 8 > c.o.p", "j"),
+    ("IS_DEFINED(c.o) AND c.o.p > 6", "j"),
+    ("c.m[0] > 5 AND c.m[1] < 3", "j"),
+    ("c.m[0] > 5 AND c.m[0] < 3", ""),
+    ("ARRAY_CONTAINS(c.m, 9) AND ARRAY_CONTAINS(c.m, 0)", "j"),
 ];
 
 /// A line with 127 letters in place of each `X`.

@@ -12,6 +12,6 @@ returns c =
     nothing_left (into_iter_items c.loop-conjunct.conjunct-iterator)
     (sym c.loop-conjunct.conjunct-iterator.rest.ok.0 ∙ c.in-None.ensures.steps.0) in
     subst (AreOfConjuncts c.args.table.now c.args.found.items)
-    (append-nil c.loop-conjunct.unions.items ∙ sym c.from_vec.ensures)
+    (append-nil c.loop-conjunct.sought.items)
     (c.loop-conjunct.invariant.taken []
     (subst (λ conjuncts. AreOfConjuncts c.args.table.now conjuncts []) (sym none) empty))
