@@ -2,6 +2,7 @@
 use Rattle.std.proofs.Common.{◌≡◌, ℕ, ◌<◌, zero, suc, List, [], ◌∷◌, map, length, Bool, true, false, cond, Option, Some, None}
 use Rattle.std.proofs.Common.{◌⊎◌, inl, inr, ⊎_elim, nat_eq, option_map, refl, sym, ap, subst, ◌∙◌, arith}
 use Rattle.std.proofs.lemmas.Bool.{eq-eqb, false≢true}
+use Rattle.std.specs.Bool.{one_answer}
 use Rattle.std.specs.List.{Contains, cons_option, filter, filter_map}
 use Rattle.ax_tree.specs.declared.tree.Tree.{Tree}
 use Rattle.ax_mean.specs.declared.query.Query.{Query}
@@ -31,7 +32,6 @@ use Rattle.ax_needs.proofs.Lists.{one_passes, some_pass}
 use Rattle.ax_needs.proofs.Terms.{HasTermIn, candidate_told, is_candidate_where}
 use Rattle.ax_plan.proofs.Passing.{of_usable}
 use Rattle.ax_needs_laws.proofs.IdTerms.{no_id_in}
-use Rattle.ax_needs_laws.proofs.SameCandidates.{alike}
 
 -- ---- entries by their numbers
 
@@ -145,11 +145,13 @@ module _ (query : Query) (table : Table) (unions : List (List TermRange)) (conta
     tests_agree : (entry : Entry) → Contains container.entries entry
         → has_number entry.number numbers ≡ is_candidate unions entry
     tests_agree entry there =
-        alike (has_number entry.number numbers) (is_candidate unions entry)
-        (λ given. is_candidate_where unions entry
-        (λ ranges one. term_in entry there ranges one ((are.are entry.number).0 given ranges one)))
-        (λ told. (are.are entry.number).1
-        (λ ranges one. number_in entry there ranges (candidate_told unions entry told ranges one)))
+        one_answer (has_number entry.number numbers) (is_candidate unions entry) (
+          λ given. is_candidate_where unions entry
+              (λ ranges one. term_in entry there ranges one ((are.are entry.number).0 given ranges one)),
+          λ told. (are.are entry.number).1
+              (λ ranges one. number_in entry there ranges (candidate_told unions entry told ranges one)),
+        )
+        (λ told. told, λ told. told)
 
     pub as_many : 0 < length unions → length numbers ≡ need_of_query query container
     as_many some =

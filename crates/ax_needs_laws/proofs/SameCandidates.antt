@@ -1,6 +1,7 @@
 -- The candidates of a plan are those of the unions of the conditions that are usable in the container, where the table has
 -- just the policies in use or now that the container has.
-use Rattle.std.proofs.Common.{◌≡◌, zero, suc, List, Bool, true, false, Option, Some, refl, sym, subst, arith}
+use Rattle.std.proofs.Common.{◌≡◌, zero, suc, List, true, Option, Some, refl, sym, subst, arith}
+use Rattle.std.specs.Bool.{one_answer}
 use Rattle.std.specs.List.{Contains}
 use Rattle.ax_tree.specs.WellFormed.{IsWellFormed}
 use Rattle.ax_mean.specs.declared.query.Query.{Query}
@@ -25,12 +26,6 @@ use Rattle.ax_needs.proofs.Terms.{HasTermIn, candidate_told, is_candidate_where}
 use Rattle.ax_needs.proofs.Unions.{of_usable, union_there}
 use Rattle.ax_needs.proofs.Usable.{usable_covered, usable_told}
 use Rattle.ax_needs_laws.specs.Just.{AreJustInUse}
-
--- tests that agree
-pub alike : (a b : Bool) → (a ≡ true → b ≡ true) → (b ≡ true → a ≡ true) → a ≡ b
-alike true b there back = sym (there refl)
-alike false true there back = back refl
-alike false false there back = refl
 
 module _ (table : Table) (container : Container) (read : ArePolicies table) (used : AreInUse table container)
     (just : AreJustInUse table container) (now : IsTaken table container.policy) where
@@ -64,7 +59,7 @@ module _ (table : Table) (container : Container) (read : ArePolicies table) (use
         is_candidate_where needed entry (λ ranges one.
         let own = of_usable container (atoms query) ranges one in
         subst (HasTermIn entry.indexed_by entry.tree) (sym own.3)
-        (for_each query table unions entry.indexed_by entry.tree planned well_formed
+        (for_each query table unions entry.indexed_by entry.tree planned
         (λ own_ranges own_one. candidate_told unions entry told own_ranges own_one)
         own.0 own.1 (usable_from own.0 own.2)))
 
@@ -77,4 +72,5 @@ module _ (table : Table) (container : Container) (read : ArePolicies table) (use
         (union_there container (atoms query) (ranges_of atom) (atom, one, usable_is atom usable, refl))))
 
     pub same_candidates : is_candidate unions entry ≡ is_candidate needed entry
-    same_candidates = alike (is_candidate unions entry) (is_candidate needed entry) is_needed is_left
+    same_candidates =
+        one_answer (is_candidate unions entry) (is_candidate needed entry) (is_needed, is_left) (λ told. told, λ told. told)

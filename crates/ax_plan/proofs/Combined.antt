@@ -25,8 +25,8 @@ module _ (P : Sought → Type 0) (combines : (a b : Sought) → are_combined a b
   put_keeps new own [] all = (own, tt)
   put_keeps new own (x ∷ xs) all =
       elim (are_combined x new) as
-      (λ b. are_combined x new ≡ b → AllByRecursion P (cond b (combine x new ∷ xs) (x ∷ put new xs))) [
-        | true ↦ λ e. (combines x new e all.0 own, all.1)
+      (λ b. are_combined x new ≡ b → AllByRecursion P (cond b (put (combine x new) xs) (x ∷ put new xs))) [
+        | true ↦ λ e. put_keeps (combine x new) (combines x new e all.0 own) xs all.1
         | false ↦ λ e. (all.0, put_keeps new own xs all.1)
       ] refl
 
@@ -40,8 +40,11 @@ module _ (P : Sought → Type 0) (splits : (a b : Sought) → P (combine a b) �
   put_splits new [] all = (all.0, tt)
   put_splits new (x ∷ xs) all =
       elim (are_combined x new) as
-      (λ b. AllByRecursion P (cond b (combine x new ∷ xs) (x ∷ put new xs)) → P new × AllByRecursion P (x ∷ xs)) [
-        | true ↦ λ own. let s = splits x new own.0 in (s.1, (s.0, own.1))
+      (λ b. AllByRecursion P (cond b (put (combine x new) xs) (x ∷ put new xs)) → P new × AllByRecursion P (x ∷ xs)) [
+        | true ↦ λ own.
+            let s = put_splits (combine x new) xs own in
+            let both = splits x new s.0 in
+            (both.1, (both.0, s.1))
         | false ↦ λ own. let s = put_splits new xs own.1 in (s.0, (own.0, s.1))
       ] all
 
@@ -69,25 +72,28 @@ within_second a b bytes h =
 more_found : (x : Sought) (xs : List Sought) (ranges : List TermRange) → Found xs ranges → Found (x ∷ xs) ranges
 more_found x xs ranges found = (found.0, contains_later x xs found.0 found.1, found.2)
 
+found_in_wider : (xs : List Sought) (ranges others : List TermRange) → IsWithin ranges others → Found xs ranges → Found xs others
+found_in_wider xs ranges others wider found = (found.0, found.1, λ bytes h. wider bytes (found.2 bytes h))
+
 put_new : (new : Sought) (xs : List Sought) → Found (put new xs) new.ranges
 put_new new [] = (new, contains_first new [], λ bytes h. h)
 put_new new (x ∷ xs) =
-    elim (are_combined x new) as (λ b. Found (cond b (combine x new ∷ xs) (x ∷ put new xs)) new.ranges) [
-      | true ↦ (combine x new, contains_first (combine x new) xs, within_second x new)
+    elim (are_combined x new) as (λ b. Found (cond b (put (combine x new) xs) (x ∷ put new xs)) new.ranges) [
+      | true ↦ found_in_wider (put (combine x new) xs) (combine x new).ranges new.ranges (within_second x new)
+          (put_new (combine x new) xs)
       | false ↦ more_found x (put new xs) new.ranges (put_new new xs)
     ]
 
 put_old : (new : Sought) (xs : List Sought) (ranges : List TermRange) → Found xs ranges → Found (put new xs) ranges
 put_old new [] ranges found = absurd (none_in_nil found.0 found.1)
 put_old new (x ∷ xs) ranges found =
-    elim (are_combined x new) as (λ b. Found (cond b (combine x new ∷ xs) (x ∷ put new xs)) ranges) [
-      | true ↦ ⊎_elim {C = Found (combine x new ∷ xs) ranges}
-          (λ (is : x ≡ found.0). (
-            combine x new,
-            contains_first (combine x new) xs,
-            λ bytes h. found.2 bytes (subst (λ (s : Sought). is_in_some s.ranges bytes ≡ true) is (within_first x new bytes h)),
-          ))
-          (λ (k : Contains xs found.0). more_found (combine x new) xs ranges (found.0, k, found.2))
+    elim (are_combined x new) as (λ b. Found (cond b (put (combine x new) xs) (x ∷ put new xs)) ranges) [
+      | true ↦ ⊎_elim {C = Found (put (combine x new) xs) ranges}
+          (λ (is : x ≡ found.0).
+          found_in_wider (put (combine x new) xs) (combine x new).ranges ranges
+          (λ bytes h. found.2 bytes (subst (λ (s : Sought). is_in_some s.ranges bytes ≡ true) is (within_first x new bytes h)))
+          (put_new (combine x new) xs))
+          (λ (k : Contains xs found.0). put_old (combine x new) xs ranges (found.0, k, found.2))
           (first_or_later x found.0 xs found.1)
       | false ↦ ⊎_elim {C = Found (x ∷ put new xs) ranges}
           (λ (is : x ≡ found.0). (

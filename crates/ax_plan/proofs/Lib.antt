@@ -1,3 +1,4 @@
+mod Apart
 mod Combined
 mod OneLeaf
 pub mod OneList

@@ -37,8 +37,8 @@ use Rattle.ax_atoms.proofs.Rows.{silent}
 use Rattle.ax_atoms.proofs.Split.{true_where_operands_are}
 use Rattle.ax_atoms.proofs.Table.{IsOfTable, recognised_of_table}
 use Rattle.ax_terms.proofs.Sequences.{contains_first, contains_later, contains_map, from_map, none_in_nil}
-use Rattle.ax_plan.specs.Combining.{are_combined, is_by_name, is_short, combine, one_property, property_of, put_all, same_property, shared}
-use Rattle.ax_plan.specs.Combining.{sought_by, where_named}
+use Rattle.ax_plan.specs.Combining.{are_combined, combine, has_one_range_at_most, is_by_name, one_property, property_of, put_all}
+use Rattle.ax_plan.specs.Combining.{same_property, shared, sought_by, where_named}
 use Rattle.ax_plan.specs.Taken.{IsTaken}
 use Rattle.ax_plan.specs.Terms.{HasTermForEach, HasTermInEach, HasTermInUnion, HasUnion, IsOfUsable}
 use Rattle.ax_plan.specs.Usable.{AreUnions, IsUsable}
@@ -181,7 +181,7 @@ module _ (policy : Policy) (given : Tree) where
     combines : (a b : Sought) → are_combined a b ≡ true → HasOwn a → HasOwn b → HasOwn (combine a b)
     combines a b e x y =
         combined_by (property_of a) (property_of b) a.ranges b.ranges (λ path is. named a.whole a.paths path is)
-        (and_parts (same_property (property_of a) (property_of b)) (is_short a || is_short b) e).0 x y
+        (and_parts (same_property (property_of a) (property_of b)) (has_one_range_at_most a || has_one_range_at_most b) e).0 x y
 
     -- ---- a term in a condition's ranges is that of the leaf on which it rests
 
@@ -256,19 +256,8 @@ term_of_leaf policy atom given covered has = (
 )
 
 module _ (query : Query) (table : Table) (unions : List (List TermRange)) (policy : Policy) (given : Tree)
-    (are : AreUnions table (atoms query) unions) (well : IsWellFormed given) where
-  -- from the conditions to the unions, and back
-  pub in_each : HasTermForEach table (atoms query) policy given → HasTermInEach policy given unions
-  in_each each =
-      subst (λ (us : List (List TermRange)). HasTermInEach policy given us) (sym are.combined)
-      (in_each_from policy given (put_all [] are.sought)
-      (all_have policy given (put_all [] are.sought)
-      (put_all_keeps (HasOwn policy given) (combines policy given well) [] are.sought tt
-      (each_sought (HasOwn policy given) table (atoms query) are.sought are.of_usable
-      (λ atom there usable.
-      has_own policy given well atom (table_of_condition (document_alias query.froms) query.condition atom there)
-      (each atom there usable))))))
-
+    (are : AreUnions table (atoms query) unions) where
+  -- from the unions to the conditions
   pub for_each : HasTermInEach policy given unions → HasTermForEach table (atoms query) policy given
   for_each has atom there usable =
       all_there (HasIt policy given) are.sought (sought_by atom)
@@ -277,18 +266,31 @@ module _ (query : Query) (table : Table) (unions : List (List TermRange)) (polic
       (subst (λ (us : List (List TermRange)). HasTermInEach policy given us) are.combined has))).1
       (is_sought table (atoms query) are.sought are.of_usable atom there usable)
 
-  -- where there is a leaf for each condition, there is a term in each union
-  by_leaves : IsTaken table policy → ((atom : Atom) → Contains (atoms query) (Some atom) → HasLeaf atom given)
-      → HasTermInEach policy given unions
-  by_leaves used leaves =
-      in_each (λ atom there usable. term_of_leaf policy atom given (usable policy used) (leaves atom there))
+  module _ (well : IsWellFormed given) where
+    -- and from the conditions to the unions
+    pub in_each : HasTermForEach table (atoms query) policy given → HasTermInEach policy given unions
+    in_each each =
+        subst (λ (us : List (List TermRange)). HasTermInEach policy given us) (sym are.combined)
+        (in_each_from policy given (put_all [] are.sought)
+        (all_have policy given (put_all [] are.sought)
+        (put_all_keeps (HasOwn policy given) (combines policy given well) [] are.sought tt
+        (each_sought (HasOwn policy given) table (atoms query) are.sought are.of_usable
+        (λ atom there usable.
+        has_own policy given well atom (table_of_condition (document_alias query.froms) query.condition atom there)
+        (each atom there usable))))))
 
-  pub passing_in_each : IsTaken table policy → (alias : List ℕ) (env : Env) → document_alias query.froms ≡ Some alias
-      → bound env alias ≡ Defined given → passes query.condition env ≡ true → HasTermInEach policy given unions
-  passing_in_each used alias env first is h =
-      by_leaves used
-      (λ atom there. leaf_for alias env given well is atom (document_alias query.froms) query.condition first h there)
+    -- where there is a leaf for each condition, there is a term in each union
+    by_leaves : IsTaken table policy → ((atom : Atom) → Contains (atoms query) (Some atom) → HasLeaf atom given)
+        → HasTermInEach policy given unions
+    by_leaves used leaves =
+        in_each (λ atom there usable. term_of_leaf policy atom given (usable policy used) (leaves atom there))
 
-  pub silent_without : IsTaken table policy → (HasTermInEach policy given unions → ⊥) → IsSilent query given
-  silent_without used without =
-      silent query given (numbers_fit-well_formed given well) (λ leaves. without (by_leaves used leaves))
+    pub passing_in_each : IsTaken table policy → (alias : List ℕ) (env : Env) → document_alias query.froms ≡ Some alias
+        → bound env alias ≡ Defined given → passes query.condition env ≡ true → HasTermInEach policy given unions
+    passing_in_each used alias env first is h =
+        by_leaves used
+        (λ atom there. leaf_for alias env given well is atom (document_alias query.froms) query.condition first h there)
+
+    pub silent_without : IsTaken table policy → (HasTermInEach policy given unions → ⊥) → IsSilent query given
+    silent_without used without =
+        silent query given (numbers_fit-well_formed given well) (λ leaves. without (by_leaves used leaves))

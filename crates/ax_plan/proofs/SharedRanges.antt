@@ -2,6 +2,7 @@
 use Rattle.std.proofs.Common.{◌≡◌, ℕ, List, [], ◌∷◌, ◌++◌, Bool, true, false, cond, ◌&&◌, ◌||◌, refl, sym, ap, ap₂, ◌∙◌}
 use Rattle.std.proofs.lemmas.Bool.{false≢true, and_from, and_parts, and_right, false_from_ne_true}
 use Rattle.std.proofs.lemmas.Cmp.{alike_right, nat_list_cmp_total}
+use Rattle.std.specs.Bool.{one_answer}
 use Rattle.std.specs.declared.cmp.Ordering.{Ordering}
 use Rattle.std.specs.declared.cmp.Ordering.TheVariants.{Less, Equal, Greater}
 use Rattle.std.specs.Ordering.{is_le, is_lt, ordering_reverse}
@@ -9,7 +10,7 @@ use Rattle.ax_term.specs.Ranges.{is_in_range}
 use Rattle.ax_term.specs.TermOrder.{order_of_bytes}
 use Rattle.ax_term.specs.declared.range.TermRange.{TermRange}
 use Rattle.ax_atoms.specs.Spans.{is_in_some}
-use Rattle.ax_plan.specs.Combining.{has_room, overlap, shared, within}
+use Rattle.ax_plan.specs.Combining.{has_room, parts_within, shared, shared_part}
 
 -- ---- the order of terms
 
@@ -57,21 +58,16 @@ not_le x y = turned_le (order_of_bytes x y) (order_of_bytes y x) (nat_list_cmp_t
 
 -- ---- two ranges
 
-alike : (a b : Bool) → (a ≡ true → b ≡ true) → (b ≡ true → a ≡ true) → a ≡ b
-alike true b there back = sym (there refl)
-alike false true there back = back refl
-alike false false there back = refl
-
 module _ (a b t : List ℕ) where
   later_by : (c : Bool) → is_le (order_of_bytes a b) ≡ c
       → is_le (order_of_bytes (cond c b a) t) ≡ (is_le (order_of_bytes a t) && is_le (order_of_bytes b t))
-  later_by true e = alike _ _ (λ h. and_from _ _ (le_trans a b t e h) h) (λ h. (and_parts _ _ h).1)
-  later_by false e = alike _ _ (λ h. and_from _ _ h (le_trans b a t (not_le a b e) h)) (λ h. (and_parts _ _ h).0)
+  later_by true e = one_answer _ _ (λ h. and_from _ _ (le_trans a b t e h) h, λ h. (and_parts _ _ h).1) (λ h. h, λ h. h)
+  later_by false e = one_answer _ _ (λ h. and_from _ _ h (le_trans b a t (not_le a b e) h), λ h. (and_parts _ _ h).0) (λ h. h, λ h. h)
 
   earlier_by : (c : Bool) → is_le (order_of_bytes a b) ≡ c
       → is_lt (order_of_bytes t (cond c a b)) ≡ (is_lt (order_of_bytes t a) && is_lt (order_of_bytes t b))
-  earlier_by true e = alike _ _ (λ h. and_from _ _ h (lt_le_trans t a b h e)) (λ h. (and_parts _ _ h).0)
-  earlier_by false e = alike _ _ (λ h. and_from _ _ (lt_le_trans t b a h (not_le a b e)) h) (λ h. (and_parts _ _ h).1)
+  earlier_by true e = one_answer _ _ (λ h. and_from _ _ h (lt_le_trans t a b h e), λ h. (and_parts _ _ h).0) (λ h. h, λ h. h)
+  earlier_by false e = one_answer _ _ (λ h. and_from _ _ (lt_le_trans t b a h (not_le a b e)) h, λ h. (and_parts _ _ h).1) (λ h. h, λ h. h)
 
 crossed : (p q r s : Bool) → ((p && q) && (r && s)) ≡ ((p && r) && (q && s))
 crossed true true r s = refl
@@ -79,8 +75,8 @@ crossed true false true s = refl
 crossed true false false s = refl
 crossed false q r s = refl
 
-overlap_is : (a b : TermRange) (t : List ℕ) → is_in_range (overlap a b) t ≡ (is_in_range a t && is_in_range b t)
-overlap_is a b t =
+shared_part_is : (a b : TermRange) (t : List ℕ) → is_in_range (shared_part a b) t ≡ (is_in_range a t && is_in_range b t)
+shared_part_is a b t =
     ap₂ (λ p q. p && q) (later_by a.from b.from t (is_le (order_of_bytes a.from b.from)) refl)
     (earlier_by a.below b.below t (is_le (order_of_bytes a.below b.below)) refl)
     ∙ crossed (is_le (order_of_bytes a.from t)) (is_le (order_of_bytes b.from t)) (is_lt (order_of_bytes t a.below))
@@ -104,12 +100,12 @@ first_of_both : (p q r : Bool) → ((p && q) || (p && r)) ≡ (p && (q || r))
 first_of_both true q r = refl
 first_of_both false q r = refl
 
-within_is : (range : TermRange) (others : List TermRange) (t : List ℕ)
-    → is_in_some (within range others) t ≡ (is_in_range range t && is_in_some others t)
-within_is range [] t = sym (and_right (is_in_range range t) false refl)
-within_is range (other ∷ others) t =
-    kept (overlap range other) (within range others) t (has_room (overlap range other)) refl
-    ∙ ap₂ (λ p q. p || q) (overlap_is range other t) (within_is range others t)
+parts_within_is : (range : TermRange) (others : List TermRange) (t : List ℕ)
+    → is_in_some (parts_within range others) t ≡ (is_in_range range t && is_in_some others t)
+parts_within_is range [] t = sym (and_right (is_in_range range t) false refl)
+parts_within_is range (other ∷ others) t =
+    kept (shared_part range other) (parts_within range others) t (has_room (shared_part range other)) refl
+    ∙ ap₂ (λ p q. p || q) (shared_part_is range other t) (parts_within_is range others t)
     ∙ first_of_both (is_in_range range t) (is_in_range other t) (is_in_some others t)
 
 grouped : (p q r : Bool) → ((p || q) || r) ≡ (p || (q || r))
@@ -133,6 +129,6 @@ pub shared_is : (ranges others : List TermRange) (t : List ℕ)
     → is_in_some (shared ranges others) t ≡ (is_in_some ranges t && is_in_some others t)
 shared_is [] others t = refl
 shared_is (range ∷ ranges) others t =
-    in_either (within range others) (shared ranges others) t
-    ∙ ap₂ (λ p q. p || q) (within_is range others t) (shared_is ranges others t)
+    in_either (parts_within range others) (shared ranges others) t
+    ∙ ap₂ (λ p q. p || q) (parts_within_is range others t) (shared_is ranges others t)
     ∙ last_of_both (is_in_range range t) (is_in_some ranges t) (is_in_some others t)

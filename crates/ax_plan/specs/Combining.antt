@@ -51,20 +51,20 @@ abbrev pub earlier : List ℕ → List ℕ → List ℕ
 earlier bytes others = if is_le (order_of_bytes bytes others) then bytes else others
 
 -- what two ranges share, which may be nothing
-abbrev pub overlap : TermRange → TermRange → TermRange
-overlap range other = record { from = later range.from other.from; below = earlier range.below other.below }
+abbrev pub shared_part : TermRange → TermRange → TermRange
+shared_part range other = record { from = later range.from other.from; below = earlier range.below other.below }
 
 -- a term may be in the range
 abbrev pub has_room : TermRange → Bool
 has_room range = is_lt (order_of_bytes range.from range.below)
 
 -- what each of the others shares with the range, where that is something
-abbrev pub within : TermRange → List TermRange → List TermRange
-within range others = filter has_room (map (overlap range) others)
+abbrev pub parts_within : TermRange → List TermRange → List TermRange
+parts_within range others = filter has_room (map (shared_part range) others)
 
 -- what each of the ranges shares with each of the others
 abbrev pub shared : List TermRange → List TermRange → List TermRange
-shared ranges others = flat_map (λ range. within range others) ranges
+shared ranges others = flat_map (λ range. parts_within range others) ranges
 
 -- ---- what is sought, combined
 
@@ -78,25 +78,21 @@ sought_by atom =
     }
 
 -- it has one range, or none
-abbrev pub is_short : Sought → Bool
-is_short sought = nat_le (length sought.ranges) 1
+abbrev pub has_one_range_at_most : Sought → Bool
+has_one_range_at_most sought = nat_le (length sought.ranges) 1
 
--- They are on one property, and one of them has one range: together they have no more ranges than the other.
+-- They are on one property, and one of them has one range at most: together they have no more ranges than the other.
 abbrev pub are_combined : Sought → Sought → Bool
-are_combined old new = same_property (property_of old) (property_of new) && (is_short old || is_short new)
+are_combined old new =
+    same_property (property_of old) (property_of new) && (has_one_range_at_most old || has_one_range_at_most new)
 
 abbrev pub combine : Sought → Sought → Sought
 combine old new = record { paths = old.paths; whole = old.whole; ranges = shared old.ranges new.ranges }
 
--- one more: combined with the first with which it can be, or behind all
+-- one more: combined with each with which it can be, and behind the others
 abbrev pub put : Sought → List Sought → List Sought
 put new [] = new ∷ []
-put new (old ∷ rest) = if are_combined old new then combine old new ∷ rest else old ∷ put new rest
-
--- the same, where there may be no more
-abbrev pub put_left : Option Sought → List Sought → List Sought
-put_left (Some new) all = put new all
-put_left None all = all
+put new (old ∷ rest) = if are_combined old new then put (combine old new) rest else old ∷ put new rest
 
 -- one after another
 abbrev pub put_all : List Sought → List Sought → List Sought

@@ -27,7 +27,7 @@ pub data AreSought (table : Table) : List (Option Atom) → List Sought → Type
       → AreSought table (Some atom ∷ atoms) (sought_by atom ∷ sought)
 
 -- The unions in which a query's candidates have terms: of each usable condition its ranges, and of several on one property
--- the ranges of the terms that are in those of all.
+-- that are combined the ranges of the terms that are in those of all.
 pub record AreUnions (table : Table) (atoms : List (Option Atom)) (unions : List (List TermRange)) : Type 0 where
   pub sought : List Sought
   pub of_usable : AreSought table atoms sought

@@ -5,9 +5,9 @@
 //! finds the conditions that an index answers and their ranges of terms, and on `ax_policy`, which tells what each
 //! policy of a table covers. Its one contract: `plan` gives one union of ranges for each usable condition of the
 //! query and no other (`specs/Usable.antt`), those on one property combined (`specs/Combining.antt`), and refuses it exactly
-//! where the policy now keeps no order for its ORDER BY (`specs/Ordered.antt`); laws say what that is worth: a document
-//! has a term in each union exactly where it has one for each usable condition, and one that has not, under whichever of
-//! these policies it is, has no rows in the query.
+//! where the policy now keeps no order for its ORDER BY (`specs/Ordered.antt`); laws say what that is worth: a well-formed
+//! document has a term in each union exactly where it has one for each usable condition, and one that has not, under
+//! whichever of these policies it is, has no rows in the query.
 #![tactic(auto)]
 
 mod combining;

@@ -14,9 +14,9 @@ pub enum Source {
 #[derive(Debug, Drop)]
 pub struct Plan {
     /// For each condition of the query that is answered from the index, in the order of the text, the ranges in one
-    /// of which each document of which it is true has a term; of several on one property those that are within the
-    /// ranges of all. A document without a term in one of the unions has no rows in the query; with one in each it may
-    /// have some.
+    /// of which each document of which it is true has a term; for several on one property that are combined (`plan` says
+    /// which) the ranges of the terms that are in those of all, at the place of the last. A document without a term in one
+    /// of the unions has no rows in the query; with one in each it may have some.
     pub unions: UnionList,
     pub source: Source,
 }

@@ -20,13 +20,16 @@ use std::alloc::Global;
 
 /// The plan of a query over documents under the policies of that table: one union for each of its conditions that an
 /// index answers and of which the policy now, and each under which documents are, covers all leaves on which it rests,
-/// in the order of the text. Conditions on one property, to which names alone lead, are combined: their union has the terms
-/// that are in the ranges of all; of those that have several ranges (IN) each keeps a union of its own.
+/// in the order of the text. Conditions on one property, to which names alone lead, are combined: each with those before it,
+/// one by one, where of the two one has one range at most. What is combined has one union, of the terms that are in the
+/// ranges of all, at the place of the last. So a property has one where at most one of its conditions has several ranges
+/// (IN); where more have, it may have several, and then each of them has several ranges.
 /// `PlanFault::NoOrder` exactly where the policy now keeps no order for its ORDER BY, whatever memory there is.
 ///
-/// Under the default policy `c.n > 1 AND c.m != 2 AND c.k IN (1, 2) AND c.n < 5` gives two unions, of one range and of
-/// two; where documents are left under a policy that excludes `/n/?`, only the one of `c.k`. `c.t[0] > 1 AND c.t[1] < 5`
-/// gives two, of one range each.
+/// Under the default policy `c.n > 1 AND c.m != 2 AND c.k IN (1, 2) AND c.n < 5` gives two unions, of two ranges and of
+/// one; where documents are left under a policy that excludes `/n/?`, only the one of `c.k`. `c.k IN (1, 2) AND c.k IN (2, 3)`
+/// gives two, and with `c.k = 2`, wherever it stands, one, of one range. `c.k IN (1, 2, 9) AND c.k IN (2, 3) AND c.k < 5` gives
+/// two: that of 2 and 3, and that of 1 and 2. `c.t[0] > 1 AND c.t[1] < 5` gives two, of one range each.
 pub fn plan(alloc: Global, query: &Query, table: &PolicyTable) -> Result<Plan, PlanFault>
     ensures unions { IfOk result (λ plan. AreUnions table.now (atoms query.now) plan.unions) }
     ensures ordered { OnOk result (IsOrdered table.now query.now) }

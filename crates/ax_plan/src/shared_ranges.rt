@@ -17,19 +17,19 @@ pub(crate) fn shared_ranges(
 {
     let mut both = Vec::new(alloc);
     for range in ranges {
-        append_within(alloc, range, others, &mut both)?;
+        append_parts_within(alloc, range, others, &mut both)?;
     }
     Ok(Items::from_vec(both))
 }
 
 /// Appends the part of each of the others that is within the range, where there is one.
-fn append_within(
+fn append_parts_within(
     alloc: Global,
     range: &TermRange,
     others: &[TermRange],
     both: &mut Vec<TermRange>,
 ) -> Result<(), Memory>
-    ensures { OnOk result (both.new.items ≡ both.old.items ++ spec.within range.now others.now) }
+    ensures { OnOk result (both.new.items ≡ both.old.items ++ spec.parts_within range.now others.now) }
 {
     for other in others {
         let from = later(range.from.as_slice(), other.from.as_slice());
@@ -45,17 +45,9 @@ fn range_of(alloc: Global, from: &[u8], below: &[u8]) -> Result<TermRange, Memor
     ensures { IfOk result (λ range. range ≡ record { from = from.now; below = below.now }) }
 {
     Ok(TermRange {
-        from: copied(alloc, from)?,
-        below: copied(alloc, below)?,
+        from: Items::from_vec(Vec::from_slice(alloc, from)?),
+        below: Items::from_vec(Vec::from_slice(alloc, below)?),
     })
-}
-
-fn copied(alloc: Global, bytes: &[u8]) -> Result<Items<u8>, Memory>
-    ensures { IfOk result (λ copy. copy ≡ bytes.now) }
-{
-    let mut copy = Vec::new(alloc);
-    copy.extend_from_slice(bytes)?;
-    Ok(Items::from_vec(copy))
 }
 
 fn later<'a>(bytes: &'a [u8], others: &'a [u8]) -> &'a [u8]

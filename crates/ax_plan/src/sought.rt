@@ -31,12 +31,13 @@ impl Sought {
         }
     }
 
-    /// Whether what is sought by both is a term in the ranges of both: they rest on one property, and one has a single range,
-    /// so that there are no more ranges than the other has.
+    /// Whether what is sought by both is a term in the ranges of both: they rest on one property, and one has one range at
+    /// most, so that there are no more ranges than the other has.
     pub(crate) fn combines_with(&self, other: &Sought) -> bool
         ensures { result ≡ spec.are_combined self.now other.now }
     {
-        self.is_on_property_of(other) && (self.is_short() || other.is_short())
+        self.is_on_property_of(other)
+            && (self.has_one_range_at_most() || other.has_one_range_at_most())
     }
 
     fn is_on_property_of(&self, other: &Sought) -> bool
@@ -51,8 +52,8 @@ impl Sought {
         }
     }
 
-    fn is_short(&self) -> bool
-        ensures { result ≡ spec.is_short self.now }
+    fn has_one_range_at_most(&self) -> bool
+        ensures { result ≡ spec.has_one_range_at_most self.now }
     {
         self.ranges.as_slice().len() <= 1
     }
