@@ -1,6 +1,6 @@
--- Numbers that are met with one union of ranges after another: those of points first, then the others.
+-- Numbers that are met with one union of ranges after another: those of one kind first, then those of the next.
 -- Only clauses of private functions cite these. It is this project's own; it comes from no public document.
-use Rattle.std.specs.Prelude.{◌≡◌, ◌↔◌, ℕ, List, Contains, Bool, true, Option, Some, None}
+use Rattle.std.specs.Prelude.{◌≡◌, ◌↔◌, ℕ, List, Contains, true, Option, Some, None}
 use Rattle.ax_delta.specs.Said.{has_number}
 use Rattle.ax_pages.specs.Contents.{TermPage}
 use Rattle.ax_pairs.specs.PairSets.{PairSet}
@@ -8,7 +8,8 @@ use Rattle.ax_term.specs.declared.range.TermRange.{TermRange}
 use Rattle.ax_index.specs.Grammar.{AreInGrammar}
 use Rattle.ax_index.specs.Wanted.{HasInSome}
 use Rattle.ax_candidates.specs.Candidates.{IsOneInGrammar}
-use Rattle.ax_candidates.specs.Points.{are_of_one_term}
+use Rattle.ax_candidates.specs.declared.points.Kind.{Kind}
+use Rattle.ax_candidates.specs.Points.{kind_of}
 
 -- the number is among those that are left; all are, while no union has been looked up
 abbrev pub IsLeft : Option (List ℕ) → ℕ → Type 0
@@ -23,21 +24,21 @@ pub record AreMet (found : Option (List ℕ)) (ranges : List TermRange) (set : P
 pub record AreShared (left right both : List ℕ) : Type 0 where
   pub are : (number : ℕ) → (has_number number both ≡ true) ↔ ((has_number number left ≡ true) × (has_number number right ≡ true))
 
--- it holds of each union of points, or of each of the others
-abbrev pub HoldsOfKind : Bool → List (List TermRange) → (List TermRange → Type 0) → Type 0
-HoldsOfKind points unions P = (ranges : List TermRange) → Contains unions ranges → are_of_one_term ranges ≡ points → P ranges
+-- it holds of each union of the kind
+abbrev pub HoldsOfKind : Kind → List (List TermRange) → (List TermRange → Type 0) → Type 0
+HoldsOfKind kind unions P = (ranges : List TermRange) → Contains unions ranges → kind_of ranges ≡ kind → P ranges
 
 -- left are those of the numbers found so far that have a term in each union of the kind
-pub record AreMetWith (points : Bool) (unions : List (List TermRange)) (found : Option (List ℕ)) (set : PairSet) (left : Option (List ℕ)) : Type 0 where
-  pub are : (number : ℕ) → IsLeft left number ↔ (IsLeft found number × HoldsOfKind points unions (λ ranges. HasInSome ranges set number))
+pub record AreMetWith (kind : Kind) (unions : List (List TermRange)) (found : Option (List ℕ)) (set : PairSet) (left : Option (List ℕ)) : Type 0 where
+  pub are : (number : ℕ) → IsLeft left number ↔ (IsLeft found number × HoldsOfKind kind unions (λ ranges. HasInSome ranges set number))
 
 -- no union is of the kind
-pub record IsNoneOfKind (points : Bool) (unions : List (List TermRange)) : Type 0 where
-  pub none : HoldsOfKind points unions (λ ranges. ⊥)
+pub record IsNoneOfKind (kind : Kind) (unions : List (List TermRange)) : Type 0 where
+  pub none : HoldsOfKind kind unions (λ ranges. ⊥)
 
 -- each page with terms of a union of the kind is in its grammar
-pub record AreOfKindInGrammar (points : Bool) (unions : List (List TermRange)) (pages : List TermPage) : Type 0 where
-  pub each : HoldsOfKind points unions (λ ranges. AreInGrammar ranges pages)
+pub record AreOfKindInGrammar (kind : Kind) (unions : List (List TermRange)) (pages : List TermPage) : Type 0 where
+  pub each : HoldsOfKind kind unions (λ ranges. AreInGrammar ranges pages)
 
 -- no union has been looked up, or the pages of one have been found in their grammar
 abbrev pub IsBegun : Option (List ℕ) → List (List TermRange) → List TermPage → Type 0

@@ -14,7 +14,7 @@ ghost use Rattle.ax_candidates.specs.Candidates.{AreAllInGrammar, AreCandidates,
 ghost use Rattle.ax_candidates.specs.Meeting.{AreMetWith, AreOfKindInGrammar, IsBegun, IsLeft, IsNoneOfKind};
 
 use crate::meeting::met_once;
-use crate::points::are_points;
+use crate::points::{Kind, kind_of};
 use ax_cache::PageCache;
 use ax_disk::Disk;
 use ax_mean::Items;
@@ -22,10 +22,11 @@ use ax_store::{Store, StoreFault};
 use ax_term::TermRange;
 use std::alloc::Global;
 
-/// The rising numbers with a term in each of the unions, of the set that the term pages hold. Unions of points, whose
-/// ranges have one term each, are looked up first, then the others, and none more once no number is left. The numbers
-/// rise whatever the pages hold and whatever the disk gives. Over an honest disk they are answered only where each part
-/// of the pages that were read is in its grammar: those of one union at least, and where there is a number those of all.
+/// The rising numbers with a term in each of the unions, of the set that the term pages hold. Unions of one point, a
+/// range of one term, are looked up first, then those of several, then the others, and none more once no number is left.
+/// The numbers rise whatever the pages hold and whatever the disk gives. Over an honest disk they are answered only where
+/// each part of the pages that were read is in its grammar: those of one union at least, and where there is a number
+/// those of all.
 ///
 /// `Disk`, `Damaged`: as `pairs_in_some`. `Memory` where there is no room for the pairs of a page or for the numbers.
 #[tactic(auto, using(crate::proofs::OfKind::not_none))]
@@ -55,11 +56,15 @@ pub fn candidates<D: Disk, C: PageCache>(
     ensures attached { D.attached disk.new ≡ D.attached disk.old }
     ensures honest { D.is_honest disk.new ≡ D.is_honest disk.old }
 {
-    let of_points = match met_with(alloc, store, disk, None, unions, true) {
+    let of_point = match met_with(alloc, store, disk, None, unions, Kind::Point) {
         Ok(found) => found,
         Err(fault) => return Err(fault),
     };
-    let left = match met_with(alloc, store, disk, of_points, unions, false) {
+    let of_points = match met_with(alloc, store, disk, of_point, unions, Kind::Points) {
+        Ok(found) => found,
+        Err(fault) => return Err(fault),
+    };
+    let left = match met_with(alloc, store, disk, of_points, unions, Kind::Ranges) {
         Ok(left) => left,
         Err(fault) => return Err(fault),
     };
@@ -69,7 +74,7 @@ pub fn candidates<D: Disk, C: PageCache>(
     }
 }
 
-/// What is left of the numbers found so far once they are met with each union of points, or with each of the others.
+/// What is left of the numbers found so far once they are met with each union of the kind.
 /// `None` are all numbers, while no union has been looked up.
 #[tactic(auto, using(crate::proofs::OfKind::of_no_unions, crate::proofs::OfKind::of_all_unions))]
 fn met_with<D: Disk, C: PageCache>(
@@ -78,18 +83,18 @@ fn met_with<D: Disk, C: PageCache>(
     disk: &mut D,
     found: Option<Items<u32>>,
     unions: &[Items<TermRange>],
-    points: bool,
+    kind: Kind,
 ) -> Result<Option<Items<u32>>, StoreFault>
     requires found { IfSome found IsRisingList }
     requires free { 2 ≤ free_count (store_slots store.old) }
     requires agrees { AgreesUnlessFailed C.pages (D.is_honest disk.old) store.old
         (D.history disk.old (D.attached disk.old)) }
     ensures numbers { IsTrue (D.is_honest disk.old) → (set : PairSet) → IsIndex (store_contents store.old).terms set
-        → IfOk result (λ left. AreMetWith points unions.now found set left) }
+        → IfOk result (λ left. AreMetWith kind unions.now found set left) }
     ensures rising { IfOk result (λ left. IfSome left IsRisingList) }
-    ensures some { IfOk result (λ left. left ≡ None → (found ≡ None) × IsNoneOfKind points unions.now) }
+    ensures some { IfOk result (λ left. left ≡ None → (found ≡ None) × IsNoneOfKind kind unions.now) }
     ensures met { IsTrue (D.is_honest disk.old) → IfOk result (λ left. (number : ℕ) → IsLeft left number
-        → AreOfKindInGrammar points unions.now (store_contents store.old).terms) }
+        → AreOfKindInGrammar kind unions.now (store_contents store.old).terms) }
     ensures fewer { IfOk result (λ left. (number : ℕ) → IsLeft left number → IsLeft found number) }
     ensures begun { IsTrue (D.is_honest disk.old) → IsBegun found unions.now (store_contents store.old).terms
         → IfOk result (λ left. IsBegun left unions.now (store_contents store.old).terms) }
@@ -105,7 +110,7 @@ fn met_with<D: Disk, C: PageCache>(
 {
     let mut left = found;
     for ranges in unions {
-        if are_points(ranges.as_slice()) != points {
+        if kind_of(ranges.as_slice()) != kind {
             continue;
         }
         left = match met_once(alloc, store, disk, left, ranges.as_slice()) {

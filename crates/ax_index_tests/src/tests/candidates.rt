@@ -1,5 +1,5 @@
-//! Numbers with a term in each of several unions of ranges: those of points are looked up first, and none more once
-//! no number is left.
+//! Numbers with a term in each of several unions of ranges: those of one point are looked up first, then those of
+//! several, and none more once no number is left.
 
 use crate::tests::asking::{changes_of_rows, fresh_disk, range_of};
 use ax_cache::NoPages;
@@ -109,5 +109,42 @@ fn no_union_is_read_once_no_number_is_left(rt: HostRuntime) -> Result<(), Fail> 
         &[&[(b"a2", b"a3")], &[(b"b", b"c")], &[(b"a", b"b")]],
     )?;
     assert!(rt; apart.is(&[], 2));
+    Ok(())
+}
+
+/// A union of several points, each of which has a number.
+const SEVERAL: Ends<'static> = &[
+    (b"a1", b"a1\x00"),
+    (b"a2", b"a2\x00"),
+    (b"b1", b"b1\x00"),
+    (b"b2", b"b2\x00"),
+    (b"b3", b"b3\x00"),
+];
+
+// Wherever it stands, a union of one point or none is looked up before one of several, and this before the others.
+#[test]
+fn several_points_are_read_only_where_one_point_leaves_a_number(
+    rt: HostRuntime,
+) -> Result<(), Fail> {
+    let alloc = rt.alloc();
+    let mut disk = fresh_disk(alloc, 1 << 20)?;
+    let mut store = open(alloc, &mut disk, NoPages)?;
+    let changes = changes_of_rows(alloc, ROWS)?;
+    change(alloc, &mut disk, &mut store, changes.as_slice())?;
+
+    let alone = found_in(alloc, &mut disk, &[&[(b"b4", b"b4\x00")]])?;
+    assert!(rt; alone.is(&[], 1));
+    let none = found_in(alloc, &mut disk, &[SEVERAL, &[(b"b4", b"b4\x00")]])?;
+    assert!(rt; none.is(&[], 1));
+    let nothing = found_in(alloc, &mut disk, &[SEVERAL, &[]])?;
+    assert!(rt; nothing.is(&[], 0));
+    let some = found_in(alloc, &mut disk, &[SEVERAL, &[(b"a2", b"a2\x00")]])?;
+    assert!(rt; some.is(&[2], 2));
+    let before_others = found_in(
+        alloc,
+        &mut disk,
+        &[&[(b"a", b"c")], &[(b"b4", b"b4\x00"), (b"b5", b"b5\x00")]],
+    )?;
+    assert!(rt; before_others.is(&[], 1));
     Ok(())
 }

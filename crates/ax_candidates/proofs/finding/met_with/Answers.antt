@@ -1,35 +1,37 @@
-use Rattle.std.proofs.Common.{◌≡◌, List, sym, ap, subst, ◌∙◌}
+use Rattle.std.proofs.Common.{◌≡◌, List, rules, sym, ap, subst, ◌∙◌}
 use Rattle.std.specs.Prelude.{IsTrue}
+use denote.Enum.Bare.{differs_false, differs_true}
 use Rattle.ax_pages.specs.Contents.{TermPage}
 use Rattle.ax_pairs.specs.Index.{IsIndex}
 use Rattle.ax_store.specs.Store.{store_contents, store_slots}
 use Rattle.ax_index.specs.Grammar.{AreInGrammar}
 use Rattle.ax_index.proofs.ReadsLaws.{of_honest, read_then}
 use Rattle.ax_index.proofs.Unmoved.{same_terms}
-use Rattle.ax_candidates.specs.Points.{are_of_one_term}
-use Rattle.ax_candidates.proofs.OfKind.{begun_more, met_more, met_still, none_still, other_kind, read_more, read_still, same_kind}
+use Rattle.ax_candidates.specs.contracts.points.Kind.{the_type}
+use Rattle.ax_candidates.specs.Points.{kind_of}
+use Rattle.ax_candidates.proofs.OfKind.{begun_more, met_more, met_still, none_still, read_more, read_still}
 use Rattle.ax_candidates.proofs.Passing.{keeps_then}
 use Rattle.ax_candidates.proofs.finding.met_with.Goals as goal
 
-pub loop-ranges-preserved-then-are_points-points : goal.loop-ranges-preserved-then-are_points-points
-loop-ranges-preserved-then-are_points-points g c =
+pub loop-ranges-preserved-then-ne : goal.loop-ranges-preserved-then-ne
+loop-ranges-preserved-then-ne g c =
     let inv = c.loop-ranges.invariant in
-    let points = c.args.points in
+    let kind = c.args.kind in
     let unions = c.args.unions.now in
     let i = c.loop-ranges.ranges-index in
     let here = c.ranges-item.result in
     let own = c.as_slice.result.now in
     let low = c.loop-ranges-test.true in
-    let other : are_of_one_term own ≡ points → ⊥ = λ kind. other_kind c.are_points.result points c.if-are_points-points.true (c.are_points.ensures ∙ kind) in
+    let other : kind_of own ≡ kind → ⊥ = λ same. differs_true the_type c.kind_of.result kind (sym c.ne.ensures ∙ c.if-ne.true) (c.kind_of.ensures ∙ same) in
     record {
       numbers = λ told set is.
-          met_still points unions i here own set c.args.found c.loop-ranges.left low c.ranges-item.is c.as_slice.ensures other (inv.numbers told set is);
+          met_still kind unions i here own set c.args.found c.loop-ranges.left low c.ranges-item.is c.as_slice.ensures other (inv.numbers told set is);
       rising = inv.rising;
       some = λ none.
           let (before, of_none) = inv.some none in
-          (before, none_still points unions i here own low c.ranges-item.is c.as_slice.ensures other of_none);
+          (before, none_still kind unions i here own low c.ranges-item.is c.as_slice.ensures other of_none);
       met = λ told number left.
-          read_still points unions i here own (store_contents c.args.store.now).terms low c.ranges-item.is c.as_slice.ensures other (inv.met told number left);
+          read_still kind unions i here own (store_contents c.args.store.now).terms low c.ranges-item.is c.as_slice.ensures other (inv.met told number left);
       fewer = inv.fewer;
       begun = inv.begun;
       reads = inv.reads;
@@ -45,25 +47,25 @@ loop-ranges-preserved g c =
     let terms = (store_contents c.args.store.now).terms in
     let inv = c.loop-ranges.invariant in
     let more = c.in-Ok.ensures in
-    let points = c.args.points in
+    let kind = c.args.kind in
     let unions = c.args.unions.now in
     let i = c.loop-ranges.ranges-index in
     let here = c.ranges-item.result in
     let own = c.as_slice-in-loop-ranges.result.now in
     let alike : own ≡ here = c.as_slice-in-loop-ranges.ensures in
     let low = c.loop-ranges-test.true in
-    let kind : are_of_one_term own ≡ points =
-    ap are_of_one_term (alike ∙ sym c.as_slice.ensures) ∙ sym c.are_points.ensures
-    ∙ same_kind c.are_points.result points c.if-are_points-points.false in
+    let same : kind_of own ≡ kind =
+    ap kind_of (alike ∙ sym c.as_slice.ensures) ∙ sym c.kind_of.ensures
+    ∙ differs_false the_type (search rules) c.kind_of.result kind (sym c.ne.ensures ∙ c.if-ne.false) in
     let now : (store_contents c.loop-ranges.store).terms ≡ terms = same_terms _ _ inv.reads.same.same in
     record {
       numbers = λ told set is.
-          met_more points unions i here own set c.args.found c.loop-ranges.left c.in-Ok.numbers low c.ranges-item.is alike kind (inv.numbers told set is)
+          met_more kind unions i here own set c.args.found c.loop-ranges.left c.in-Ok.numbers low c.ranges-item.is alike same (inv.numbers told set is)
           (more.numbers (subst IsTrue (sym inv.honest) told) set (subst (λ (ts : List TermPage). IsIndex ts set) (sym now) is));
       rising = more.rising;
       some = λ none. absurd (cc);
       met = λ told number left.
-          read_more points unions i here own terms low c.ranges-item.is alike (inv.met told number (more.fewer number left))
+          read_more kind unions i here own terms low c.ranges-item.is alike (inv.met told number (more.fewer number left))
           (subst (AreInGrammar own) now (more.met (subst IsTrue (sym inv.honest) told) number left));
       fewer = λ number left. inv.fewer number (more.fewer number left);
       begun = λ told first.

@@ -11,11 +11,11 @@ use Rattle.ax_candidates.proofs.finding.met_with.Given as goal
 abbrev pub invariant-loop-ranges : goal.invariant-loop-ranges
 invariant-loop-ranges g l = record {
   numbers : IsTrue (g.D.Disk.is_honest l.fn.disk) → (set : PairSet) → IsIndex (store_contents l.fn.store).terms set
-      → AreMetWith l.points (take l.ranges-index l.unions) l.fn.found set l.left;
+      → AreMetWith l.kind (take l.ranges-index l.unions) l.fn.found set l.left;
   rising : IfSome l.left IsRisingList;
-  some : l.left ≡ None → (l.fn.found ≡ None) × IsNoneOfKind l.points (take l.ranges-index l.unions);
+  some : l.left ≡ None → (l.fn.found ≡ None) × IsNoneOfKind l.kind (take l.ranges-index l.unions);
   met : IsTrue (g.D.Disk.is_honest l.fn.disk) → (number : ℕ) → IsLeft l.left number
-      → AreOfKindInGrammar l.points (take l.ranges-index l.unions) (store_contents l.fn.store).terms;
+      → AreOfKindInGrammar l.kind (take l.ranges-index l.unions) (store_contents l.fn.store).terms;
   fewer : (number : ℕ) → IsLeft l.left number → IsLeft l.fn.found number;
   begun : IsTrue (g.D.Disk.is_honest l.fn.disk) → IsBegun l.fn.found l.unions (store_contents l.fn.store).terms
       → IsBegun l.left l.unions (store_contents l.fn.store).terms;
