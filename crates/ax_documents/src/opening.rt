@@ -10,6 +10,7 @@ ghost use Rattle.ax_image.specs.Readable.{SaysReadable, newest};
 ghost use Rattle.ax_log.specs.Opening.{Keeps};
 ghost use Rattle.ax_pages.specs.Area.{extent_number};
 ghost use Rattle.ax_store.specs.Faults.{HasDiskCause};
+ghost use Rattle.ax_store.specs.Store.{Has, store_contents};
 ghost use Rattle.ax_documents.specs.Documents.{DocumentsHold, DocumentsWork};
 ghost use Rattle.ax_documents.specs.Opening.{IsAnswerUnlessDisk, IsImageOf, IsStore, IsWithin, RefusesBy};
 
@@ -42,6 +43,8 @@ pub fn open_documents<D: Disk, L: Ledger>(
     ensures holds { IsTrue (D.is_honest disk.old) → (before : Container)
         → IsStore before (D.history disk.old (D.attached disk.old)) → IfOk result (λ documents. DocumentsHold documents before) }
     ensures empty { IfOk result (λ documents. documents.ids ≡ []) }
+    ensures says { IsTrue (D.is_honest disk.old) → IfOk result
+        (λ documents. Has (store_contents documents.store) (D.history disk.old (D.attached disk.old)).reads) }
     ensures readable { IsTrue (D.is_honest disk.old) → (before : Container)
         → IsStore before (D.history disk.old (D.attached disk.old))
         → OnOk result (Rests (D.history disk.new (D.attached disk.new)) SaysReadable) }

@@ -229,7 +229,7 @@ may_write policy asked (Err why) is may = may_refuse policy asked why is may
 
 -- ---- what a line has met that is answered
 
-if_ok : (answer : Result Reply Fault) (Is : Reply → Type 0) → ((reply : Reply) → answer ≡ Ok reply → Is reply) → IfOk answer Is
+pub if_ok : (answer : Result Reply Fault) (Is : Reply → Type 0) → ((reply : Reply) → answer ≡ Ok reply → Is reply) → IfOk answer Is
 if_ok (Ok reply) Is by = by reply refl
 if_ok (Err why) Is by = tt
 

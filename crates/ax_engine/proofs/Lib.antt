@@ -2,6 +2,7 @@ pub mod Applying
 mod Batching
 mod ByNumbers
 mod Choosing
+mod Courses
 mod Damaging
 pub mod Holding
 mod InOrder
@@ -17,4 +18,5 @@ mod Refusals
 mod RowLines
 mod Scanning
 mod ShownTexts
+mod Stopping
 mod WholeEnough

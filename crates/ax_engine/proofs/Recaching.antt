@@ -1,11 +1,18 @@
 -- The same engine over another cache, which holds nothing yet.
-use Rattle.std.proofs.Common.{◌≡◌, Bool, sym, ◌∙◌}
+use Rattle.std.proofs.Common.{◌≡◌, ℕ, Bool, List, sym, ap, ap₂, ◌∙◌}
 use Rattle.std.specs.FinMap as map
+use Rattle.ax_area.specs.Contents.{Contents}
+use Rattle.ax_area_laws.specs.Risen.{risen}
 use Rattle.ax_cache.specs.Pages.{CachedPages}
 use Rattle.ax_container.specs.Container.{Container}
 use Rattle.ax_disk.specs.model.Moments.{History}
 use Rattle.ax_documents.proofs.Recaching.{hold_still, work_still}
 use Rattle.ax_documents.specs.Documents.{SameDocuments}
+use Rattle.ax_documents.specs.declared.documents.Documents.{Documents}
+use Rattle.ax_policy.specs.Table.{Table}
+use Rattle.ax_store.specs.Kept.{Kept}
+use Rattle.ax_store.specs.Store.{store_contents}
+use Rattle.ax_engine.specs.Course.{Standing, standing_of}
 use Rattle.ax_engine.specs.Engine.{Holds, HoldsOver, Works}
 use Rattle.ax_engine.specs.declared.engine.Engine.{Engine}
 
@@ -27,3 +34,12 @@ module _ {C E : Type 0} (old : Engine C) (new : Engine E) (fault : new.fault ≡
         work_still pages others honest old.documents new.documents history same empty (works.documents (sym fault ∙ none));
     no_sink = λ is. works.no_sink (sym fault ∙ is);
   }
+
+-- it has what it had
+pub standing_still : {C E : Type 0} (old : Documents C) (new : Documents E) → SameDocuments old new → standing_of new ≡ standing_of old
+standing_still old new same =
+    ap (λ (table : Table). of table new.ids (store_contents new.store)) same.table
+    ∙ ap₂ (of old.table) same.ids (ap (λ (kept : Kept). risen kept.contents) same.store.pages)
+  where
+    of : Table → List (List ℕ × ℕ) → Contents → Standing
+    of table ids contents = record { table = table; ids = ids; contents = contents }

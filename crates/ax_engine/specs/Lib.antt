@@ -1,5 +1,6 @@
 pub mod Batched
 pub mod Candidates
+pub mod Course
 pub mod Damage
 pub mod Engine
 pub mod InPages
@@ -9,4 +10,5 @@ pub mod Printing
 pub mod Reading
 pub mod Replies
 pub mod Scans
+pub mod Stopping
 pub mod StoreSays

@@ -1,6 +1,6 @@
 //! The documents at which a query looks: those that its plan leaves.
 
-ghost use Rattle.std.specs.Prelude.{◌≡◌, ◌≤◌, IsTrue, IfOk, true};
+ghost use Rattle.std.specs.Prelude.{◌≡◌, ◌↔◌, ◌≤◌, IsTrue, IfOk, true};
 ghost use Rattle.ax_engine.specs.Candidates.{AreFound, AreOfUnions};
 ghost use Rattle.ax_engine.specs.PolicyNow.{policy_now};
 ghost use Rattle.ax_policy.specs.Sameness.{is_orderable};
@@ -31,9 +31,9 @@ pub(crate) enum Candidates {
 impl Candidates {
     ghost use Rattle.ax_engine.specs.Candidates.{AreNone};
 
-    /// Whether there is none, where these are numbers.
+    /// Whether these are numbers, and there is none.
     pub(crate) fn is_empty(&self) -> bool
-        ensures { AreNone self.now → result ≡ true }
+        ensures { (result ≡ true) ↔ AreNone self.now }
     {
         match self {
             Candidates::All => false,
@@ -74,7 +74,8 @@ pub(crate) fn candidates_of<D: Disk, C: PageCache>(
     found
 }
 
-/// The unions of terms of the query's plan, one for each of its conditions that the index answers.
+/// The unions of terms of the query's plan: a document has a term in each of them exactly where it has one for each
+/// condition that the index answers.
 #[tactic(auto, using(crate::proofs::Choosing::never_unordered))]
 fn unions_of(alloc: Global, query: &Query, table: &PolicyTable) -> Result<UnionList, Memory>
     requires kept { is_orderable (policy_now table.now) query.now.orders ≡ true }

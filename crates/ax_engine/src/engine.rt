@@ -17,12 +17,14 @@ ghost use Rattle.ax_lines.specs.declared.line.Line.TheVariants as line;
 ghost use Rattle.ax_image.specs.Readable.{SaysReadable, newest};
 ghost use Rattle.ax_machine.specs.Needs.{most_steps_of};
 ghost use Rattle.ax_store.specs.Store.{store_contents};
+ghost use Rattle.ax_write.specs.Learnt.{LearnsOfDeletion};
 ghost use Rattle.ax_write.specs.Small.{IsSmallBatch, IsToldHeld};
 ghost use Rattle.ax_write.specs.Writes.{IsOfHeld, MeetsHeld, SamePolicies, TellsWrite, WriteLeaves, of_store};
 ghost use Rattle.ax_documents.specs.Damage.{MeetsBy};
 ghost use Rattle.ax_documents.specs.Documents.{DocumentsHold, DocumentsWork, SameDocuments, WorkUnlessDisk};
 ghost use Rattle.ax_documents.specs.Opening.{IsAnswerUnlessDisk, IsImageOf, IsStore, IsWithin, RefusesBy};
 ghost use Rattle.ax_engine.specs.Batched.{AnswersSmall, MakesSmall};
+ghost use Rattle.ax_engine.specs.Course.{Course, IsOpenedFrom, LearnsLine, standing_of};
 ghost use Rattle.ax_engine.specs.Damage.{CountsFew, Meets, PassesOverNone};
 ghost use Rattle.ax_engine.specs.Engine.{Applies, CountsAnswer, Holds, HoldsOver, IdlesUnlessDone, IsWrite, LeavesLists, MayFail, Tells, Works, made_of};
 ghost use Rattle.ax_engine.specs.Judging.{Judges, MeetsLine};
@@ -91,6 +93,8 @@ impl Engine<NoPages> {
             → IfOk result (λ engine. HoldsOver engine (D.history disk.new (D.attached disk.new)) before) }
         ensures opened { IsTrue (D.is_honest disk.old) → IfOk result
             (λ engine. IsWithin (D.history disk.old (D.attached disk.old)).reads) }
+        ensures begins { IsTrue (D.is_honest disk.old) → IfOk result
+            (λ engine. IsOpenedFrom (D.history disk.old (D.attached disk.old)).reads (standing_of engine.documents)) }
         ensures any_moment { IsTrue (D.is_honest disk.old) → (before : Container)
             → IsStore before (D.history disk.old (D.attached disk.old))
             → SinceBarrier (D.history disk.old (D.attached disk.old)) (D.history disk.new (D.attached disk.new)) (IsImageOf before) }
@@ -167,9 +171,9 @@ impl<C: PageCache> Engine<C> {
     /// has no WHERE, or the text is that of a tree that has rows in it; nor any but those over no document, where a part of the
     /// index in which it is to look is outside its grammar.
     ///
-    /// A query looks only at the documents that the index leaves: those with a term in each union of terms of its plan, one for
-    /// each condition that the index answers, and takes at most two steps of work for each. One that is refused for its text or
-    /// its ORDER BY takes none.
+    /// A query looks only at the documents that the index leaves: those with a term in each union of terms of its plan, in which
+    /// conditions on one property may be combined, and takes at most two steps of work for each. One that is refused for its text
+    /// or its ORDER BY takes none.
     ///
     /// Whatever the store holds, a query is answered rows only where it has no refusal of its own (of its text,
     /// or of its ORDER BY under the policy now), and is refused by that one alone, or for want of memory; a write is answered `Ok`,
@@ -177,6 +181,8 @@ impl<C: PageCache> Engine<C> {
     /// memory. Over an honest disk a write or a read is answered only where the table of ids lately found tells its id or the
     /// parts of the index that do are in their grammar, and where the text of the document that a write reads is that of one.
     /// What a write puts into the store is one batch, of its document and the changes of the index that belong to it.
+    /// What a line leaves is what the next one finds (`course`): of a read, a query and a refused write the contents as they were,
+    /// and of each the table of ids with what it has found.
     #[tactic(auto, using(crate::proofs::PolicyHeld::same_policies))]
     pub fn apply<D: Disk, L: Ledger>(
         &mut self,
@@ -204,6 +210,8 @@ impl<C: PageCache> Engine<C> {
         ensures small { self.old.fault ≡ None → AnswersSmall line result (D.is_honest disk.old)
             self.old.documents.table self.old.documents.ids
             (store_contents self.old.documents.store) (store_contents self.new.documents.store) }
+        ensures course { IfOk result (λ reply. Course (D.is_honest disk.old) line reply
+            (standing_of self.old.documents) (standing_of self.new.documents)) }
         ensures works { Works C.pages (D.is_honest disk.old) self.new (D.history disk.new (D.attached disk.new)) }
         ensures policies { SamePolicies self.old.documents.table self.new.documents.table }
 
@@ -275,6 +283,7 @@ fn answer<D: Disk, C: PageCache, L: Ledger>(
     ensures readable { IsTrue (D.is_honest disk.old) → (before : Container) → DocumentsHold documents.old before
         → Rests (D.history disk.old (D.attached disk.old)) SaysReadable
         → Stays (D.history disk.old (D.attached disk.old)) (D.history disk.new (D.attached disk.new)) SaysReadable }
+    ensures course { IfOk result (λ reply. Course (D.is_honest disk.old) line.now reply (standing_of documents.old) (standing_of documents.new)) }
     ensures counted { CountsAnswer result (D.faults disk.old) (D.faults disk.new) }
     ensures never_falls { D.faults disk.old ≤ D.faults disk.new }
     ensures policies { SamePolicies documents.old.table documents.new.table }
@@ -319,6 +328,7 @@ fn write<D: Disk, C: PageCache, L: Ledger>(
     ensures readable { IsTrue (D.is_honest disk.old) → (before : Container) → DocumentsHold documents.old before
         → Rests (D.history disk.old (D.attached disk.old)) SaysReadable
         → Stays (D.history disk.old (D.attached disk.old)) (D.history disk.new (D.attached disk.new)) SaysReadable }
+    ensures course { IfOk result (λ reply. Course (D.is_honest disk.old) line.now reply (standing_of documents.old) (standing_of documents.new)) }
     ensures counted { CountsAnswer result (D.faults disk.old) (D.faults disk.new) }
     ensures never_falls { D.faults disk.old ≤ D.faults disk.new }
     ensures policies { SamePolicies documents.old.table documents.new.table }
@@ -349,6 +359,8 @@ fn make<D: Disk, C: PageCache, L: Ledger>(
     ensures met { IsTrue (D.is_honest disk.old) → MeetsLine line.now result documents.old.ids (store_contents documents.old.store) }
     ensures small { MakesSmall line.now result (D.is_honest disk.old) documents.old.table documents.old.ids
         (store_contents documents.old.store) (store_contents documents.new.store) }
+    ensures learns { LearnsLine line.now result (D.is_honest disk.old) (store_contents documents.old.store)
+        documents.old.ids documents.new.ids }
     ensures damage { IsTrue (D.is_honest disk.old)
         → IfErr (of_store result) (λ why. MeetsBy why (D.history disk.new (D.attached disk.new)).reads) }
     ensures works { WorkUnlessDisk C.pages (D.is_honest disk.old) (of_store result) documents.new
@@ -388,6 +400,8 @@ fn delete<D: Disk, C: PageCache, L: Ledger>(
     ensures met { IsTrue (D.is_honest disk.old) → MeetsHeld result documents.old.ids id.now (store_contents documents.old.store) }
     ensures small { OnOk result (IsSmallBatch (IsToldHeld (D.is_honest disk.old) documents.old.ids id.now (store_contents documents.old.store))
         (D.is_honest disk.old) documents.old.table None (store_contents documents.old.store) (store_contents documents.new.store)) }
+    ensures learns { LearnsOfDeletion result (D.is_honest disk.old) id.now (store_contents documents.old.store)
+        documents.old.ids documents.new.ids }
     ensures damage { IsTrue (D.is_honest disk.old)
         → IfErr (of_store result) (λ why. MeetsBy why (D.history disk.new (D.attached disk.new)).reads) }
     ensures works { WorkUnlessDisk C.pages (D.is_honest disk.old) (of_store result) documents.new
@@ -449,6 +463,7 @@ pub(crate) fn read<D: Disk, C: PageCache, L: Ledger>(
     ensures readable { IsTrue (D.is_honest disk.old)
         → Rests (D.history disk.old (D.attached disk.old)) SaysReadable
         → Stays (D.history disk.old (D.attached disk.old)) (D.history disk.new (D.attached disk.new)) SaysReadable }
+    ensures course { IfOk result (λ reply. Course (D.is_honest disk.old) (line.Read id.now) reply (standing_of documents.old) (standing_of documents.new)) }
     ensures counted { CountsAnswer result (D.faults disk.old) (D.faults disk.new) }
     ensures never_falls { D.faults disk.old ≤ D.faults disk.new }
     ensures policies { SamePolicies documents.old.table documents.new.table }
@@ -506,6 +521,7 @@ fn query<D: Disk, C: PageCache, L: Ledger>(
     ensures readable { IsTrue (D.is_honest disk.old)
         → Rests (D.history disk.old (D.attached disk.old)) SaysReadable
         → Stays (D.history disk.old (D.attached disk.old)) (D.history disk.new (D.attached disk.new)) SaysReadable }
+    ensures course { IfOk result (λ reply. Course (D.is_honest disk.old) (line.Query body.now) reply (standing_of documents.old) (standing_of documents.new)) }
     ensures counted { CountsAnswer result (D.faults disk.old) (D.faults disk.new) }
     ensures never_falls { D.faults disk.old ≤ D.faults disk.new }
     ensures policies { SamePolicies documents.old.table documents.new.table }

@@ -1,6 +1,6 @@
 //! The rows of a query over the documents that its plan leaves, and the reply that has them.
 
-ghost use Rattle.std.specs.Prelude.{◌≡◌, ◌≤◌, ◌+◌, ◌*◌, ◌<◌, ℕ, List, [], ◌∷◌, ◌++◌, length, Some, None, IsTrue, IfOk, OnOk, true, false, map};
+ghost use Rattle.std.specs.Prelude.{◌≡◌, ◌↔◌, ◌≤◌, ◌+◌, ◌*◌, ◌<◌, ℕ, List, [], ◌∷◌, ◌++◌, length, Some, None, IsTrue, IfOk, OnOk, true, false, map};
 ghost use Rattle.std.specs.FinMap as finite;
 ghost use Rattle.ax_answer_text.specs.Parts.{IsTakenWhole};
 ghost use Rattle.ax_answer_text.specs.TextAnswers.{Answers, IsTo};
@@ -27,6 +27,7 @@ ghost use Rattle.ax_tree.specs.declared.tree.Tree.{Tree as TreeOf};
 ghost use Rattle.ax_store.specs.Store.{AgreesUnlessFailed, store_contents, store_failed, store_slots};
 ghost use Rattle.ax_write.specs.Writes.{Looks};
 ghost use Rattle.ax_engine.specs.Candidates.{AreNone, CountsOneEach, CountsTwoEach, HasAllOf, HasJustPolicies, IsAmong};
+ghost use Rattle.ax_engine.specs.Stopping.{StopsAtEnough, StopsInAll, StopsInNumbers};
 ghost use Rattle.ax_engine.specs.Damage.{AreDocuments, AreRowsOfNone, CountsPlanned, IfRows, MeetsDocuments, MeetsPlanned};
 ghost use Rattle.ax_engine.specs.PolicyNow.{policy_now};
 ghost use Rattle.ax_engine.specs.Printing.{IsPrinted};
@@ -216,6 +217,9 @@ fn rows_of_query<D: Disk, C: PageCache, L: Ledger>(
     ensures met { IsTrue (D.is_honest disk.old)
         → OnOk result (MeetsDocuments (IsAmong candidates.now) query (store_contents store.old)) }
     ensures bound { CountsTwoEach candidates.now (store_contents store.old) steps.old steps.new }
+    ensures stops { IsTrue (D.is_honest disk.old) → (container : Container) → ContentsHold (store_contents store.old) container
+        → StopsAtEnough candidates.now query container steps.old steps.new }
+    ensures none_wanted { query.limit ≡ Some 0 → steps.new ≡ steps.old }
     ensures never_falls { steps.old ≤ steps.new }
     ensures scans { Scans C.pages (D.is_honest disk.old) result store.old store.new ahead.new
         (D.history disk.old (D.attached disk.old)) (D.history disk.new (D.attached disk.new))
@@ -246,7 +250,7 @@ fn rows_of_query<D: Disk, C: PageCache, L: Ledger>(
 /// a document to find its rows, they are written as any other rows are.
 #[tactic(auto, using(crate::proofs::WholeEnough::part_is_enough))]
 fn prints_documents(alloc: Global, query: &Query) -> Result<bool, Memory>
-    ensures { IfOk result (λ yes. yes ≡ true → IsPrinted query.now) }
+    ensures { IfOk result (λ yes. (yes ≡ true) ↔ IsPrinted query.now) }
 {
     if !shows_document(query) {
         return Ok(false);
@@ -279,6 +283,9 @@ fn rows_of_documents<D: Disk, C: PageCache, L: Ledger>(
     ensures met { IsTrue (D.is_honest disk.old)
         → OnOk result (MeetsDocuments (IsAmong candidates.now) query (store_contents store.old)) }
     ensures bound { CountsTwoEach candidates.now (store_contents store.old) steps.old steps.new }
+    ensures stops { IsTrue (D.is_honest disk.old) → (container : Container) → ContentsHold (store_contents store.old) container
+        → StopsAtEnough candidates.now query container steps.old steps.new }
+    ensures none_wanted { query.limit ≡ Some 0 → steps.new ≡ steps.old }
     ensures never_falls { steps.old ≤ steps.new }
     ensures scans { Scans C.pages (D.is_honest disk.old) result store.old store.new ahead.new
         (D.history disk.old (D.attached disk.old)) (D.history disk.new (D.attached disk.new))
@@ -317,6 +324,9 @@ fn answer_rows<D: Disk, C: PageCache, L: Ledger>(
     ensures fetched { query.now.limit ≡ None
         → OnOk result (CountsOneEach candidates.now (store_contents store.old) steps.old steps.new) }
     ensures bound { CountsTwoEach candidates.now (store_contents store.old) steps.old steps.new }
+    ensures stops { IsTrue (D.is_honest disk.old) → (container : Container) → ContentsHold (store_contents store.old) container
+        → StopsAtEnough candidates.now query.now container steps.old steps.new }
+    ensures none_wanted { query.now.limit ≡ Some 0 → steps.new ≡ steps.old }
     ensures never_falls { steps.old ≤ steps.new }
     ensures scans { Scans C.pages (D.is_honest disk.old) result store.old store.new ahead.new
         (D.history disk.old (D.attached disk.old)) (D.history disk.new (D.attached disk.new))
@@ -358,6 +368,10 @@ fn add_candidates<D: Disk, C: PageCache, L: Ledger>(
     ensures fetched { (query : queries.Query) → IsTo answer.old query → query.limit ≡ None
         → OnOk result (CountsOneEach candidates.now (store_contents store.old) steps.old steps.new) }
     ensures bound { CountsTwoEach candidates.now (store_contents store.old) steps.old steps.new }
+    ensures stops { IsTrue (D.is_honest disk.old) → (container : Container) → ContentsHold (store_contents store.old) container
+        → (query : queries.Query) → Answers answer.old query []
+        → StopsAtEnough candidates.now query container steps.old steps.new }
+    ensures none_wanted { (query : queries.Query) → Answers answer.old query [] → query.limit ≡ Some 0 → steps.new ≡ steps.old }
     ensures never_falls { steps.old ≤ steps.new }
     ensures scans { Scans C.pages (D.is_honest disk.old) result store.old store.new ahead.new
         (D.history disk.old (D.attached disk.old)) (D.history disk.new (D.attached disk.new))
@@ -377,9 +391,9 @@ fn add_candidates<D: Disk, C: PageCache, L: Ledger>(
     }
 }
 
-/// Takes the documents of these numbers into the answer, in this order, or as many as can change it; under a number that
-/// is not held there is none. A text that is none of a document is damage, where the query reads it: then nothing is
-/// answered.
+/// Takes the documents of these numbers into the answer, in this order, or as many as can change it: behind the first that
+/// are enough for its query none is fetched. Under a number that is not held there is none. A text that is none of a document
+/// is damage, where the query reads it: then nothing is answered.
 fn add_numbered<D: Disk, C: PageCache, L: Ledger>(
     alloc: Global,
     store: &mut Store<C>,
@@ -398,6 +412,10 @@ fn add_numbered<D: Disk, C: PageCache, L: Ledger>(
     ensures fetched { (query : queries.Query) → IsTo answer.old query → query.limit ≡ None
         → OnOk result (steps.old + length numbers.now ≤ steps.new) }
     ensures bound { steps.new ≤ steps.old + 2 * length numbers.now }
+    ensures stops { IsTrue (D.is_honest disk.old) → (container : Container) → ContentsHold (store_contents store.old) container
+        → (query : queries.Query) → Answers answer.old query []
+        → StopsInNumbers numbers.now query container steps.old steps.new }
+    ensures none_wanted { (query : queries.Query) → Answers answer.old query [] → query.limit ≡ Some 0 → steps.new ≡ steps.old }
     ensures never_falls { steps.old ≤ steps.new }
     ensures scans { Scans C.pages (D.is_honest disk.old) result store.old store.new ahead.new
         (D.history disk.old (D.attached disk.old)) (D.history disk.new (D.attached disk.new))
@@ -417,9 +435,9 @@ fn add_numbered<D: Disk, C: PageCache, L: Ledger>(
     Ok(())
 }
 
-/// Takes all documents into the answer in the order of their numbers, or as many as can change it. The
-/// first text of these that is none of a document is damage, where the query reads it: then nothing is
-/// answered.
+/// Takes all documents into the answer in the order of their numbers, or as many as can change it: behind the first that are
+/// enough for its query none is fetched. The first text of these that is none of a document is damage, where the query reads
+/// it: then nothing is answered.
 fn add_documents<D: Disk, C: PageCache, L: Ledger>(
     alloc: Global,
     store: &mut Store<C>,
@@ -440,6 +458,10 @@ fn add_documents<D: Disk, C: PageCache, L: Ledger>(
         → (query : queries.Query) → IsTo answer.old query → query.limit ≡ None
         → OnOk result (steps.old + length container.entries ≤ steps.new) }
     ensures bound { (container : Container) → ContentsHold (store_contents store.old) container → steps.new ≤ steps.old + 2 * length container.entries }
+    ensures stops { IsTrue (D.is_honest disk.old) → (container : Container) → ContentsHold (store_contents store.old) container
+        → (query : queries.Query) → Answers answer.old query []
+        → StopsInAll query container steps.old steps.new }
+    ensures none_wanted { (query : queries.Query) → Answers answer.old query [] → query.limit ≡ Some 0 → steps.new ≡ steps.old }
     ensures never_falls { steps.old ≤ steps.new }
     ensures scans { Scans C.pages (D.is_honest disk.old) result store.old store.new ahead.new
         (D.history disk.old (D.attached disk.old)) (D.history disk.new (D.attached disk.new))

@@ -10,6 +10,7 @@ ghost use Rattle.ax_lines.specs.declared.line.Line.TheVariants as line;
 ghost use Rattle.ax_machine.specs.Needs.{most_steps_of};
 ghost use Rattle.ax_store.specs.Store.{store_contents};
 ghost use Rattle.ax_write.specs.Writes.{SamePolicies};
+ghost use Rattle.ax_engine.specs.Course.{Course, standing_of};
 ghost use Rattle.ax_engine.specs.Damage.{Meets};
 ghost use Rattle.ax_engine.specs.Engine.{Applies, CountsAnswer, Holds, HoldsOver, Works};
 ghost use Rattle.ax_engine.specs.Judging.{Judges};
@@ -51,6 +52,8 @@ impl<C: PageCache> Engine<C> {
         ensures judged { IsTrue (D.is_honest disk.old) → self.old.fault ≡ None
             → Writes (λ answer. IfOk answer (Judges (line.Read id.now) self.old.documents.ids (store_contents self.old.documents.store)))
             result (K.written sink.old) (K.written sink.new) }
+        ensures course { Writes (λ answer. IfOk answer (λ reply. Course (D.is_honest disk.old) (line.Read id.now) reply
+            (standing_of self.old.documents) (standing_of self.new.documents))) result (K.written sink.old) (K.written sink.new) }
         ensures met { IsTrue (D.is_honest disk.old) → self.old.fault ≡ None
             → IfErr result (λ fault. Meets fault (D.history disk.new (D.attached disk.new)).reads) }
         ensures lists { IsTrue (D.is_honest disk.old) → Idles (D.history disk.old (D.attached disk.old)) (D.history disk.new (D.attached disk.new)) }

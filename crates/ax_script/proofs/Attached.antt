@@ -71,9 +71,12 @@ module _ (old mid new : List ℕ → History) (name there now : List ℕ) (is : 
   pub image_there : (P : Image → Type 0) → P (old name).reads → P (mid there).reads
   image_there P has = subst P (sym reads_are) has
 
+  pub image_named : (P : Image → Type 0) → P (mid there).reads → P (old name).reads
+  image_named P has = subst P reads_are has
+
   -- and what it says
   pub within_named : IsWithin (mid there).reads → IsWithin (old name).reads
-  within_named within = subst IsWithin reads_are within
+  within_named within = image_named IsWithin within
 
   pub since_named : (before : Container) → SinceBarrier (mid there) (new now) (IsImageOf before)
       → SinceBarrier (old name) (new name) (IsImageOf before)

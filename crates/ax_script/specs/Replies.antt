@@ -6,9 +6,10 @@ use Rattle.ax_base.specs.Appends.{AppendsPrefix}
 use Rattle.ax_disk.specs.model.Moments.{History}
 use Rattle.ax_disk.specs.model.Stays.{Turns}
 use Rattle.ax_container.specs.Container.{Container}
+use Rattle.ax_engine.specs.Course.{Course, Standing}
 use Rattle.ax_engine.specs.Engine.{HoldsOver}
 use Rattle.ax_engine.specs.Reading.{text_of_reply}
-use Rattle.ax_engine.specs.Replies.{IsReply, MayReply}
+use Rattle.ax_engine.specs.Replies.{IsReply}
 use Rattle.ax_documents.specs.Opening.{IsImageOf}
 use Rattle.ax_engine.specs.declared.engine.Engine.{Engine}
 use Rattle.ax_engine.specs.declared.engine.Fault.{Fault}
@@ -21,7 +22,6 @@ use Rattle.ax_lines.specs.declared.line.LineFault.{LineFault}
 use Rattle.ax_lines.specs.declared.line.LineFault.TheVariants as line_fault
 use Rattle.ax_lines.specs.declared.refusal.Refusal.{Refusal}
 use Rattle.ax_lines.specs.declared.refusal.Refusal.TheVariants as refusal
-use Rattle.ax_policy.specs.declared.policy.Policy.{Policy}
 use Rattle.ax_tree.specs.declared.out_of_memory.Memory.{Memory}
 use Rattle.ax_machine.specs.Reply as reply
 use Rattle.ax_machine.specs.ReplyTexts.{reply_text}
@@ -84,25 +84,29 @@ abbrev pub unread_refusal : LineFault → Refusal
 unread_refusal (line_fault.Refused why) = why
 unread_refusal line_fault.Memory = refusal.Memory
 
--- ---- what a line may be answered, whatever the store holds
+-- ---- what a line is answered, whatever the store holds
 
--- What a line of that meaning may be answered under a policy: one that was read what the engine may reply to it; one
--- that is refused that refusal, or that memory ran out, unless it is judged at once.
-abbrev pub MayAnswerTo : Policy → Bool → Result Line Refusal → Reply → Type 0
-MayAnswerTo policy at_once (Ok asked) made = MayReply policy asked made
-MayAnswerTo policy true (Err why) made = made ≡ given.Refused why
-MayAnswerTo policy false (Err why) made = (made ≡ given.Refused why) ⊎ (made ≡ given.Refused refusal.Memory)
+-- What a line of that meaning is answered by an engine, from what this has when the line comes to what it has then: one that was
+-- read by its course, or that memory ran out, which changes nothing; one that is refused that refusal, or that memory ran out,
+-- unless it is judged at once, and that changes nothing.
+abbrev pub IsAnswerTo : Bool → Bool → Result Line Refusal → Reply → Standing → Standing → Type 0
+IsAnswerTo honest at_once (Ok asked) made was now =
+    Course honest asked made was now ⊎ ((made ≡ given.Refused refusal.Memory) × (now ≡ was))
+IsAnswerTo honest true (Err why) made was now = (made ≡ given.Refused why) × (now ≡ was)
+IsAnswerTo honest false (Err why) made was now =
+    ((made ≡ given.Refused why) ⊎ (made ≡ given.Refused refusal.Memory)) × (now ≡ was)
 
--- what the bytes of a line may be answered under a policy
-abbrev pub MayAnswer : Policy → List ℕ → Reply → Type 0
-MayAnswer policy bytes made = MayAnswerTo policy (is_judged_at_once bytes) (line_of bytes) made
+-- what the bytes of a line are answered
+abbrev pub IsAnswer : Bool → List ℕ → Reply → Standing → Standing → Type 0
+IsAnswer honest bytes made was now = IsAnswerTo honest (is_judged_at_once bytes) (line_of bytes) made was now
 
--- the text is that of a reply which the bytes of a line may be answered under a policy
-abbrev pub IsTextUnder : Policy → List ℕ → List ℕ → Type 0
-IsTextUnder policy bytes text = (made : Reply) × MayAnswer policy bytes made × IsTextOf made text
+-- the text is that of a reply which is the answer to the bytes of a line
+abbrev pub IsTextTo : Bool → List ℕ → List ℕ → Standing → Standing → Type 0
+IsTextTo honest bytes text was now = (made : Reply) × IsAnswer honest bytes made was now × IsTextOf made text
 
--- the text has one such text for each of the lines, in their order, and no more
-abbrev pub AreTextsUnder : Policy → List (List ℕ) → List ℕ → Type 0
-AreTextsUnder policy [] text = text ≡ []
-AreTextsUnder policy (line ∷ lines) text =
-    (first : List ℕ) × (rest : List ℕ) × IsTextUnder policy line first × AreTextsUnder policy lines rest × (text ≡ first ++ rest)
+-- The text has one such text for each of the lines, in their order, and no more: each line finds what the one before it left.
+abbrev pub AreTextsTo : Bool → List (List ℕ) → List ℕ → Standing → Standing → Type 0
+AreTextsTo honest [] text was now = (text ≡ []) × (now ≡ was)
+AreTextsTo honest (line ∷ lines) text was now =
+    (first : List ℕ) × (rest : List ℕ) × (between : Standing) × IsTextTo honest line first was between
+    × AreTextsTo honest lines rest between now × (text ≡ first ++ rest)

@@ -6,6 +6,7 @@ ghost use Rattle.ax_cache.specs.PageLaws.{no_pages};
 ghost use Rattle.ax_disk.specs.declared.extent.Extent.TheVariants.{Root};
 ghost use Rattle.ax_disk.specs.model.Stays.{SinceBarrier};
 ghost use Rattle.ax_container.specs.Container.{Container};
+ghost use Rattle.ax_engine.specs.Course.{IsOpenedFrom, standing_of};
 ghost use Rattle.ax_engine.specs.Engine.{HoldsOver, Works};
 ghost use Rattle.ax_documents.specs.Opening.{IsImageOf, IsStore, IsWithin};
 ghost use Rattle.ax_image.specs.Readable.{newest};
@@ -39,6 +40,8 @@ pub(crate) fn open_named<D: Disk, L: Ledger>(
         → IfOk result (λ engine. HoldsOver engine (D.history disk.new (D.attached disk.new)) before) }
     ensures opened { IsTrue (D.is_honest disk.old) → IfOk result
         (λ engine. IsWithin (D.history disk.old (D.store_named name.now)).reads) }
+    ensures begins { IsTrue (D.is_honest disk.old) → IfOk result
+        (λ engine. IsOpenedFrom (D.history disk.old (D.store_named name.now)).reads (standing_of engine.documents)) }
     ensures any_moment { IsTrue (D.is_honest disk.old) → (before : Container)
         → IsStore before (D.history disk.old (D.store_named name.now))
         → SinceBarrier (D.history disk.old (D.store_named name.now)) (D.history disk.new (D.store_named name.now)) (IsImageOf before) }

@@ -2,6 +2,7 @@ ghost use Rattle.std.specs.Prelude.{◌≡◌, ◌++◌, ◌^◌, ◌<◌, ◌�
 ghost use Rattle.std.specs.Prelude.{OnOk, OnErr, None, Some, Err, IsTrue, IfErr};
 ghost use Rattle.ax_faults.specs.Faults.{Rose};
 ghost use Rattle.ax_container.specs.Container.{Container};
+ghost use Rattle.ax_engine.specs.Course.{standing_of};
 ghost use Rattle.ax_engine.specs.Engine.{HoldsOver, Works};
 ghost use Rattle.ax_engine.specs.PolicyNow.{policy_now};
 ghost use Rattle.ax_engine.specs.declared.engine.Fault.{Fault};
@@ -59,7 +60,7 @@ pub fn serve_source<D: Disk, C: PageCache, S: Source, K: Sink, L: Ledger>(
     ensures sound { IsTrue (D.is_honest disk.old) → (before : Container) → HoldsOver engine.old (D.history disk.old (D.attached disk.old)) before
         → IsOfServing result }
     ensures of_serving { EndsServing (D.is_honest disk.old) result (D.history disk.new (D.attached disk.new)) }
-    ensures answered { TellsAnswered (policy_now engine.old.documents.table) result
+    ensures answered { TellsAnswered (D.is_honest disk.old) (standing_of engine.old.documents) result
         (record { remaining = S.rest source.old; written = K.written sink.old; steps = steps.old })
         (record { remaining = S.rest source.new; written = K.written sink.new; steps = steps.new }) }
     ensures kept { (fault : Fault) → engine.new.fault ≡ Some fault → result ≡ fault_status fault }
@@ -119,10 +120,10 @@ fn serve_piece<D: Disk, C: PageCache, K: Sink, L: Ledger>(
     ensures unfaulted { OnOk result (engine.new.fault ≡ None) }
     ensures kept { (fault : Fault) → engine.new.fault ≡ Some fault → result ≡ Err (fault_status fault) }
     ensures line { OnOk result (IsOneLine pending.new.items) }
-    ensures answered { OnOk result (AnswersLines (policy_now engine.old.documents.table) (pending.old.items ++ piece.now) pending.new.items
-        (K.written sink.old) (K.written sink.new)) }
-    ensures broken { IfErr result (λ status. BreaksLines status (policy_now engine.old.documents.table) (pending.old.items ++ piece.now)
-        (K.written sink.old) (K.written sink.new)) }
+    ensures answered { OnOk result (AnswersLines (D.is_honest disk.old) (pending.old.items ++ piece.now) pending.new.items
+        (standing_of engine.old.documents) (standing_of engine.new.documents) (K.written sink.old) (K.written sink.new)) }
+    ensures broken { IfErr result (λ status. BreaksLines status (D.is_honest disk.old) (pending.old.items ++ piece.now)
+        (standing_of engine.old.documents) (K.written sink.old) (K.written sink.new)) }
     ensures policy { policy_now engine.new.documents.table ≡ policy_now engine.old.documents.table }
     ensures sound { IsTrue (D.is_honest disk.old) → (before : Container) → HoldsOver engine.old (D.history disk.old (D.attached disk.old)) before
         → IfErr result BreaksOffWith }
@@ -175,10 +176,10 @@ fn serve_head<D: Disk, C: PageCache, K: Sink, L: Ledger>(
         (outlets (K.written sink.old) (D.history disk.old (D.attached disk.old)) steps.old)
         (outlets (K.written sink.new) (D.history disk.new (D.attached disk.new)) steps.new)) }
     ensures empty { OnOk result (pending.new.items ≡ []) }
-    ensures answered { OnOk result (AnswersLine (policy_now engine.old.documents.table) (pending.old.items ++ head.now)
-        (K.written sink.old) (K.written sink.new)) }
-    ensures broken { IfErr result (λ status. BreaksLine status (policy_now engine.old.documents.table) (pending.old.items ++ head.now)
-        (K.written sink.old) (K.written sink.new)) }
+    ensures answered { OnOk result (AnswersLine (D.is_honest disk.old) (pending.old.items ++ head.now)
+        (standing_of engine.old.documents) (standing_of engine.new.documents) (K.written sink.old) (K.written sink.new)) }
+    ensures broken { IfErr result (λ status. BreaksLine status (D.is_honest disk.old) (pending.old.items ++ head.now)
+        (standing_of engine.old.documents) (K.written sink.old) (K.written sink.new)) }
     ensures policy { policy_now engine.new.documents.table ≡ policy_now engine.old.documents.table }
     ensures err { IsTrue (D.is_honest disk.old) → (before : Container) → HoldsOver engine.old (D.history disk.old (D.attached disk.old)) before
         → OnErr result (BeginsToServe (IsTrue (D.is_honest disk.old)) before (pending.old.items ++ head.now)
@@ -236,10 +237,10 @@ fn serve_last<D: Disk, C: PageCache, K: Sink, L: Ledger>(
         → (result ≡ Status.Done) ⊎ BreaksOffWith result }
     ensures only { (result ≡ Status.Done) ⊎ StopsBy (D.is_honest disk.old) result
         (D.history disk.new (D.attached disk.new)) }
-    ensures answered { result ≡ Status.Done
-        → AnswersLast (policy_now engine.old.documents.table) pending.now (K.written sink.old) (K.written sink.new) }
-    ensures broken { (result ≡ Status.Done)
-        ⊎ BreaksFirst result (policy_now engine.old.documents.table) (last_line pending.now) (K.written sink.old) (K.written sink.new) }
+    ensures answered { result ≡ Status.Done → AnswersLast (D.is_honest disk.old) pending.now
+        (standing_of engine.old.documents) (standing_of engine.new.documents) (K.written sink.old) (K.written sink.new) }
+    ensures broken { (result ≡ Status.Done) ⊎ BreaksFirst result (D.is_honest disk.old) (last_line pending.now)
+        (standing_of engine.old.documents) (K.written sink.old) (K.written sink.new) }
     ensures kept { (fault : Fault) → engine.new.fault ≡ Some fault → result ≡ fault_status fault }
     ensures disk_counted { CountsDisk result (D.faults disk.old) (D.faults disk.new) }
     ensures sink_cause { result ≡ Status.WriteFault → Rose (K.faults sink.old) (K.faults sink.new) }

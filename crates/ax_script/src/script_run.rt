@@ -9,9 +9,8 @@ ghost use Rattle.ax_engine.specs.Engine.{HoldsOver, Works};
 ghost use Rattle.ax_documents.specs.Opening.{IsStore, IsWithin};
 ghost use Rattle.ax_image.specs.Readable.{newest};
 ghost use Rattle.ax_pages.specs.Area.{extent_number};
-ghost use Rattle.ax_engine.specs.PolicyNow.{policy_now};
-ghost use Rattle.ax_policy.specs.declared.policy.Policy.{Policy};
-ghost use Rattle.ax_script.specs.Answered.{TellsAnswered};
+ghost use Rattle.ax_engine.specs.Course.{Standing, standing_of};
+ghost use Rattle.ax_script.specs.Answered.{IsOpenedOrUntouched, TellsAnswered};
 ghost use Rattle.ax_script.specs.DiskScript.{RunsOnDisk};
 ghost use Rattle.ax_script.specs.Opening.{IsEndUnlessDisk, Refuses, TellsServed};
 ghost use Rattle.ax_script.specs.Progress.{Ends, EndsServing, IsOfServing};
@@ -51,8 +50,9 @@ const CACHED_PARTS: u32 = 256;
 /// exactly where more than 2^40 bytes were taken, and without a failed call only `Done`, `Memory` or `Long`.
 /// `Memory` comes where memory ran out outside the serving of a line; at `Done` all input was read and
 /// served. Over any store, also one whose documents are those of no container, `Done` comes only where each
-/// line that was taken has a reply that it may have, so that none which met damage was passed over, and
-/// `Long` only where more than 2^40 bytes were taken.
+/// line that was taken has an answer by what the engine had behind the line before it, and the first one by what opening
+/// found: no write and no read passes over damage that it reads, and a query as far as `Engine::apply` says. `Long` comes only
+/// where more than 2^40 bytes were taken.
 pub fn run<D: Disk, S: Source, K: Sink, L: Ledger>(
     alloc: Global,
     words: &[String],
@@ -76,10 +76,14 @@ pub fn run<D: Disk, S: Source, K: Sink, L: Ledger>(
         (D.history disk.old (D.store_named (store_word words.now)))
         (D.history disk.new (D.store_named (store_word words.now))) }
 
-    // Over any store: at `Done` each line has a reply that it may have, all under one policy. A run that breaks off has
-    // answered the first of the lines so, and of the next has written nothing, or where the sink failed a first piece of
+    // Over any store: at `Done` each line has a reply that is an answer to it by what the engine had behind the line before it,
+    // the first of them by what opening gave: by its course, or its own refusal, or that memory ran out. A run that breaks off
+    // has answered the first of the lines so, and of the next has written nothing, or where the sink failed a first piece of
     // such a reply; `Long` has its cause.
-    ensures answered { (policy : Policy) × TellsAnswered policy result
+    ensures answered { (was : Standing) × TellsAnswered (D.is_honest disk.old) was result
+        (record { remaining = S.rest source.old; written = K.written sink.old; steps = steps.old })
+        (record { remaining = S.rest source.new; written = K.written sink.new; steps = steps.new })
+        × IsOpenedOrUntouched (D.is_honest disk.old) (D.history disk.old (D.store_named (store_word words.now))).reads was
         (record { remaining = S.rest source.old; written = K.written sink.old; steps = steps.old })
         (record { remaining = S.rest source.new; written = K.written sink.new; steps = steps.new }) }
 
@@ -141,7 +145,10 @@ fn serve<D: Disk, S: Source, K: Sink, L: Ledger>(
         (record { remaining = S.rest source.old; written = K.written sink.old; steps = steps.old })
         (record { remaining = S.rest source.new; written = K.written sink.new; steps = steps.new })
         (D.history disk.old (D.store_named (store_word words.now))) (D.history disk.new (D.store_named (store_word words.now))) }
-    ensures answered { (policy : Policy) × TellsAnswered policy result
+    ensures answered { (was : Standing) × TellsAnswered (D.is_honest disk.old) was result
+        (record { remaining = S.rest source.old; written = K.written sink.old; steps = steps.old })
+        (record { remaining = S.rest source.new; written = K.written sink.new; steps = steps.new })
+        × IsOpenedOrUntouched (D.is_honest disk.old) (D.history disk.old (D.store_named (store_word words.now))).reads was
         (record { remaining = S.rest source.old; written = K.written sink.old; steps = steps.old })
         (record { remaining = S.rest source.new; written = K.written sink.new; steps = steps.new }) }
     ensures disk_counted { CountsDisk result (D.faults disk.old) (D.faults disk.new) }
@@ -209,7 +216,7 @@ fn serve_opened<D: Disk, S: Source, K: Sink, L: Ledger>(
     ensures sound { IsTrue (D.is_honest disk.old) → (before : Container) → HoldsOver engine (D.history disk.old (D.attached disk.old)) before
         → IsOfServing result }
     ensures of_serving { EndsServing (D.is_honest disk.old) result (D.history disk.new (D.attached disk.new)) }
-    ensures answered { TellsAnswered (policy_now engine.documents.table) result
+    ensures answered { TellsAnswered (D.is_honest disk.old) (standing_of engine.documents) result
         (record { remaining = S.rest source.old; written = K.written sink.old; steps = steps.old })
         (record { remaining = S.rest source.new; written = K.written sink.new; steps = steps.new }) }
 {
@@ -251,7 +258,7 @@ fn serve_cached<D: Disk, C: PageCache, S: Source, K: Sink, L: Ledger>(
     ensures sound { IsTrue (D.is_honest disk.old) → (before : Container) → HoldsOver engine.old (D.history disk.old (D.attached disk.old)) before
         → IsOfServing result }
     ensures of_serving { EndsServing (D.is_honest disk.old) result (D.history disk.new (D.attached disk.new)) }
-    ensures answered { TellsAnswered (policy_now engine.old.documents.table) result
+    ensures answered { TellsAnswered (D.is_honest disk.old) (standing_of engine.old.documents) result
         (record { remaining = S.rest source.old; written = K.written sink.old; steps = steps.old })
         (record { remaining = S.rest source.new; written = K.written sink.new; steps = steps.new }) }
 {

@@ -3,6 +3,7 @@ ghost use Rattle.std.specs.Io.KnownBytes.{Appends};
 ghost use Rattle.ax_base.specs.Appends.{AppendsPrefix};
 ghost use Rattle.ax_faults.specs.Faults.{Rose};
 ghost use Rattle.ax_container.specs.Container.{Container};
+ghost use Rattle.ax_engine.specs.Course.{standing_of};
 ghost use Rattle.ax_engine.specs.Engine.{CountsAnswer, Holds, HoldsOver, Works};
 ghost use Rattle.ax_engine.specs.PolicyNow.{policy_now};
 ghost use Rattle.ax_lines.specs.Answers.{Answers};
@@ -15,7 +16,7 @@ ghost use Rattle.ax_engine.specs.Damage.{Meets};
 ghost use Rattle.ax_script.specs.Answered.{AnswersLine, BreaksLine};
 ghost use Rattle.ax_script.specs.Progress.{outlets, Serves, BeginsToServe, BreaksOffWith, IsLineFault, StopsBy};
 ghost use Rattle.ax_script.specs.Statuses.{CallCountsDisk};
-ghost use Rattle.ax_script.specs.Replies.{IsTextOf, MayAnswer, TellsLine, WritesPart, WritesWhole, fault_status, read_status, text_or_memory, unread_refusal};
+ghost use Rattle.ax_script.specs.Replies.{IsAnswer, IsTextOf, TellsLine, WritesPart, WritesWhole, fault_status, read_status, text_or_memory, unread_refusal};
 
 use crate::reply_lines::{ok_line, rows_text};
 use crate::status::Status;
@@ -74,14 +75,14 @@ pub fn serve_line<D: Disk, C: PageCache, K: Sink, L: Ledger>(
     ensures honest { D.is_honest disk.new ≡ D.is_honest disk.old }
     ensures steps { steps.old ≤ steps.new }
 
-    // Over any documents what is written is a reply that the line may have under the policy of the engine's table: what may
-    // be replied to what it asks for, or its own refusal. No line gives the table another policy.
-    ensures answered { OnOk result (AnswersLine (policy_now engine.old.documents.table) line.now
-        (K.written sink.old) (K.written sink.new)) }
+    // Over any documents what is written is the answer to the line by what the engine had when it came: that to what it asks
+    // for, by its course, or its own refusal. No line gives the table another policy.
+    ensures answered { OnOk result (AnswersLine (D.is_honest disk.old) line.now (standing_of engine.old.documents)
+        (standing_of engine.new.documents) (K.written sink.old) (K.written sink.new)) }
     ensures policy { policy_now engine.new.documents.table ≡ policy_now engine.old.documents.table }
 
     // And a line that is not answered has nothing written, unless the sink failed: then a first piece of such a reply.
-    ensures broken { IfErr result (λ status. BreaksLine status (policy_now engine.old.documents.table) line.now
+    ensures broken { IfErr result (λ status. BreaksLine status (D.is_honest disk.old) line.now (standing_of engine.old.documents)
         (K.written sink.old) (K.written sink.new)) }
 
     // A fault that the engine has answered is answered again, and then nothing is touched.
@@ -129,7 +130,8 @@ fn answer<D: Disk, C: PageCache, L: Ledger>(
         → TellsLine (IsTrue (D.is_honest disk.old)) before line.now result engine.new
         (D.history disk.old (D.attached disk.old)) (D.history disk.new (D.attached disk.new)) }
     ensures works { Works C.pages (D.is_honest disk.old) engine.new (D.history disk.new (D.attached disk.new)) }
-    ensures may_answer { IfOk result (λ reply. MayAnswer (policy_now engine.old.documents.table) line.now reply) }
+    ensures answers { IfOk result (λ reply. IsAnswer (D.is_honest disk.old) line.now reply
+        (standing_of engine.old.documents) (standing_of engine.new.documents)) }
     ensures policy { policy_now engine.new.documents.table ≡ policy_now engine.old.documents.table }
     ensures met { IsTrue (D.is_honest disk.old) → engine.old.fault ≡ None
         → IfErr result (λ fault. Meets fault (D.history disk.new (D.attached disk.new)).reads) }
@@ -153,7 +155,7 @@ fn answer<D: Disk, C: PageCache, L: Ledger>(
 }
 
 /// What the engine answers to a line that asks for this, or its refusal.
-#[tactic(auto, using(ax_engine::proofs::PolicyHeld::same_now, crate::proofs::AnsweredLines::read_may))]
+#[tactic(auto, using(ax_engine::proofs::PolicyHeld::same_now, crate::proofs::AnsweredLines::read_by_course))]
 fn answer_line<D: Disk, C: PageCache, L: Ledger>(
     engine: &mut Engine<C>,
     disk: &mut D,
@@ -170,7 +172,8 @@ fn answer_line<D: Disk, C: PageCache, L: Ledger>(
         → TellsLine (IsTrue (D.is_honest disk.old)) before line.now result engine.new
         (D.history disk.old (D.attached disk.old)) (D.history disk.new (D.attached disk.new)) }
     ensures works { Works C.pages (D.is_honest disk.old) engine.new (D.history disk.new (D.attached disk.new)) }
-    ensures may_answer { IfOk result (λ reply. MayAnswer (policy_now engine.old.documents.table) line.now reply) }
+    ensures answers { IfOk result (λ reply. IsAnswer (D.is_honest disk.old) line.now reply
+        (standing_of engine.old.documents) (standing_of engine.new.documents)) }
     ensures policy { policy_now engine.new.documents.table ≡ policy_now engine.old.documents.table }
     ensures met { IsTrue (D.is_honest disk.old) → engine.old.fault ≡ None
         → IfErr result (λ fault. Meets fault (D.history disk.new (D.attached disk.new)).reads) }

@@ -1,6 +1,9 @@
 -- The store is opened as it stands, and then the texts of its policies are read.
 use Rattle.std.proofs.Common.{IsTrue, sym, subst}
+use Rattle.ax_area_laws.specs.Risen.{risen}
 use Rattle.ax_store.proofs.OpenLemmas.{keeps_idle}
+use Rattle.ax_store.specs.Kept.{Kept}
+use Rattle.ax_store.specs.Store.{Has}
 use Rattle.ax_documents.proofs.Opened.{have_table, holds_opened, never_answered, opened_rests, passed_on, readable_still, refuses_by, since_opening}
 use Rattle.ax_documents.proofs.Opened.{since_reading, within_by}
 use Rattle.ax_documents.proofs.Refusing.{table_refuses}
@@ -103,3 +106,8 @@ returns-in-Ok-make-clause-opened g c = λ honest.
     let still = subst IsTrue (sym c.open_store.ensures.honest) honest in
     within_by (c.in-Ok.ensures.tells honest).has
     (have_table _ _ _ still c.in-Ok-read_table.ensures.table (c.in-Ok-read_table.ensures.apart still))
+
+pub returns-in-Ok-make-clause-says : goal.returns-in-Ok-make-clause-says
+returns-in-Ok-make-clause-says g c = λ honest.
+    subst (λ (kept : Kept). Has (risen kept.contents) (g.D.Disk.history c.args.disk.now (g.D.Disk.attached c.args.disk.now)).reads)
+    (sym c.read_table.ensures.reads.same.pages) (c.in-Ok.ensures.tells honest).has

@@ -4,6 +4,7 @@ use Rattle.std.specs.Prelude.{OnOk}
 use Rattle.ax_container.specs.Container.{contains}
 use Rattle.ax_container.specs.Writes.{removed}
 use Rattle.ax_store.specs.Store.{store_contents}
+use Rattle.ax_write.specs.Learnt.{LearnsOfDeletion}
 use Rattle.ax_write.specs.Small.{IsSmallBatch, IsToldHeld}
 use Rattle.ax_write.specs.Writes.{MeetsHeld, TellsWrite}
 use Rattle.ax_engine.proofs.engine.delete.Goals as goal
@@ -32,3 +33,9 @@ returns-clause-small g c =
     (g.D.Disk.is_honest c.args.disk.now) c.args.documents.now.table None
     (store_contents c.args.documents.now.store) (store_contents c.delete.new.self.store)))
     (c.as_bytes-id.ensures.value ∙ c.as_str.ensures.text) c.delete.ensures.small
+
+pub returns-clause-learns : goal.returns-clause-learns
+returns-clause-learns g c =
+    subst (λ (i : List ℕ). LearnsOfDeletion c.delete.result (g.D.Disk.is_honest c.args.disk.now) i
+    (store_contents c.args.documents.now.store) c.args.documents.now.ids c.delete.new.self.ids)
+    (c.as_bytes-id.ensures.value ∙ c.as_str.ensures.text) c.delete.ensures.learns

@@ -1,22 +1,25 @@
 -- What reading answered, as the answer to the line.
-use Rattle.std.proofs.Common.{◌≡◌, ◌+◌, ◌*◌, ◌≤◌, ◌∙◌, List, Bool, ℕ, arith, subst, sym}
+use Rattle.std.proofs.Common.{◌≡◌, ◌+◌, ◌*◌, ◌≤◌, ◌∙◌, List, Bool, ℕ, arith, refl, subst, sym}
 use Rattle.std.specs.Prelude.{IfErr, IfOk, IsTrue, OnOk, Result, count_by, not, replicate}
 use Rattle.ax_area.specs.Image.{Says}
 use Rattle.ax_container.specs.Container.{Container}
 use Rattle.ax_disk.specs.laws.StaysLaws.{idles_rest, idles_stay}
 use Rattle.ax_documents.proofs.Meeting.{look_met}
 use Rattle.ax_documents.specs.Documents.{DocumentsWork}
+use Rattle.ax_engine.specs.Course.{Course, standing_of}
 use Rattle.ax_engine.specs.Damage.{Meets, PassesOverNone}
 use Rattle.ax_engine.specs.Engine.{CountsAnswer, Tells}
 use Rattle.ax_engine.specs.PolicyNow.{policy_now}
-use Rattle.ax_engine.specs.Replies.{IsReply, MayReply}
+use Rattle.ax_engine.specs.Replies.{IsReply, MayReply, read_answer}
 use Rattle.ax_engine.specs.declared.engine.Fault.{Fault}
 use Rattle.ax_engine.specs.declared.reply.Reply.{Reply}
 use Rattle.ax_engine.proofs.Applying.{counted_read, may_read, met_read, passes_read, tells_read, works_read}
-use Rattle.ax_engine.proofs.PolicyHeld.{all_used, just_policies, policy_held}
+use Rattle.ax_engine.proofs.Courses.{done_queried, with_course}
+use Rattle.ax_engine.proofs.PolicyHeld.{all_used, just_policies, policy_held, same_policies}
 use Rattle.ax_engine.proofs.engine.query.Goals as goal
 use Rattle.ax_grammar.specs.Query.{query_in}
 use Rattle.ax_image.specs.Readable.{SaysReadable, newest}
+use Rattle.ax_index.proofs.Unmoved.{same_contents}
 use Rattle.ax_lines.specs.declared.line.Line.TheVariants as line
 use Rattle.ax_machine.specs.Needs.{query_need}
 use Rattle.ax_machine.specs.Querying.{rows_reply, rows_under}
@@ -113,3 +116,17 @@ returns-clause-bound g c = λ honest before holds.
     (policy_held g.C.PageCache.pages _ c.args.documents.now _ before c.requires.works holds honest)
     (c.reply_to_query-read.ensures.bound honest before holds.contents
     (just_policies g.C.PageCache.pages _ c.args.documents.now _ before c.requires.works holds honest))
+
+pub returns-clause-course : goal.returns-clause-course
+returns-clause-course g c =
+    let honest = g.D.Disk.is_honest c.args.disk.now in
+    let old = standing_of c.args.documents.now in
+    let new = standing_of (record c.args.documents.now { store = c.reply_to_query-read.new.store }) in
+    let P : Result Reply Fault → Type 0 = λ answer. IfOk answer
+    (λ reply. Course honest (line.Query c.args.body.now) reply old new) in
+    subst P (sym c.answer_of_read.ensures)
+    (with_course honest (line.Query c.args.body.now) (read_answer c.reply_to_query-read.result) old new c.requires.works.table
+    (same_policies c.args.documents.now.table)
+    (may_read (policy_now c.args.documents.now.table) c.args.body.now c.reply_to_query-read.result c.reply_to_query-read.ensures.fits)
+    (done_queried honest c.args.body.now c.reply_to_query-read.result old new c.reply_to_query-read.ensures.met refl
+    (same_contents c.args.documents.now.store c.reply_to_query-read.new.store c.reply_to_query-read.ensures.looks.reads.same.same)))

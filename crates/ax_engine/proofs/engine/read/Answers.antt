@@ -9,12 +9,16 @@ use Rattle.ax_documents.specs.Documents.{DocumentsWork}
 use Rattle.ax_engine.specs.Damage.{Meets}
 use Rattle.ax_engine.specs.Engine.{CountsAnswer, Tells}
 use Rattle.ax_engine.specs.Judging.{Judges}
-use Rattle.ax_engine.specs.Replies.{FitsRead}
+use Rattle.ax_engine.specs.Replies.{FitsRead, look_up_answer}
 use Rattle.ax_store.specs.Store.{store_contents}
 use Rattle.ax_engine.specs.declared.engine.Fault.{Fault}
 use Rattle.ax_engine.specs.declared.reply.Reply.{Reply}
 use Rattle.ax_engine.proofs.Applying.{counted_looked, judges_looked, may_look, met_looked, steps_of_held, tells_looked, works_looked}
+use Rattle.ax_engine.proofs.Courses.{done_looked, with_course}
 use Rattle.ax_engine.proofs.Holding.{idled}
+use Rattle.ax_engine.proofs.PolicyHeld.{unchanged}
+use Rattle.ax_engine.specs.Course.{Course, standing_of}
+use Rattle.ax_index.proofs.Unmoved.{same_contents}
 use Rattle.ax_engine.proofs.engine.read.Goals as goal
 
 pub returns-clause-tells : goal.returns-clause-tells
@@ -78,3 +82,16 @@ returns-clause-judged g c = λ honest.
     subst P (sym c.answer_of_look_up.ensures)
     (judges_looked c.args.id.now c.as_bytes-id.result.now c.read-found.result c.args.documents.now.ids
     (store_contents c.args.documents.now.store) (c.as_bytes-id.ensures.value ∙ c.as_str.ensures.text) (c.read-found.ensures.met honest))
+
+pub returns-clause-course : goal.returns-clause-course
+returns-clause-course g c =
+    let honest = g.D.Disk.is_honest c.args.disk.now in
+    let old = standing_of c.args.documents.now in
+    let new = standing_of c.read-found.new.self in
+    let P : Result Reply Fault → Type 0 = λ answer. IfOk answer (λ reply. Course honest (line.Read c.args.id.now) reply old new) in
+    subst P (sym c.answer_of_look_up.ensures)
+    (with_course honest (line.Read c.args.id.now) (look_up_answer c.read-found.result) old new c.requires.works.table
+    (unchanged _ _ c.read-found.ensures.table) (may_look c.read-found.result)
+    (done_looked honest c.args.id.now c.as_bytes-id.result.now c.read-found.result old new
+    (c.as_bytes-id.ensures.value ∙ c.as_str.ensures.text) c.read-found.ensures.met c.read-found.ensures.learns
+    (same_contents c.args.documents.now.store c.read-found.new.self.store c.read-found.ensures.leaves.reads.same.same)))

@@ -6,13 +6,15 @@ use Rattle.ax_engine.specs.Damage.{Meets}
 use Rattle.ax_engine.specs.Engine.{CountsAnswer, IdlesUnlessDone, Tells, made_of}
 use Rattle.ax_engine.specs.Judging.{Judges}
 use Rattle.ax_engine.specs.PolicyNow.{policy_now}
-use Rattle.ax_engine.specs.Replies.{MayReply}
+use Rattle.ax_engine.specs.Replies.{MayReply, write_answer}
 use Rattle.ax_store.specs.Store.{store_contents}
 use Rattle.ax_engine.specs.declared.engine.Fault.{Fault}
 use Rattle.ax_engine.specs.declared.reply.Reply.{Reply}
 use Rattle.ax_engine.proofs.Applying.{counted_written, idle_written, judges_written, may_write, met_written, tells_written, works_written, write_is}
 use Rattle.ax_engine.specs.Batched.{AnswersSmall}
 use Rattle.ax_engine.proofs.Batching.{small_written}
+use Rattle.ax_engine.proofs.Courses.{done_written, with_course}
+use Rattle.ax_engine.specs.Course.{Course, standing_of}
 use Rattle.ax_engine.proofs.engine.write.Goals as goal
 
 pub returns-clause-tells : goal.returns-clause-tells
@@ -82,3 +84,15 @@ returns-clause-small g c =
     (store_contents c.args.documents.now.store) (store_contents c.make-made.new.documents.store) in
     subst P (sym c.answer_of_write.ensures)
     (small_written c.args.line.now c.make-made.result _ c.args.documents.now.table c.args.documents.now.ids _ _ c.make-made.ensures.small)
+
+pub returns-clause-course : goal.returns-clause-course
+returns-clause-course g c =
+    let honest = g.D.Disk.is_honest c.args.disk.now in
+    let old = standing_of c.args.documents.now in
+    let new = standing_of c.make-made.new.documents in
+    let P : Result Reply Fault → Type 0 = λ answer. IfOk answer (λ reply. Course honest c.args.line.now reply old new) in
+    subst P (sym c.answer_of_write.ensures)
+    (with_course honest c.args.line.now (write_answer c.make-made.result) old new c.requires.works.table c.make-made.ensures.policies
+    (may_write (policy_now c.args.documents.now.table) c.args.line.now c.make-made.result c.requires.writes c.make-made.ensures.only)
+    (done_written honest c.args.line.now c.make-made.result old new c.requires.writes c.make-made.ensures.met c.make-made.ensures.learns
+    c.make-made.ensures.small c.make-made.ensures.leaves.kept))

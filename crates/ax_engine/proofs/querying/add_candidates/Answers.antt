@@ -8,7 +8,9 @@ use Rattle.ax_skips.specs.Chosen.{fetched}
 use Rattle.ax_store.specs.Store.{store_contents}
 use Rattle.ax_engine.specs.Candidates.{CountsOneEach, HasAllOf, IsAmong}
 use Rattle.ax_engine.specs.Damage.{AreDocuments}
+use Rattle.ax_engine.specs.Stopping.{StopsAtEnough, StopsInNumbers}
 use Rattle.ax_engine.proofs.ByNumbers.{all_by_law, counts_each, nil_of, on_ok_by}
+use Rattle.ax_engine.proofs.Stopping.{none_fetched}
 use Rattle.ax_engine.proofs.querying.add_candidates.Goals as goal
 
 pub returns-then-is_empty-clause-added : goal.returns-then-is_empty-clause-added
@@ -48,3 +50,18 @@ returns-else-is_empty-clause-met g c = λ honest query asked unlimited.
     (subst (λ (list : List ℕ). OnOk c.add_numbered.result
     (AreDocuments (λ number. has_number number list ≡ true) (IsTakenWhole query) contents)) c.as_slice-in-Numbers.ensures.value
     (c.add_numbered.ensures.met honest query asked unlimited))
+
+pub returns-then-is_empty-clause-stops : goal.returns-then-is_empty-clause-stops
+returns-then-is_empty-clause-stops g c = λ honest container hold query answers.
+    none_fetched c.args.candidates.now query container c.args.steps.now
+
+pub returns-in-All-clause-stops : goal.returns-in-All-clause-stops
+returns-in-All-clause-stops g c = λ honest container hold query answers.
+    subst (λ found. StopsAtEnough found query container c.args.steps.now c.add_documents.new.steps) (sym c.in-All.is)
+    (c.add_documents.ensures.stops honest container hold query answers)
+
+pub returns-else-is_empty-clause-stops : goal.returns-else-is_empty-clause-stops
+returns-else-is_empty-clause-stops g c = λ honest container hold query answers.
+    subst (λ found. StopsAtEnough found query container c.args.steps.now c.add_numbered.new.steps) (sym c.in-Numbers.is)
+    (subst (λ (list : List ℕ). StopsInNumbers list query container c.args.steps.now c.add_numbered.new.steps)
+    c.as_slice-in-Numbers.ensures.value (c.add_numbered.ensures.stops honest container hold query answers))

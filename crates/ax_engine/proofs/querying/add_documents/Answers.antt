@@ -10,6 +10,7 @@ use Rattle.ax_engine.proofs.Damaging.{all_documents, no_documents, one_document_
 use Rattle.ax_engine.proofs.InOrder.{above, pairs, next_entry, next_same, stored_here, text_here, taken_on}
 use Rattle.ax_engine.proofs.InOrder.{one_less, at_the_end, at_the_start, none_same, text_same}
 use Rattle.ax_engine.proofs.Scanning.{fails_on, nothing_scanned, ready_now, scanned_on}
+use Rattle.ax_engine.proofs.Stopping.{nothing_within, one_document_on, stops_in_all}
 use Rattle.ax_engine.proofs.querying.add_documents.Goals as goal
 
 pub texts-init : goal.texts-init
@@ -22,6 +23,9 @@ texts-init g c = record {
       omega (arith, ap length (at_the_start (store_contents c.args.store.now) container hold));
   bound = λ container hold.
       omega (arith, ap length (at_the_start (store_contents c.args.store.now) container hold));
+  within = λ honest container hold query answers.
+      nothing_within query container (at_the_start (store_contents c.args.store.now) container hold);
+  none_wanted = λ query answers none. (refl, answers);
   never_falls = omega arith;
   scans = nothing_scanned g.C.PageCache.pages _ c.args.store.now _ _ _ c.requires.ready;
   attached = refl;
@@ -67,6 +71,15 @@ texts-preserved g c =
             c.in-Ok.ensures.two,
             one_less contents container hold c.texts.number c.in-Some.next next,
           );
+      within = λ honest container hold query answers.
+          let next = next_entry contents container hold c.texts.number c.in-Some.next found in
+          let before = inv.added honest container hold query answers in
+          one_document_on query container c.texts.number c.in-Some.next c.texts.answer c.is_done.result
+          (one_less contents container hold c.texts.number c.in-Some.next next) before.0 before.1 before.2
+          (c.is_done.ensures.enough query) c.if-is_done.false (inv.within honest container hold query answers);
+      none_wanted = λ query answers none.
+          absurd (false≢true (sym c.if-is_done.false
+          ∙ c.is_done.ensures.none_wanted query [] (inv.none_wanted query answers none).1 none));
       never_falls = omega (arith, inv.never_falls, c.in-Ok.ensures.fetched);
       scans = scanned_on g.C.PageCache.pages _ _ _ _ _ _ _ _ _ _ _ _ _ inv.honest inv.scans c.in-Ok.ensures.scans;
       attached = c.in-Ok.ensures.attached ∙ inv.attached;
@@ -95,6 +108,29 @@ returns-then-is_done-clause-fetched g c = λ container hold query asked unlimite
     absurd (false≢true (sym (c.is_done.ensures.unlimited query (c.texts.invariant.asked query asked) unlimited)
     ∙ c.if-is_done.true))
 
+pub returns-then-is_done-clause-stops : goal.returns-then-is_done-clause-stops
+returns-then-is_done-clause-stops g c = λ honest container hold query answers.
+    stops_in_all query container c.texts.number _ _ (c.texts.invariant.within honest container hold query answers)
+    (c.texts.invariant.bound container hold)
+
+pub returns-in-Err-clause-stops : goal.returns-in-Err-clause-stops
+returns-in-Err-clause-stops g c = λ honest container hold query answers.
+    let inv = c.texts.invariant in
+    let contents = store_contents c.args.store.now in
+    let found = next_same c.args.store.now c.texts.store c.texts.number c.in-Some.next inv.scans.same c.in-Some.ensures.found in
+    let next = next_entry contents container hold c.texts.number c.in-Some.next found in
+    let one = one_less contents container hold c.texts.number c.in-Some.next next in
+    let before = inv.added honest container hold query answers in
+    stops_in_all query container c.in-Some.next _ _
+    (one_document_on query container c.texts.number c.in-Some.next c.texts.answer c.is_done.result one before.0 before.1 before.2
+    (c.is_done.ensures.enough query) c.if-is_done.false (inv.within honest container hold query answers))
+    (omega (arith, inv.bound container hold, c.in-Err.ensures.two, one))
+
+pub returns-in-Err-clause-none_wanted : goal.returns-in-Err-clause-none_wanted
+returns-in-Err-clause-none_wanted g c = λ query answers none.
+    absurd (false≢true (sym c.if-is_done.false
+    ∙ c.is_done.ensures.none_wanted query [] (c.texts.invariant.none_wanted query answers none).1 none))
+
 pub returns-in-Err-clause-bound : goal.returns-in-Err-clause-bound
 returns-in-Err-clause-bound g c = λ container hold.
     let inv = c.texts.invariant in
@@ -111,6 +147,11 @@ returns-in-Err-clause-bound g c = λ container hold.
 pub returns-in-Err-clause-scans : goal.returns-in-Err-clause-scans
 returns-in-Err-clause-scans g c =
     fails_on g.C.PageCache.pages _ _ _ _ _ _ _ _ _ _ _ _ _ c.texts.invariant.honest c.texts.invariant.scans c.in-Err.fault c.in-Err.ensures.scans
+
+pub returns-clause-stops : goal.returns-clause-stops
+returns-clause-stops g c = λ honest container hold query answers.
+    stops_in_all query container c.texts.number _ _ (c.texts.invariant.within honest container hold query answers)
+    (c.texts.invariant.bound container hold)
 
 pub returns-clause-fetched : goal.returns-clause-fetched
 returns-clause-fetched g c = λ container hold query asked unlimited.

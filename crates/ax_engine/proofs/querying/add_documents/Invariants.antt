@@ -1,5 +1,5 @@
 -- The documents up to the number were taken in, each for one step or two.
-use Rattle.std.proofs.Common.{◌≡◌, ◌-◌, ◌^◌, ◌*◌, ◌+◌, ◌++◌, ◌≤◌, ℕ, List, [], None, length}
+use Rattle.std.proofs.Common.{◌≡◌, ◌-◌, ◌^◌, ◌*◌, ◌+◌, ◌++◌, ◌≤◌, ℕ, List, [], None, Some, length}
 use Rattle.std.specs.Prelude.{IsTrue}
 use Rattle.ax_tree.specs.declared.tree.Tree.{Tree}
 use Rattle.ax_mean.specs.declared.query.Query.{Query}
@@ -11,6 +11,7 @@ use Rattle.ax_answer_text.specs.Parts.{IsTakenWhole}
 use Rattle.ax_engine.specs.Scans.{Scanned}
 use Rattle.ax_engine.proofs.Damaging.{AreDocumentsTo}
 use Rattle.ax_engine.proofs.InOrder.{above, pairs}
+use Rattle.ax_engine.proofs.Stopping.{IsWithinAll}
 use Rattle.ax_engine.proofs.querying.add_documents.Given as goal
 
 abbrev pub decreases-texts : goal.decreases-texts
@@ -31,6 +32,11 @@ invariant-texts g l = record {
   bound : (container : Container) → ContentsHold (store_contents l.fn.store) container
       → l.steps + 2 * length (above l.number container.entries)
       ≤ l.fn.steps + 2 * length container.entries;
+  within : IsTrue (g.D.Disk.is_honest l.fn.disk) → (container : Container)
+      → ContentsHold (store_contents l.fn.store) container → (query : Query)
+      → Answers l.fn.answer query [] → IsWithinAll query container l.number;
+  none_wanted : (query : Query) → Answers l.fn.answer query [] → query.limit ≡ Some 0
+      → (l.steps ≡ l.fn.steps) × Answers l.answer query [];
   never_falls : l.fn.steps ≤ l.steps;
   scans : Scanned g.C.PageCache.pages (g.D.Disk.is_honest l.fn.disk) l.fn.store l.store l.ahead
       (g.D.Disk.history l.fn.disk (g.D.Disk.attached l.fn.disk)) (g.D.Disk.history l.disk (g.D.Disk.attached l.disk))

@@ -1,5 +1,5 @@
 -- Each turn takes in the document of the next number, for one step or two.
-use Rattle.std.proofs.Common.{◌≡◌, ◌++◌, ◌∙◌, List, ℕ, Some, None, [], ap, sym, subst, arith, refl, drop, take, get_or}
+use Rattle.std.proofs.Common.{◌≡◌, ◌+◌, ◌∙◌, ℕ, None, [], sym, subst, arith, refl, drop, take, get_or}
 use Rattle.std.proofs.lemmas.Bool.{false≢true}
 use Rattle.std.specs.FinMap as finite
 use Rattle.std.specs.Prelude.{IsTrue}
@@ -12,6 +12,7 @@ use Rattle.ax_engine.specs.StoreSays.{kept_says}
 use Rattle.ax_engine.proofs.ByNumbers.{AreDocumentsOf, all_taken, in_two, longer, none_yet, one_more, one_taken}
 use Rattle.ax_engine.proofs.InOrder.{text_same}
 use Rattle.ax_engine.proofs.Scanning.{fails_on, nothing_scanned, ready_now, scanned_on}
+use Rattle.ax_engine.proofs.Stopping.{one_number_on, stops_in_numbers}
 use Rattle.ax_engine.proofs.querying.add_numbered.Goals as goal
 
 pub loop-number-init : goal.loop-number-init
@@ -21,6 +22,8 @@ loop-number-init g c = record {
   met = λ honest query asked unlimited. none_yet c.args.numbers.now (IsTakenWhole query) (store_contents c.args.store.now);
   fetched = omega arith;
   bound = omega arith;
+  within = λ honest container hold query answers front back is enough. omega arith;
+  none_wanted = λ query answers none. (refl, answers);
   scans = nothing_scanned g.C.PageCache.pages _ c.args.store.now _ _ _ c.requires.ready;
   attached = refl;
   honest = refl;
@@ -53,6 +56,13 @@ loop-number-preserved g c =
           (text_same c.args.store.now c.loop-number.store here text inv.scans.same is) query (inv.asked query asked) taken);
       fetched = omega (arith, inv.fetched, more.fetched);
       bound = omega (arith, inv.bound, more.two);
+      within = λ honest container hold query answers.
+          one_number_on numbers query container i c.loop-number.answer c.is_done.result low
+          (inv.added honest container hold query answers) (c.is_done.ensures.enough query) c.if-is_done.false
+          (inv.within honest container hold query answers);
+      none_wanted = λ query answers none.
+          absurd (false≢true (sym c.if-is_done.false
+          ∙ c.is_done.ensures.none_wanted query [] (inv.none_wanted query answers none).1 none));
       scans = scanned_on g.C.PageCache.pages _ _ _ _ _ _ _ _ _ _ _ _ _ inv.honest inv.scans more.scans;
       attached = more.attached ∙ inv.attached;
       honest = more.honest ∙ inv.honest;
@@ -80,6 +90,26 @@ returns-then-is_done-clause-fetched g c = λ query asked unlimited.
     absurd (false≢true (sym (c.is_done.ensures.unlimited query (c.loop-number.invariant.asked query asked) unlimited)
     ∙ c.if-is_done.true))
 
+pub returns-then-is_done-clause-stops : goal.returns-then-is_done-clause-stops
+returns-then-is_done-clause-stops g c = λ honest container hold query answers.
+    stops_in_numbers c.args.numbers.now query container c.loop-number.number-index _ _
+    (c.loop-number.invariant.within honest container hold query answers) c.loop-number.invariant.bound
+
+pub returns-in-Err-clause-stops : goal.returns-in-Err-clause-stops
+returns-in-Err-clause-stops g c = λ honest container hold query answers.
+    let inv = c.loop-number.invariant in
+    let i = c.loop-number.number-index in
+    stops_in_numbers c.args.numbers.now query container (i + 1) _ _
+    (one_number_on c.args.numbers.now query container i c.loop-number.answer c.is_done.result c.loop-number-test.true
+    (inv.added honest container hold query answers) (c.is_done.ensures.enough query) c.if-is_done.false
+    (inv.within honest container hold query answers))
+    (omega (arith, inv.bound, c.in-Err.ensures.two))
+
+pub returns-in-Err-clause-none_wanted : goal.returns-in-Err-clause-none_wanted
+returns-in-Err-clause-none_wanted g c = λ query answers none.
+    absurd (false≢true (sym c.if-is_done.false
+    ∙ c.is_done.ensures.none_wanted query [] (c.loop-number.invariant.none_wanted query answers none).1 none))
+
 pub returns-in-Err-clause-scans : goal.returns-in-Err-clause-scans
 returns-in-Err-clause-scans g c =
     fails_on g.C.PageCache.pages _ _ _ _ _ _ _ _ _ _ _ _ _ c.loop-number.invariant.honest c.loop-number.invariant.scans c.in-Err.fault c.in-Err.ensures.scans
@@ -89,6 +119,11 @@ returns-clause-added g c = λ honest container hold query answers.
     subst (λ list. Answers c.loop-number.answer query (fetched list container))
     (all_taken c.args.numbers.now c.loop-number.number-index (omega (arith, c.loop-number-test.false)))
     (c.loop-number.invariant.added honest container hold query answers)
+
+pub returns-clause-stops : goal.returns-clause-stops
+returns-clause-stops g c = λ honest container hold query answers.
+    stops_in_numbers c.args.numbers.now query container c.loop-number.number-index _ _
+    (c.loop-number.invariant.within honest container hold query answers) c.loop-number.invariant.bound
 
 pub returns-clause-met : goal.returns-clause-met
 returns-clause-met g c = λ honest query asked unlimited.

@@ -1,5 +1,5 @@
 -- The documents of the numbers before were taken in, each for one step or two.
-use Rattle.std.proofs.Common.{◌≡◌, ◌+◌, ◌*◌, ◌≤◌, None, take, []}
+use Rattle.std.proofs.Common.{◌≡◌, ◌+◌, ◌*◌, ◌≤◌, None, Some, take, []}
 use Rattle.std.specs.Prelude.{IsTrue}
 use Rattle.ax_answer_text.specs.Parts.{IsTakenWhole}
 use Rattle.ax_answer_text.specs.TextAnswers.{Answers, IsTo}
@@ -10,6 +10,7 @@ use Rattle.ax_skips.specs.Chosen.{fetched}
 use Rattle.ax_store.specs.Store.{store_contents}
 use Rattle.ax_engine.specs.Scans.{Scanned}
 use Rattle.ax_engine.proofs.ByNumbers.{AreDocumentsOf}
+use Rattle.ax_engine.proofs.Stopping.{IsWithinNumbers}
 use Rattle.ax_engine.proofs.querying.add_numbered.Given as goal
 
 abbrev pub invariant-loop-number : goal.invariant-loop-number
@@ -22,6 +23,11 @@ invariant-loop-number g l = record {
       → AreDocumentsOf (take l.number-index l.numbers) (IsTakenWhole query) (store_contents l.fn.store);
   fetched : l.fn.steps + l.number-index ≤ l.steps;
   bound : l.steps ≤ l.fn.steps + 2 * l.number-index;
+  within : IsTrue (g.D.Disk.is_honest l.fn.disk) → (container : Container)
+      → ContentsHold (store_contents l.fn.store) container → (query : Query)
+      → Answers l.fn.answer query [] → IsWithinNumbers l.numbers query container l.number-index;
+  none_wanted : (query : Query) → Answers l.fn.answer query [] → query.limit ≡ Some 0
+      → (l.steps ≡ l.fn.steps) × Answers l.answer query [];
   scans : Scanned g.C.PageCache.pages (g.D.Disk.is_honest l.fn.disk) l.fn.store l.store l.ahead
       (g.D.Disk.history l.fn.disk (g.D.Disk.attached l.fn.disk)) (g.D.Disk.history l.disk (g.D.Disk.attached l.disk))
       (g.D.Disk.faults l.fn.disk) (g.D.Disk.faults l.disk);

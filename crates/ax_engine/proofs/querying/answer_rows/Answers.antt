@@ -2,6 +2,7 @@
 use Rattle.std.proofs.Common.{[]}
 use Rattle.ax_machine.specs.Querying.{numbered}
 use Rattle.ax_engine.proofs.Numbers.{none_rise, numbers_rise}
+use Rattle.ax_engine.proofs.Stopping.{none_fetched}
 use Rattle.ax_engine.proofs.querying.answer_rows.Goals as goal
 
 pub returns-in-Ok-finish-clause-rows : goal.returns-in-Ok-finish-clause-rows
@@ -22,3 +23,10 @@ returns-in-Ok-finish-clause-met g c = λ honest unlimited.
 pub returns-in-Ok-finish-clause-fetched : goal.returns-in-Ok-finish-clause-fetched
 returns-in-Ok-finish-clause-fetched g c = λ unlimited.
     c.in_default-add_candidates.ensures.fetched c.args.query.now c.in-Ok.ensures.asked unlimited
+
+pub returns-in_default-clause-stops : goal.returns-in_default-clause-stops
+returns-in_default-clause-stops g c = λ honest container hold. none_fetched c.args.candidates.now c.args.query.now container c.args.steps.now
+
+pub returns-in-Ok-finish-clause-stops : goal.returns-in-Ok-finish-clause-stops
+returns-in-Ok-finish-clause-stops g c = λ honest container hold.
+    c.in_default-add_candidates.ensures.stops honest container hold c.args.query.now c.in-Ok.ensures

@@ -14,6 +14,7 @@ use Rattle.ax_engine.proofs.Damaging.{keys_met, on_ok}
 use Rattle.ax_engine.proofs.Choosing.{for_keys}
 use Rattle.ax_engine.proofs.Numbers.{shown_rows}
 use Rattle.ax_engine.proofs.Scanning.{scans_on}
+use Rattle.ax_engine.proofs.Stopping.{stops_for_keys}
 use Rattle.ax_engine.proofs.querying.rows_of_documents.Goals as goal
 
 pub returns-in-Ok-rows-clause-rows : goal.returns-in-Ok-rows-clause-rows
@@ -37,3 +38,13 @@ returns-in-Ok-rows-clause-met g c = λ honest.
     on_ok c.document_rows.result (MeetsDocuments (IsAmong c.args.candidates.now) c.args.query (store_contents c.args.store.now))
     (keys_met (IsAmong c.args.candidates.now) c.args.query _ (store_contents c.args.store.now) c.in-Ok.ensures c.requires.printed
     (c.in-Ok-rows.ensures.met honest))
+
+pub returns-in-Ok-rows-clause-stops : goal.returns-in-Ok-rows-clause-stops
+returns-in-Ok-rows-clause-stops g c = λ honest container hold.
+    stops_for_keys c.args.query c.requires.printed.0 c.in-Ok.keys c.args.candidates.now container _ _ c.in-Ok.ensures
+    (c.in-Ok-rows.ensures.stops honest container hold)
+
+pub returns-in-Err-clause-stops : goal.returns-in-Err-clause-stops
+returns-in-Err-clause-stops g c = λ honest container hold.
+    stops_for_keys c.args.query c.requires.printed.0 c.in-Ok.keys c.args.candidates.now container _ _ c.in-Ok.ensures
+    (c.in-Err.ensures.stops honest container hold)

@@ -9,9 +9,10 @@ use Rattle.ax_store.specs.declared.fault.StoreFault.{StoreFault}
 use Rattle.ax_store.specs.declared.fault.StoreFault.TheVariants as fault
 use Rattle.ax_documents.specs.Opening.{IsImageOf}
 use Rattle.ax_engine.proofs.Opened.{idle_since}
+use Rattle.ax_engine.specs.Course.{IsOpenedFrom, standing_of}
 use Rattle.ax_script.specs.Opening.{IsEndUnlessDisk}
 use Rattle.ax_script.specs.declared.status.Status.TheVariants as status
-use Rattle.ax_script.proofs.Attached.{image_there, not_opened, other_refused, since_named, status_of, store_there}
+use Rattle.ax_script.proofs.Attached.{image_named, image_there, not_opened, other_refused, since_named, status_of, store_there}
 use Rattle.ax_script.proofs.Attached.{told_refused, within_named}
 use Rattle.ax_script.proofs.opening.open_named.Goals as goal
 
@@ -76,6 +77,14 @@ returns-in-Ok-open_engine-clause-opened g c = λ honest.
     (g.D.Disk.history c.open_engine.new.disk) (g.D.Disk.store_named c.args.name.now) _ _ c.in-Ok.ensures.attached
     c.open_engine.ensures.attached (c.in-Ok.ensures.lists honest (g.D.Disk.store_named c.args.name.now))
     (c.in-Ok-open_engine.ensures.opened (subst IsTrue (sym c.in-Ok.ensures.honest) honest))
+
+pub returns-in-Ok-open_engine-clause-begins : goal.returns-in-Ok-open_engine-clause-begins
+returns-in-Ok-open_engine-clause-begins g c = λ honest.
+    image_named (g.D.Disk.history c.args.disk.now) (g.D.Disk.history c.attach.new.self)
+    (g.D.Disk.history c.open_engine.new.disk) (g.D.Disk.store_named c.args.name.now) _ _ c.in-Ok.ensures.attached
+    c.open_engine.ensures.attached (c.in-Ok.ensures.lists honest (g.D.Disk.store_named c.args.name.now))
+    (λ (image : Image). IsOpenedFrom image (standing_of c.in-Ok-open_engine.engine.documents))
+    (c.in-Ok-open_engine.ensures.begins (subst IsTrue (sym c.in-Ok.ensures.honest) honest))
 
 -- ---- a store with a damaged root or of a later version
 

@@ -4,7 +4,7 @@ use Rattle.std.specs.Prelude.{IfErr}
 use Rattle.ax_container.specs.Container.{Container}
 use Rattle.ax_machine.specs.Run.{Served}
 use Rattle.ax_engine.specs.Engine.{HoldsOver}
-use Rattle.ax_engine.specs.PolicyNow.{policy_now}
+use Rattle.ax_engine.specs.Course.{standing_of}
 use Rattle.ax_script.specs.Answered.{AnswersLine, BreaksLine}
 use Rattle.ax_script.specs.Progress.{Serves, outlets}
 use Rattle.ax_engine.proofs.Applying.{still_over}
@@ -46,28 +46,31 @@ returns-clause-ok g c = λ honest before holds.
 
 pub returns-then-is_empty-clause-answered : goal.returns-then-is_empty-clause-answered
 returns-then-is_empty-clause-answered g c =
-    let P : List ℕ → Type 0 = λ pending. OnOk c.serve_line.result (AnswersLine (policy_now c.args.engine.now.documents.table) (pending ++ c.args.head.now)
-    (g.K.Sink.written c.args.sink.now) (g.K.Sink.written c.serve_line.new.sink)) in
+    let P : List ℕ → Type 0 = λ pending. OnOk c.serve_line.result
+    (AnswersLine (g.D.Disk.is_honest c.args.disk.now) (pending ++ c.args.head.now) (standing_of c.args.engine.now.documents)
+    (standing_of c.serve_line.new.engine.documents) (g.K.Sink.written c.args.sink.now) (g.K.Sink.written c.serve_line.new.sink)) in
     let none : c.args.pending.now.items ≡ [] =
     empty_list c.args.pending.now.items c.args.pending.now.len (omega (arith, c.args.pending.now.ok)) (sym c.if-is_empty.true ∙ c.is_empty.ensures) in
     subst P (sym none) c.serve_line.ensures.answered
 
 pub returns-clause-answered : goal.returns-clause-answered
 returns-clause-answered g c =
-    let P : List ℕ → Type 0 = λ line. AnswersLine (policy_now c.args.engine.now.documents.table) line
+    let P : List ℕ → Type 0 = λ line. AnswersLine (g.D.Disk.is_honest c.args.disk.now) line
+    (standing_of c.args.engine.now.documents) (standing_of c.serve_line-served.new.engine.documents)
     (g.K.Sink.written c.args.sink.now) (g.K.Sink.written c.serve_line-served.new.sink) in
     subst P (c.as_slice.ensures.value ∙ c.in-Ok.ensures.items) c.in_default-served.ensures.answered
 
 pub returns-then-is_empty-clause-broken : goal.returns-then-is_empty-clause-broken
 returns-then-is_empty-clause-broken g c =
-    let P : List ℕ → Type 0 = λ pending. IfErr c.serve_line.result (λ ended. BreaksLine ended (policy_now c.args.engine.now.documents.table)
-    (pending ++ c.args.head.now) (g.K.Sink.written c.args.sink.now) (g.K.Sink.written c.serve_line.new.sink)) in
+    let P : List ℕ → Type 0 = λ pending. IfErr c.serve_line.result (λ ended. BreaksLine ended (g.D.Disk.is_honest c.args.disk.now)
+    (pending ++ c.args.head.now) (standing_of c.args.engine.now.documents)
+    (g.K.Sink.written c.args.sink.now) (g.K.Sink.written c.serve_line.new.sink)) in
     let none : c.args.pending.now.items ≡ [] =
     empty_list c.args.pending.now.items c.args.pending.now.len (omega (arith, c.args.pending.now.ok)) (sym c.if-is_empty.true ∙ c.is_empty.ensures) in
     subst P (sym none) c.serve_line.ensures.broken
 
 pub returns-in-Err-clause-broken : goal.returns-in-Err-clause-broken
 returns-in-Err-clause-broken g c =
-    let P : List ℕ → Type 0 = λ line. BreaksLine c.in-Err.status (policy_now c.args.engine.now.documents.table) line
-    (g.K.Sink.written c.args.sink.now) (g.K.Sink.written c.serve_line-served.new.sink) in
+    let P : List ℕ → Type 0 = λ line. BreaksLine c.in-Err.status (g.D.Disk.is_honest c.args.disk.now) line
+    (standing_of c.args.engine.now.documents) (g.K.Sink.written c.args.sink.now) (g.K.Sink.written c.serve_line-served.new.sink) in
     subst P (c.as_slice.ensures.value ∙ c.in-Ok.ensures.items) c.in-Err.ensures.broken

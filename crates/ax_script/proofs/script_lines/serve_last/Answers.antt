@@ -1,6 +1,6 @@
 -- A last piece that is not empty is a line.
 use Rattle.std.proofs.Common.{◌≡◌, List, [], ℕ, length, inr, refl, IsTrue, ◌∙◌, sym, subst}
-use Rattle.ax_engine.specs.PolicyNow.{policy_now}
+use Rattle.ax_engine.specs.Course.{standing_of}
 use Rattle.ax_script.specs.Progress.{ServesLast, outlets}
 use Rattle.ax_script.proofs.AnsweredLines.{last_answered, last_broken, no_last}
 use Rattle.ax_script.proofs.ServedLines.{serves_last, serves_no_last, begins_last}
@@ -28,11 +28,12 @@ returns-then-is_empty-clause-done g c = λ honest before holds _.
 
 pub returns-in-Ok-clause-answered : goal.returns-in-Ok-clause-answered
 returns-in-Ok-clause-answered g c = λ _.
-    last_answered (policy_now c.args.engine.now.documents.table) c.args.pending.now _ _ c.if-is_empty.ensures c.in-Ok.ensures.answered
+    last_answered (g.D.Disk.is_honest c.args.disk.now) c.args.pending.now (standing_of c.args.engine.now.documents) _ _ _
+    c.if-is_empty.ensures c.in-Ok.ensures.answered
 
 pub returns-then-is_empty-clause-answered : goal.returns-then-is_empty-clause-answered
 returns-then-is_empty-clause-answered g c = λ _.
-    no_last (policy_now c.args.engine.now.documents.table) c.args.pending.now _
+    no_last (g.D.Disk.is_honest c.args.disk.now) c.args.pending.now (standing_of c.args.engine.now.documents) _
     (empty_list c.args.pending.now (length c.args.pending.now) refl (sym c.if-is_empty.true ∙ c.is_empty.ensures))
 
 pub returns-in-Err-clause-sound : goal.returns-in-Err-clause-sound
@@ -40,4 +41,5 @@ returns-in-Err-clause-sound g c = λ honest before holds. inr (c.in-Err.ensures.
 
 pub returns-in-Err-clause-broken : goal.returns-in-Err-clause-broken
 returns-in-Err-clause-broken g c =
-    inr (last_broken (policy_now c.args.engine.now.documents.table) c.args.pending.now _ _ c.in-Err.status c.if-is_empty.ensures c.in-Err.ensures.broken)
+    inr (last_broken (g.D.Disk.is_honest c.args.disk.now) c.args.pending.now (standing_of c.args.engine.now.documents) _ _ c.in-Err.status
+    c.if-is_empty.ensures c.in-Err.ensures.broken)

@@ -4,7 +4,7 @@ use Rattle.ax_container.specs.Container.{Container}
 use Rattle.ax_lines.specs.ScriptLines.{IsOneLine}
 use Rattle.ax_lines.proofs.Splits.{IsOneLine-append}
 use Rattle.ax_engine.specs.Engine.{HoldsOver, Works}
-use Rattle.ax_engine.specs.PolicyNow.{policy_now}
+use Rattle.ax_engine.specs.Course.{standing_of}
 use Rattle.ax_script.specs.Answered.{AnswersLine, AnswersLines, BreaksLine}
 use Rattle.ax_script.specs.Progress.{outlets, Serves, BeginsToServe, ServesLines, StopsBy}
 use Rattle.ax_script.proofs.AnsweredLines.{AnsweredIn, answered_begins, answered_breaks, answered_ends, answered_goes_on, answered_stops}
@@ -21,7 +21,8 @@ lines-init g c = record {
     piece_begins _ before _ c.args.piece.now _ c.requires.line
         (rests_over g.C.PageCache.pages _ c.args.engine.now _ before c.requires.works holds),
   );
-  answered = answered_begins (policy_now c.args.engine.now.documents.table) c.args.pending.now.items c.args.piece.now _ c.requires.line;
+  answered = answered_begins (g.D.Disk.is_honest c.args.disk.now) c.args.pending.now.items c.args.piece.now
+      (standing_of c.args.engine.now.documents) _ c.requires.line;
   policy = refl;
   line = c.requires.line;
   works = c.requires.works;
@@ -60,14 +61,15 @@ lines-preserved g c = record {
             c.in-Some.tail.now _ c.in-Some.ensures.split c.in-Some.ensures.line served.2),
       );
   answered =
-      let P : List ℕ → Type 0 = λ pending. AnsweredIn (policy_now c.args.engine.now.documents.table) c.args.pending.now.items pending c.args.piece.now
-      c.in-Some.tail.now (g.K.Sink.written c.args.sink.now) (g.K.Sink.written c.serve_head.new.sink) in
+      let P : List ℕ → Type 0 = λ pending. AnsweredIn (g.D.Disk.is_honest c.args.disk.now) c.args.pending.now.items pending c.args.piece.now
+      c.in-Some.tail.now (standing_of c.args.engine.now.documents) (standing_of c.serve_head.new.engine.documents) (g.K.Sink.written c.args.sink.now) (g.K.Sink.written c.serve_head.new.sink) in
       subst P (sym c.in_default-serve_head.ensures.empty)
-      (answered_goes_on (policy_now c.args.engine.now.documents.table) _ _ _ _ _ _ c.lines.invariant.answered c.in-Some.head.now c.in-Some.tail.now _
-      c.in-Some.ensures.split c.in-Some.ensures.line
-      (subst (λ policy. AnswersLine policy (c.lines.pending.items ++ c.in-Some.head.now)
+      (answered_goes_on (g.D.Disk.is_honest c.args.disk.now) _ _ _ _ _ _ _ _ c.lines.invariant.answered c.in-Some.head.now c.in-Some.tail.now
+      (standing_of c.serve_head.new.engine.documents) _ c.in-Some.ensures.split c.in-Some.ensures.line
+      (subst (λ honest. AnswersLine honest (c.lines.pending.items ++ c.in-Some.head.now)
+      (standing_of c.lines.engine.documents) (standing_of c.serve_head.new.engine.documents)
       (g.K.Sink.written c.lines.sink) (g.K.Sink.written c.serve_head.new.sink))
-      c.lines.invariant.policy c.in_default-serve_head.ensures.answered));
+      c.lines.invariant.honest c.in_default-serve_head.ensures.answered));
   policy = c.in_default-serve_head.ensures.policy ∙ c.lines.invariant.policy;
   line = subst IsOneLine (sym c.in_default-serve_head.ensures.empty) refl;
   works = subst (λ honest. Works g.C.PageCache.pages honest c.serve_head.new.engine
@@ -132,19 +134,21 @@ returns-in-Err-clause-only g c =
 
 pub returns-in-Ok-clause-answered : goal.returns-in-Ok-clause-answered
 returns-in-Ok-clause-answered g c =
-    let P : List ℕ → Type 0 = λ pending. AnswersLines (policy_now c.args.engine.now.documents.table)
+    let P : List ℕ → Type 0 = λ pending. AnswersLines (g.D.Disk.is_honest c.args.disk.now)
     (c.args.pending.now.items ++ c.args.piece.now) pending
+    (standing_of c.args.engine.now.documents) (standing_of c.lines.engine.documents)
     (g.K.Sink.written c.args.sink.now) (g.K.Sink.written c.lines.sink) in
     subst P (sym c.in-Ok.ensures.items)
-    (answered_ends (policy_now c.args.engine.now.documents.table) _ _ _ _ _ _ c.lines.invariant.answered c.in_default.ensures.none)
+    (answered_ends (g.D.Disk.is_honest c.args.disk.now) _ _ _ _ _ _ _ _ c.lines.invariant.answered c.in_default.ensures.none)
 
 pub returns-in-Err-clause-broken : goal.returns-in-Err-clause-broken
 returns-in-Err-clause-broken g c =
-    answered_breaks (policy_now c.args.engine.now.documents.table) _ _ _ _ _ _ c.lines.invariant.answered c.in-Some.head.now c.in-Some.tail.now _
+    answered_breaks (g.D.Disk.is_honest c.args.disk.now) _ _ _ _ _ _ _ _ c.lines.invariant.answered c.in-Some.head.now c.in-Some.tail.now _
     c.in-Err.status c.in-Some.ensures.split c.in-Some.ensures.line
-    (subst (λ policy. BreaksLine c.in-Err.status policy (c.lines.pending.items ++ c.in-Some.head.now)
-    (g.K.Sink.written c.lines.sink) (g.K.Sink.written c.serve_head.new.sink)) c.lines.invariant.policy c.in-Err.ensures.broken)
+    (subst (λ honest. BreaksLine c.in-Err.status honest (c.lines.pending.items ++ c.in-Some.head.now)
+    (standing_of c.lines.engine.documents) (g.K.Sink.written c.lines.sink) (g.K.Sink.written c.serve_head.new.sink))
+    c.lines.invariant.honest c.in-Err.ensures.broken)
 
 pub returns-in-Err-put_behind-clause-broken : goal.returns-in-Err-put_behind-clause-broken
 returns-in-Err-put_behind-clause-broken g c =
-    answered_stops (policy_now c.args.engine.now.documents.table) _ _ _ _ _ _ c.lines.invariant.answered
+    answered_stops (g.D.Disk.is_honest c.args.disk.now) _ _ _ _ _ _ _ _ c.lines.invariant.answered

@@ -3,6 +3,7 @@ use Rattle.std.proofs.Common.{◌≡◌, None, ◌≤◌, length, IsTrue}
 use Rattle.ax_container.specs.Container.{Container}
 use Rattle.ax_lines.specs.ScriptLines.{IsOneLine}
 use Rattle.ax_engine.specs.Engine.{HoldsOver, Works}
+use Rattle.ax_engine.specs.Course.{standing_of}
 use Rattle.ax_engine.specs.PolicyNow.{policy_now}
 use Rattle.ax_script.specs.Progress.{outlets}
 use Rattle.ax_script.proofs.AnsweredLines.{AnsweredIn}
@@ -19,7 +20,8 @@ invariant-lines g l = record {
       (g.D.Disk.history l.fn.disk (g.D.Disk.attached l.fn.disk)) l.fn.steps)
       (outlets (g.K.Sink.written l.sink) (g.D.Disk.history l.disk
       (g.D.Disk.attached l.disk)) l.steps);
-  answered : AnsweredIn (policy_now l.fn.engine.documents.table) l.fn.pending.items l.pending.items l.piece l.rest
+  answered : AnsweredIn (g.D.Disk.is_honest l.fn.disk) l.fn.pending.items l.pending.items l.piece l.rest
+      (standing_of l.fn.engine.documents) (standing_of l.engine.documents)
       (g.K.Sink.written l.fn.sink) (g.K.Sink.written l.sink);
   policy : policy_now l.engine.documents.table ≡ policy_now l.fn.engine.documents.table;
   line : IsOneLine l.pending.items;

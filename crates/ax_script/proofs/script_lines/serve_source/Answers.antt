@@ -4,7 +4,7 @@ use Rattle.std.specs.Io.KnownBytes.{Consumes}
 use Rattle.ax_container.specs.Container.{Container}
 use Rattle.ax_lines.specs.ScriptLines.{IsOneLine, last_line}
 use Rattle.ax_engine.specs.Engine.{HoldsOver, Works}
-use Rattle.ax_engine.specs.PolicyNow.{policy_now}
+use Rattle.ax_engine.specs.Course.{standing_of}
 use Rattle.ax_script.specs.Answered.{AnswersLast, AnswersLines, BreaksFirst, BreaksLines}
 use Rattle.ax_script.specs.Progress.{outlets, ServesLines, BeginsLines, ServesLast, BeginsLast, Progress}
 use Rattle.ax_script.specs.declared.status.Status.TheVariants as status
@@ -29,9 +29,9 @@ pieces-init g c =
             subst P (sym c.new-pending.ensures.items)
                 (progress_begins _ before here _ (rests_over g.C.PageCache.pages _ c.args.engine.now _ before c.requires.works holds)),
           );
-      policy = refl;
-      answered = subst (λ pending. AnswersSoMany (policy_now c.args.engine.now.documents.table) here here pending 0) (sym c.new-pending.ensures.items)
-          (answers_begin (policy_now c.args.engine.now.documents.table) here);
+      answered = subst (λ pending. AnswersSoMany (g.D.Disk.is_honest c.args.disk.now) (standing_of c.args.engine.now.documents)
+          (standing_of c.args.engine.now.documents) here here pending 0) (sym c.new-pending.ensures.items)
+          (answers_begin (g.D.Disk.is_honest c.args.disk.now) (standing_of c.args.engine.now.documents) here);
       line = subst IsOneLine (sym c.new-pending.ensures.items) refl;
       works = c.requires.works;
       unfaulted = c.requires.unfaulted;
@@ -129,12 +129,13 @@ pieces-preserved g c = record {
             (take c.in-Ok.count c.read_some.new.buf) _ c.in-Ok.count c.in-Ok.ensures.taken
             (sym c.in-Ok.ensures.bound.1) more.2,
       );
-  policy = c.in_default-served.ensures.policy ∙ c.pieces.invariant.policy;
-  answered = answers_go_on (policy_now c.args.engine.now.documents.table) _ _ _ _ c.pieces.invariant.answered _ _ _
+  answered = answers_go_on (g.D.Disk.is_honest c.args.disk.now) _ _ _ _ _ _ c.pieces.invariant.answered
+      (standing_of c.serve_piece-served.new.engine.documents) _ _ _
       (take c.in-Ok.count c.read_some.new.buf) _ c.in-Ok.count c.in-Ok.ensures.taken (sym c.in-Ok.ensures.bound.1)
-      (subst (λ policy. AnswersLines policy (c.pieces.pending.items ++ take c.in-Ok.count c.read_some.new.buf)
-      c.serve_piece-served.new.pending.items (g.K.Sink.written c.pieces.sink) (g.K.Sink.written c.serve_piece-served.new.sink))
-      c.pieces.invariant.policy c.in_default-served.ensures.answered);
+      (subst (λ honest. AnswersLines honest (c.pieces.pending.items ++ take c.in-Ok.count c.read_some.new.buf)
+      c.serve_piece-served.new.pending.items (standing_of c.pieces.engine.documents) (standing_of c.serve_piece-served.new.engine.documents)
+      (g.K.Sink.written c.pieces.sink) (g.K.Sink.written c.serve_piece-served.new.sink))
+      c.pieces.invariant.honest c.in_default-served.ensures.answered);
   line = c.in_default-served.ensures.line;
   works = subst (λ honest. Works g.C.PageCache.pages honest c.serve_piece-served.new.engine
       (g.D.Disk.history c.serve_piece-served.new.disk (g.D.Disk.attached c.serve_piece-served.new.disk)))
@@ -175,39 +176,44 @@ returns-in-Err-clause-of_serving g c =
 
 pub returns-in_default-clause-answered : goal.returns-in_default-clause-answered
 returns-in_default-clause-answered g c =
-    answered_to_a_fault (policy_now c.args.engine.now.documents.table) _ _ _ _ c.pieces.invariant.answered (g.S.Source.rest c.read_some.new.self)
+    answered_to_a_fault (g.D.Disk.is_honest c.args.disk.now) _ _ _ _ _ _ c.pieces.invariant.answered (g.S.Source.rest c.read_some.new.self)
     c.in_default.ensures.failed
 
 pub returns-then-count-eq0-clause-answered : goal.returns-then-count-eq0-clause-answered
 returns-then-count-eq0-clause-answered g c =
     let P : ℕ → Type 0 = λ n. Consumes (g.S.Source.rest c.pieces.source)
     (g.S.Source.rest c.read_some.new.self) (take n c.read_some.new.buf) in
-    let Last : List ℕ → Type 0 = λ last. AnswersLast (policy_now c.args.engine.now.documents.table) last
+    let Last : List ℕ → Type 0 = λ last. AnswersLast (g.D.Disk.is_honest c.args.disk.now) last
+    (standing_of c.pieces.engine.documents) (standing_of c.serve_last.new.engine.documents)
     (g.K.Sink.written c.pieces.sink) (g.K.Sink.written c.serve_last.new.sink) in
     let Broken : List ℕ → Type 0 = λ last. (c.serve_last.result ≡ status.Done)
-    ⊎ BreaksFirst c.serve_last.result (policy_now c.args.engine.now.documents.table) (last_line last)
-    (g.K.Sink.written c.pieces.sink) (g.K.Sink.written c.serve_last.new.sink) in
-    answered_at_end (policy_now c.args.engine.now.documents.table) _ _ _ _ c.pieces.invariant.answered _ _ _ _ _ c.serve_last.result
+    ⊎ BreaksFirst c.serve_last.result (g.D.Disk.is_honest c.args.disk.now) (last_line last)
+    (standing_of c.pieces.engine.documents) (g.K.Sink.written c.pieces.sink) (g.K.Sink.written c.serve_last.new.sink) in
+    answered_at_end (g.D.Disk.is_honest c.args.disk.now) _ _ _ _ _ _ c.pieces.invariant.answered
+    (standing_of c.serve_last.new.engine.documents) _ _ _ _ _ c.serve_last.result
     (subst P c.if-count-eq0.true c.in-Ok.ensures.taken)
     (c.in-Ok.ensures.ended c.if-count-eq0.true
     (omega (arith, c.requires.some, c.pieces.auto.buffer, c.read_some.auto.buf)))
-    (λ is. subst Last c.as_slice.ensures.value (subst (λ policy. AnswersLast policy c.as_slice.result.now
+    (λ is. subst Last c.as_slice.ensures.value (subst (λ honest. AnswersLast honest c.as_slice.result.now
+    (standing_of c.pieces.engine.documents) (standing_of c.serve_last.new.engine.documents)
     (g.K.Sink.written c.pieces.sink) (g.K.Sink.written c.serve_last.new.sink))
-    c.pieces.invariant.policy (c.serve_last.ensures.answered is)))
-    (subst Broken c.as_slice.ensures.value (subst (λ policy. (c.serve_last.result ≡ status.Done)
-    ⊎ BreaksFirst c.serve_last.result policy (last_line c.as_slice.result.now) (g.K.Sink.written c.pieces.sink) (g.K.Sink.written c.serve_last.new.sink))
-    c.pieces.invariant.policy c.serve_last.ensures.broken))
+    c.pieces.invariant.honest (c.serve_last.ensures.answered is)))
+    (subst Broken c.as_slice.ensures.value (subst (λ honest. (c.serve_last.result ≡ status.Done)
+    ⊎ BreaksFirst c.serve_last.result honest (last_line c.as_slice.result.now) (standing_of c.pieces.engine.documents)
+    (g.K.Sink.written c.pieces.sink) (g.K.Sink.written c.serve_last.new.sink))
+    c.pieces.invariant.honest c.serve_last.ensures.broken))
     c.serve_last.ensures.only
 
 pub returns-then-taken-gt-MOST_INPUT-clause-answered : goal.returns-then-taken-gt-MOST_INPUT-clause-answered
 returns-then-taken-gt-MOST_INPUT-clause-answered g c =
-    taken_long (policy_now c.args.engine.now.documents.table) _ _ _ _ c.pieces.invariant.answered _ (take c.in-Ok.count c.read_some.new.buf) c.in-Ok.count
+    taken_long (g.D.Disk.is_honest c.args.disk.now) _ _ _ _ _ _ c.pieces.invariant.answered _ (take c.in-Ok.count c.read_some.new.buf) c.in-Ok.count
     c.in-Ok.ensures.taken (sym c.in-Ok.ensures.bound.1) c.if-taken-gt-MOST_INPUT.true
 
 pub returns-in-Err-clause-answered : goal.returns-in-Err-clause-answered
 returns-in-Err-clause-answered g c =
-    stopped_answered (policy_now c.args.engine.now.documents.table) _ _ _ _ c.pieces.invariant.answered _ _ _ _ _
+    stopped_answered (g.D.Disk.is_honest c.args.disk.now) _ _ _ _ _ _ c.pieces.invariant.answered _ _ _ _ _
     (take c.in-Ok.count c.read_some.new.buf) c.in-Err.status c.in-Ok.ensures.taken
-    (subst (λ policy. BreaksLines c.in-Err.status policy (c.pieces.pending.items ++ take c.in-Ok.count c.read_some.new.buf)
-    (g.K.Sink.written c.pieces.sink) (g.K.Sink.written c.serve_piece-served.new.sink)) c.pieces.invariant.policy c.in-Err.ensures.broken)
+    (subst (λ honest. BreaksLines c.in-Err.status honest (c.pieces.pending.items ++ take c.in-Ok.count c.read_some.new.buf)
+    (standing_of c.pieces.engine.documents) (g.K.Sink.written c.pieces.sink) (g.K.Sink.written c.serve_piece-served.new.sink))
+    c.pieces.invariant.honest c.in-Err.ensures.broken)
     c.in-Err.ensures.only

@@ -2,7 +2,7 @@
 use Rattle.std.proofs.Common.{◌≡◌, None, ◌≤◌, ◌-◌, IsTrue}
 use Rattle.ax_container.specs.Container.{Container}
 use Rattle.ax_engine.specs.Engine.{HoldsOver, Works}
-use Rattle.ax_engine.specs.PolicyNow.{policy_now}
+use Rattle.ax_engine.specs.Course.{standing_of}
 use Rattle.ax_lines.specs.ScriptLines.{IsOneLine}
 use Rattle.ax_script.specs.Script.{most_input}
 use Rattle.ax_script.specs.Progress.{Progress}
@@ -21,8 +21,7 @@ invariant-pieces g l = record {
       (g.D.Disk.history l.fn.disk (g.D.Disk.attached l.fn.disk))
       (g.D.Disk.history l.disk (g.D.Disk.attached l.disk))
       now l.pending.items l.taken;
-  policy : policy_now l.engine.documents.table ≡ policy_now l.fn.engine.documents.table;
-  answered : AnswersSoMany (policy_now l.fn.engine.documents.table)
+  answered : AnswersSoMany (g.D.Disk.is_honest l.fn.disk) (standing_of l.fn.engine.documents) (standing_of l.engine.documents)
       (streams (g.S.Source.rest l.fn.source) (g.K.Sink.written l.fn.sink) l.fn.steps)
       (streams (g.S.Source.rest l.source) (g.K.Sink.written l.sink) l.steps) l.pending.items l.taken;
   line : IsOneLine l.pending.items;

@@ -1,18 +1,17 @@
 -- Each way to end, from whether the store was opened.
-use Rattle.std.proofs.Common.{IsTrue, Bool, List, ℕ, subst, sym}
+use Rattle.std.proofs.Common.{IsTrue, Bool, List, ℕ, inl, inr, refl, subst, sym}
 use Rattle.ax_area.specs.Image.{IsDamaged, IsNewer}
 use Rattle.ax_disk.specs.declared.extent.Extent.TheVariants.{Root}
 use Rattle.ax_image.specs.Readable.{newest}
 use Rattle.ax_documents.specs.Opening.{IsStore}
 use Rattle.ax_documents.specs.Opening.{IsWithin}
-use Rattle.ax_engine.specs.PolicyNow.{policy_now}
-use Rattle.ax_policy.specs.Default.{default_policy}
+use Rattle.ax_engine.specs.Course.{IsOpenedFrom, standing_of}
 use Rattle.ax_script.specs.Answered.{TellsAnswered}
 use Rattle.ax_script.specs.CommandLine.{store_word}
 use Rattle.ax_script.specs.DiskScript.{RunsOnDisk}
 use Rattle.ax_script.specs.Opening.{Refuses}
 use Rattle.ax_script.specs.Progress.{Ends}
-use Rattle.ax_script.proofs.AnsweredLines.{early_answered}
+use Rattle.ax_script.proofs.AnsweredLines.{early_answered, nothing_found}
 use Rattle.ax_script.proofs.DiskCounts.{counts_since, fault_counted}
 use Rattle.ax_script.proofs.Endings.{streams, runs_early, complete_of}
 use Rattle.ax_script.proofs.OnDisk.{on_disk_early, on_disk_named}
@@ -52,13 +51,22 @@ returns-in-Ok-clause-script g c = λ honest before store.
 
 pub returns-in-Ok-clause-answered : goal.returns-in-Ok-clause-answered
 returns-in-Ok-clause-answered g c =
-    let T : ℕ → Type 0 = λ n. TellsAnswered (policy_now c.in-Ok.engine.documents.table) c.serve_opened.result
-    (streams (g.S.Source.rest c.args.source.now) (g.K.Sink.written c.args.sink.now) n)
-    (streams (g.S.Source.rest c.serve_opened.new.source) (g.K.Sink.written c.serve_opened.new.sink) c.serve_opened.new.steps) in
-    (policy_now c.in-Ok.engine.documents.table, subst T c.open_named.ensures.steps c.serve_opened.ensures.answered)
+    let was = standing_of c.in-Ok.engine.documents in
+    let new = streams (g.S.Source.rest c.serve_opened.new.source) (g.K.Sink.written c.serve_opened.new.sink) c.serve_opened.new.steps in
+    let T : ℕ → Type 0 = λ n. TellsAnswered (g.D.Disk.is_honest c.open_named.new.disk) was c.serve_opened.result
+    (streams (g.S.Source.rest c.args.source.now) (g.K.Sink.written c.args.sink.now) n) new in
+    let H : Bool → Type 0 = λ honest. TellsAnswered honest was c.serve_opened.result
+    (streams (g.S.Source.rest c.args.source.now) (g.K.Sink.written c.args.sink.now) c.args.steps.now) new in
+    let B : List ℕ → Type 0 = λ name.
+    IsOpenedFrom (g.D.Disk.history c.args.disk.now (g.D.Disk.store_named name)).reads was in (
+      was,
+      subst H c.open_named.ensures.honest (subst T c.open_named.ensures.steps c.serve_opened.ensures.answered),
+      inl (λ honest. subst B c.store_name.ensures (c.in-Ok.ensures.begins honest)),
+    )
 
 pub returns-in-Err-clause-answered : goal.returns-in-Err-clause-answered
-returns-in-Err-clause-answered g c = (default_policy, early_answered default_policy c.in-Err.status _ _ _ _ c.in-Err.ensures.only)
+returns-in-Err-clause-answered g c =
+    (nothing_found, early_answered (g.D.Disk.is_honest c.args.disk.now) nothing_found c.in-Err.status _ _ _ _ c.in-Err.ensures.only, inr (refl, refl))
 
 pub returns-in-Ok-clause-refused : goal.returns-in-Ok-clause-refused
 returns-in-Ok-clause-refused g c = λ honest.

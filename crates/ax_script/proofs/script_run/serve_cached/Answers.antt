@@ -1,6 +1,6 @@
 -- No memory was left for the buffer.
 use Rattle.ax_engine.proofs.Applying.{rests_over}
-use Rattle.ax_engine.specs.PolicyNow.{policy_now}
+use Rattle.ax_engine.specs.Course.{standing_of}
 use Rattle.ax_script.proofs.AnsweredLines.{memory_answered}
 use Rattle.ax_script.proofs.Endings.{ends_without_memory}
 use Rattle.ax_script.proofs.script_run.serve_cached.Goals as goal
@@ -10,4 +10,4 @@ returns-in_default-clause-script g c = λ honest before holds.
     ends_without_memory _ before _ _ (rests_over g.C.PageCache.pages _ c.args.engine.now _ before c.requires.works holds)
 
 pub returns-in_default-clause-answered : goal.returns-in_default-clause-answered
-returns-in_default-clause-answered g c = memory_answered (policy_now c.args.engine.now.documents.table) _ _ _ _
+returns-in_default-clause-answered g c = memory_answered (g.D.Disk.is_honest c.args.disk.now) (standing_of c.args.engine.now.documents) _ _ _ _

@@ -3,9 +3,8 @@ use Rattle.std.proofs.Common.{ap, subst, ◌∙◌}
 use Rattle.ax_cache.specs.Held.{held}
 use Rattle.ax_cache.specs.PageLaws.{no_pages}
 use Rattle.ax_engine.proofs.Applying.{rests_over}
-use Rattle.ax_engine.proofs.Recaching.{over_still, works_still}
-use Rattle.ax_engine.specs.PolicyNow.{policy_now}
-use Rattle.ax_policy.specs.Table.{Table}
+use Rattle.ax_engine.proofs.Recaching.{over_still, standing_still, works_still}
+use Rattle.ax_engine.specs.Course.{Standing, standing_of}
 use Rattle.ax_script.specs.Answered.{TellsAnswered}
 use Rattle.ax_script.proofs.AnsweredLines.{memory_answered}
 use Rattle.ax_script.proofs.Endings.{ends_without_memory, streams}
@@ -34,10 +33,11 @@ returns-clause-sound g c = λ honest before holds.
 
 pub returns-clause-answered : goal.returns-clause-answered
 returns-clause-answered g c =
-    subst (λ (table : Table). TellsAnswered (policy_now table) c.serve_cached.result
+    subst (λ (was : Standing). TellsAnswered (g.D.Disk.is_honest c.args.disk.now) was c.serve_cached.result
     (streams (g.S.Source.rest c.args.source.now) (g.K.Sink.written c.args.sink.now) c.args.steps.now)
     (streams (g.S.Source.rest c.serve_cached.new.source) (g.K.Sink.written c.serve_cached.new.sink) c.serve_cached.new.steps))
-    c.with_cache-engine.ensures.documents.table c.serve_cached.ensures.answered
+    (standing_still c.args.engine.documents c.with_cache-engine.result.documents c.with_cache-engine.ensures.documents)
+    c.serve_cached.ensures.answered
 
 pub returns-in_default-clause-answered : goal.returns-in_default-clause-answered
-returns-in_default-clause-answered g c = memory_answered (policy_now c.args.engine.documents.table) _ _ _ _
+returns-in_default-clause-answered g c = memory_answered (g.D.Disk.is_honest c.args.disk.now) (standing_of c.args.engine.documents) _ _ _ _

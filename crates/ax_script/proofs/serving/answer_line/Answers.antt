@@ -1,5 +1,5 @@
 -- A line that is refused, and one for which memory ran out, change nothing.
-use Rattle.std.proofs.Common.{Ok, Result, subst, sym}
+use Rattle.std.proofs.Common.{Ok, Result, refl, subst, sym}
 use Rattle.std.specs.Prelude.{IsTrue}
 use Rattle.ax_lines.specs.declared.line.Line.{Line}
 use Rattle.ax_lines.specs.declared.line.LineFault.{LineFault}
@@ -7,10 +7,10 @@ use Rattle.ax_lines.specs.declared.refusal.Refusal.{Refusal}
 use Rattle.ax_lines.specs.Answers.{Answers}
 use Rattle.ax_lines.specs.Lines.{line_of}
 use Rattle.ax_engine.proofs.Applying.{still_over}
-use Rattle.ax_engine.specs.PolicyNow.{policy_now}
+use Rattle.ax_engine.specs.Course.{standing_of}
 use Rattle.ax_engine.specs.declared.reply.Reply.TheVariants as given
-use Rattle.ax_script.specs.Replies.{MayAnswer, TellsLine}
-use Rattle.ax_script.proofs.AnsweredLines.{unread_may}
+use Rattle.ax_script.specs.Replies.{IsAnswer, TellsLine}
+use Rattle.ax_script.proofs.AnsweredLines.{unread_is}
 use Rattle.ax_script.proofs.Replying.{tells_applied, tells_unread}
 use Rattle.ax_script.proofs.serving.answer_line.Goals as goal
 
@@ -31,9 +31,10 @@ returns-in-Err-clause-tells g c = λ honest before holds.
     (subst A c.in-Err.is c.requires.answers) holds
     (still_over g.C.PageCache.pages _ c.args.engine.now _ before before c.requires.works holds))
 
-pub returns-in-Err-clause-may_answer : goal.returns-in-Err-clause-may_answer
-returns-in-Err-clause-may_answer g c =
-    let policy = policy_now c.args.engine.now.documents.table in
-    let P : Refusal → Type 0 = λ why. MayAnswer policy c.args.line.now (given.Refused why) in
+pub returns-in-Err-clause-answers : goal.returns-in-Err-clause-answers
+returns-in-Err-clause-answers g c =
+    let honest = g.D.Disk.is_honest c.args.disk.now in
+    let here = standing_of c.args.engine.now.documents in
+    let P : Refusal → Type 0 = λ why. IsAnswer honest c.args.line.now (given.Refused why) here here in
     subst P (sym c.refusal_of.ensures)
-    (unread_may policy c.args.line.now c.args.asked c.in-Err.fault c.in-Err.is c.requires.answers c.requires.at_once)
+    (unread_is honest c.args.line.now here here c.args.asked c.in-Err.fault c.in-Err.is c.requires.answers c.requires.at_once refl)

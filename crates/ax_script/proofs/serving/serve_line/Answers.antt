@@ -1,9 +1,9 @@
 -- The line was answered, and its reply was written, or a prefix of it; of a READ line the engine has written it.
 use Rattle.std.proofs.Common.{◌≡◌, Ok, ap, ◌∙◌}
-use Rattle.ax_engine.specs.PolicyNow.{policy_now}
+use Rattle.ax_engine.specs.Course.{standing_of}
 use Rattle.ax_lines.specs.Lines.{line_of}
 use Rattle.ax_lines.specs.declared.line.Line.TheVariants as line
-use Rattle.ax_script.proofs.AnsweredLines.{line_answered, line_broken, read_broken}
+use Rattle.ax_script.proofs.AnsweredLines.{line_answered, line_broken, read_answered, read_broken}
 use Rattle.ax_script.proofs.DiskCounts.{line_counted}
 use Rattle.ax_script.proofs.ReadLines.{read_begun, read_served}
 use Rattle.ax_script.proofs.Replying.{whole_of, part_of, sound_of, stops_of}
@@ -39,8 +39,9 @@ returns-in_default-clause-again g c = λ fault kept.
 
 pub returns-in_default-clause-answered : goal.returns-in_default-clause-answered
 returns-in_default-clause-answered g c =
-    line_answered (policy_now c.args.engine.now.documents.table) c.args.line.now c.write_answer.result c.answer-answered.result _ _
-    c.answer-answered.ensures.may_answer c.write_answer.ensures.whole
+    line_answered (g.D.Disk.is_honest c.args.disk.now) c.args.line.now (standing_of c.args.engine.now.documents)
+    (standing_of c.answer-answered.new.engine.documents) c.write_answer.result c.answer-answered.result _ _
+    c.answer-answered.ensures.answers c.write_answer.ensures.whole
 
 pub returns-in_default-clause-disk_counted : goal.returns-in_default-clause-disk_counted
 returns-in_default-clause-disk_counted g c = λ unfaulted.
@@ -71,13 +72,23 @@ returns-in-Ok-Read-clause-prefix g c = λ honest before holds.
 
 pub returns-in_default-clause-broken : goal.returns-in_default-clause-broken
 returns-in_default-clause-broken g c =
-    line_broken (policy_now c.args.engine.now.documents.table) c.args.line.now c.write_answer.result c.answer-answered.result _ _
-    c.answer-answered.ensures.may_answer c.write_answer.ensures.prefix c.write_answer.ensures.only c.write_answer.ensures.disk_cause
+    line_broken (g.D.Disk.is_honest c.args.disk.now) c.args.line.now (standing_of c.args.engine.now.documents)
+    (standing_of c.answer-answered.new.engine.documents) c.write_answer.result c.answer-answered.result _ _
+    c.answer-answered.ensures.answers c.write_answer.ensures.prefix c.write_answer.ensures.only c.write_answer.ensures.disk_cause
     c.write_answer.ensures.damage (λ why is. (c.write_answer.ensures.fault why is).0) c.answer-answered.ensures.no_sink
 
 pub returns-in-Ok-Read-clause-broken : goal.returns-in-Ok-Read-clause-broken
 returns-in-Ok-Read-clause-broken g c =
     let asked : line_of c.args.line.now ≡ Ok (line.Read c.in-Ok-Read.id) =
     c.in-Ok-Read.ensures.answers ∙ ap (λ a. Ok a) c.in-Ok-Read.field-0-is in
-    read_broken (policy_now c.args.engine.now.documents.table) c.args.line.now c.in-Ok-Read.id c.status_of_read.result c.read_into.result _ _
-    c.status_of_read.ensures asked c.read_into.ensures.may_reply
+    read_broken (g.D.Disk.is_honest c.args.disk.now) c.args.line.now (standing_of c.args.engine.now.documents)
+    (standing_of c.read_into.new.self.documents) c.in-Ok-Read.id c.status_of_read.result c.read_into.result _ _
+    c.status_of_read.ensures asked c.read_into.ensures.course
+
+pub returns-in-Ok-Read-clause-answered : goal.returns-in-Ok-Read-clause-answered
+returns-in-Ok-Read-clause-answered g c =
+    let asked : line_of c.args.line.now ≡ Ok (line.Read c.in-Ok-Read.id) =
+    c.in-Ok-Read.ensures.answers ∙ ap (λ a. Ok a) c.in-Ok-Read.field-0-is in
+    read_answered (g.D.Disk.is_honest c.args.disk.now) c.args.line.now (standing_of c.args.engine.now.documents)
+    (standing_of c.read_into.new.self.documents) c.in-Ok-Read.id c.status_of_read.result c.read_into.result _ _
+    c.status_of_read.ensures asked c.read_into.ensures.course

@@ -24,3 +24,6 @@ returns-in-Err-clause-damaged_root g c = λ honest at damaged.
 pub returns-in-Err-clause-newer : goal.returns-in-Err-clause-newer
 returns-in-Err-clause-newer g c = λ honest version newer.
     passed_on c.in-Err.fault _ (c.in-Err.ensures.newer honest version newer)
+
+pub returns-in-Ok-clause-begins : goal.returns-in-Ok-clause-begins
+returns-in-Ok-clause-begins g c = λ honest. record { ids = c.in-Ok.ensures.empty; says = c.in-Ok.ensures.says honest }

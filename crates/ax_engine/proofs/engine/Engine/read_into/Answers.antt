@@ -11,6 +11,10 @@ pub returns-in-Some-clause-may_reply : goal.returns-in-Some-clause-may_reply
 returns-in-Some-clause-may_reply g c =
     (Err c.in-Some.fault, tt, kept_written c.args.self.now.fault c.in-Some.fault _ c.in-Some.is c.requires.works.no_sink)
 
+pub returns-in-Some-clause-course : goal.returns-in-Some-clause-course
+returns-in-Some-clause-course g c =
+    (Err c.in-Some.fault, tt, kept_written c.args.self.now.fault c.in-Some.fault _ c.in-Some.is c.requires.works.no_sink)
+
 pub returns-clause-applies : goal.returns-clause-applies
 returns-clause-applies g c = λ honest before over.
     let engine : Engine g.row.C.Denot = record {
