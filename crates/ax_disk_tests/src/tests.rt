@@ -1,3 +1,5 @@
 mod crashes;
 mod disks;
+mod far;
 mod indexed;
+mod many;

@@ -14,7 +14,7 @@ const THERE: &[u8] = b"row {\"id\":\"a\"}\nend 1\n";
 const ABSENT: &[u8] = b"end 0\n";
 
 /// The open root slot of version 1, area 1 and generation 1, a closed one, and the last byte.
-const ROOT: &[u8] =
+pub const ROOT: &[u8] =
     b"\x01\x01\x00\x01\x01\x00\x00\x00\x00\x00\x00\x00AXDB\x00\x00\x00\x00\x00\x00\x00\x00\x00\x00\x00\x00\x00\x00\x00\x00E";
 
 /// A disk with these bytes in its root and its first area.
@@ -197,9 +197,14 @@ fn a_text_of_no_document_is_damage(rt: HostRuntime) -> Result<(), Fail> {
 pub fn spoiled_at(alloc: Global, place: usize) -> Result<MemDisk, Fail> {
     let mut disk = fresh_disk(alloc)?;
     let _written = output_over(alloc, &mut disk, b"CREATE {\"id\":\"a\"}\n")?;
+    turned(alloc, &disk, place, 0xFF)
+}
+
+/// A store with this byte at a place of its first area.
+pub fn turned(alloc: Global, disk: &MemDisk, place: usize, byte: u8) -> Result<MemDisk, Fail> {
     let mut area = Vec::from_slice(alloc, disk.bytes(Extent::A))?;
-    if let Some(byte) = area.get_mut(place) {
-        *byte = 0xFF;
+    if let Some(there) = area.get_mut(place) {
+        *there = byte;
     }
     disk_of(alloc, disk.bytes(Extent::Root), area.as_slice())
 }
