@@ -11,8 +11,8 @@ use Rattle.ax_policy.specs.declared.number_use.NumbersFound.{NumbersFound}
 use Rattle.ax_policy.specs.declared.policy.Policy.{Policy}
 use Rattle.ax_policy.specs.Normal.{normal_text}
 use Rattle.ax_policy.specs.Paths.{either}
-use Rattle.ax_policy.specs.NumberUses.{use_of, with_use, with_uses, nothing_found, number_of, IsGiven}
-use Rattle.ax_policy.specs.Table.{Table, numbers, policy_at, is_used, is_free, is_same, is_other, is_text_of, most_others, number_for, others_in_use}
+use Rattle.ax_policy.specs.NumberUses.{use_of, with_use, with_uses, nothing_found, number_of}
+use Rattle.ax_policy.specs.Table.{Table, numbers, policy_at, is_used, is_free, is_same, is_other, is_text_of, most_others, number_for, others_in_use, IsGiven}
 use Rattle.ax_policy.proofs.Searching.{both}
 
 -- a use by what is known of its number: in use, now, of the same normal text

@@ -1,13 +1,12 @@
 -- What each number of a table is for a new policy, as one pass over the numbers finds it. No public
 -- clause cites these words.
-use Rattle.std.specs.Prelude.{◌≡◌, ◌<◌, ◌≤◌, ℕ, ◌+◌, List, Option, Some, None, nat_lt, if◌then◌else◌}
+use Rattle.std.specs.Prelude.{ℕ, ◌+◌, List, Option, Some, None, nat_lt, if◌then◌else◌}
 use Rattle.std.specs.List.{fold}
 use Rattle.ax_policy.specs.declared.number_use.NumberUse.{NumberUse}
 use Rattle.ax_policy.specs.declared.number_use.NumberUse.TheVariants.{Free, Same, Other, Idle}
 use Rattle.ax_policy.specs.declared.number_use.NumbersFound.{NumbersFound}
-use Rattle.ax_policy.specs.declared.policy.Policy.{Policy}
 use Rattle.ax_policy.specs.Paths.{either}
-use Rattle.ax_policy.specs.Table.{Table, policy_at, is_taken, is_used, is_text_of, most_others, number_for, others_in_use}
+use Rattle.ax_policy.specs.Table.{Table, policy_at, is_taken, is_used, is_text_of, most_others}
 
 -- for a policy of that normal text
 abbrev pub use_of : List ℕ → Table → ℕ → NumberUse
@@ -33,9 +32,3 @@ nothing_found = record { others = 0; same = None; free = None }
 -- the number that the policy is given: none where too many others are in use
 abbrev pub number_of : NumbersFound → Option ℕ
 number_of found = if nat_lt found.others most_others then either found.same found.free else None
-
--- this number is given to the policy, or none where eight others are in use
-abbrev pub IsGiven : Policy → Table → Option ℕ → Type 0
-IsGiven policy table None = most_others ≤ others_in_use policy table
-IsGiven policy table (Some number) =
-    (number_for policy table ≡ Some number) × (number ≤ 8) × (others_in_use policy table < most_others)

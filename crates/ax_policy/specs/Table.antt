@@ -1,7 +1,7 @@
--- Policies by number, from 0 to 8, each with the count of the documents that are under it, and which
--- of them is the policy now. A new policy takes the number that is in use or now under the same
+-- Policies by number, from 0 to 8, each with the count of the documents that are under it, which of
+-- them is the policy now, and a number below which each document is under it. A new policy takes the number that is in use or now under the same
 -- normal text, and else the least that is neither, whatever policy that had before.
-use Rattle.std.specs.Prelude.{◌≡◌, ◌≢◌, ◌≤◌, ℕ, List, [], ◌∷◌, length, replicate, if◌then◌else◌, sum_by, count_by, find, slice_index_or}
+use Rattle.std.specs.Prelude.{◌≡◌, ◌≢◌, ◌<◌, ◌≤◌, ℕ, List, [], ◌∷◌, length, replicate, if◌then◌else◌, sum_by, count_by, find, slice_index_or}
 use Rattle.std.specs.Prelude.{Bool, true, false, not, ◌&&◌, ◌||◌, ◌==◌, nat_lt, Option, Some, None, IsSome}
 use Rattle.std.specs.Str.{bytes_eq}
 use Rattle.ax_policy.specs.declared.policy.Policy.{Policy}
@@ -13,6 +13,8 @@ use Rattle.ax_policy.specs.Paths.{either}
 pub record Table : Type 0 where
   pub slots : List Slot
   pub current : ℕ
+  -- every document of a lesser number is under the policy now; that it is so is the caller's to keep
+  pub moved : ℕ
 
 -- the numbers that policies have
 unfoldable pub numbers : List ℕ
@@ -42,9 +44,9 @@ pub record IsTable (table : Table) : Type 0 where
   pub none : (number : ℕ) → policy_at table number ≡ None → count_at table number ≡ 0
   pub most : (number : ℕ) → count_at table number ≤ most_documents
 
--- the policy has number 0 and is now, and no other number has one
+-- the policy has number 0 and is now, no other number has one, and no document is known to be under it
 abbrev pub begun : Policy → Table
-begun policy = record { slots = record { policy = Some policy; count = 0 } ∷ replicate 8 no_slot; current = 0 }
+begun policy = record { slots = record { policy = Some policy; count = 0 } ∷ replicate 8 no_slot; current = 0; moved = 0 }
 
 -- that of a new store
 abbrev pub fresh : Table
@@ -96,6 +98,12 @@ abbrev pub number_for : Policy → Table → Option ℕ
 number_for policy table =
     either (find (is_same (normal_text policy) table) numbers) (find (is_free table) numbers)
 
+-- the policy is given this number; none, just where too many others are in use
+abbrev pub IsGiven : Policy → Table → Option ℕ → Type 0
+IsGiven policy table None = most_others ≤ others_in_use policy table
+IsGiven policy table (Some number) =
+    (number_for policy table ≡ Some number) × (number ≤ 8) × (others_in_use policy table < most_others)
+
 -- ---- changes
 
 -- the policy stands under the number, and all else stays
@@ -104,6 +112,7 @@ pub record PutsPolicy (number : ℕ) (policy : Policy) (old new : Table) : Type 
   pub others : (other : ℕ) → other ≢ number → policy_at new other ≡ policy_at old other
   pub counts : (other : ℕ) → count_at new other ≡ count_at old other
   pub current : new.current ≡ old.current
+  pub moved : new.moved ≡ old.moved
 
 -- the number has that count, and all else stays
 pub record SetsCount (number count : ℕ) (old new : Table) : Type 0 where
@@ -111,13 +120,16 @@ pub record SetsCount (number count : ℕ) (old new : Table) : Type 0 where
   pub others : (other : ℕ) → other ≢ number → count_at new other ≡ count_at old other
   pub policies : (other : ℕ) → policy_at new other ≡ policy_at old other
   pub current : new.current ≡ old.current
+  pub moved : new.moved ≡ old.moved
 
--- the policy stands under the number that it is to have, which is now, and all else stays
+-- the policy stands under the number that it is to have, which is now, no document is known to be
+-- under it, and all else stays
 pub record SetsNow (policy : Policy) (old new : Table) : Type 0 where
   pub number : number_for policy old ≡ Some new.current
   pub stands : policy_at new new.current ≡ Some policy
   pub others : (other : ℕ) → other ≢ new.current → policy_at new other ≡ policy_at old other
   pub counts : (other : ℕ) → count_at new other ≡ count_at old other
+  pub moved : new.moved ≡ 0
 
 -- no two numbers in use or now have policies of one normal text
 abbrev pub AreApart : Table → Type 0

@@ -1,7 +1,7 @@
 //! Policies by number, and which of them is the policy now.
 ghost use Rattle.std.specs.Prelude.{◌≡◌, ◌+◌, ◌-◌, ◌<◌, ◌≤◌, IfOk, IfErr, OnOk, OnErr, IsSome, length, replicate};
 ghost use Rattle.std.specs.Option.{option_copied};
-ghost use Rattle.ax_policy.specs.NumberUses.{use_of, with_uses, nothing_found, IsGiven};
+ghost use Rattle.ax_policy.specs.NumberUses.{use_of, with_uses, nothing_found};
 ghost use Rattle.ax_policy.specs.Table as spec;
 
 use crate::default::default_policy;
@@ -14,11 +14,14 @@ use std::alloc::Global;
 use std::marker::Model;
 
 /// Policies by number, from 0 to 8, each with the count of the documents that are under it, and
-/// which of them is the policy now.
+/// which of them is the policy now; and a number below which every document is under the policy now,
+/// as who sets it keeps.
 #[derive(Debug, Drop)]
 pub struct PolicyTable {
     slots: Vec<Slot>,
     current: u8,
+    /// Every document of a lesser number is under the policy now.
+    moved: u32,
 }
 
 impl Model for PolicyTable {
@@ -26,9 +29,9 @@ impl Model for PolicyTable {
 
     ghost Value = { Table };
 
-    ghost view = { λ t. record { slots = t.slots.items; current = t.current } };
+    ghost view = { λ t. record { slots = t.slots.items; current = t.current; moved = t.moved } };
 
-    ghost invariant = { λ t. IsTable (record { slots = t.slots.items; current = t.current }) };
+    ghost invariant = { λ t. IsTable (record { slots = t.slots.items; current = t.current; moved = t.moved }) };
 }
 
 impl PolicyTable {
@@ -134,12 +137,28 @@ impl PolicyTable {
         }
     }
 
-    /// Makes the policy of that number the policy now.
+    /// The number below which every document is under the policy now.
+    pub fn moved(&self) -> u32
+        ensures { result ≡ self.now.moved }
+    {
+        self.moved
+    }
+
+    /// Notes that every document below that number is under the policy now, which is the caller's to
+    /// know.
+    pub fn set_moved(&mut self, number: u32)
+        ensures { self.new ≡ record self.old { moved = number } }
+    {
+        self.moved = number;
+    }
+
+    /// Makes the policy of that number the policy now; no document is known to be under it.
     pub fn start(&mut self, number: u8)
         requires { IsSome (spec.policy_at self.old number) }
-        ensures { self.new ≡ record self.old { current = number } }
+        ensures { self.new ≡ record self.old { current = number; moved = 0 } }
     {
         self.current = number;
+        self.moved = 0;
     }
 
     /// Makes the policy the one now, under the number that is in use or now under the same normal
@@ -163,7 +182,7 @@ impl PolicyTable {
     /// Makes the policy the one now, under the number that it is given. `TableFault::Full`, and no
     /// other error, where it is given none.
     fn set_under(&mut self, number: Option<u8>, policy: Policy) -> Result<(), TableFault>
-        requires { IsGiven policy self.old number }
+        requires { spec.IsGiven policy self.old number }
         ensures ok { OnOk result (spec.SetsNow policy self.old self.new) }
         ensures room { OnOk result (spec.others_in_use policy self.old < spec.most_others) }
         ensures full { OnErr result (spec.most_others ≤ spec.others_in_use policy self.old) }
@@ -172,8 +191,7 @@ impl PolicyTable {
     {
         match number {
             Some(number) => {
-                self.store(number, policy);
-                self.start(number);
+                self.put_now(number, policy);
                 Ok(())
             }
             None => {
@@ -183,9 +201,20 @@ impl PolicyTable {
         }
     }
 
-    /// The number that the policy is given; `None` where eight other policies are in use.
-    fn number_for(&self, alloc: Global, policy: &Policy) -> Result<Option<u8>, Memory>
-        ensures { IfOk result (IsGiven policy.now self.now) }
+    /// Makes the policy the one now, under the number that `number_for` gives it.
+    pub fn put_now(&mut self, number: u8, policy: Policy)
+        requires { spec.IsGiven policy self.old (Some number) }
+        ensures now { spec.SetsNow policy self.old self.new }
+        ensures room { spec.others_in_use policy self.old < spec.most_others }
+    {
+        self.store(number, policy);
+        self.start(number);
+    }
+
+    /// The number that the policy is given, from 0 to 8: that in use or now under the same normal
+    /// text, and else the least that is neither. `None` just where eight other policies are in use.
+    pub fn number_for(&self, alloc: Global, policy: &Policy) -> Result<Option<u8>, Memory>
+        ensures { IfOk result (spec.IsGiven policy.now self.now) }
     {
         let text = policy.normal(alloc)?;
         let found = self.numbers_found(alloc, text.as_slice())?;
@@ -260,7 +289,11 @@ fn begun(slots: Vec<Slot>, policy: Policy) -> PolicyTable
     let mut slots = slots;
     let first = &mut slots[0];
     first.policy = Some(policy);
-    PolicyTable { slots, current: 0 }
+    PolicyTable {
+        slots,
+        current: 0,
+        moved: 0,
+    }
 }
 
 fn empty_slots(alloc: Global) -> Result<Vec<Slot>, Memory>

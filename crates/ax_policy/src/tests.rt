@@ -327,3 +327,35 @@ fn a_policy_is_put_under_a_number_and_started(rt: HostRuntime) -> Result<(), Fai
     assert_eq!(rt; table.count(3), 0);
     Ok(())
 }
+
+#[test]
+fn moved_documents_are_noted_until_a_policy_is_started(rt: HostRuntime) -> Result<(), Fail> {
+    let alloc = rt.alloc();
+    let mut table = PolicyTable::fresh(alloc)?;
+    assert_eq!(rt; table.moved(), 0);
+    table.set_moved(7);
+    create(&mut table);
+    let policy = default_policy(alloc)?;
+    table.put(3, policy)?;
+    assert_eq!(rt; table.moved(), 7);
+    if table.policy(3).is_some() {
+        table.start(3);
+    }
+    assert_eq!(rt; (table.now(), table.moved()), (3, 0));
+    Ok(())
+}
+
+#[test]
+fn a_policy_stands_under_the_number_that_was_asked_for_it(rt: HostRuntime) -> Result<(), Fail> {
+    let alloc = rt.alloc();
+    let mut table = PolicyTable::fresh(alloc)?;
+    create(&mut table);
+    table.set_moved(1);
+    let policy = policy(alloc, LEAF_OUT)?;
+    match table.number_for(alloc, &policy)? {
+        Some(number) => table.put_now(number, policy),
+        None => drop(policy),
+    }
+    assert_eq!(rt; (table.now(), table.moved(), table.left()), (1, 0, 1));
+    Ok(())
+}

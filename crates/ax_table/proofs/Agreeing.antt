@@ -61,6 +61,12 @@ one_more number old new sets n =
 abbrev under : ℕ → Stored → Bool
 under n document = document.policy == n
 
+-- each document is one that was held before, or is under the policy now
+abbrev AreHeldOrNow : Contents → Contents → Type 0
+AreHeldOrNow old new =
+    (n : ℕ) (document : Stored) → map.get new.documents n ≡ Some document
+    → (map.get old.documents n ≡ Some document) ⊎ (document.policy ≡ old.policy_now)
+
 -- a document that is held counts
 pub counts_held : (contents : Contents) (number : ℕ) (old : Stored) → map.get contents.documents number ≡ Some old
     → 0 < documents_under old.policy contents
@@ -80,10 +86,10 @@ module _ (honest : Bool) (table : Table) (contents : Contents) (agrees : TableAg
   is_taken number old held = inr (record { number = number; document = old; held = held; indexed_by = refl })
 
   module _ (after : Table) (new : Contents) (now : new.policy_now ≡ contents.policy_now) (policies : new.policies ≡ contents.policies)
-      (current : after.current ≡ table.current) (there : (n : ℕ) → policy_at after n ≡ policy_at table n) where
-    still : ((n : ℕ) → IsTaken n new → IsTaken n contents) → ((n : ℕ) → 0 < count_at after n → (0 < count_at table n) ⊎ (n ≡ table.current))
+      (current : after.current ≡ table.current) (mark : after.moved ≡ table.moved) (there : (n : ℕ) → policy_at after n ≡ policy_at table n) where
+    still : AreHeldOrNow contents new → ((n : ℕ) → 0 < count_at after n → (0 < count_at table n) ⊎ (n ≡ table.current))
         → ((n : ℕ) → count_at after n ≡ documents_under n new) → map.len new.documents ≤ most_documents → TableAgrees honest after new
-    still taken used counts few = record {
+    still held_or_now used counts few = record {
       now = current ∙ agrees.now ∙ sym now;
       given = ap (λ n. is_given n new) now ∙ same_given contents.policy_now ∙ agrees.given;
       known = λ n is. subst IsSome (sym (there n)) (agrees.known n (taken n is));
@@ -94,9 +100,24 @@ module _ (honest : Bool) (table : Table) (contents : Contents) (agrees : TableAg
       texts = λ h n policy is.
           subst (λ text. IsTextOf text policy) (sym (same_text n)) (agrees.texts h n policy (sym (there n) ∙ is));
       counts = counts;
+      moved = λ n document below held.
+          ⊎_elim
+          (λ (before : map.get contents.documents n ≡ Some document).
+          agrees.moved n document (subst (λ m. n < m) mark below) before ∙ sym current)
+          (λ (under_now : document.policy ≡ contents.policy_now). under_now ∙ sym agrees.now ∙ sym current) (held_or_now n document held);
       few = few;
     }
       where
+        -- no other number comes into use
+        taken : (n : ℕ) → IsTaken n new → IsTaken n contents
+        taken n (inl is) = inl (is ∙ now)
+        taken n (inr used) =
+            ⊎_elim
+            (λ (before : map.get contents.documents used.number ≡ Some used.document).
+            inr (record { number = used.number; document = used.document; held = before; indexed_by = used.indexed_by }))
+            (λ (under_now : used.document.policy ≡ contents.policy_now). inl (sym used.indexed_by ∙ under_now))
+            (held_or_now used.number used.document used.held)
+
         same_given : (n : ℕ) → is_given n new ≡ is_given n contents
         same_given n = ap (λ (p : map.FinMap nat_cmp (List ℕ)). is_given n (record contents { policies = p })) policies
 
@@ -145,37 +166,29 @@ module _ (honest : Bool) (table : Table) (contents : Contents) (agrees : TableAg
 
 module _ (honest : Bool) (table : Table) (contents new : Contents) (agrees : TableAgrees honest table contents)
     (now : new.policy_now ≡ contents.policy_now) (policies : new.policies ≡ contents.policies) where
-  -- where a document is put under the policy now, no other number comes into use
-  put_taken : (number : ℕ) (made : Stored) → new.documents ≡ map.insert contents.documents number made → made.policy ≡ contents.policy_now
-      → (n : ℕ) → IsTaken n new → IsTaken n contents
-  put_taken number made put under_now n (inl is) = inl (is ∙ now)
-  put_taken number made put under_now n (inr used) =
+  -- where a document is put under the policy now
+  put_held : (number : ℕ) (made : Stored) → new.documents ≡ map.insert contents.documents number made → made.policy ≡ contents.policy_now
+      → AreHeldOrNow contents new
+  put_held number made put under_now n document held =
       ⊎_elim
-      (λ (same : used.number ≡ number).
-      let found : map.get (map.insert contents.documents number made) number ≡ Some used.document =
-      sym (ap (map.get (map.insert contents.documents number made)) same) ∙ sym (ap (λ d. map.get d used.number) put) ∙ used.held in
-      let is : used.document ≡ made = same_some used.document made (sym found ∙ get_inserted contents.documents number made) in
-      inl (sym used.indexed_by ∙ ap (λ (d : Stored). d.policy) is ∙ under_now))
-      (λ (apart : used.number ≡ number → ⊥).
-      let before : map.get contents.documents used.number ≡ Some used.document =
-      sym (get_not_inserted contents.documents number used.number made apart) ∙ sym (ap (λ d. map.get d used.number) put) ∙ used.held in
-      inr (record { number = used.number; document = used.document; held = before; indexed_by = used.indexed_by }))
-      (cases_eq used.number number)
+      (λ (same : n ≡ number).
+      let found : map.get (map.insert contents.documents number made) number ≡ Some document =
+      sym (ap (map.get (map.insert contents.documents number made)) same) ∙ sym (ap (λ d. map.get d n) put) ∙ held in
+      let is : document ≡ made = same_some document made (sym found ∙ get_inserted contents.documents number made) in
+      inr (ap (λ (d : Stored). d.policy) is ∙ under_now))
+      (λ (apart : n ≡ number → ⊥).
+      inl (sym (get_not_inserted contents.documents number n made apart) ∙ sym (ap (λ d. map.get d n) put) ∙ held))
+      (cases_eq n number)
 
-  gone_taken : (number : ℕ) → new.documents ≡ map.remove contents.documents number → (n : ℕ) → IsTaken n new → IsTaken n contents
-  gone_taken number gone n (inl is) = inl (is ∙ now)
-  gone_taken number gone n (inr used) =
-      let found : map.get (map.remove contents.documents number) used.number ≡ Some used.document =
-      sym (ap (λ d. map.get d used.number) gone) ∙ used.held in
+  -- where one is taken out
+  gone_held : (number : ℕ) → new.documents ≡ map.remove contents.documents number → AreHeldOrNow contents new
+  gone_held number gone n document held =
+      let found : map.get (map.remove contents.documents number) n ≡ Some document = sym (ap (λ d. map.get d n) gone) ∙ held in
       ⊎_elim
-      (λ (same : used.number ≡ number).
-      absurd (some_or_none used.document
+      (λ (same : n ≡ number).
+      absurd (some_or_none document
       (sym (get_removed contents.documents number) ∙ sym (ap (map.get (map.remove contents.documents number)) same) ∙ found)))
-      (λ (apart : used.number ≡ number → ⊥).
-      let before : map.get contents.documents used.number ≡ Some used.document =
-      sym (get_not_removed contents.documents number used.number apart) ∙ found in
-      inr (record { number = used.number; document = used.document; held = before; indexed_by = used.indexed_by }))
-      (cases_eq used.number number)
+      (λ (apart : n ≡ number → ⊥). inl (sym (get_not_removed contents.documents number n apart) ∙ found)) (cases_eq n number)
 
   counted : (n : ℕ) (d : map.FinMap nat_cmp Stored) → new.documents ≡ d → documents_under n new ≡ count (under n) (map.entries d)
   counted n d is = ap (λ (m : map.FinMap nat_cmp Stored). count (under n) (map.entries m)) is
@@ -185,8 +198,8 @@ module _ (honest : Bool) (table : Table) (contents new : Contents) (agrees : Tab
       → SetsCount old.policy (count_at table old.policy - 1) table mid → SetsCount table.current (count_at mid table.current + 1) mid after
       → TableAgrees honest after new
   agrees_replaced mid after number old made held put under_now out into =
-      still honest table contents agrees after new now policies (into.current ∙ out.current) (λ n. into.policies n ∙ out.policies n)
-      (put_taken number made put under_now) used counts few
+      still honest table contents agrees after new now policies (into.current ∙ out.current) (into.moved ∙ out.moved)
+      (λ n. into.policies n ∙ out.policies n) (put_held number made put under_now) used counts few
     where
       some : 0 < count_at table old.policy
       some = is_counted honest table contents agrees number old held
@@ -225,7 +238,8 @@ module _ (honest : Bool) (table : Table) (contents new : Contents) (agrees : Tab
       → new.documents ≡ map.insert contents.documents number made → made.policy ≡ contents.policy_now
       → SetsCount table.current (count_at table table.current + 1) table after → TableAgrees honest after new
   agrees_created after number made none room put under_now into =
-      still honest table contents agrees after new now policies into.current into.policies (put_taken number made put under_now) used counts few
+      still honest table contents agrees after new now policies into.current into.moved into.policies (put_held number made put under_now) used counts
+      few
     where
       used : (n : ℕ) → 0 < count_at after n → (0 < count_at table n) ⊎ (n ≡ table.current)
       used n is =
@@ -255,7 +269,7 @@ module _ (honest : Bool) (table : Table) (contents new : Contents) (agrees : Tab
       → new.documents ≡ map.remove contents.documents number
       → SetsCount old.policy (count_at table old.policy - 1) table after → TableAgrees honest after new
   agrees_deleted after number old held gone out =
-      still honest table contents agrees after new now policies out.current out.policies (gone_taken number gone) used counts few
+      still honest table contents agrees after new now policies out.current out.moved out.policies (gone_held number gone) used counts few
     where
       used : (n : ℕ) → 0 < count_at after n → (0 < count_at table n) ⊎ (n ≡ table.current)
       used n is =

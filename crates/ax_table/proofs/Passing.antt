@@ -44,6 +44,7 @@ pub record IsPassed (honest : Bool) (contents : Contents) (next : Option ℕ) (t
       → IsSome (policy_at table document.policy)
   pub used : (number : ℕ) → 0 < count_at table number → IsUsed number contents
   pub now : table.current ≡ contents.policy_now
+  pub moved : table.moved ≡ 0
   pub there : IsSome (policy_at table contents.policy_now)
   pub given : AreGiven honest table contents
 
@@ -190,6 +191,7 @@ module _ (honest : Bool) (contents : Contents) where
         absurd (some_or_none document (sym (none_before contents.documents next first number behind) ∙ held));
     used = λ number some. let none : count_at table number ≡ 0 = started.begun.none number in absurd (omega (arith, some, none));
     now = started.now;
+    moved = started.moved;
     there = started.there;
     given = started.begun.given;
   }
@@ -228,6 +230,7 @@ module _ (honest : Bool) (contents : Contents) where
         known = λ other found_there is behind. known_here other found_there is behind (cases_order other number);
         used = λ n some. used_here n some (cases_eq document.policy n);
         now = takes.current ∙ passed.now;
+        moved = takes.moved ∙ passed.moved;
         there = takes.still contents.policy_now passed.there;
         given = takes.given passed.given;
       }
@@ -254,6 +257,7 @@ module _ (honest : Bool) (contents : Contents) where
       → IsFilled honest table contents
   pass_all table few passed = record {
     now = passed.now;
+    moved = passed.moved;
     known = known;
     given = passed.given;
     counts = counts;

@@ -72,6 +72,7 @@ module _ (honest : Bool) (number : ℕ) (contents : Contents) where
         (λ (apart : other ≡ number → ⊥). subst IsSome (sym (put.puts.others other apart)) had) (cases_eq other number);
     counts = put.puts.counts;
     current = put.puts.current;
+    moved = put.puts.moved;
     given = λ were. record {
       policies = λ other policy is. policies were other policy is (cases_eq other number);
       numbers = λ other policy is. numbers were other policy is (cases_eq other number);
@@ -97,6 +98,7 @@ module _ (honest : Bool) (number : ℕ) (contents : Contents) where
     still = λ other there. there;
     counts = λ other. refl;
     current = refl;
+    moved = refl;
     given = λ were. were;
   }
     where
@@ -119,18 +121,20 @@ taken_in honest number contents old mid new gives sets = record {
   still = λ other had. subst IsSome (sym (sets.policies other)) (gives.still other had);
   counts = λ other. one_more number mid new sets other ∙ ap (λ n. n + cond (number == other) 1 0) (gives.counts other);
   current = sets.current ∙ gives.current;
+  moved = sets.moved ∙ gives.moved;
   given = λ were. given_same honest contents mid new sets.policies (gives.given were);
 }
 
 -- the policy now
 pub started : (honest : Bool) (number : ℕ) (contents : Contents) (old mid new : Table) → number ≡ contents.policy_now → IsBegun honest old contents
-    → Gives honest number contents old mid → new ≡ record mid { current = number } → IsStarted honest new contents
+    → Gives honest number contents old mid → new ≡ record mid { current = number; moved = 0 } → IsStarted honest new contents
 started honest number contents old mid new now was gives is = record {
   begun = record {
     none = λ n. ap (λ (t : Table). count_at t n) is ∙ gives.counts n ∙ was.none n;
     given = given_same honest contents mid new (λ n. ap (λ (t : Table). policy_at t n) is) (gives.given was.given);
   };
   now = ap (λ (t : Table). t.current) is ∙ now;
+  moved = ap (λ (t : Table). t.moved) is;
   there = subst (λ n. IsSome (policy_at new n)) now (subst (λ (t : Table). IsSome (policy_at t number)) (sym is) gives.there);
 }
 
@@ -178,6 +182,7 @@ module _ (honest : Bool) (t : Table) (contents : Contents) (filled : IsFilled ho
     only_given = λ n policy is. (filled.given.numbers n policy is).given;
     texts = λ h n policy is. (filled.given.policies n policy is).text h;
     counts = filled.counts;
+    moved = λ n document below held. absurd (omega (arith, below, filled.moved));
     few = filled.few;
   }
 

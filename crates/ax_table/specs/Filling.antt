@@ -44,12 +44,13 @@ pub record PutsGiven (honest : Bool) (number : ℕ) (contents : Contents) (old n
   pub is : IsPolicyOf honest number contents policy
   pub puts : PutsPolicy number policy old new
 
--- the number has a policy; what had one has one still, and counts and the number now are as they were
+-- the number has a policy; what had one has one still, and counts, the number now and the mark are as they were
 pub record Gives (honest : Bool) (number : ℕ) (contents : Contents) (old new : Table) : Type 0 where
   pub there : IsSome (policy_at new number)
   pub still : (other : ℕ) → IsSome (policy_at old other) → IsSome (policy_at new other)
   pub counts : (other : ℕ) → count_at new other ≡ count_at old other
   pub current : new.current ≡ old.current
+  pub moved : new.moved ≡ old.moved
   pub given : AreGiven honest old contents → AreGiven honest new contents
 
 -- and one document more is under the policy of that number
@@ -58,6 +59,7 @@ pub record TakesIn (honest : Bool) (number : ℕ) (contents : Contents) (old new
   pub still : (other : ℕ) → IsSome (policy_at old other) → IsSome (policy_at new other)
   pub counts : (other : ℕ) → count_at new other ≡ count_at old other + cond (number == other) 1 0
   pub current : new.current ≡ old.current
+  pub moved : new.moved ≡ old.moved
   pub given : AreGiven honest old contents → AreGiven honest new contents
 
 -- no document is under a policy of the table yet
@@ -65,10 +67,11 @@ pub record IsBegun (honest : Bool) (table : Table) (contents : Contents) : Type 
   pub none : (number : ℕ) → count_at table number ≡ 0
   pub given : AreGiven honest table contents
 
--- and the policy now is that of the contents
+-- and the policy now is that of the contents, of which it is not known that a document is under it
 pub record IsStarted (honest : Bool) (table : Table) (contents : Contents) : Type 0 where
   pub begun : IsBegun honest table contents
   pub now : table.current ≡ contents.policy_now
+  pub moved : table.moved ≡ 0
   pub there : IsSome (policy_at table contents.policy_now)
 
 -- the least number that is held, and none where none is
@@ -80,6 +83,7 @@ IsFirst held_by None = (number : ℕ) → map.get held_by number ≡ None
 -- all documents are under their policies
 pub record IsFilled (honest : Bool) (table : Table) (contents : Contents) : Type 0 where
   pub now : table.current ≡ contents.policy_now
+  pub moved : table.moved ≡ 0
   pub known : (number : ℕ) → IsTaken number contents → IsSome (policy_at table number)
   pub given : AreGiven honest table contents
   pub counts : (number : ℕ) → count_at table number ≡ documents_under number contents

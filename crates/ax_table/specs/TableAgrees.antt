@@ -1,9 +1,10 @@
 -- When a table of policies agrees with the contents of a store: the policy now has the same number in both, each
 -- number that is in use or now has a policy in the table, no two of these are equal, only numbers that a part gave, and
 -- 0, have one, where the disk is to be trusted a policy that the table has is the one of the text that its number has,
--- and each count is that of the documents under that number.
+-- each count is that of the documents under that number, and every document below the table's mark is under the policy
+-- now.
 -- It is this project's own; it comes from no public document.
-use Rattle.std.specs.Prelude.{◌≡◌, ◌≤◌, ℕ, ◌==◌, Bool, true, count_by, Some, IsSome, IsTrue}
+use Rattle.std.specs.Prelude.{◌≡◌, ◌<◌, ◌≤◌, ℕ, ◌==◌, Bool, true, count_by, Some, IsSome, IsTrue}
 use Rattle.std.specs.FinMap as map
 use Rattle.ax_area.specs.Contents.{Contents, Stored, is_given}
 use Rattle.ax_image_grammar.specs.Payloads.{IsTextOf}
@@ -39,5 +40,8 @@ pub record TableAgrees (honest : Bool) (table : Table) (contents : Contents) : T
   pub texts : IsTrue honest → (number : ℕ) (policy : Policy) → policy_at table number ≡ Some policy
       → IsTextOf (policy_text number contents) policy
   pub counts : (number : ℕ) → count_at table number ≡ documents_under number contents
+  -- every document of a number below the table's mark is under the policy now
+  pub moved : (number : ℕ) (document : Stored) → number < table.moved → map.get contents.documents number ≡ Some document
+      → document.policy ≡ table.current
   -- no more are held than a store holds
   pub few : map.len contents.documents ≤ most_documents

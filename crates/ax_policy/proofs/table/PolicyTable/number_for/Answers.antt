@@ -1,6 +1,6 @@
 -- What the pass over the numbers found is said in the words of the table.
 use Rattle.std.proofs.Common.{◌∙◌, sym, subst}
-use Rattle.ax_policy.specs.NumberUses.{IsGiven}
+use Rattle.ax_policy.specs.Table.{IsGiven}
 use Rattle.ax_policy.proofs.NumberLaws.{is_found, is_given}
 use Rattle.ax_policy.proofs.table.PolicyTable.number_for.Goals as goal
 
