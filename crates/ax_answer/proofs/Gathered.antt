@@ -1,7 +1,8 @@
 -- One document more, the end of a walk, and the answer.
-use Rattle.std.proofs.Common.{◌≡◌, ℕ, zero, suc, ◌+◌, ◌≤◌, List, [], ◌∷◌, ◌++◌, length, map, drop, Bool, true, false, cond, Option, Some, None, refl, ap, sym, subst, ◌∙◌, append_assoc}
+use Rattle.std.proofs.Common.{◌≡◌, ◌⊎◌, inl, inr, ℕ, zero, suc, ◌+◌, ◌≤◌, List, [], ◌∷◌, ◌++◌, length, map, drop, take, Bool, true, false, cond, Option, Some, None, refl, ap, ap₂, sym, subst, ◌∙◌, append_assoc, arith, length-append, length-take, length-drop}
 use Rattle.std.proofs.lemmas.Grind.{flat_map-append}
-use Rattle.std.proofs.lemmas.List.{append-nil}
+use Rattle.std.proofs.lemmas.Bool.{leb-true}
+use Rattle.std.proofs.lemmas.List.{append-nil, length-take-le}
 use Rattle.std.specs.List.{cons_option, flat_map}
 use Rattle.std.specs.List.Sorted.{IsStrictlySortedBy}
 use Rattle.std.specs.Ordering.{nat_cmp}
@@ -17,7 +18,7 @@ use Rattle.ax_mean.specs.RowOrder.{key_cmp}
 use Rattle.ax_mean.specs.Rows.{Bound, envs_of_tree, keyed_rows, passes, rows_of_tree}
 use Rattle.ax_rows.specs.declared.front.FrontRows as front
 use Rattle.ax_rows.specs.declared.least.LeastRows as least
-use Rattle.ax_rows.specs.Front.{IsFront, room_of}
+use Rattle.ax_rows.specs.Front.{IsFront, fresh, reaches, room_of}
 use Rattle.ax_rows.specs.Least.{HoldsLeast}
 use Rattle.ax_rows.specs.Taking.{Gains}
 use Rattle.ax_rows.proofs.InOrder.{answer_from}
@@ -216,6 +217,45 @@ full_enough held full query entries told gathers enough =
     enough.limited gathers.3)
     enough.many
 
+-- a full front has as many rows as OFFSET and LIMIT choose among
+module _ (held : front.FrontRows) (query : Query) (entries : List (ℕ × Tree))
+    (full : reaches held.limit (length held.rows.items) ≡ true) (gathers : GathersIn (Front held) query entries) where
+  abbrev kept_rows : List KeyedRow
+  kept_rows = distinct_where query.distinct (all_rows query entries)
+
+  many_rows : (n : ℕ) → query.limit ≡ Some (suc n) → query.skip + suc n ≤ length kept_rows
+  many_rows n limit =
+      let here : held.limit ≡ Some (suc n) = gathers.3.has_limit ∙ limit in
+      let more : List KeyedRow = held.rows.items ++ drop held.left (fresh held.seen []) in
+      let filled : suc n ≤ length held.rows.items =
+      leb-true (suc n) (length held.rows.items) (ap (λ l. reaches l (length held.rows.items)) (sym here) ∙ full) in
+      let long : suc n ≤ length more = omega (arith, filled, length-append held.rows.items (drop held.left (fresh held.seen []))) in
+      let same : take (suc n) more ≡ take (suc n) (drop query.skip kept_rows) =
+      ap (λ l. limited l more) (sym here) ∙ gathers.3.leads []
+      ∙ ap₂ (λ l rows. limited l (drop query.skip (distinct_where query.distinct rows))) limit (append-nil (all_rows query entries)) in
+      let taken : length (take (suc n) (drop query.skip kept_rows)) ≡ suc n =
+      ap length (sym same) ∙ length-take-le (suc n) more long in
+      omega (arith, taken, length-take (suc n) (drop query.skip kept_rows), length-drop query.skip kept_rows)
+
+  pub full_has_enough : HasEnough query entries
+  full_has_enough = by query.limit refl
+    where
+      by : (limit : Option ℕ) → query.limit ≡ limit → HasEnough query entries
+      by None is =
+          let none : reaches None (length held.rows.items) ≡ true =
+          ap (λ l. reaches l (length held.rows.items)) (sym (gathers.3.has_limit ∙ is)) ∙ full in
+          absurd cc
+      by (Some zero) is =
+          let none : wants_rows (Some 0) ≡ true = ap wants_rows (sym is) ∙ gathers.0 in
+          absurd cc
+      by (Some (suc n)) is = record {
+        no_groups = gathers.1;
+        no_orders = gathers.2;
+        limit = suc n;
+        limited = is;
+        many = many_rows n is;
+      }
+
 limit_wanted : (limit : Option ℕ) → wants_rows limit ≡ true → limit ≡ Some 0 → ⊥
 limit_wanted limit wanted e = let none : wants_rows limit ≡ false = ap wants_rows e in absurd (cc)
 
@@ -275,6 +315,23 @@ full_done kept rows query entries more is sound gathers =
 pub seen_as : (kept it : held.Held) (query : Query) (entries : List (ℕ × Tree)) → kept ≡ it
     → GathersIn kept query entries → GathersIn it query entries
 seen_as kept it query entries is gathers = subst (λ (h : held.Held). GathersIn h query entries) is gathers
+
+-- an answer that is done with its front has enough
+pub done_with_enough : (kept : held.Held) (rows : front.FrontRows) (query : Query) (entries : List (ℕ × Tree)) → kept ≡ Front rows
+    → reaches rows.limit (length rows.rows.items) ≡ true → GathersIn kept query entries
+    → (query.limit ≡ Some 0) ⊎ HasEnough query entries
+done_with_enough kept rows query entries is full gathers =
+    inr (full_has_enough rows query entries full (seen_as kept (Front rows) query entries is gathers))
+
+-- where no row is wanted the limit is 0
+pub done_with_none : (query : Query) (entries : List (ℕ × Tree)) → wants_rows query.limit ≡ false
+    → (query.limit ≡ Some 0) ⊎ HasEnough query entries
+done_with_none query entries none = by query.limit refl
+  where
+    by : (limit : Option ℕ) → query.limit ≡ limit → (query.limit ≡ Some 0) ⊎ HasEnough query entries
+    by None is = let wanted : wants_rows None ≡ false = ap wants_rows (sym is) ∙ none in absurd cc
+    by (Some zero) is = inl is
+    by (Some (suc n)) is = let wanted : wants_rows (Some (suc n)) ≡ false = ap wants_rows (sym is) ∙ none in absurd cc
 
 pub same_query : (own query : Query) (kept : held.Held) (entries : List (ℕ × Tree))
     (rows : List KeyedRow) → own ≡ query

@@ -1,5 +1,5 @@
 //! What a query answers, from documents that are added one by one.
-ghost use Rattle.std.specs.Prelude.{◌≡◌, ◌+◌, ℕ, List, [], ◌∷◌, ◌++◌, map, true, Some, IfOk, OnOk};
+ghost use Rattle.std.specs.Prelude.{◌≡◌, ◌⊎◌, ◌+◌, ℕ, List, [], ◌∷◌, ◌++◌, map, true, Some, IfOk, OnOk};
 ghost use Rattle.std.specs.List.Sorted.{IsStrictlySortedBy};
 ghost use Rattle.std.specs.Ordering.{nat_cmp};
 ghost use Rattle.ax_tree.specs.declared.tree.Tree as trees;
@@ -65,6 +65,8 @@ impl<'a> Answer<'a> {
             → Gathers self.now query entries → HasEnough query entries → result ≡ true }
         ensures none_wanted { (query : queries.Query) → (entries : List (ℕ × trees.Tree))
             → Gathers self.now query entries → query.limit ≡ Some 0 → result ≡ true }
+        ensures only { result ≡ true → (query : queries.Query) → (entries : List (ℕ × trees.Tree))
+            → Gathers self.now query entries → (query.limit ≡ Some 0) ⊎ HasEnough query entries }
     {
         self.held.is_done()
     }

@@ -1,5 +1,5 @@
 //! What an answer keeps of the documents so far, by what its query needs.
-ghost use Rattle.std.specs.Prelude.{◌≡◌, ℕ, List, [], ◌∷◌, ◌++◌, map, true, false, Some, IfOk};
+ghost use Rattle.std.specs.Prelude.{◌≡◌, ◌⊎◌, ℕ, List, [], ◌∷◌, ◌++◌, map, true, false, Some, IfOk};
 ghost use Rattle.std.specs.List.Sorted.{IsStrictlySortedBy};
 ghost use Rattle.std.specs.Ordering.{nat_cmp};
 ghost use Rattle.ax_tree.specs.declared.tree.Tree as trees;
@@ -106,6 +106,8 @@ impl<'a> Held<'a> {
             → GathersIn self.now query entries → HasEnough query entries → result ≡ true }
         ensures none_wanted { (query : queries.Query) → (entries : List (ℕ × trees.Tree))
             → GathersIn self.now query entries → query.limit ≡ Some 0 → result ≡ true }
+        ensures only { result ≡ true → (query : queries.Query) → (entries : List (ℕ × trees.Tree))
+            → GathersIn self.now query entries → (query.limit ≡ Some 0) ⊎ HasEnough query entries }
     {
         match self {
             Held::Nothing => true,

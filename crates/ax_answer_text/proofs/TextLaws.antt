@@ -1,5 +1,5 @@
 -- One document more, the end of a walk, and the answer.
-use Rattle.std.proofs.Common.{◌≡◌, ◌≢◌, ◌≤◌, ◌+◌, ℕ, List, [], ◌∷◌, ◌++◌, length, map, Bool, true, false, Option, Some, None, inl, inr, refl, sym, ap, subst}
+use Rattle.std.proofs.Common.{◌≡◌, ◌≢◌, ◌⊎◌, ◌≤◌, ◌+◌, ℕ, List, [], ◌∷◌, ◌++◌, length, map, Bool, true, false, Option, Some, None, inl, inr, refl, sym, ap, subst}
 use Rattle.std.proofs.Common.{◌∙◌}
 use Rattle.std.proofs.lemmas.Bool.{false≢true}
 use Rattle.std.specs.Option.{IfSome}
@@ -103,6 +103,23 @@ enough_is_told held done told query entries answers enough =
           ≤ length (distinct_where query.distinct rows))
           (sym (all_the_same held.excerpt query entries answers.asked.enough)) enough.many;
     })
+
+-- an answer that is done has enough, or no row is wanted
+pub done_with_enough : (held : TextAnswer)
+    → ((query : Query) (entries : List (ℕ × Tree)) → Gathers held.answer query entries → (query.limit ≡ Some 0) ⊎ HasEnough query entries)
+    → (query : Query) (entries : List (ℕ × Tree)) → Answers held query entries → (query.limit ≡ Some 0) ⊎ HasEnough query entries
+done_with_enough held told query entries answers =
+    elim (told query (parts_of held.excerpt entries) answers.gathers) as (λ _. (query.limit ≡ Some 0) ⊎ HasEnough query entries) [
+      | inl none ↦ inl none
+      | inr enough ↦ inr (record {
+        no_groups = enough.no_groups;
+        no_orders = enough.no_orders;
+        limit = enough.limit;
+        limited = enough.limited;
+        many = subst (λ (rows : List KeyedRow). query.skip + enough.limit ≤ length (distinct_where query.distinct rows))
+            (all_the_same held.excerpt query entries answers.asked.enough) enough.many;
+      })
+    ]
 
 pub none_wanted_is_told : (held : TextAnswer) (done : Bool)
     → ((query : Query) (entries : List (ℕ × Tree)) → Gathers held.answer query entries

@@ -35,7 +35,7 @@ pub struct TextAnswer<'a> {
 }
 
 impl<'a> TextAnswer<'a> {
-    ghost use Rattle.std.specs.Prelude.{◌≡◌, ◌≢◌, ◌≤◌, ◌+◌, ℕ, List, [], ◌∷◌, ◌++◌, map, true, false, Some, None, Err, IfOk, OnOk};
+    ghost use Rattle.std.specs.Prelude.{◌≡◌, ◌≢◌, ◌⊎◌, ◌≤◌, ◌+◌, ℕ, List, [], ◌∷◌, ◌++◌, map, true, false, Some, None, Err, IfOk, OnOk};
     ghost use Rattle.std.specs.Ordering.{nat_cmp};
     ghost use Rattle.std.specs.List.Sorted.{IsStrictlySortedBy};
     ghost use Rattle.ax_tree.specs.CanonicalText.{canonical_text};
@@ -113,7 +113,7 @@ impl<'a> TextAnswer<'a> {
     /// Whether no further document can change the answer, as `Answer::is_done` says it: also where
     /// documents were passed over. Never so without LIMIT and TOP: then each document is to be added, and a
     /// text that is none of a document is met.
-    #[tactic(auto, using(crate::proofs::TextLaws::done, crate::proofs::TextLaws::none_wanted_is_told))]
+    #[tactic(auto, using(crate::proofs::TextLaws::done, crate::proofs::TextLaws::none_wanted_is_told, crate::proofs::TextLaws::done_with_enough))]
     pub fn is_done(&self) -> bool
         ensures sound { result ≡ true → (query : queries.Query)
             → (entries more : List (ℕ × TreeOf)) → Answers self.now query entries
@@ -122,6 +122,8 @@ impl<'a> TextAnswer<'a> {
             → Answers self.now query entries → HasEnough query entries → result ≡ true }
         ensures none_wanted { (query : queries.Query) → (entries : List (ℕ × TreeOf))
             → Answers self.now query entries → query.limit ≡ Some 0 → result ≡ true }
+        ensures only { result ≡ true → (query : queries.Query) → (entries : List (ℕ × TreeOf))
+            → Answers self.now query entries → (query.limit ≡ Some 0) ⊎ HasEnough query entries }
         ensures unlimited { (query : queries.Query) → IsTo self.now query → query.limit ≡ None
             → result ≡ false }
     {
