@@ -1,5 +1,5 @@
 -- Unions of a kind: one more, all of them, and all kinds.
-use Rattle.std.proofs.Common.{◌≡◌, ℕ, ◌+◌, ◌<◌, ◌≤◌, List, [], ◌∷◌, ◌++◌, length, take, get_or, arith, refl, sym}
+use Rattle.std.proofs.Common.{◌≡◌, ◌⊎◌, inl, inr, ℕ, zero, suc, ◌+◌, ◌<◌, ◌≤◌, List, [], ◌∷◌, ◌++◌, length, take, get_or, arith, refl, sym}
 use Rattle.std.proofs.Common.{ap, ◌∙◌, subst, ⊎_elim, Contains, Option, Some, None}
 use Rattle.std.proofs.lemmas.List.{take_all, take_more}
 use Rattle.std.proofs.lemmas.List.Elements.{All-contains_itself, Contains-append_left, Contains-push, Contains-push_cases}
@@ -9,8 +9,8 @@ use Rattle.ax_pairs.specs.PairSets.{PairSet}
 use Rattle.ax_term.specs.declared.range.TermRange.{TermRange}
 use Rattle.ax_index.specs.Grammar.{AreInGrammar}
 use Rattle.ax_index.specs.Wanted.{HasInSome}
-use Rattle.ax_candidates.specs.Candidates.{AreAllInGrammar, AreCandidates, IsOneInGrammar}
-use Rattle.ax_candidates.specs.Meeting.{AreMet, AreMetWith, AreOfKindInGrammar, HoldsOfKind, IsBegun, IsNoneOfKind}
+use Rattle.ax_candidates.specs.Candidates.{AreAllInGrammar, AreCandidates, AreOfAsked}
+use Rattle.ax_candidates.specs.Meeting.{AreMet, AreMetWith, AreOfKindInGrammar, HoldsOfKind, IsAsked, IsBegun, IsNoneOfKind}
 use Rattle.ax_candidates.specs.Points.{kind_of}
 use Rattle.ax_candidates.specs.declared.points.Kind.{Kind}
 use Rattle.ax_candidates.specs.declared.points.Kind.TheVariants.{Point, Points, Ranges}
@@ -111,15 +111,72 @@ none_still kind unions i here own low is alike other before = record {
       (λ same. absurd (other (ap kind_of alike ∙ same))) before.none;
 }
 
+-- a union in front of others
+cons_cases : (own ranges : List TermRange) (asked : List (List TermRange)) → Contains (own ∷ asked) ranges → (own ≡ ranges) ⊎ Contains asked ranges
+cons_cases own ranges asked (zero, l, e) = inl e
+cons_cases own ranges asked (suc k, l, e) = inr (k, omega (arith, l), e)
+
+module _ (unions : List (List TermRange)) (pages : List TermPage) (own : List TermRange) (there : Contains unions own) where
+  -- the first that is asked
+  asked_first : (numbers : List ℕ) → IsAsked None own pages numbers → AreOfAsked unions pages numbers
+  asked_first numbers is = record {
+    asked = own ∷ [];
+    some = omega arith;
+    among = λ ranges among.
+        ⊎_elim {C = Contains unions ranges}
+        (λ (e : own ≡ ranges). subst (λ (rs : List TermRange). Contains unions rs) e there)
+        (λ (none : Contains [] ranges). absurd (omega (arith, none.1)))
+        (cons_cases own ranges [] among);
+    met = record {
+      each = λ ranges among.
+          ⊎_elim {C = AreInGrammar ranges pages}
+          (λ (e : own ≡ ranges). subst (λ (rs : List TermRange). AreInGrammar rs pages) e is.met)
+          (λ (none : Contains [] ranges). absurd (omega (arith, none.1)))
+          (cons_cases own ranges [] among);
+    };
+    all = λ apart number stands. is.all apart number tt (stands own (0, omega arith, refl));
+  }
+
+  -- and one more
+  asked_more : (before numbers : List ℕ) → AreOfAsked unions pages before → IsAsked (Some before) own pages numbers → AreOfAsked unions pages numbers
+  asked_more before numbers begun is = record {
+    asked = own ∷ begun.asked;
+    some = omega arith;
+    among = λ ranges among.
+        ⊎_elim {C = Contains unions ranges}
+        (λ (e : own ≡ ranges). subst (λ (rs : List TermRange). Contains unions rs) e there)
+        (λ (old : Contains begun.asked ranges). begun.among ranges old)
+        (cons_cases own ranges begun.asked among);
+    met = record {
+      each = λ ranges among.
+          ⊎_elim {C = AreInGrammar ranges pages}
+          (λ (e : own ≡ ranges). subst (λ (rs : List TermRange). AreInGrammar rs pages) e is.met)
+          (λ (old : Contains begun.asked ranges). begun.met.each ranges old)
+          (cons_cases own ranges begun.asked among);
+    };
+    all = λ apart number stands.
+        is.all apart number
+        (begun.all apart number (λ ranges old. let (k, l, e) = old in stands ranges (suc k, omega (arith, l), e)))
+        (stands own (0, omega arith, refl));
+  }
+
+own_there : (unions : List (List TermRange)) (i : ℕ) (here own : List TermRange) → i < length unions → here ≡ get_or unions i here → own ≡ here
+    → Contains unions own
+own_there unions i here own low is alike =
+    let there : Contains unions here = (i, low, sym is) in
+    subst (λ (ranges : List TermRange). Contains unions ranges) (sym alike) there
+
 pub begun_more : (left : Option (List ℕ)) (unions : List (List TermRange)) (i : ℕ) (here own : List TermRange) (pages : List TermPage)
-    → i < length unions → here ≡ get_or unions i here → own ≡ here
-    → IsBegun left unions pages → (left ≡ None → AreInGrammar own pages) → IsOneInGrammar unions pages
-begun_more None unions i here own pages low is alike begun met = record {
-  ranges = here;
-  there = (i, low, sym is);
-  met = subst (λ (ranges : List TermRange). AreInGrammar ranges pages) alike (met refl);
-}
-begun_more (Some before) unions i here own pages low is alike begun met = begun
+    (numbers : List ℕ) → i < length unions → here ≡ get_or unions i here → own ≡ here
+    → IsBegun left unions pages → (left ≡ Some numbers) ⊎ IsAsked left own pages numbers → AreOfAsked unions pages numbers
+begun_more None unions i here own pages numbers low is alike begun (inl none) = absurd cc
+begun_more None unions i here own pages numbers low is alike begun (inr asked) =
+    asked_first unions pages own (own_there unions i here own low is alike) numbers asked
+begun_more (Some before) unions i here own pages numbers low is alike begun (inl same) =
+    let equal : before ≡ numbers = cc in
+    subst (λ (ns : List ℕ). AreOfAsked unions pages ns) equal begun
+begun_more (Some before) unions i here own pages numbers low is alike begun (inr asked) =
+    asked_more unions pages own (own_there unions i here own low is alike) before numbers begun asked
 
 -- ---- all unions of a kind
 

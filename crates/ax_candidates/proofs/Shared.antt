@@ -6,10 +6,12 @@ use Rattle.std.proofs.lemmas.Bool.{cases_eq, eq-eqb, false≢true, ne_eqb}
 use Rattle.std.proofs.lemmas.List.Elements.{All-contains, All-contains_itself}
 use Rattle.ax_gap.specs.Gaps.{IsRisingList}
 use Rattle.ax_delta.specs.Said.{has_number}
+use Rattle.ax_pages.specs.Contents.{TermPage}
 use Rattle.ax_pairs.specs.PairSets.{PairSet}
 use Rattle.ax_term.specs.declared.range.TermRange.{TermRange}
+use Rattle.ax_index.specs.Grammar.{AreInGrammar, HasAllThatStand}
 use Rattle.ax_index.specs.Wanted.{AreNumbersInSome}
-use Rattle.ax_candidates.specs.Meeting.{AreMet, AreShared}
+use Rattle.ax_candidates.specs.Meeting.{AreMet, AreShared, IsAsked}
 
 has_more : (n m : ℕ) (list : List ℕ) → has_number n list ≡ true → has_number n (m ∷ list) ≡ true
 has_more n m list h = ⊎_elim (λ (e : m ≡ n). rw (eq-eqb m n e) refl) (λ (e : m ≡ n → ⊥). rw (ne_eqb m n e) h) (cases_eq m n)
@@ -71,3 +73,16 @@ both_met found others both ranges set shared numbers = record {
 pub none_met : (found : List ℕ) (ranges : List TermRange) (set : PairSet) → length found ≡ 0 → AreMet (Some found) ranges set found
 none_met [] ranges set none = record { are = λ n. (λ h. absurd (false≢true h), λ h. h.0) }
 none_met (m ∷ found) ranges set none = absurd (omega arith)
+
+-- ---- what was asked of the index
+
+pub first_asked : (ranges : List TermRange) (pages : List TermPage) (numbers : List ℕ) → AreInGrammar ranges pages → HasAllThatStand ranges pages numbers
+    → IsAsked None ranges pages numbers
+first_asked ranges pages numbers met all = record { met = met; all = λ apart number left stands. all apart number stands }
+
+pub both_asked : (found others both : List ℕ) (ranges : List TermRange) (pages : List TermPage) → AreShared found others both
+    → AreInGrammar ranges pages → HasAllThatStand ranges pages others → IsAsked (Some found) ranges pages both
+both_asked found others both ranges pages shared met all = record {
+  met = met;
+  all = λ apart number left stands. (shared.are number).1 (left, all apart number stands);
+}

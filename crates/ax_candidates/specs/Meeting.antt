@@ -3,11 +3,12 @@
 use Rattle.std.specs.Prelude.{◌≡◌, ◌↔◌, ℕ, List, Contains, true, Option, Some, None}
 use Rattle.ax_delta.specs.Said.{has_number}
 use Rattle.ax_pages.specs.Contents.{TermPage}
+use Rattle.ax_pages.specs.TermPages.{AreApart}
 use Rattle.ax_pairs.specs.PairSets.{PairSet}
 use Rattle.ax_term.specs.declared.range.TermRange.{TermRange}
-use Rattle.ax_index.specs.Grammar.{AreInGrammar}
+use Rattle.ax_index.specs.Grammar.{AreInGrammar, StandsIn}
 use Rattle.ax_index.specs.Wanted.{HasInSome}
-use Rattle.ax_candidates.specs.Candidates.{IsOneInGrammar}
+use Rattle.ax_candidates.specs.Candidates.{AreOfAsked}
 use Rattle.ax_candidates.specs.declared.points.Kind.{Kind}
 use Rattle.ax_candidates.specs.Points.{kind_of}
 
@@ -40,7 +41,13 @@ pub record IsNoneOfKind (kind : Kind) (unions : List (List TermRange)) : Type 0 
 pub record AreOfKindInGrammar (kind : Kind) (unions : List (List TermRange)) (pages : List TermPage) : Type 0 where
   pub each : HoldsOfKind kind unions (λ ranges. AreInGrammar ranges pages)
 
--- no union has been looked up, or the pages of one have been found in their grammar
+-- The index was asked for the union: each page with terms of it is in its grammar, and among those that are left is each of the
+-- numbers found so far that the pages have with a term in it.
+pub record IsAsked (found : Option (List ℕ)) (ranges : List TermRange) (pages : List TermPage) (left : List ℕ) : Type 0 where
+  pub met : AreInGrammar ranges pages
+  pub all : AreApart pages → (number : ℕ) → IsLeft found number → StandsIn ranges pages number → has_number number left ≡ true
+
+-- no union has been looked up, or some have
 abbrev pub IsBegun : Option (List ℕ) → List (List TermRange) → List TermPage → Type 0
 IsBegun None unions pages = Unit {0}
-IsBegun (Some numbers) unions pages = IsOneInGrammar unions pages
+IsBegun (Some numbers) unions pages = AreOfAsked unions pages numbers

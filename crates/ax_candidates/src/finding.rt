@@ -1,6 +1,6 @@
 //! The numbers that have a term in each of several unions of ranges.
 
-ghost use Rattle.std.specs.Prelude.{◌≡◌, ◌<◌, ◌≤◌, ℕ, IsTrue, IfOk, IfErr, IfSome, OnOk, None, true, false, length};
+ghost use Rattle.std.specs.Prelude.{◌≡◌, ◌<◌, ◌≤◌, ℕ, IsTrue, IfOk, IfErr, IfSome, None, true, false, length};
 ghost use Rattle.ax_gap.specs.Gaps.{IsRisingList};
 ghost use Rattle.ax_delta.specs.Said.{has_number};
 ghost use Rattle.ax_pairs.specs.Index.{IsIndex};
@@ -10,7 +10,7 @@ ghost use Rattle.ax_store.specs.Faults.{HasDiskCause};
 ghost use Rattle.ax_store.specs.Store.{AgreesUnlessFailed, store_contents, store_slots, store_failed};
 ghost use Rattle.ax_index.specs.Damage.{FailsBy, TellsPart};
 ghost use Rattle.ax_index.specs.Reads.{KeepsTaken, Reads};
-ghost use Rattle.ax_candidates.specs.Candidates.{AreAllInGrammar, AreCandidates, IsOneInGrammar};
+ghost use Rattle.ax_candidates.specs.Candidates.{AreAllInGrammar, AreCandidates, AreOfAsked};
 ghost use Rattle.ax_candidates.specs.Meeting.{AreMetWith, AreOfKindInGrammar, IsBegun, IsLeft, IsNoneOfKind};
 
 use crate::meeting::met_once;
@@ -25,8 +25,8 @@ use std::alloc::Global;
 /// The rising numbers with a term in each of the unions, of the set that the term pages hold. Unions of one point, a
 /// range of one term, are looked up first, then those of several, then the others, and none more once no number is left.
 /// The numbers rise whatever the pages hold and whatever the disk gives. Over an honest disk they are answered only where
-/// each part of the pages that were read is in its grammar: those of one union at least, and where there is a number
-/// those of all.
+/// each part of the pages that were read is in its grammar: those of some unions, of which they have no number that is not
+/// answered, and where there is a number those of all.
 ///
 /// `Disk`, `Damaged`: as `pairs_in_some`. `Memory` where there is no room for the pairs of a page or for the numbers.
 #[tactic(auto, using(crate::proofs::OfKind::not_none))]
@@ -45,7 +45,8 @@ pub fn candidates<D: Disk, C: PageCache>(
     ensures rising { IfOk result (λ numbers. IsRisingList numbers.items) }
     ensures met { IsTrue (D.is_honest disk.old) → IfOk result (λ numbers. (number : ℕ) → has_number number numbers.items ≡ true
         → AreAllInGrammar unions.now (store_contents store.old).terms) }
-    ensures begun { IsTrue (D.is_honest disk.old) → OnOk result (IsOneInGrammar unions.now (store_contents store.old).terms) }
+    ensures asked { IsTrue (D.is_honest disk.old)
+        → IfOk result (λ numbers. AreOfAsked unions.now (store_contents store.old).terms numbers.items) }
     ensures told { IsTrue (D.is_honest disk.old) → IfErr result (TellsPart store.old) }
     ensures reads { Reads C.pages (D.is_honest disk.old) store.old store.new
         (D.history disk.old (D.attached disk.old)) (D.history disk.new (D.attached disk.new))

@@ -1,6 +1,6 @@
 //! The numbers found so far, met with those of one union of ranges more.
 
-ghost use Rattle.std.specs.Prelude.{◌≡◌, ◌≤◌, ℕ, IsTrue, IfOk, IfErr, IfSome, OnOk, Some, None, true, false};
+ghost use Rattle.std.specs.Prelude.{◌≡◌, ◌⊎◌, ◌≤◌, ℕ, IsTrue, IfOk, IfErr, IfSome, OnOk, Some, None, true, false};
 ghost use Rattle.ax_gap.specs.Gaps.{IsRisingList};
 ghost use Rattle.ax_delta.specs.Said.{has_number};
 ghost use Rattle.ax_pairs.specs.Index.{IsIndex};
@@ -11,7 +11,7 @@ ghost use Rattle.ax_store.specs.Store.{AgreesUnlessFailed, store_contents, store
 ghost use Rattle.ax_index.specs.Damage.{FailsBy, TellsPart};
 ghost use Rattle.ax_index.specs.Grammar.{AreInGrammar};
 ghost use Rattle.ax_index.specs.Reads.{KeepsTaken, Reads};
-ghost use Rattle.ax_candidates.specs.Meeting.{AreMet, AreShared, IsLeft};
+ghost use Rattle.ax_candidates.specs.Meeting.{AreMet, AreShared, IsAsked, IsLeft};
 
 use ax_cache::PageCache;
 use ax_disk::Disk;
@@ -40,7 +40,8 @@ pub(crate) fn met_once<D: Disk, C: PageCache>(
     ensures met { IsTrue (D.is_honest disk.old) → IfOk result (λ left. (number : ℕ) → has_number number left ≡ true
         → AreInGrammar ranges.now (store_contents store.old).terms) }
     ensures fewer { IfOk result (λ left. (number : ℕ) → has_number number left ≡ true → IsLeft found number) }
-    ensures begun { IsTrue (D.is_honest disk.old) → OnOk result (found ≡ None → AreInGrammar ranges.now (store_contents store.old).terms) }
+    ensures asked { IsTrue (D.is_honest disk.old) → IfOk result (λ left. (found ≡ Some left)
+        ⊎ IsAsked found ranges.now (store_contents store.old).terms left) }
     ensures told { IsTrue (D.is_honest disk.old) → IfErr result (TellsPart store.old) }
     ensures reads { Reads C.pages (D.is_honest disk.old) store.old store.new
         (D.history disk.old (D.attached disk.old)) (D.history disk.new (D.attached disk.new))
@@ -71,6 +72,7 @@ fn first_found<D: Disk, C: PageCache>(
         → IfOk result (λ found. AreMet None ranges.now set found) }
     ensures rising { IfOk result IsRisingList }
     ensures met { IsTrue (D.is_honest disk.old) → OnOk result (AreInGrammar ranges.now (store_contents store.old).terms) }
+    ensures asked { IsTrue (D.is_honest disk.old) → IfOk result (IsAsked None ranges.now (store_contents store.old).terms) }
     ensures told { IsTrue (D.is_honest disk.old) → IfErr result (TellsPart store.old) }
     ensures reads { Reads C.pages (D.is_honest disk.old) store.old store.new
         (D.history disk.old (D.attached disk.old)) (D.history disk.new (D.attached disk.new))
@@ -106,6 +108,8 @@ fn met_further<D: Disk, C: PageCache>(
     ensures met { IsTrue (D.is_honest disk.old) → IfOk result (λ left. (number : ℕ) → has_number number left ≡ true
         → AreInGrammar ranges.now (store_contents store.old).terms) }
     ensures fewer { IfOk result (λ left. (number : ℕ) → has_number number left ≡ true → has_number number found ≡ true) }
+    ensures asked { IsTrue (D.is_honest disk.old) → IfOk result (λ left. (left ≡ found)
+        ⊎ IsAsked (Some found) ranges.now (store_contents store.old).terms left) }
     ensures told { IsTrue (D.is_honest disk.old) → IfErr result (TellsPart store.old) }
     ensures reads { Reads C.pages (D.is_honest disk.old) store.old store.new
         (D.history disk.old (D.attached disk.old)) (D.history disk.new (D.attached disk.new))

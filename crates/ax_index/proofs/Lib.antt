@@ -21,6 +21,7 @@ pub mod PutLemmas
 pub mod RewritingLemmas
 pub mod RunLemmas
 pub mod SomeRanges
+mod Standing
 pub mod Unmoved
 pub mod MergingLemmas
 pub mod ReadsLaws

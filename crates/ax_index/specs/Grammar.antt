@@ -3,7 +3,7 @@
 use Rattle.std.specs.Prelude.{◌≡◌, ◌⊎◌, ℕ, ◌<◌, ◌≤◌, Bool, true, List, [], length, slice_index_or, Option, Some, None}
 use Rattle.ax_delta.specs.Changes.{TermChange}
 use Rattle.ax_delta.specs.Payload.{IsDelta}
-use Rattle.ax_delta.specs.Said.{has, said_of}
+use Rattle.ax_delta.specs.Said.{has, has_number, said_of}
 use Rattle.ax_pair.specs.declared.pair.Pair.{Pair}
 use Rattle.ax_pages.specs.Contents.{TermPage, term_page, term_parts}
 use Rattle.ax_pages.specs.TermPages.{AreApart, IsPageOf}
@@ -20,6 +20,20 @@ IsInGrammar page = (pairs : List Pair) × HasPairs page pairs
 abbrev pub AreInGrammar : List TermRange → List TermPage → Type 0
 AreInGrammar ranges pages =
     AreApart pages → (p : Pair) (number : ℕ) → is_in_some ranges p.term ≡ true → IsPageOf p number pages → IsInGrammar (term_page number pages)
+
+-- The pages have a pair of this number with a term in one of the ranges: it is among the pairs of the page to which it belongs.
+pub record StandsIn (ranges : List TermRange) (pages : List TermPage) (number : ℕ) : Type 0 where
+  pub term : List ℕ
+  pub within : is_in_some ranges term ≡ true
+  pub page : ℕ
+  pub of : IsPageOf (record { term = term; number = number }) page pages
+  pub pairs : List Pair
+  pub have : HasPairs (term_page page pages) pairs
+  pub there : has (record { term = term; number = number }) pairs ≡ true
+
+-- each number that the pages have so is among these, where no two pages have one low pair
+abbrev pub HasAllThatStand : List TermRange → List TermPage → List ℕ → Type 0
+HasAllThatStand ranges pages numbers = AreApart pages → (number : ℕ) → StandsIn ranges pages number → has_number number numbers ≡ true
 
 -- the part of a page at that position is a delta with these changes
 abbrev pub IsDeltaAt : TermPage → ℕ → List TermChange → Type 0

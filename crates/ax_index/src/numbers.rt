@@ -17,7 +17,7 @@ ghost use Rattle.ax_store.specs.Faults.{HasDiskCause};
 ghost use Rattle.ax_store.specs.Slots.{AreOthersSame, IsSlotOf};
 ghost use Rattle.ax_store.specs.Store.{AgreesUnlessFailed, store_contents, store_slots, store_failed};
 ghost use Rattle.ax_index.specs.Damage.{FailsBy, TellsPart};
-ghost use Rattle.ax_index.specs.Grammar.{AreInGrammar, IsInGrammar};
+ghost use Rattle.ax_index.specs.Grammar.{AreInGrammar, HasAllThatStand, IsInGrammar};
 ghost use Rattle.ax_index.specs.Reading.{Gathers, HasWithin, IsAhead, IsTermUpTo, StartsUpTo, numbers_of, pages_after};
 ghost use Rattle.ax_index.specs.Reads.{KeepsTaken, Reads};
 ghost use Rattle.ax_index.specs.Wanted.{AreNumbersIn, AreNumbersInSome, is_in_some};
@@ -38,7 +38,7 @@ use std::slice;
 /// The rising numbers with a term in the range, of the set that the term pages hold. It reads the pages
 /// that may have a term of the range, each with its parts. The numbers rise whatever the pages hold and
 /// whatever the disk gives: it is `pairs_in_some` of the one range. Over an honest disk numbers are answered only
-/// where each part of these pages is in its grammar.
+/// where each part of these pages is in its grammar, and all that stand there, as with that.
 ///
 /// `Disk`, `Damaged`: as `has`. `Memory` where there is no room for the pairs of a page or for the numbers.
 pub fn pairs_in<D: Disk, C: PageCache>(
@@ -54,6 +54,8 @@ pub fn pairs_in<D: Disk, C: PageCache>(
         → IfOk result (λ numbers. AreNumbersIn range.now set numbers.items) }
     ensures rising { IfOk result (λ numbers. IsRisingList numbers.items) }
     ensures met { IsTrue (D.is_honest disk.old) → OnOk result (AreInGrammar (range.now ∷ []) (store_contents store.old).terms) }
+    ensures all { IsTrue (D.is_honest disk.old)
+        → IfOk result (λ numbers. HasAllThatStand (range.now ∷ []) (store_contents store.old).terms numbers.items) }
     ensures told { IsTrue (D.is_honest disk.old) → IfErr result (TellsPart store.old) }
     ensures reads { Reads C.pages (D.is_honest disk.old) store.old store.new
         (D.history disk.old (D.attached disk.old)) (D.history disk.new (D.attached disk.new))
@@ -87,6 +89,7 @@ pub fn pairs_in_some<D: Disk, C: PageCache>(
         → IfOk result (λ numbers. AreNumbersInSome ranges.now set numbers.items) }
     ensures rising { IfOk result (λ numbers. IsRisingList numbers.items) }
     ensures met { IsTrue (D.is_honest disk.old) → OnOk result (AreInGrammar ranges.now (store_contents store.old).terms) }
+    ensures all { IsTrue (D.is_honest disk.old) → IfOk result (λ numbers. HasAllThatStand ranges.now (store_contents store.old).terms numbers.items) }
     ensures told { IsTrue (D.is_honest disk.old) → IfErr result (TellsPart store.old) }
     ensures reads { Reads C.pages (D.is_honest disk.old) store.old store.new
         (D.history disk.old (D.attached disk.old)) (D.history disk.new (D.attached disk.new))
@@ -120,6 +123,7 @@ fn numbers_by<D: Disk, C: PageCache>(
         → IfOk result (λ numbers. AreNumbersInSome ranges.now set numbers.items) }
     ensures rising { IfOk result (λ numbers. IsRisingList numbers.items) }
     ensures met { IsTrue (D.is_honest disk.old) → OnOk result (AreInGrammar ranges.now (store_contents store.old).terms) }
+    ensures all { IsTrue (D.is_honest disk.old) → IfOk result (λ numbers. HasAllThatStand ranges.now (store_contents store.old).terms numbers.items) }
     ensures told { IsTrue (D.is_honest disk.old) → IfErr result (TellsPart store.old) }
     ensures slot { slot.new ≡ slot.old }
     ensures others { AreOthersSame slot.old.number (store_slots store.old) (store_slots store.new) }
@@ -162,6 +166,7 @@ fn gathered<D: Disk, C: PageCache>(
     ensures numbers { IsTrue (D.is_honest disk.old) → (set : PairSet) → IsIndex (store_contents store.old).terms set
         → IfOk result (λ numbers. (number : ℕ) → (has_number number numbers.items ≡ true) ↔ HasWithin ranges.now set number) }
     ensures met { IsTrue (D.is_honest disk.old) → OnOk result (AreInGrammar ranges.now (store_contents store.old).terms) }
+    ensures all { IsTrue (D.is_honest disk.old) → IfOk result (λ numbers. HasAllThatStand ranges.now (store_contents store.old).terms numbers.items) }
     ensures told { IsTrue (D.is_honest disk.old) → IfErr result (TellsPart store.old) }
     ensures slot { slot.new ≡ slot.old }
     ensures others { AreOthersSame slot.old.number (store_slots store.old) (store_slots store.new) }

@@ -1,4 +1,4 @@
-use Rattle.std.proofs.Common.{◌≡◌, List, rules, sym, ap, subst, ◌∙◌}
+use Rattle.std.proofs.Common.{◌≡◌, ◌⊎◌, Some, List, rules, sym, ap, subst, ◌∙◌}
 use Rattle.std.specs.Prelude.{IsTrue}
 use denote.Enum.Bare.{differs_false, differs_true}
 use Rattle.ax_pages.specs.Contents.{TermPage}
@@ -8,6 +8,7 @@ use Rattle.ax_index.specs.Grammar.{AreInGrammar}
 use Rattle.ax_index.proofs.ReadsLaws.{of_honest, read_then}
 use Rattle.ax_index.proofs.Unmoved.{same_terms}
 use Rattle.ax_candidates.specs.contracts.points.Kind.{the_type}
+use Rattle.ax_candidates.specs.Meeting.{IsAsked}
 use Rattle.ax_candidates.specs.Points.{kind_of}
 use Rattle.ax_candidates.proofs.OfKind.{begun_more, met_more, met_still, none_still, read_more, read_still}
 use Rattle.ax_candidates.proofs.Passing.{keeps_then}
@@ -69,8 +70,9 @@ loop-ranges-preserved g c =
           (subst (AreInGrammar own) now (more.met (subst IsTrue (sym inv.honest) told) number left));
       fewer = λ number left. inv.fewer number (more.fewer number left);
       begun = λ told first.
-          begun_more c.loop-ranges.left unions i here own terms low c.ranges-item.is alike (inv.begun told first)
-          (λ none. subst (AreInGrammar own) now (more.begun (subst IsTrue (sym inv.honest) told) none));
+          begun_more c.loop-ranges.left unions i here own terms c.in-Ok.numbers low c.ranges-item.is alike (inv.begun told first)
+          (subst (λ (ts : List TermPage). (c.loop-ranges.left ≡ Some c.in-Ok.numbers) ⊎ IsAsked c.loop-ranges.left own ts c.in-Ok.numbers) now
+          (more.asked (subst IsTrue (sym inv.honest) told)));
       reads = read_then g.C.PageCache.pages _ _ _ _ _ _ _ _ _ _ inv.reads
           (of_honest g.C.PageCache.pages _ _ inv.honest _ _ _ _ _ _ more.reads);
       others = keeps_then (store_slots c.args.store.now) (store_slots c.loop-ranges.store) (store_slots c.met_once.new.store) inv.reads.same.taken

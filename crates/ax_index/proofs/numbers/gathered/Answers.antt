@@ -5,6 +5,7 @@ use Rattle.ax_store.specs.Store.{store_contents}
 use Rattle.ax_index.proofs.CallLemmas.{fails_as, cause_later}
 use Rattle.ax_index.proofs.Gathering.{IsGathered, step_by, stop}
 use Rattle.ax_index.proofs.GrammarLemmas.{AreMetTo, met_end, met_start, met_step}
+use Rattle.ax_index.proofs.Standing.{AreTakenTo, taken_end, taken_start, taken_step}
 use Rattle.ax_index.proofs.ReadsLaws.{agrees_told, nothing_read, of_honest, others_itself, others_then, read_then}
 use Rattle.ax_index.proofs.Unmoved.{same_terms}
 use Rattle.ax_pool.specs.declared.slot.Slot.{Slot}
@@ -15,6 +16,7 @@ pub loop-next-init : goal.loop-next-init
 loop-next-init g c = record {
   gathered = search rules;
   met = λ told apart. met_start c.args.ranges.now _ c.first_page-next.result c.first_page-next.ensures.reaches;
+  taken = λ told apart. taken_start c.args.ranges.now _ c.first_page-next.result _ c.first_page-next.ensures.reaches;
   there = search rules;
   reads = nothing_read g.C.PageCache.pages _ c.args.store.now _ _ c.requires.agrees;
   failed = refl;
@@ -51,6 +53,13 @@ loop-next-preserved g c =
           (subst (λ (o : Option ℕ). IfSome o (λ page. page < length terms)) c.in-Some.is inv.there)
           apart
           (subst (λ (o : Option ℕ). AreMetTo c.args.ranges.now terms o) c.in-Some.is (inv.met told apart));
+      taken = λ told apart.
+          taken_step c.args.ranges.now terms (store_contents c.loop-next.store).terms (store_contents c.gather.new.store).terms
+          c.in-Some.page c.page_behind-next.result c.loop-next.numbers.items c.gather.new.numbers.items now after
+          (more.met (subst IsTrue (sym inv.honest) told)) (more.numbers (subst IsTrue (sym inv.honest) told)) c.page_behind-next.ensures.reaches
+          (subst (λ (o : Option ℕ). IfSome o (λ page. page < length terms)) c.in-Some.is inv.there)
+          apart
+          (subst (λ (o : Option ℕ). AreTakenTo c.args.ranges.now terms o c.loop-next.numbers.items) c.in-Some.is (inv.taken told apart));
       there = subst (λ (ts : List TermPage). IfSome c.page_behind-next.result (λ page. page < length ts)) after c.page_behind-next.ensures.there;
       reads = read_then g.C.PageCache.pages _ _ _ _ _ _ _ _ _ _ inv.reads
           (of_honest g.C.PageCache.pages _ _ inv.honest _ _ _ _ _ _ more.reads);
@@ -82,6 +91,11 @@ returns-clause-numbers g c = λ told set is.
 pub returns-clause-met : goal.returns-clause-met
 returns-clause-met g c = λ told apart.
     met_end c.args.ranges.now (store_contents c.args.store.now).terms c.loop-next.next c.in_default.is (c.loop-next.invariant.met told apart)
+
+pub returns-clause-all : goal.returns-clause-all
+returns-clause-all g c = λ told apart.
+    taken_end c.args.ranges.now (store_contents c.args.store.now).terms c.loop-next.next c.loop-next.numbers.items c.in_default.is
+    (c.loop-next.invariant.taken told apart)
 
 pub returns-in-Err-clause-others : goal.returns-in-Err-clause-others
 returns-in-Err-clause-others g c =

@@ -7,6 +7,7 @@ use Rattle.ax_store.specs.Store.{store_contents, store_failed, store_slots}
 use Rattle.ax_index.specs.Reads.{Reads}
 use Rattle.ax_index.proofs.Gathering.{IsGathered}
 use Rattle.ax_index.proofs.GrammarLemmas.{AreMetTo}
+use Rattle.ax_index.proofs.Standing.{AreTakenTo}
 use Rattle.ax_index.proofs.PageWalk.{steps_left}
 use Rattle.ax_store.specs.Slots.{AreOthersSame}
 use Rattle.ax_index.proofs.numbers.gathered.Given as goal
@@ -16,6 +17,8 @@ invariant-loop-next g l = record {
   gathered : IsTrue (g.D.Disk.is_honest l.fn.disk) → (set : PairSet) → IsIndex (store_contents l.fn.store).terms set
       → IsGathered l.ranges set (store_contents l.fn.store).terms l.next l.numbers.items;
   met : IsTrue (g.D.Disk.is_honest l.fn.disk) → AreApart (store_contents l.fn.store).terms → AreMetTo l.ranges (store_contents l.fn.store).terms l.next;
+  taken : IsTrue (g.D.Disk.is_honest l.fn.disk) → AreApart (store_contents l.fn.store).terms
+      → AreTakenTo l.ranges (store_contents l.fn.store).terms l.next l.numbers.items;
   there : IfSome l.next (λ page. page < length (store_contents l.fn.store).terms);
   reads : Reads g.C.PageCache.pages (g.D.Disk.is_honest l.fn.disk) l.fn.store l.store
       (g.D.Disk.history l.fn.disk (g.D.Disk.attached l.fn.disk)) (g.D.Disk.history l.disk (g.D.Disk.attached l.disk))
