@@ -1,7 +1,7 @@
 -- What an engine answers to a line, from what its documents tell.
 use Rattle.std.proofs.Common.{◌≡◌, ℕ, ◌≤◌, ◌+◌, Bool, true, false, List, Option, Some, None, option_map, Result, Ok, Err, OnOk, inl, inr, refl, sym, ap}
 use Rattle.std.proofs.Common.{subst, ◌∙◌, arith}
-use Rattle.std.specs.Prelude.{IfOk, IfErr, IsSome, IsTrue, if◌then◌else◌, replicate}
+use Rattle.std.specs.Prelude.{IfOk, IfErr, IsSome, IsTrue, if◌then◌else◌}
 use Rattle.std.proofs.lemmas.Bool.{false≢true}
 use Rattle.std.specs.declared.alloc.Global.{Global}
 use Rattle.std.specs.declared.vec.Vec.{Vec}
@@ -11,11 +11,9 @@ use Rattle.ax_area.specs.Told.{Told}
 use Rattle.ax_cache.specs.Pages.{CachedPages}
 use Rattle.ax_container.specs.Container.{Container, contains, tree_of}
 use Rattle.ax_container.specs.Writes.{WriteRefusal, Conflict, Absent, Full, exchanged, inserted, upserted}
-use Rattle.ax_disk.specs.laws.StaysLaws.{idles_rest, stays_start, stays_turn}
-use Rattle.ax_disk.specs.model.Calls.{Idles}
+use Rattle.ax_disk.specs.laws.StaysLaws.{stays_start, stays_turn}
 use Rattle.ax_disk.specs.model.Image.{Image}
 use Rattle.ax_disk.specs.model.Moments.{History}
-use Rattle.ax_disk.specs.model.Pending.{MayLeave}
 use Rattle.ax_disk.specs.model.Stays.{Rests, Stays, Turns}
 use Rattle.ax_grammar.specs.Query.{query_in}
 use Rattle.ax_image.specs.Readable.{SaysReadable, newest}
@@ -33,14 +31,10 @@ use Rattle.ax_machine.specs.Run.{OutOfMemory, Served}
 use Rattle.ax_machine.specs.Step.{doc_reply, served, write_by, write_refusal, written}
 use Rattle.ax_mean.specs.declared.query.Query.{Query}
 use Rattle.ax_policy.specs.declared.policy.Policy.{Policy}
-use Rattle.ax_pool.specs.Frames.{Frames}
 use Rattle.ax_store.specs.Faults.{HasDiskCause}
 use Rattle.ax_store.specs.Store.{store_contents, store_failed}
-use Rattle.ax_store.specs.Kept.{Kept}
-use Rattle.ax_store.specs.Slots.{slot_count}
 use Rattle.ax_store.specs.declared.fault.StoreFault.{StoreFault}
 use Rattle.ax_store.specs.declared.fault.StoreFault.TheVariants as store_fault
-use Rattle.ax_store.specs.declared.read_ahead.ReadAhead.{ReadAhead}
 use Rattle.ax_store.specs.declared.store.Store.{Store}
 use Rattle.ax_table.specs.TableAgrees.{TableAgrees}
 use Rattle.ax_tree.specs.CanonicalText.{canonical_text}
@@ -61,7 +55,6 @@ use Rattle.ax_engine.specs.Damage.{IfRows, Meets, MeetsPlanned, PassesOverNone}
 use Rattle.ax_engine.specs.Engine.{Applies, CountsAnswer, HoldsOver, IdlesUnlessDone, IsWrite, MayFail, Tells, Works, by_document, made_by, made_of}
 use Rattle.ax_engine.specs.Judging.{Judges, MeetsLine}
 use Rattle.ax_engine.specs.Replies.{FitsRead, FitsRefusal, IsReply, MayReply, look_up_answer, own_refusal, read_answer, write_answer}
-use Rattle.ax_engine.specs.StoreSays.{kept_says}
 use Rattle.ax_engine.specs.declared.engine.Engine.{Engine}
 use Rattle.ax_engine.specs.declared.engine.Fault.{Fault}
 use Rattle.ax_engine.specs.declared.engine.Fault.TheVariants as fault

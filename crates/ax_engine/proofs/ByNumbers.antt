@@ -1,5 +1,5 @@
 -- Documents that are taken into an answer number by number.
-use Rattle.std.proofs.Common.{◌≡◌, ◌⊎◌, ℕ, ◌+◌, ◌<◌, ◌≤◌, ◌==◌, List, [], ◌∷◌, ◌++◌, length, take, drop, get_or, true, Contains, Option, Some, None, Result}
+use Rattle.std.proofs.Common.{◌≡◌, ℕ, ◌+◌, ◌<◌, ◌≤◌, ◌==◌, List, [], ◌∷◌, ◌++◌, length, take, drop, get_or, true, Contains, Option, Some, None, Result}
 use Rattle.std.proofs.Common.{Ok, Err, OnOk, refl, sym, ap, subst, ◌∙◌, ⊎_elim, arith}
 use Rattle.std.specs.FinMap as finite
 use Rattle.std.proofs.lemmas.Bool.{eqb-true}
@@ -30,7 +30,7 @@ use Rattle.ax_term.specs.declared.range.TermRange.{TermRange}
 use Rattle.ax_tree.specs.CanonicalText.{canonical_text}
 use Rattle.ax_tree.specs.declared.tree.Tree.{Tree}
 use Rattle.ax_engine.specs.Candidates.{ArePlanned, CountsOneEach}
-use Rattle.ax_engine.specs.Damage.{AreDocuments}
+use Rattle.ax_engine.specs.Walks.{AreDocuments}
 use Rattle.ax_engine.specs.declared.candidates.Candidates.TheVariants.{All}
 use Rattle.ax_engine.specs.StoreSays.{text_of}
 

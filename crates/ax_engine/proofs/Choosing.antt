@@ -1,21 +1,21 @@
 -- What the candidates that were found are to a query: of its plan, all documents that have rows in it, and as many as the
 -- index leaves.
-use Rattle.std.proofs.Common.{◌≡◌, ◌⊎◌, ◌↔◌, ◌≤◌, ◌+◌, ◌*◌, ◌==◌, ℕ, zero, suc, List, [], ◌∷◌, length, true, false, Contains, Option, Some, None, Result, Ok}
-use Rattle.std.proofs.Common.{Err, refl, sym, ap, subst, ◌∙◌, arith, inl, inr, ⊎_elim}
+use Rattle.std.proofs.Common.{◌≡◌, ◌⊎◌, ◌≤◌, ◌+◌, ◌*◌, ◌==◌, ℕ, zero, suc, List, [], ◌∷◌, length, true, false, Contains, Some, Result, Ok}
+use Rattle.std.proofs.Common.{Err, refl, sym, ap, subst, arith, inl, inr, ⊎_elim}
 use Rattle.std.proofs.lemmas.Bool.{eq-eqb}
 use Rattle.std.specs.Prelude.{IfOk, OnOk}
 use Rattle.std.specs.Option.{unwrap_or}
+use Rattle.ax_answer_text.specs.Parts.{IsKept}
 use Rattle.ax_area.specs.Contents.{Contents}
 use Rattle.ax_atoms.specs.Conjuncts.{atoms}
 use Rattle.ax_candidates.proofs.Shared.{contains_from_has, has_from_contains}
-use Rattle.ax_candidates.specs.Candidates.{AreAllInGrammar, AreCandidates, IsOneInGrammar}
+use Rattle.ax_candidates.specs.Candidates.{AreAllInGrammar, AreCandidates, AreOfAsked}
 use Rattle.ax_container.specs.Container.{Container, Entry}
 use Rattle.ax_delta.specs.Said.{has_number}
 use Rattle.ax_gap.proofs.Members.{same_members}
 use Rattle.ax_image_pairs.specs.Indexed.{ContentsHoldAll}
 use Rattle.ax_mean.specs.declared.query.Query.{Query}
 use Rattle.ax_pages.specs.Contents.{TermPage}
-use Rattle.ax_pairs.specs.Index.{IsIndex}
 use Rattle.ax_pairs.specs.PairSets.{PairSet}
 use Rattle.ax_plan.specs.Ordered.{IsOrdered}
 use Rattle.ax_plan.specs.Usable.{AreUnions}
@@ -32,9 +32,10 @@ use Rattle.ax_skips.specs.Planned.{AreInUse, IsPlannedOver}
 use Rattle.ax_store.specs.declared.fault.StoreFault.{StoreFault}
 use Rattle.ax_term.specs.declared.range.TermRange.{TermRange}
 use Rattle.ax_excerpt.specs.ShownDocuments.{without_pick}
-use Rattle.ax_engine.specs.Candidates.{AreFound, AreNone, AreNumbersOf, AreOfUnions, CountsTwoEach, HasAllOf, HasJustPolicies, IsAmong}
-use Rattle.ax_engine.specs.Damage.{AreRowsOfNone, CountsLeft, CountsPlanned, IsLeft, MeetsDocuments, MeetsPlanned}
+use Rattle.ax_engine.specs.Candidates.{AreFound, AreNone, AreOfUnions, AreRising, CountsTwoEach, HasAllOf, HasJustPolicies, IsAmong}
+use Rattle.ax_engine.specs.Damage.{AreRowsOfNone, CountsLeft, CountsPlanned, IsReadWhole, MeetsDocuments, MeetsLeft, MeetsPlanned, StandsInAll}
 use Rattle.ax_engine.specs.PolicyNow.{policy_now}
+use Rattle.ax_engine.proofs.Walking.{over_fewer}
 use Rattle.ax_engine.specs.declared.candidates.Candidates.{Candidates}
 use Rattle.ax_engine.specs.declared.candidates.Candidates.TheVariants.{All, Numbers}
 use Rattle.ax_engine.specs.declared.rows.Rows.{Rows}
@@ -69,10 +70,9 @@ some_of (suc n) is = omega arith
 
 -- the pages of all unions, or there is no number
 pub all_or_none : (unions : List (List TermRange)) (pages : List TermPage) (numbers : List ℕ)
-    → ((number : ℕ) → has_number number numbers ≡ true → AreAllInGrammar unions pages) → IsOneInGrammar unions pages
-    → AreAllInGrammar unions pages ⊎ ((numbers ≡ []) × IsOneInGrammar unions pages)
-all_or_none unions pages [] met one = inr (refl, one)
-all_or_none unions pages (n ∷ numbers) met one = inl (met n (first_there n numbers))
+    → ((number : ℕ) → has_number number numbers ≡ true → AreAllInGrammar unions pages) → AreAllInGrammar unions pages ⊎ (numbers ≡ [])
+all_or_none unions pages [] met = inr refl
+all_or_none unions pages (n ∷ numbers) met = inl (met n (first_there n numbers))
 
 no_union : (unions : List (List TermRange)) (pages : List TermPage) → unions ≡ [] → AreAllInGrammar unions pages
 no_union unions pages none = record {
@@ -81,25 +81,32 @@ no_union unions pages none = record {
       absurd (omega (arith, inside.1));
 }
 
-left_among : (unions : List (List TermRange)) (pages : List TermPage) (numbers : List ℕ) → AreNumbersOf unions pages numbers
-    → (number : ℕ) → IsLeft unions pages number → has_number number numbers ≡ true
-left_among [] pages numbers are number left = absurd (omega (arith, are.some))
-left_among (ranges ∷ unions) pages numbers are number left = ((are.are left.0 left.1).are number).1 left.2
-
-among : (unions : List (List TermRange)) (pages : List TermPage) (found : Candidates) → AreOfUnions unions pages found
-    → (number : ℕ) → IsLeft unions pages number → IsAmong found number
-among unions pages All are number left = tt
-among unions pages (Numbers numbers) are number left = left_among unions pages numbers.items are number left
-
 index_met : (unions : List (List TermRange)) (pages : List TermPage) (query : Query) (rows : Rows) (found : Candidates)
     → AreOfUnions unions pages found → (AreNone found → AreRowsOfNone query rows)
-    → AreAllInGrammar unions pages ⊎ (AreRowsOfNone query rows × IsOneInGrammar unions pages)
+    → AreAllInGrammar unions pages ⊎ (AreRowsOfNone query rows × AreOfAsked unions pages [])
 index_met unions pages query rows All are none = inl (no_union unions pages are)
 index_met unions pages query rows (Numbers numbers) are none =
-    ⊎_elim {C = AreAllInGrammar unions pages ⊎ (AreRowsOfNone query rows × IsOneInGrammar unions pages)}
+    ⊎_elim {C = AreAllInGrammar unions pages ⊎ (AreRowsOfNone query rows × AreOfAsked unions pages [])}
     (λ (all : AreAllInGrammar unions pages). inl all)
-    (λ one. inr (none one.0, one.1))
+    (λ (no : numbers.items ≡ []). inr (none no, subst (λ (ns : List ℕ). AreOfAsked unions pages ns) no are.asked))
     are.met
+
+-- among the documents at which it looked are those that the index leaves
+left_met : (unions : List (List TermRange)) (query : Query) (contents : Contents) (found : Candidates)
+    → AreOfUnions unions contents.terms found → MeetsDocuments (IsAmong found) query contents → MeetsLeft unions query contents
+left_met [] query contents All are met = met
+left_met [] query contents (Numbers numbers) are met = absurd (omega (arith, are.some))
+left_met (ranges ∷ unions) query contents All are met = absurd (cc)
+left_met (ranges ∷ unions) query contents (Numbers numbers) are met = λ apart.
+    over_fewer (λ number. has_number number numbers.items ≡ true) (StandsInAll (ranges ∷ unions) contents.terms)
+    (λ text. IsReadWhole query text × IsKept query text) query contents
+    (λ number stands. are.asked.all apart number (λ asked there. stands asked (are.asked.among asked there))) met
+
+-- where they are numbers, these rise
+pub found_rise : (table : Table) (query : Query) (pages : List TermPage) (found : Candidates) → AreFound table query pages found
+    → AreRising found
+found_rise table query pages All are = tt
+found_rise table query pages (Numbers numbers) are = are.found.rising.rising
 
 -- what a query has met that looked at these documents
 pub planned_met : (table : Table) (query : Query) (contents : Contents) (found : Candidates) (rows : Rows)
@@ -109,14 +116,14 @@ planned_met table query contents found rows are met none = record {
   unions = are.unions;
   planned = are.planned;
   index = index_met are.unions contents.terms query rows found are.found none;
-  documents = λ unlimited number document low left.
-      met unlimited number document low (among are.unions contents.terms found are.found number left);
+  documents = left_met are.unions query contents found are.found met;
 }
 
 pub planned_met_by : (table : Table) (query : Query) (contents : Contents) (found : Candidates) (result : Result Rows StoreFault)
-    → AreFound table query contents.terms found → OnOk result (MeetsDocuments (IsAmong found) query contents)
+    → AreFound table query contents.terms found → (AreRising found → OnOk result (MeetsDocuments (IsAmong found) query contents))
     → (AreNone found → IfOk result (AreRowsOfNone query)) → IfOk result (MeetsPlanned table query contents)
-planned_met_by table query contents found (Ok rows) are met none = planned_met table query contents found rows are met none
+planned_met_by table query contents found (Ok rows) are met none =
+    planned_met table query contents found rows are (met (found_rise table query contents.terms found are)) none
 planned_met_by table query contents found (Err why) are met none = tt
 
 -- ---- all that have rows

@@ -6,21 +6,19 @@ use Rattle.std.specs.Prelude.{IsTrue, is_some, slice_get}
 use Rattle.std.specs.FinMap as finite
 use Rattle.std.specs.Option.{option_to_list}
 use Rattle.std.proofs.lemmas.Bool.{cases_lt}
-use Rattle.ax_answer_text.specs.Parts.{IsKept, IsOfDocument, IsTakenWhole}
+use Rattle.ax_answer_text.specs.Parts.{IsOfDocument}
 use Rattle.ax_answer_text.specs.declared.text_fault.TextFault.{TextFault}
 use Rattle.ax_answer_text.specs.declared.text_fault.TextFault.TheVariants as text_fault
 use Rattle.ax_area.specs.Contents.{Contents, Stored}
 use Rattle.ax_cache.specs.Pages.{CachedPages}
 use Rattle.ax_disk.specs.model.Moments.{History}
-use Rattle.ax_disk.specs.model.Pending.{MayLeave}
-use Rattle.ax_excerpt.specs.ShownDocuments.{without_pick}
 use Rattle.ax_image.specs.Readable.{newest}
 use Rattle.ax_image_grammar.specs.Payloads.{IsDocumentText}
 use Rattle.ax_lines.specs.Asked.{IsStorable}
 use Rattle.ax_lines.specs.Lines.{most_bytes}
 use Rattle.ax_mean.specs.declared.query.Query.{Query}
 use Rattle.ax_store.specs.Kept.{Kept}
-use Rattle.ax_store.specs.ReadAhead.{AgreesAhead, IsAhead}
+use Rattle.ax_store.specs.ReadAhead.{IsAhead}
 use Rattle.ax_store.specs.declared.fault.StoreFault.{StoreFault}
 use Rattle.ax_store.specs.declared.fault.StoreFault.TheVariants as store_fault
 use Rattle.ax_store.specs.declared.read_ahead.ReadAhead.{ReadAhead}
@@ -29,12 +27,10 @@ use Rattle.ax_tree.specs.CanonicalText.{canonical_text}
 use Rattle.ax_tree.specs.declared.tree.Tree.{Tree}
 use Rattle.ax_store.specs.Listed.{IsNextAfter}
 use Rattle.ax_store.specs.Store.{store_contents}
-use Rattle.ax_documents.proofs.Meeting.{text_met}
-use Rattle.ax_documents.specs.Damage.{IsMetIn}
-use Rattle.ax_engine.specs.Damage.{AreDocuments, IfRows, MeetsDocuments}
-use Rattle.ax_engine.specs.InPages.{HasOutside, IsOutsideAt, IsPlaced}
+use Rattle.ax_engine.specs.Damage.{IfRows}
+use Rattle.ax_engine.specs.Walks.{AreDocuments}
+use Rattle.ax_engine.specs.InPages.{HasOutside, IsPlaced}
 use Rattle.ax_engine.specs.StoreSays.{kept_says, text_of}
-use Rattle.ax_engine.specs.Printing.{IsPrinted}
 use Rattle.ax_engine.specs.Scans.{ScanFails, Scanned}
 use Rattle.ax_engine.specs.declared.reply.Reply.{Reply}
 use Rattle.ax_engine.specs.declared.reply.Reply.TheVariants as given
@@ -174,28 +170,6 @@ pub no_documents : (contents : Contents) (IsRead : List ℕ → Type 0) → AreD
 no_documents contents IsRead number document low high is read =
     let not : ⊥ = omega (arith, low, high) in
     absurd not
-
--- rows that are written
-pub rows_met : (IsOne : ℕ → Type 0) (query : Query) (contents : Contents)
-    → (query.limit ≡ None → AreDocuments IsOne (IsTakenWhole query) contents) → MeetsDocuments IsOne query contents
-rows_met IsOne query contents met unlimited number document low one is (inl none, kept) =
-    met unlimited number document low one is (inr none, kept)
-rows_met IsOne query contents met unlimited number document low one is (inr (all, printed), kept) =
-    met unlimited number document low one is (inl all, kept)
-
--- what has rows in a query has rows in that for the keys of its rows
-kept_for_keys : (query : Query) (text : List ℕ) → IsKept query text → IsKept (without_pick query) text
-kept_for_keys query text (inl none) = inl none
-kept_for_keys query text (inr has) = inr (record { tree = has.tree; spelled = has.spelled; rows = has.rows })
-
--- rows that are printed as they are stored, found by their keys
-pub keys_met : (IsOne : ℕ → Type 0) (query keys : Query) (contents : Contents) → keys ≡ without_pick query → IsPrinted query
-    → (keys.limit ≡ None → AreDocuments IsOne (IsTakenWhole keys) contents) → MeetsDocuments IsOne query contents
-keys_met IsOne query keys contents these printed met unlimited number document low one is (inl none, kept) =
-    subst (λ (q : Query). q.limit ≡ None → AreDocuments IsOne (IsTakenWhole q) contents) these met
-    unlimited number document low one is (inr none, kept_for_keys query document.text kept)
-keys_met IsOne query keys contents these printed met unlimited number document low one is (inr (all, other), kept) =
-    absurd (other printed)
 
 pub one_query : (a b : Query) → Some a ≡ Some b → a ≡ b
 one_query a b is = cc

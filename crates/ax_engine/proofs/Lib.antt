@@ -19,4 +19,5 @@ mod RowLines
 mod Scanning
 mod ShownTexts
 mod Stopping
+mod Walking
 mod WholeEnough

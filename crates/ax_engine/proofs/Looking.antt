@@ -1,10 +1,9 @@
 -- What a query leaves that looks into the index and then reads texts, in the words of calls that look something up.
-use Rattle.std.proofs.Common.{◌≡◌, ◌≤◌, ℕ, Bool, true, false, refl, Result, Ok, Err, sym, ap, subst, ◌∙◌, arith, inl, inr}
+use Rattle.std.proofs.Common.{◌≡◌, ◌≤◌, ℕ, Bool, false, refl, Result, Ok, Err, sym, ap, subst, ◌∙◌, arith, inl, inr}
 use Rattle.std.proofs.lemmas.Bool.{false≢true}
 use Rattle.std.specs.Prelude.{IfErr, IsTrue}
-use Rattle.std.specs.FinMap as finite
 use Rattle.ax_cache.specs.Pages.{CachedPages}
-use Rattle.ax_disk.specs.laws.StaysLaws.{idles_join, idles_start}
+use Rattle.ax_disk.specs.laws.StaysLaws.{idles_join}
 use Rattle.ax_disk.specs.model.Calls.{Idles}
 use Rattle.ax_disk.specs.model.Moments.{History}
 use Rattle.ax_area.specs.Contents.{Stored}
@@ -21,15 +20,15 @@ use Rattle.ax_store.specs.Faults.{HasDiskCause}
 use Rattle.ax_store.specs.Kept.{Kept}
 use Rattle.ax_store.specs.ReadAhead.{IsNothingAhead}
 use Rattle.ax_store.proofs.AheadLemmas.{ahead_of_nothing}
-use Rattle.ax_store.specs.Store.{AgreesUnlessFailed, SameButReads, store_area, store_contents, store_failed, store_slots}
+use Rattle.ax_store.specs.Store.{AgreesUnlessFailed, SameButReads, store_failed, store_slots}
 use Rattle.ax_store.specs.declared.fault.StoreFault.{StoreFault}
 use Rattle.ax_store.specs.declared.fault.StoreFault.TheVariants as fault
 use Rattle.ax_store.specs.declared.read_ahead.ReadAhead.{ReadAhead}
 use Rattle.ax_store.specs.declared.store.Store.{Store}
 use Rattle.ax_write.specs.Held.{HasNone, IsOfNone}
-use Rattle.ax_write.specs.Writes.{IsSpoiledText, Looks, TellsDamage}
+use Rattle.ax_write.specs.Writes.{Looks, TellsDamage}
 use Rattle.ax_engine.specs.InPages.{HasOutside, IsOutsideAt}
-use Rattle.ax_engine.specs.Scans.{IsReady, ReadFailed, ScanFails, Scanned, Scans}
+use Rattle.ax_engine.specs.Scans.{IsReady, ReadFailed, Scanned, Scans}
 use Rattle.ax_engine.proofs.Damaging.{of_document}
 
 -- ---- the index

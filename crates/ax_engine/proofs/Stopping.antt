@@ -12,13 +12,16 @@ use Rattle.ax_excerpt.proofs.SameRows.{same_rows}
 use Rattle.ax_excerpt.proofs.ShownRows.{shown_rows}
 use Rattle.ax_excerpt.specs.Enough.{is_enough}
 use Rattle.ax_excerpt.specs.Excerpts.{excerpt_of}
-use Rattle.ax_excerpt.specs.ShownDocuments.{ShowsDocument, showing, without_pick}
+use Rattle.ax_excerpt.specs.ShownDocuments.{PicksAlias, ShowsDocument, ShowsFrom, showing, without_pick}
 use Rattle.ax_excerpt.specs.declared.excerpt.Excerpt as excerpt
 use Rattle.ax_machine.specs.Querying.{numbered}
-use Rattle.ax_mean.specs.Aggregates.{has_aggregate, has_some}
+use Rattle.ax_mean.specs.Aggregates.{has_aggregate, has_some, picks_aggregate}
 use Rattle.ax_mean.specs.Answer.{all_rows, distinct_where}
 use Rattle.ax_mean.specs.Rows.{keyed_rows}
 use Rattle.ax_mean.specs.declared.expr.Expr as expr
+use Rattle.ax_mean.specs.declared.query.FromItem.{FromItem}
+use Rattle.ax_mean.specs.declared.query.Pick.{Pick}
+use Rattle.ax_mean.specs.declared.query.Pick.TheVariants as pick
 use Rattle.ax_mean.specs.declared.query.Query.{Query}
 use Rattle.ax_mean.specs.declared.value.Value.TheVariants.{Defined}
 use Rattle.ax_skips.specs.Chosen.{fetched}
@@ -156,6 +159,33 @@ module _ (query : Query) (is : ShowsDocument query) where
         (ap (λ distinct. length (distinct_where distinct (all_rows query entries))) is.0
         ∙ as_many entries
         ∙ ap (λ distinct. length (distinct_where distinct (all_rows (without_pick query) entries))) (sym is.0))
+        enough.many;
+  }
+
+  no_total : picks_aggregate query.pick ≡ false
+  no_total = by query.pick query.froms is.2
+    where
+      of_pick : (alias : List ℕ) (picked : Pick) → PicksAlias alias picked → picks_aggregate picked ≡ false
+      of_pick alias pick.Star picks = refl
+      of_pick alias (pick.Value x) picks = ap has_aggregate picks ∙ search (rules, expr.the_lemmas)
+      of_pick alias (pick.Named items) picks = absurd picks
+
+      by : (picked : Pick) (froms : List FromItem) → ShowsFrom picked froms → picks_aggregate picked ≡ false
+      by picked [] shows = absurd shows
+      by picked (item ∷ []) shows = of_pick item.alias picked shows.1
+      by picked (item ∷ next ∷ items) shows = absurd shows
+
+  -- enough for the keys is enough for the rows
+  pub enough_rows : (entries : List (ℕ × Tree)) → HasEnough (without_pick query) entries → HasEnough query entries
+  enough_rows entries enough = record {
+    no_groups = ap₂ (λ (a b : Bool). a || b) (ap has_some is.1) no_total;
+    no_orders = enough.no_orders;
+    limit = enough.limit;
+    limited = enough.limited;
+    many = subst (λ n. query.skip + enough.limit ≤ n)
+        (ap (λ distinct. length (distinct_where distinct (all_rows (without_pick query) entries))) is.0
+        ∙ sym (as_many entries)
+        ∙ ap (λ distinct. length (distinct_where distinct (all_rows query entries))) (sym is.0))
         enough.many;
   }
 

@@ -2,9 +2,10 @@
 -- index was met while they were found.
 -- It is this project's own; it comes from no public document.
 use Rattle.std.specs.Prelude.{◌≡◌, ◌⊎◌, ◌≤◌, ◌+◌, ◌*◌, ℕ, List, [], length, true}
+use Rattle.std.specs.List.Sorted.{IsStrictlyIncreasing}
 use Rattle.ax_atoms.specs.Conjuncts.{atoms}
 use Rattle.ax_area.specs.Contents.{Contents}
-use Rattle.ax_candidates.specs.Candidates.{AreAllInGrammar, AreCandidates, IsOneInGrammar}
+use Rattle.ax_candidates.specs.Candidates.{AreAllInGrammar, AreCandidates, AreOfAsked}
 use Rattle.ax_container.specs.Container.{Container}
 use Rattle.ax_delta.specs.Said.{has_number}
 use Rattle.ax_gap.specs.Gaps.{IsRisingList}
@@ -34,15 +35,22 @@ abbrev pub AreNone : Candidates → Type 0
 AreNone All = ⊥
 AreNone (Numbers numbers) = numbers.items ≡ []
 
+-- they rise, where they are numbers
+abbrev pub AreRising : Candidates → Type 0
+AreRising All = Unit {0}
+AreRising (Numbers numbers) = IsStrictlyIncreasing numbers.items
+
 -- ---- how they were found
 
--- Rising numbers: those with a term in each of the unions, of the set that the pages hold. The pages of all unions were met in
--- their grammar; or those of one, and there is no number.
+-- Rising numbers: those with a term in each of the unions, of the set that the pages hold. The index was asked for some of the
+-- unions, and for all where there is a number: the pages with terms of these were met in their grammar, and the numbers that they
+-- have with a term in each are there.
 pub record AreNumbersOf (unions : List (List TermRange)) (pages : List TermPage) (numbers : List ℕ) : Type 0 where
   pub some : 1 ≤ length unions
   pub rising : IsRisingList numbers
   pub are : (set : PairSet) → IsIndex pages set → AreCandidates unions set numbers
-  pub met : AreAllInGrammar unions pages ⊎ ((numbers ≡ []) × IsOneInGrammar unions pages)
+  pub asked : AreOfAsked unions pages numbers
+  pub met : AreAllInGrammar unions pages ⊎ (numbers ≡ [])
 
 -- all documents, where there is no union
 abbrev pub AreOfUnions : List (List TermRange) → List TermPage → Candidates → Type 0

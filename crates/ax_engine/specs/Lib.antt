@@ -12,3 +12,4 @@ pub mod Replies
 pub mod Scans
 pub mod Stopping
 pub mod StoreSays
+pub mod Walks

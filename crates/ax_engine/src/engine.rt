@@ -167,9 +167,9 @@ impl<C: PageCache> Engine<C> {
     /// `Disk` where a call on the disk failed, and nowhere else does the disk count a fault. `Damaged` where the text of a
     /// document is none that a document can have, or a part of the index is outside its grammar, over an honest disk with
     /// the place at which its part stands; the disk's lists are then as they were, and so they are at a refusal. A
-    /// query without LIMIT answers no rows over such a text that it reads whole, of a document that the index leaves, where it
-    /// has no WHERE, or the text is that of a tree that has rows in it; nor any but those over no document, where a part of the
-    /// index in which it is to look is outside its grammar.
+    /// query answers no rows over such a text that it reads whole, of a document that the index leaves, where it has no WHERE, or
+    /// the text is that of a tree that has rows in it, and, with LIMIT, the documents before it are not enough; nor any but those
+    /// over no document, where a part of the index in which it is to look is outside its grammar.
     ///
     /// A query looks only at the documents that the index leaves: those with a term in each union of terms of its plan, in which
     /// conditions on one property may be combined, and takes at most two steps of work for each. One that is refused for its text

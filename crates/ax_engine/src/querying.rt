@@ -2,6 +2,7 @@
 
 ghost use Rattle.std.specs.Prelude.{◌≡◌, ◌↔◌, ◌≤◌, ◌+◌, ◌*◌, ◌<◌, ℕ, List, [], ◌∷◌, ◌++◌, length, Some, None, IsTrue, IfOk, OnOk, true, false, map};
 ghost use Rattle.std.specs.FinMap as finite;
+ghost use Rattle.std.specs.List.Sorted.{IsStrictlyIncreasing};
 ghost use Rattle.ax_answer_text.specs.Parts.{IsTakenWhole};
 ghost use Rattle.ax_answer_text.specs.TextAnswers.{Answers, IsTo};
 ghost use Rattle.ax_container.specs.Container.{Container};
@@ -26,14 +27,15 @@ ghost use Rattle.ax_tree.specs.CanonicalText.{canonical_text};
 ghost use Rattle.ax_tree.specs.declared.tree.Tree.{Tree as TreeOf};
 ghost use Rattle.ax_store.specs.Store.{AgreesUnlessFailed, store_contents, store_failed, store_slots};
 ghost use Rattle.ax_write.specs.Writes.{Looks};
-ghost use Rattle.ax_engine.specs.Candidates.{AreNone, CountsOneEach, CountsTwoEach, HasAllOf, HasJustPolicies, IsAmong};
+ghost use Rattle.ax_engine.specs.Candidates.{AreNone, AreRising, CountsOneEach, CountsTwoEach, HasAllOf, HasJustPolicies, IsAmong};
 ghost use Rattle.ax_engine.specs.Stopping.{StopsAtEnough, StopsInAll, StopsInNumbers};
-ghost use Rattle.ax_engine.specs.Damage.{AreDocuments, AreRowsOfNone, CountsPlanned, IfRows, MeetsDocuments, MeetsPlanned};
+ghost use Rattle.ax_engine.specs.Damage.{AreRowsOfNone, CountsPlanned, IfRows, MeetsDocuments, MeetsPlanned};
 ghost use Rattle.ax_engine.specs.PolicyNow.{policy_now};
 ghost use Rattle.ax_engine.specs.Printing.{IsPrinted};
 ghost use Rattle.ax_engine.specs.Replies.{AreRows, FitsRefusal, IsReply, own_refusal};
 ghost use Rattle.ax_engine.specs.Scans.{IsReady, Scans};
 ghost use Rattle.ax_engine.specs.StoreSays.{text_of};
+ghost use Rattle.ax_engine.specs.Walks.{Walks};
 
 use crate::candidates::{Candidates, candidates_of};
 use crate::policy_now::current_policy;
@@ -215,7 +217,7 @@ fn rows_of_query<D: Disk, C: PageCache, L: Ledger>(
         → HasAllOf query candidates.now container → IfOk result (λ rows. AreRows rows (rows_of query container)) }
     ensures none { AreNone candidates.now → IfOk result (AreRowsOfNone query) }
     ensures met { IsTrue (D.is_honest disk.old)
-        → OnOk result (MeetsDocuments (IsAmong candidates.now) query (store_contents store.old)) }
+        → AreRising candidates.now → OnOk result (MeetsDocuments (IsAmong candidates.now) query (store_contents store.old)) }
     ensures bound { CountsTwoEach candidates.now (store_contents store.old) steps.old steps.new }
     ensures stops { IsTrue (D.is_honest disk.old) → (container : Container) → ContentsHold (store_contents store.old) container
         → StopsAtEnough candidates.now query container steps.old steps.new }
@@ -281,7 +283,7 @@ fn rows_of_documents<D: Disk, C: PageCache, L: Ledger>(
     ensures rows { IsTrue (D.is_honest disk.old) → (container : Container) → ContentsHold (store_contents store.old) container
         → HasAllOf query candidates.now container → IfOk result (λ rows. AreRows rows (rows_of query container)) }
     ensures met { IsTrue (D.is_honest disk.old)
-        → OnOk result (MeetsDocuments (IsAmong candidates.now) query (store_contents store.old)) }
+        → AreRising candidates.now → OnOk result (MeetsDocuments (IsAmong candidates.now) query (store_contents store.old)) }
     ensures bound { CountsTwoEach candidates.now (store_contents store.old) steps.old steps.new }
     ensures stops { IsTrue (D.is_honest disk.old) → (container : Container) → ContentsHold (store_contents store.old) container
         → StopsAtEnough candidates.now query container steps.old steps.new }
@@ -319,8 +321,8 @@ fn answer_rows<D: Disk, C: PageCache, L: Ledger>(
         → HasAllOf query.now candidates.now container
         → IfOk result (λ rows. rows.items ≡ answer_of query.now (numbered container)) }
     ensures none { AreNone candidates.now → IfOk result (λ rows. rows.items ≡ answer_of query.now []) }
-    ensures met { IsTrue (D.is_honest disk.old) → query.now.limit ≡ None
-        → OnOk result (AreDocuments (IsAmong candidates.now) (IsTakenWhole query.now) (store_contents store.old)) }
+    ensures met { IsTrue (D.is_honest disk.old) → AreRising candidates.now
+        → OnOk result (Walks (IsAmong candidates.now) (IsTakenWhole query.now) query.now (store_contents store.old)) }
     ensures fetched { query.now.limit ≡ None
         → OnOk result (CountsOneEach candidates.now (store_contents store.old) steps.old steps.new) }
     ensures bound { CountsTwoEach candidates.now (store_contents store.old) steps.old steps.new }
@@ -363,8 +365,8 @@ fn add_candidates<D: Disk, C: PageCache, L: Ledger>(
         → OnOk result (Answers answer.new query (numbered container)) }
     ensures none { AreNone candidates.now → (query : queries.Query) → Answers answer.old query []
         → OnOk result (Answers answer.new query []) }
-    ensures met { IsTrue (D.is_honest disk.old) → (query : queries.Query) → IsTo answer.old query → query.limit ≡ None
-        → OnOk result (AreDocuments (IsAmong candidates.now) (IsTakenWhole query) (store_contents store.old)) }
+    ensures met { IsTrue (D.is_honest disk.old) → (query : queries.Query) → Answers answer.old query [] → AreRising candidates.now
+        → OnOk result (Walks (IsAmong candidates.now) (IsTakenWhole query) query (store_contents store.old)) }
     ensures fetched { (query : queries.Query) → IsTo answer.old query → query.limit ≡ None
         → OnOk result (CountsOneEach candidates.now (store_contents store.old) steps.old steps.new) }
     ensures bound { CountsTwoEach candidates.now (store_contents store.old) steps.old steps.new }
@@ -407,8 +409,8 @@ fn add_numbered<D: Disk, C: PageCache, L: Ledger>(
     ensures added { IsTrue (D.is_honest disk.old) → (container : Container) → ContentsHold (store_contents store.old) container
         → (query : queries.Query) → Answers answer.old query []
         → OnOk result (Answers answer.new query (fetched_of numbers.now container)) }
-    ensures met { IsTrue (D.is_honest disk.old) → (query : queries.Query) → IsTo answer.old query → query.limit ≡ None
-        → OnOk result (AreDocuments (λ number. has_number number numbers.now ≡ true) (IsTakenWhole query) (store_contents store.old)) }
+    ensures met { IsTrue (D.is_honest disk.old) → (query : queries.Query) → Answers answer.old query [] → IsStrictlyIncreasing numbers.now
+        → OnOk result (Walks (λ number. has_number number numbers.now ≡ true) (IsTakenWhole query) query (store_contents store.old)) }
     ensures fetched { (query : queries.Query) → IsTo answer.old query → query.limit ≡ None
         → OnOk result (steps.old + length numbers.now ≤ steps.new) }
     ensures bound { steps.new ≤ steps.old + 2 * length numbers.now }
@@ -450,8 +452,8 @@ fn add_documents<D: Disk, C: PageCache, L: Ledger>(
     ensures added { IsTrue (D.is_honest disk.old) → (container : Container) → ContentsHold (store_contents store.old) container
         → (query : queries.Query) → Answers answer.old query []
         → OnOk result (Answers answer.new query (numbered container)) }
-    ensures met { IsTrue (D.is_honest disk.old) → (query : queries.Query) → IsTo answer.old query → query.limit ≡ None
-        → OnOk result (AreDocuments (λ number. Unit {0}) (IsTakenWhole query) (store_contents store.old)) }
+    ensures met { IsTrue (D.is_honest disk.old) → (query : queries.Query) → Answers answer.old query []
+        → OnOk result (Walks (λ number. Unit {0}) (IsTakenWhole query) query (store_contents store.old)) }
 
     // Without a limit each document is fetched, for one step of work.
     ensures fetched { (container : Container) → ContentsHold (store_contents store.old) container

@@ -25,5 +25,6 @@ returns-in-Ok-clause-found g c = λ honest.
       some = subst (λ unions. 1 ≤ length unions) (c.as_slice.ensures ∙ sym c.as_slice-2.ensures) (some_of _ c.if-is_empty.ensures);
       rising = c.in-Ok.ensures.rising;
       are = c.in-Ok.ensures.numbers honest;
-      met = all_or_none c.as_slice-2.result.now pages c.in-Ok.numbers.items (c.in-Ok.ensures.met honest) (c.in-Ok.ensures.begun honest);
+      asked = c.in-Ok.ensures.asked honest;
+      met = all_or_none c.as_slice-2.result.now pages c.in-Ok.numbers.items (c.in-Ok.ensures.met honest);
     })

@@ -1,8 +1,7 @@
 -- What reading answered, as the answer to the line.
-use Rattle.std.proofs.Common.{◌≡◌, ◌+◌, ◌*◌, ◌≤◌, ◌∙◌, List, Bool, ℕ, arith, refl, subst, sym}
-use Rattle.std.specs.Prelude.{IfErr, IfOk, IsTrue, OnOk, Result, count_by, not, replicate}
+use Rattle.std.proofs.Common.{◌+◌, ◌*◌, ◌≤◌, List, Bool, arith, refl, subst, sym}
+use Rattle.std.specs.Prelude.{IfErr, IfOk, IsTrue, OnOk, Result, count_by, not}
 use Rattle.ax_area.specs.Image.{Says}
-use Rattle.ax_container.specs.Container.{Container}
 use Rattle.ax_disk.specs.laws.StaysLaws.{idles_rest, idles_stay}
 use Rattle.ax_documents.proofs.Meeting.{look_met}
 use Rattle.ax_documents.specs.Documents.{DocumentsWork}
@@ -24,7 +23,6 @@ use Rattle.ax_lines.specs.declared.line.Line.TheVariants as line
 use Rattle.ax_machine.specs.Needs.{query_need}
 use Rattle.ax_machine.specs.Querying.{rows_reply, rows_under}
 use Rattle.ax_store.proofs.StoreLemmas.{agrees_says}
-use Rattle.ax_store.specs.Slots.{slot_count}
 use Rattle.ax_store.specs.Store.{store_contents}
 
 pub reply_to_query-read-requires : goal.reply_to_query-read-requires

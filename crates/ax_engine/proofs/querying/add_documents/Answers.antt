@@ -1,9 +1,11 @@
 -- Each turn takes in the next document, for one step or two.
-use Rattle.std.proofs.Common.{◌++◌, ◌∙◌, [], ap, sym, subst, arith, length, refl}
+use Rattle.std.proofs.Common.{◌≡◌, ◌++◌, ◌∙◌, [], None, inl, ap, sym, subst, arith, length, refl}
 use Rattle.std.proofs.lemmas.Bool.{false≢true}
 use Rattle.std.proofs.lemmas.List.{append-nil}
+use Rattle.std.specs.FinMap as finite
 use Rattle.std.specs.Prelude.{IsTrue}
 use Rattle.ax_answer_text.specs.TextAnswers.{Answers}
+use Rattle.ax_store.specs.Kept.{Kept}
 use Rattle.ax_store.specs.Store.{store_contents}
 use Rattle.ax_answer_text.specs.Parts.{IsTakenWhole}
 use Rattle.ax_engine.proofs.Damaging.{all_documents, no_documents, one_document_more}
@@ -11,6 +13,8 @@ use Rattle.ax_engine.proofs.InOrder.{above, pairs, next_entry, next_same, stored
 use Rattle.ax_engine.proofs.InOrder.{one_less, at_the_end, at_the_start, none_same, text_same}
 use Rattle.ax_engine.proofs.Scanning.{fails_on, nothing_scanned, ready_now, scanned_on}
 use Rattle.ax_engine.proofs.Stopping.{nothing_within, one_document_on, stops_in_all}
+use Rattle.ax_engine.proofs.Walking.{ends_early, first_held, held_met, none_walked_yet, one_walked_more}
+use Rattle.ax_engine.specs.StoreSays.{kept_says}
 use Rattle.ax_engine.proofs.querying.add_documents.Goals as goal
 
 pub texts-init : goal.texts-init
@@ -18,7 +22,8 @@ texts-init g c = record {
   added = λ honest container hold query answers.
       ([], ap pairs (at_the_start (store_contents c.args.store.now) container hold), answers);
   asked = λ query asked. asked;
-  met = λ honest query asked unlimited. no_documents (store_contents c.args.store.now) (IsTakenWhole query);
+  met = λ honest query asked. no_documents (store_contents c.args.store.now) (IsTakenWhole query);
+  walked = λ honest query answers. none_walked_yet (store_contents c.args.store.now) query c.args.answer.now answers;
   fetched = λ container hold.
       omega (arith, ap length (at_the_start (store_contents c.args.store.now) container hold));
   bound = λ container hold.
@@ -50,11 +55,21 @@ texts-preserved g c =
                 stored.storable query before.0 before.2,
           );
       asked = λ query asked. c.in-Ok.ensures.asked query (inv.asked query asked);
-      met = λ honest query asked unlimited.
-          one_document_more contents (IsTakenWhole query) c.texts.number (inv.met honest query asked unlimited) c.in-Some.next found
+      met = λ honest query asked.
+          one_document_more contents (IsTakenWhole query) c.texts.number (inv.met honest query asked) c.in-Some.next found
           (λ text is taken. c.in-Ok.ensures.outside (subst IsTrue (sym inv.honest) honest) text
           (text_same c.args.store.now c.texts.store c.in-Some.next text inv.scans.same is)
           query (inv.asked query asked) taken);
+      walked = λ honest query answers.
+          one_walked_more contents query c.texts.answer c.add_document.new.answer c.texts.number c.in-Some.next found
+          (record {
+            held = λ tree is storable entries before. c.in-Ok.ensures.added (subst IsTrue (sym inv.honest) honest) tree
+                (text_same c.args.store.now c.texts.store c.in-Some.next _ inv.scans.same is) storable query entries before;
+            unheld = λ none entries before. c.in-Ok.ensures.unheld
+                (subst (λ (kept : Kept). finite.get (kept_says kept).documents c.in-Some.next ≡ None) (sym inv.scans.same.pages) none)
+                query entries before;
+          })
+          (inv.walked honest query answers);
       fetched = λ container hold.
           let next = next_entry contents container hold c.texts.number c.in-Some.next found in
           omega (
@@ -99,9 +114,15 @@ returns-then-is_done-clause-added g c = λ honest container hold query answers.
     (pairs (above c.texts.number container.entries)) all.2)
 
 pub returns-then-is_done-clause-met : goal.returns-then-is_done-clause-met
-returns-then-is_done-clause-met g c = λ honest query asked unlimited.
-    absurd (false≢true (sym (c.is_done.ensures.unlimited query (c.texts.invariant.asked query asked) unlimited)
-    ∙ c.if-is_done.true))
+returns-then-is_done-clause-met g c = λ honest query answers.
+    let inv = c.texts.invariant in
+    let contents = store_contents c.args.store.now in
+    let walked = inv.walked honest query answers in
+    ends_early (λ number. Unit {0}) (IsTakenWhole query) query contents c.texts.answer walked.numbers
+    (first_held contents c.texts.number walked.numbers walked.held)
+    (held_met contents c.texts.number walked.numbers walked.held (IsTakenWhole query) (inv.met honest query answers.asked))
+    (λ unlimited. false≢true (sym (c.is_done.ensures.unlimited query (inv.asked query answers.asked) unlimited) ∙ c.if-is_done.true))
+    walked.taken (c.is_done.ensures.only c.if-is_done.true query)
 
 pub returns-then-is_done-clause-fetched : goal.returns-then-is_done-clause-fetched
 returns-then-is_done-clause-fetched g c = λ container hold query asked unlimited.
@@ -170,7 +191,7 @@ returns-clause-added g c = λ honest container hold query answers.
     (sym (append-nil all.0) ∙ ap (λ es. all.0 ++ pairs es) (sym end) ∙ all.1) all.2
 
 pub returns-clause-met : goal.returns-clause-met
-returns-clause-met g c = λ honest query asked unlimited.
+returns-clause-met g c = λ honest query answers.
     let inv = c.texts.invariant in
-    all_documents (store_contents c.args.store.now) (IsTakenWhole query) c.texts.number (inv.met honest query asked unlimited)
-    (none_same c.args.store.now c.texts.store c.texts.number inv.scans.same c.in_default.ensures.none)
+    inl (all_documents (store_contents c.args.store.now) (IsTakenWhole query) c.texts.number (inv.met honest query answers.asked)
+    (none_same c.args.store.now c.texts.store c.texts.number inv.scans.same c.in_default.ensures.none))

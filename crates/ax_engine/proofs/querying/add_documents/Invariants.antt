@@ -1,5 +1,5 @@
 -- The documents up to the number were taken in, each for one step or two.
-use Rattle.std.proofs.Common.{◌≡◌, ◌-◌, ◌^◌, ◌*◌, ◌+◌, ◌++◌, ◌≤◌, ℕ, List, [], None, Some, length}
+use Rattle.std.proofs.Common.{◌≡◌, ◌-◌, ◌^◌, ◌*◌, ◌+◌, ◌++◌, ◌≤◌, ℕ, List, [], Some, length}
 use Rattle.std.specs.Prelude.{IsTrue}
 use Rattle.ax_tree.specs.declared.tree.Tree.{Tree}
 use Rattle.ax_mean.specs.declared.query.Query.{Query}
@@ -12,6 +12,7 @@ use Rattle.ax_engine.specs.Scans.{Scanned}
 use Rattle.ax_engine.proofs.Damaging.{AreDocumentsTo}
 use Rattle.ax_engine.proofs.InOrder.{above, pairs}
 use Rattle.ax_engine.proofs.Stopping.{IsWithinAll}
+use Rattle.ax_engine.proofs.Walking.{HasWalkedTo}
 use Rattle.ax_engine.proofs.querying.add_documents.Given as goal
 
 abbrev pub decreases-texts : goal.decreases-texts
@@ -25,8 +26,10 @@ invariant-texts g l = record {
       × (done ++ pairs (above l.number container.entries) ≡ pairs container.entries)
       × Answers l.answer query done;
   asked : (query : Query) → IsTo l.fn.answer query → IsTo l.answer query;
-  met : IsTrue (g.D.Disk.is_honest l.fn.disk) → (query : Query) → IsTo l.fn.answer query → query.limit ≡ None
+  met : IsTrue (g.D.Disk.is_honest l.fn.disk) → (query : Query) → IsTo l.fn.answer query
       → AreDocumentsTo l.number (IsTakenWhole query) (store_contents l.fn.store);
+  walked : IsTrue (g.D.Disk.is_honest l.fn.disk) → (query : Query) → Answers l.fn.answer query []
+      → HasWalkedTo l.number (store_contents l.fn.store) query l.answer;
   fetched : (container : Container) → ContentsHold (store_contents l.fn.store) container
       → l.fn.steps + length container.entries ≤ l.steps + length (above l.number container.entries);
   bound : (container : Container) → ContentsHold (store_contents l.fn.store) container

@@ -1,25 +1,29 @@
 -- Each turn takes in the document of the next number, for one step or two.
-use Rattle.std.proofs.Common.{◌≡◌, ◌+◌, ◌∙◌, ℕ, None, [], sym, subst, arith, refl, drop, take, get_or}
+use Rattle.std.proofs.Common.{◌≡◌, ◌+◌, ◌∙◌, ℕ, None, [], true, inl, sym, subst, arith, refl, drop, take, get_or}
 use Rattle.std.proofs.lemmas.Bool.{false≢true}
 use Rattle.std.specs.FinMap as finite
 use Rattle.std.specs.Prelude.{IsTrue}
 use Rattle.ax_answer_text.specs.Parts.{IsTakenWhole}
 use Rattle.ax_answer_text.specs.TextAnswers.{Answers}
+use Rattle.ax_delta.specs.Said.{has_number}
 use Rattle.ax_skips.specs.Chosen.{fetched}
 use Rattle.ax_store.specs.Kept.{Kept}
 use Rattle.ax_store.specs.Store.{store_contents}
 use Rattle.ax_engine.specs.StoreSays.{kept_says}
+use Rattle.ax_engine.specs.Walks.{AreTexts}
 use Rattle.ax_engine.proofs.ByNumbers.{AreDocumentsOf, all_taken, in_two, longer, none_yet, one_more, one_taken}
 use Rattle.ax_engine.proofs.InOrder.{text_same}
 use Rattle.ax_engine.proofs.Scanning.{fails_on, nothing_scanned, ready_now, scanned_on}
 use Rattle.ax_engine.proofs.Stopping.{one_number_on, stops_in_numbers}
+use Rattle.ax_engine.proofs.Walking.{ends_early, first_numbers, texts_taken}
 use Rattle.ax_engine.proofs.querying.add_numbered.Goals as goal
 
 pub loop-number-init : goal.loop-number-init
 loop-number-init g c = record {
   added = λ honest container hold query answers. answers;
   asked = λ query asked. asked;
-  met = λ honest query asked unlimited. none_yet c.args.numbers.now (IsTakenWhole query) (store_contents c.args.store.now);
+  met = λ honest query asked. none_yet c.args.numbers.now (IsTakenWhole query) (store_contents c.args.store.now);
+  texts = λ honest query answers entries none. subst (Answers c.args.answer.now query) (sym none) answers;
   fetched = omega arith;
   bound = omega arith;
   within = λ honest container hold query answers front back is enough. omega arith;
@@ -50,10 +54,20 @@ loop-number-preserved g c =
           })
           (inv.added honest container hold query answers));
       asked = λ query asked. more.asked query (inv.asked query asked);
-      met = λ honest query asked unlimited.
-          one_more numbers i low contents (IsTakenWhole query) (inv.met honest query asked unlimited)
+      met = λ honest query asked.
+          one_more numbers i low contents (IsTakenWhole query) (inv.met honest query asked)
           (λ text is taken. more.outside (subst IsTrue (sym inv.honest) honest) text
           (text_same c.args.store.now c.loop-number.store here text inv.scans.same is) query (inv.asked query asked) taken);
+      texts = λ honest query answers entries texts.
+          texts_taken contents query c.loop-number.answer c.add_document.new.answer (take i numbers) here
+          (record {
+            held = λ tree is storable entries before. more.added (subst IsTrue (sym inv.honest) honest) tree
+                (text_same c.args.store.now c.loop-number.store here _ inv.scans.same is) storable query entries before;
+            unheld = λ none entries before. more.unheld
+                (subst (λ (kept : Kept). finite.get (kept_says kept).documents here ≡ None) (sym inv.scans.same.pages) none) query entries before;
+          })
+          (inv.texts honest query answers) entries
+          (subst (λ list. AreTexts contents list entries) (longer numbers i low) texts);
       fetched = omega (arith, inv.fetched, more.fetched);
       bound = omega (arith, inv.bound, more.two);
       within = λ honest container hold query answers.
@@ -81,9 +95,16 @@ returns-then-is_done-clause-added g c = λ honest container hold query answers.
     (c.loop-number.invariant.added honest container hold query answers))
 
 pub returns-then-is_done-clause-met : goal.returns-then-is_done-clause-met
-returns-then-is_done-clause-met g c = λ honest query asked unlimited.
-    absurd (false≢true (sym (c.is_done.ensures.unlimited query (c.loop-number.invariant.asked query asked) unlimited)
-    ∙ c.if-is_done.true))
+returns-then-is_done-clause-met g c = λ honest query answers rising.
+    let inv = c.loop-number.invariant in
+    let contents = store_contents c.args.store.now in
+    let numbers = c.args.numbers.now in
+    let i = c.loop-number.number-index in
+    ends_early (λ number. has_number number numbers ≡ true) (IsTakenWhole query) query contents c.loop-number.answer (take i numbers)
+    (first_numbers contents numbers i rising (omega (arith, c.loop-number-test.true)))
+    (inv.met honest query answers.asked)
+    (λ unlimited. false≢true (sym (c.is_done.ensures.unlimited query (inv.asked query answers.asked) unlimited) ∙ c.if-is_done.true))
+    (inv.texts honest query answers) (c.is_done.ensures.only c.if-is_done.true query)
 
 pub returns-then-is_done-clause-fetched : goal.returns-then-is_done-clause-fetched
 returns-then-is_done-clause-fetched g c = λ query asked unlimited.
@@ -126,7 +147,7 @@ returns-clause-stops g c = λ honest container hold query answers.
     (c.loop-number.invariant.within honest container hold query answers) c.loop-number.invariant.bound
 
 pub returns-clause-met : goal.returns-clause-met
-returns-clause-met g c = λ honest query asked unlimited.
-    subst (λ list. AreDocumentsOf list (IsTakenWhole query) (store_contents c.args.store.now))
+returns-clause-met g c = λ honest query answers rising.
+    inl (subst (λ list. AreDocumentsOf list (IsTakenWhole query) (store_contents c.args.store.now))
     (all_taken c.args.numbers.now c.loop-number.number-index (omega (arith, c.loop-number-test.false)))
-    (c.loop-number.invariant.met honest query asked unlimited)
+    (c.loop-number.invariant.met honest query answers.asked))

@@ -17,8 +17,8 @@ returns-in-Ok-finish-clause-none g c = λ none.
     (c.in_default-add_candidates.ensures.none none c.args.query.now c.in-Ok.ensures) none_rise
 
 pub returns-in-Ok-finish-clause-met : goal.returns-in-Ok-finish-clause-met
-returns-in-Ok-finish-clause-met g c = λ honest unlimited.
-    c.in_default-add_candidates.ensures.met honest c.args.query.now c.in-Ok.ensures.asked unlimited
+returns-in-Ok-finish-clause-met g c = λ honest rising.
+    c.in_default-add_candidates.ensures.met honest c.args.query.now c.in-Ok.ensures rising
 
 pub returns-in-Ok-finish-clause-fetched : goal.returns-in-Ok-finish-clause-fetched
 returns-in-Ok-finish-clause-fetched g c = λ unlimited.

@@ -30,8 +30,9 @@ returns-clause-met g c = λ honest.
     let same = same_contents c.args.store.now c.candidates_of-found.new.store c.in-Ok.ensures.looks.reads.same.same in
     planned_met_by c.args.table.now c.args.query (store_contents c.args.store.now) c.in-Ok.candidates c.rows_of_query-rows.result
     (c.in-Ok.ensures.found honest)
-    (subst (λ (contents : Contents). OnOk c.rows_of_query-rows.result (MeetsDocuments (IsAmong c.in-Ok.candidates) c.args.query contents))
-    same (c.rows_of_query-rows.ensures.met (subst IsTrue (sym c.candidates_of-found.ensures.honest) honest)))
+    (λ rising. subst (λ (contents : Contents). OnOk c.rows_of_query-rows.result
+    (MeetsDocuments (IsAmong c.in-Ok.candidates) c.args.query contents))
+    same (c.rows_of_query-rows.ensures.met (subst IsTrue (sym c.candidates_of-found.ensures.honest) honest) rising))
     c.rows_of_query-rows.ensures.none
 
 pub returns-clause-few : goal.returns-clause-few

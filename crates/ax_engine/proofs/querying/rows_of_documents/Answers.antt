@@ -10,7 +10,8 @@ use Rattle.ax_engine.specs.Replies.{AreRows}
 use Rattle.ax_engine.specs.Candidates.{HasAllOf, IsAmong}
 use Rattle.ax_engine.specs.Damage.{MeetsDocuments}
 use Rattle.ax_engine.specs.StoreSays.{kept_says}
-use Rattle.ax_engine.proofs.Damaging.{keys_met, on_ok}
+use Rattle.ax_engine.proofs.Damaging.{on_ok}
+use Rattle.ax_engine.proofs.Walking.{keys_met}
 use Rattle.ax_engine.proofs.Choosing.{for_keys}
 use Rattle.ax_engine.proofs.Numbers.{shown_rows}
 use Rattle.ax_engine.proofs.Scanning.{scans_on}
@@ -34,10 +35,10 @@ returns-in-Ok-rows-clause-scans g c =
     c.document_rows.ensures.scans
 
 pub returns-in-Ok-rows-clause-met : goal.returns-in-Ok-rows-clause-met
-returns-in-Ok-rows-clause-met g c = λ honest.
+returns-in-Ok-rows-clause-met g c = λ honest rising.
     on_ok c.document_rows.result (MeetsDocuments (IsAmong c.args.candidates.now) c.args.query (store_contents c.args.store.now))
     (keys_met (IsAmong c.args.candidates.now) c.args.query _ (store_contents c.args.store.now) c.in-Ok.ensures c.requires.printed
-    (c.in-Ok-rows.ensures.met honest))
+    (c.in-Ok-rows.ensures.met honest rising))
 
 pub returns-in-Ok-rows-clause-stops : goal.returns-in-Ok-rows-clause-stops
 returns-in-Ok-rows-clause-stops g c = λ honest container hold.
