@@ -1,12 +1,16 @@
 -- What lines were answered, whatever the store holds: one, those of a piece, and all that a run took.
 use Rattle.std.proofs.Common.{◌≡◌, ◌==◌, ◌⊎◌, ◌+◌, ◌<◌, true, false, true≢false, inl, inr, ℕ, Bool, List, [], ◌∷◌, ◌++◌, length}
-use Rattle.std.proofs.Common.{Option, Result, Ok, Err, OnOk, OnErr, refl, sym, ap, subst, ◌∙◌, append_assoc, append-nil, length-append, arith}
+use Rattle.std.proofs.Common.{Option, None, Result, Ok, Err, OnOk, OnErr, refl, sym, ap, subst, ◌∙◌, append_assoc, append-nil, length-append, arith}
 use Rattle.std.specs.Prelude.{◌≢◌, IfErr, IfOk}
 use Rattle.std.specs.Io.KnownBytes.{Consumes, IsAtEnd, Keeps}
 use Rattle.std.proofs.KnownBytes.{Appends-nil, Appends-trans, Consumes-kept, Consumes-nil, Consumes-trans}
 use Rattle.ax_area.specs.Contents.{no_contents}
 use Rattle.ax_disk.specs.model.Moments.{History}
-use Rattle.ax_engine.specs.Course.{Course, Standing}
+use Rattle.ax_cache.specs.Pages.{CachedPages}
+use Rattle.ax_store.proofs.StoreLemmas.{agrees_says}
+use Rattle.ax_engine.specs.Course.{Course, Standing, standing_of}
+use Rattle.ax_engine.specs.Engine.{Works}
+use Rattle.ax_engine.specs.declared.engine.Engine.{Engine}
 use Rattle.ax_engine.specs.Reading.{IsWritten, Writes, text_of_reply}
 use Rattle.ax_engine.proofs.Applying.{if_ok}
 use Rattle.ax_engine.specs.declared.engine.Fault.{Fault}
@@ -25,7 +29,7 @@ use Rattle.ax_lines.specs.declared.refusal.Refusal.{Refusal}
 use Rattle.ax_lines.specs.declared.refusal.Refusal.TheVariants as refusal
 use Rattle.ax_policy.specs.Table.{fresh}
 use Rattle.ax_script.specs.Answered.{AnswersAll, AnswersLast, AnswersLine, AnswersLines, AnswersTaken, TellsAnswered}
-use Rattle.ax_script.specs.Answered.{BreaksFirst, BreaksLine, BreaksLines, BreaksRun}
+use Rattle.ax_script.specs.Answered.{BreaksFirst, BreaksLine, BreaksLines, BreaksRun, IsDurable}
 use Rattle.ax_script.specs.Progress.{EndsEarly, IsLineFault, StopsBy}
 use Rattle.ax_script.specs.Replies.{AreTextsTo, IsAnswer, IsAnswerTo, IsTextTo, WritesPart, WritesWhole, fault_status, read_status, unread_refusal}
 use Rattle.ax_script.specs.Script.{most_input}
@@ -359,9 +363,9 @@ module _ (honest : Bool) where
     )
 
     -- a read failed
-    pub answered_to_a_fault : (remaining : Option (List ℕ)) → Keeps new.remaining remaining
-        → TellsAnswered honest was status.ReadFault old (streams remaining new.written new.steps)
-    answered_to_a_fault remaining kept = (
+    pub answered_to_a_fault : (remaining : Option (List ℕ)) (after : History) → IsDurable honest now after → Keeps new.remaining remaining
+        → TellsAnswered honest was after status.ReadFault old (streams remaining new.written new.steps)
+    answered_to_a_fault remaining after durable kept = (
       pending,
       now,
       record {
@@ -375,6 +379,7 @@ module _ (honest : Bool) where
         split = p.0.split;
         answered = p.0.answered;
       },
+      durable,
     )
 
     -- the serving of a piece broke off
@@ -401,7 +406,7 @@ module _ (honest : Bool) where
     pub stopped_answered : (trusted : Bool) (history : History) (remaining written : Option (List ℕ)) (steps : ℕ)
         (piece : List ℕ) (ended : Status) → Consumes new.remaining remaining piece
         → BreaksLines ended honest (pending ++ piece) now new.written written → StopsBy trusted ended history
-        → TellsAnswered honest was ended old (streams remaining written steps)
+        → TellsAnswered honest was history ended old (streams remaining written steps)
     stopped_answered trusted history remaining written steps piece status.DiskFault consumed more stops =
         broken_in_piece remaining written steps piece status.DiskFault consumed more
     stopped_answered trusted history remaining written steps piece status.WriteFault consumed more stops =
@@ -417,10 +422,10 @@ module _ (honest : Bool) where
     stopped_answered trusted history remaining written steps piece (status.Newer version) consumed more stops = absurd stops
 
     -- more was taken than one run takes
-    pub taken_long : (remaining : Option (List ℕ)) (piece : List ℕ) (n : ℕ) → Consumes new.remaining remaining piece
+    pub taken_long : (remaining : Option (List ℕ)) (after : History) (piece : List ℕ) (n : ℕ) → Consumes new.remaining remaining piece
         → length piece ≡ n → most_input < count + n
-        → TellsAnswered honest was status.Long old (streams remaining new.written new.steps)
-    taken_long remaining piece n consumed size more =
+        → TellsAnswered honest was after status.Long old (streams remaining new.written new.steps)
+    taken_long remaining after piece n consumed size more =
         let others = there_are_lines (pending ++ piece) in
         let enough : most_input < length (p.0.taken ++ piece) = omega (arith, length-append p.0.taken piece, p.1, size, more) in (
           record {
@@ -442,10 +447,10 @@ module _ (honest : Bool) where
           enough,
         )
 
-    answered_all : (behind : Standing) (remaining written : Option (List ℕ)) (steps : ℕ) → Consumes new.remaining remaining []
-        → IsAtEnd remaining → AnswersLast honest pending now behind new.written written
-        → AnswersAll honest was old (streams remaining written steps)
-    answered_all behind remaining written steps consumed at_end last = record {
+    answered_all : (behind : Standing) (after : History) (remaining written : Option (List ℕ)) (steps : ℕ) → Consumes new.remaining remaining []
+        → IsAtEnd remaining → AnswersLast honest pending now behind new.written written → IsDurable honest behind after
+        → AnswersAll honest was after old (streams remaining written steps)
+    answered_all behind after remaining written steps consumed at_end last durable = record {
       taken = p.0.taken;
       lines = p.0.lines;
       last = pending;
@@ -458,6 +463,7 @@ module _ (honest : Bool) where
       };
       split = p.0.split;
       answered = texts_append p.0.lines (last_line pending) p.0.text last.0 was now behind p.0.answered last.1;
+      durable = durable;
       at_end = at_end;
     }
 
@@ -488,30 +494,30 @@ module _ (honest : Bool) where
         (ended : Status) → Consumes new.remaining remaining [] → IsAtEnd remaining
         → (ended ≡ status.Done → AnswersLast honest pending now behind new.written written)
         → (ended ≡ status.Done) ⊎ BreaksFirst ended honest (last_line pending) now new.written written
-        → (ended ≡ status.Done) ⊎ StopsBy trusted ended history
-        → TellsAnswered honest was ended old (streams remaining written steps)
-    answered_at_end behind trusted history remaining written steps status.Done consumed at_end last broken only =
-        answered_all behind remaining written steps consumed at_end (last refl)
-    answered_at_end behind trusted history remaining written steps status.ReadFault consumed at_end last broken (inl is) = absurd cc
-    answered_at_end behind trusted history remaining written steps status.ReadFault consumed at_end last broken (inr stops) = absurd stops
-    answered_at_end behind trusted history remaining written steps status.Long consumed at_end last broken (inl is) = absurd cc
-    answered_at_end behind trusted history remaining written steps status.Long consumed at_end last broken (inr stops) = absurd stops
-    answered_at_end behind trusted history remaining written steps status.Words consumed at_end last broken (inl is) = absurd cc
-    answered_at_end behind trusted history remaining written steps status.Words consumed at_end last broken (inr stops) = absurd stops
-    answered_at_end behind trusted history remaining written steps (status.Newer version) consumed at_end last broken (inl is) = absurd cc
-    answered_at_end behind trusted history remaining written steps (status.Newer version) consumed at_end last broken (inr stops) =
+        → (ended ≡ status.Done) ⊎ StopsBy trusted ended history → (ended ≡ status.Done → IsDurable honest behind history)
+        → TellsAnswered honest was history ended old (streams remaining written steps)
+    answered_at_end behind trusted history remaining written steps status.Done consumed at_end last broken only durable =
+        answered_all behind history remaining written steps consumed at_end (last refl) (durable refl)
+    answered_at_end behind trusted history remaining written steps status.ReadFault consumed at_end last broken (inl is) durable = absurd cc
+    answered_at_end behind trusted history remaining written steps status.ReadFault consumed at_end last broken (inr stops) durable = absurd stops
+    answered_at_end behind trusted history remaining written steps status.Long consumed at_end last broken (inl is) durable = absurd cc
+    answered_at_end behind trusted history remaining written steps status.Long consumed at_end last broken (inr stops) durable = absurd stops
+    answered_at_end behind trusted history remaining written steps status.Words consumed at_end last broken (inl is) durable = absurd cc
+    answered_at_end behind trusted history remaining written steps status.Words consumed at_end last broken (inr stops) durable = absurd stops
+    answered_at_end behind trusted history remaining written steps (status.Newer version) consumed at_end last broken (inl is) durable = absurd cc
+    answered_at_end behind trusted history remaining written steps (status.Newer version) consumed at_end last broken (inr stops) durable =
         absurd stops
-    answered_at_end behind trusted history remaining written steps status.DiskFault consumed at_end last (inl is) only = absurd cc
-    answered_at_end behind trusted history remaining written steps status.DiskFault consumed at_end last (inr broken) only =
+    answered_at_end behind trusted history remaining written steps status.DiskFault consumed at_end last (inl is) only durable = absurd cc
+    answered_at_end behind trusted history remaining written steps status.DiskFault consumed at_end last (inr broken) only durable =
         broken_at_end remaining written steps status.DiskFault consumed at_end broken
-    answered_at_end behind trusted history remaining written steps status.WriteFault consumed at_end last (inl is) only = absurd cc
-    answered_at_end behind trusted history remaining written steps status.WriteFault consumed at_end last (inr broken) only =
+    answered_at_end behind trusted history remaining written steps status.WriteFault consumed at_end last (inl is) only durable = absurd cc
+    answered_at_end behind trusted history remaining written steps status.WriteFault consumed at_end last (inr broken) only durable =
         broken_at_end remaining written steps status.WriteFault consumed at_end broken
-    answered_at_end behind trusted history remaining written steps (status.Damaged extent at) consumed at_end last (inl is) only = absurd cc
-    answered_at_end behind trusted history remaining written steps (status.Damaged extent at) consumed at_end last (inr broken) only =
+    answered_at_end behind trusted history remaining written steps (status.Damaged extent at) consumed at_end last (inl is) only durable = absurd cc
+    answered_at_end behind trusted history remaining written steps (status.Damaged extent at) consumed at_end last (inr broken) only durable =
         broken_at_end remaining written steps (status.Damaged extent at) consumed at_end broken
-    answered_at_end behind trusted history remaining written steps status.Memory consumed at_end last (inl is) only = absurd cc
-    answered_at_end behind trusted history remaining written steps status.Memory consumed at_end last (inr broken) only =
+    answered_at_end behind trusted history remaining written steps status.Memory consumed at_end last (inl is) only durable = absurd cc
+    answered_at_end behind trusted history remaining written steps status.Memory consumed at_end last (inr broken) only durable =
         broken_at_end remaining written steps status.Memory consumed at_end broken
 
   -- nothing was taken yet
@@ -535,21 +541,30 @@ module _ (honest : Bool) where
   }
 
   -- no memory was left for what serving takes
-  pub memory_answered : (was : Standing) (remaining written : Option (List ℕ)) (before steps : ℕ)
-      → TellsAnswered honest was status.Memory (streams remaining written before) (streams remaining written steps)
-  memory_answered was remaining written before steps = nothing_broken was remaining written before steps status.Memory (λ is. cc)
+  pub memory_answered : (was : Standing) (after : History) (remaining written : Option (List ℕ)) (before steps : ℕ)
+      → TellsAnswered honest was after status.Memory (streams remaining written before) (streams remaining written steps)
+  memory_answered was after remaining written before steps = nothing_broken was remaining written before steps status.Memory (λ is. cc)
 
   -- the store was not opened
-  pub early_answered : (was : Standing) (ended : Status) (remaining written : Option (List ℕ)) (before steps : ℕ) → EndsEarly ended
-      → TellsAnswered honest was ended (streams remaining written before) (streams remaining written steps)
-  early_answered was status.Done remaining written before steps early = absurd early
-  early_answered was status.ReadFault remaining written before steps early = absurd early
-  early_answered was status.Long remaining written before steps early = absurd early
-  early_answered was status.WriteFault remaining written before steps early = absurd early
-  early_answered was status.Words remaining written before steps early = absurd early
-  early_answered was status.DiskFault remaining written before steps early =
+  pub early_answered : (was : Standing) (after : History) (ended : Status) (remaining written : Option (List ℕ)) (before steps : ℕ) → EndsEarly ended
+      → TellsAnswered honest was after ended (streams remaining written before) (streams remaining written steps)
+  early_answered was after status.Done remaining written before steps early = absurd early
+  early_answered was after status.ReadFault remaining written before steps early = absurd early
+  early_answered was after status.Long remaining written before steps early = absurd early
+  early_answered was after status.WriteFault remaining written before steps early = absurd early
+  early_answered was after status.Words remaining written before steps early = absurd early
+  early_answered was after status.DiskFault remaining written before steps early =
       nothing_broken was remaining written before steps status.DiskFault (λ is. cc)
-  early_answered was (status.Damaged extent at) remaining written before steps early =
+  early_answered was after (status.Damaged extent at) remaining written before steps early =
       nothing_broken was remaining written before steps (status.Damaged extent at) (λ is. cc)
-  early_answered was (status.Newer version) remaining written before steps early = (refl, refl)
-  early_answered was status.Memory remaining written before steps early = memory_answered was remaining written before steps
+  early_answered was after (status.Newer version) remaining written before steps early = (refl, refl)
+  early_answered was after status.Memory remaining written before steps early = memory_answered was after remaining written before steps
+
+-- ---- what lines left
+
+-- an engine that works and has answered no fault has contents that each image says which a crash may leave
+pub works_durable : {C : Type 0} (pages : C → CachedPages) (honest : Bool) (engine : Engine C) (history : History)
+    → Works pages honest engine history → engine.fault ≡ None → IsDurable honest (standing_of engine.documents) history
+works_durable pages honest engine history works none = λ is.
+    let says = agrees_says pages engine.documents.store history ((works.documents none).agrees is) in
+    (says.version, says.told, says.says)

@@ -3,14 +3,24 @@
 use Rattle.std.specs.Prelude.{◌≡◌, ◌≢◌, ◌⊎◌, ℕ, ◌<◌, Bool, List, [], ◌∷◌, ◌++◌, length, Option, IsTrue}
 use Rattle.std.specs.Io.KnownBytes.{Appends, Consumes, IsAtEnd}
 use Rattle.ax_base.specs.Appends.{AppendsPrefix}
+use Rattle.ax_area.specs.Image.{Says}
+use Rattle.ax_area.specs.Told.{Told}
 use Rattle.ax_disk.specs.model.Image.{Image}
+use Rattle.ax_disk.specs.model.Moments.{History}
+use Rattle.ax_disk.specs.model.Stays.{Rests}
 use Rattle.ax_engine.specs.Course.{IsOpenedFrom, Standing}
+use Rattle.ax_image.specs.Readable.{newest}
 use Rattle.ax_lines.specs.ScriptLines.{AreLines, last_line}
 use Rattle.ax_script.specs.Replies.{AreTextsTo, IsTextTo}
 use Rattle.ax_script.specs.Script.{most_input}
 use Rattle.ax_script.specs.Streams.{Moves, Streams}
 use Rattle.ax_script.specs.declared.status.Status.{Status}
 use Rattle.ax_script.specs.declared.status.Status.TheVariants as status
+
+-- over an honest disk each image that a crash may leave says the contents that the engine has
+abbrev pub IsDurable : Bool → Standing → History → Type 0
+IsDurable honest now after =
+    IsTrue honest → (version : ℕ) × (told : List Told) × Rests after (Says newest version told now.contents)
 
 -- a line was answered: the text of a reply that is the answer to it was written
 abbrev pub AnswersLine : Bool → List ℕ → Standing → Standing → Option (List ℕ) → Option (List ℕ) → Type 0
@@ -37,8 +47,8 @@ pub record AnswersTaken (honest : Bool) (was now : Standing) (old new : Streams)
   pub split : AreLines taken lines pending
   pub answered : AreTextsTo honest lines text was now
 
--- the source has ended, and each of its lines was answered
-pub record AnswersAll (honest : Bool) (was : Standing) (old new : Streams) : Type 0 where
+-- the source has ended, and each of its lines was answered; what they left is durable
+pub record AnswersAll (honest : Bool) (was : Standing) (after : History) (old new : Streams) : Type 0 where
   pub taken : List ℕ
   pub lines : List (List ℕ)
   pub last : List ℕ
@@ -47,6 +57,7 @@ pub record AnswersAll (honest : Bool) (was : Standing) (old new : Streams) : Typ
   pub moves : Moves old new taken text
   pub split : AreLines taken lines last
   pub answered : AreTextsTo honest (lines ++ last_line last) text was now
+  pub durable : IsDurable honest now after
   pub at_end : IsAtEnd new.remaining
 
 -- A line was not answered, by why its serving broke off: where the sink failed, a first piece was written of a reply that is
@@ -99,20 +110,20 @@ abbrev pub IsUntouched : Streams → Streams → Type 0
 IsUntouched old new = (new.remaining ≡ old.remaining) × (new.written ≡ old.written)
 
 -- What was answered, by how the run ended: at `Done` all lines; where a read failed those whose newline had
--- come; where a call failed, something is damaged or memory ran out, the first of the lines, none of them where the
+-- come, and then what these left is durable; where a call failed, something is damaged or memory ran out, the first of the lines, none of them where the
 -- store was not opened; at `Long` those of the pieces before the one with which more was taken than a run takes.
-abbrev pub TellsAnswered : Bool → Standing → Status → Streams → Streams → Type 0
-TellsAnswered honest was status.Done old new = AnswersAll honest was old new
-TellsAnswered honest was status.ReadFault old new =
-    (pending : List ℕ) × (now : Standing) × AnswersTaken honest was now old new pending
-TellsAnswered honest was status.Long old new =
+abbrev pub TellsAnswered : Bool → Standing → History → Status → Streams → Streams → Type 0
+TellsAnswered honest was after status.Done old new = AnswersAll honest was after old new
+TellsAnswered honest was after status.ReadFault old new =
+    (pending : List ℕ) × (now : Standing) × AnswersTaken honest was now old new pending × IsDurable honest now after
+TellsAnswered honest was after status.Long old new =
     (broken : BreaksRun status.Long honest was old new) × (most_input < length broken.taken)
-TellsAnswered honest was status.DiskFault old new = BreaksRun status.DiskFault honest was old new
-TellsAnswered honest was status.WriteFault old new = BreaksRun status.WriteFault honest was old new
-TellsAnswered honest was (status.Damaged extent at) old new = BreaksRun (status.Damaged extent at) honest was old new
-TellsAnswered honest was status.Memory old new = BreaksRun status.Memory honest was old new
-TellsAnswered honest was status.Words old new = IsUntouched old new
-TellsAnswered honest was (status.Newer version) old new = IsUntouched old new
+TellsAnswered honest was after status.DiskFault old new = BreaksRun status.DiskFault honest was old new
+TellsAnswered honest was after status.WriteFault old new = BreaksRun status.WriteFault honest was old new
+TellsAnswered honest was after (status.Damaged extent at) old new = BreaksRun (status.Damaged extent at) honest was old new
+TellsAnswered honest was after status.Memory old new = BreaksRun status.Memory honest was old new
+TellsAnswered honest was after status.Words old new = IsUntouched old new
+TellsAnswered honest was after (status.Newer version) old new = IsUntouched old new
 
 -- ---- what the first line finds
 

@@ -8,7 +8,7 @@ ghost use Rattle.ax_engine.specs.PolicyNow.{policy_now};
 ghost use Rattle.ax_engine.specs.declared.engine.Fault.{Fault};
 ghost use Rattle.ax_script.specs.Progress.{outlets, Serves, BeginsToServe, ServesLines, BeginsLines, ServesLast, BeginsLast};
 ghost use Rattle.ax_script.specs.Progress.{Ends, BreaksOffWith, EndsServing, IsOfServing, StopsBy};
-ghost use Rattle.ax_script.specs.Answered.{AnswersLast, AnswersLine, AnswersLines, BreaksFirst, BreaksLine, BreaksLines, TellsAnswered};
+ghost use Rattle.ax_script.specs.Answered.{AnswersLast, AnswersLine, AnswersLines, BreaksFirst, BreaksLine, BreaksLines, IsDurable, TellsAnswered};
 ghost use Rattle.ax_script.specs.Replies.{fault_status};
 ghost use Rattle.ax_script.specs.Statuses.{CallCountsDisk, CountsDisk};
 ghost use Rattle.ax_lines.specs.ScriptLines.{IsOneLine, last_line};
@@ -60,7 +60,8 @@ pub fn serve_source<D: Disk, C: PageCache, S: Source, K: Sink, L: Ledger>(
     ensures sound { IsTrue (D.is_honest disk.old) → (before : Container) → HoldsOver engine.old (D.history disk.old (D.attached disk.old)) before
         → IsOfServing result }
     ensures of_serving { EndsServing (D.is_honest disk.old) result (D.history disk.new (D.attached disk.new)) }
-    ensures answered { TellsAnswered (D.is_honest disk.old) (standing_of engine.old.documents) result
+    ensures answered { TellsAnswered (D.is_honest disk.old) (standing_of engine.old.documents)
+        (D.history disk.new (D.attached disk.new)) result
         (record { remaining = S.rest source.old; written = K.written sink.old; steps = steps.old })
         (record { remaining = S.rest source.new; written = K.written sink.new; steps = steps.new }) }
     ensures kept { (fault : Fault) → engine.new.fault ≡ Some fault → result ≡ fault_status fault }
@@ -239,6 +240,8 @@ fn serve_last<D: Disk, C: PageCache, K: Sink, L: Ledger>(
         (D.history disk.new (D.attached disk.new)) }
     ensures answered { result ≡ Status.Done → AnswersLast (D.is_honest disk.old) pending.now
         (standing_of engine.old.documents) (standing_of engine.new.documents) (K.written sink.old) (K.written sink.new) }
+    ensures durable { result ≡ Status.Done
+        → IsDurable (D.is_honest disk.old) (standing_of engine.new.documents) (D.history disk.new (D.attached disk.new)) }
     ensures broken { (result ≡ Status.Done) ⊎ BreaksFirst result (D.is_honest disk.old) (last_line pending.now)
         (standing_of engine.old.documents) (K.written sink.old) (K.written sink.new) }
     ensures kept { (fault : Fault) → engine.new.fault ≡ Some fault → result ≡ fault_status fault }

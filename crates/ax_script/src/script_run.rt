@@ -79,8 +79,10 @@ pub fn run<D: Disk, S: Source, K: Sink, L: Ledger>(
     // Over any store: at `Done` each line has a reply that is an answer to it by what the engine had behind the line before it,
     // the first of them by what opening gave: by its course, or its own refusal, or that memory ran out. A run that breaks off
     // has answered the first of the lines so, and of the next has written nothing, or where the sink failed a first piece of
-    // such a reply; `Long` has its cause.
-    ensures answered { (was : Standing) × TellsAnswered (D.is_honest disk.old) was result
+    // such a reply; `Long` has its cause. At `Done`, and where a read of the source failed, each image that a crash may leave over
+    // an honest disk says the contents that the last of these lines left.
+    ensures answered { (was : Standing) × TellsAnswered (D.is_honest disk.old) was
+        (D.history disk.new (D.store_named (store_word words.now))) result
         (record { remaining = S.rest source.old; written = K.written sink.old; steps = steps.old })
         (record { remaining = S.rest source.new; written = K.written sink.new; steps = steps.new })
         × IsOpenedOrUntouched (D.is_honest disk.old) (D.history disk.old (D.store_named (store_word words.now))).reads was
@@ -145,7 +147,8 @@ fn serve<D: Disk, S: Source, K: Sink, L: Ledger>(
         (record { remaining = S.rest source.old; written = K.written sink.old; steps = steps.old })
         (record { remaining = S.rest source.new; written = K.written sink.new; steps = steps.new })
         (D.history disk.old (D.store_named (store_word words.now))) (D.history disk.new (D.store_named (store_word words.now))) }
-    ensures answered { (was : Standing) × TellsAnswered (D.is_honest disk.old) was result
+    ensures answered { (was : Standing) × TellsAnswered (D.is_honest disk.old) was
+        (D.history disk.new (D.store_named (store_word words.now))) result
         (record { remaining = S.rest source.old; written = K.written sink.old; steps = steps.old })
         (record { remaining = S.rest source.new; written = K.written sink.new; steps = steps.new })
         × IsOpenedOrUntouched (D.is_honest disk.old) (D.history disk.old (D.store_named (store_word words.now))).reads was
@@ -216,7 +219,8 @@ fn serve_opened<D: Disk, S: Source, K: Sink, L: Ledger>(
     ensures sound { IsTrue (D.is_honest disk.old) → (before : Container) → HoldsOver engine (D.history disk.old (D.attached disk.old)) before
         → IsOfServing result }
     ensures of_serving { EndsServing (D.is_honest disk.old) result (D.history disk.new (D.attached disk.new)) }
-    ensures answered { TellsAnswered (D.is_honest disk.old) (standing_of engine.documents) result
+    ensures answered { TellsAnswered (D.is_honest disk.old) (standing_of engine.documents)
+        (D.history disk.new (D.attached disk.new)) result
         (record { remaining = S.rest source.old; written = K.written sink.old; steps = steps.old })
         (record { remaining = S.rest source.new; written = K.written sink.new; steps = steps.new }) }
 {
@@ -258,7 +262,8 @@ fn serve_cached<D: Disk, C: PageCache, S: Source, K: Sink, L: Ledger>(
     ensures sound { IsTrue (D.is_honest disk.old) → (before : Container) → HoldsOver engine.old (D.history disk.old (D.attached disk.old)) before
         → IsOfServing result }
     ensures of_serving { EndsServing (D.is_honest disk.old) result (D.history disk.new (D.attached disk.new)) }
-    ensures answered { TellsAnswered (D.is_honest disk.old) (standing_of engine.old.documents) result
+    ensures answered { TellsAnswered (D.is_honest disk.old) (standing_of engine.old.documents)
+        (D.history disk.new (D.attached disk.new)) result
         (record { remaining = S.rest source.old; written = K.written sink.old; steps = steps.old })
         (record { remaining = S.rest source.new; written = K.written sink.new; steps = steps.new }) }
 {

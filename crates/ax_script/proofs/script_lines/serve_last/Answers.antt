@@ -2,7 +2,7 @@
 use Rattle.std.proofs.Common.{◌≡◌, List, [], ℕ, length, inr, refl, IsTrue, ◌∙◌, sym, subst}
 use Rattle.ax_engine.specs.Course.{standing_of}
 use Rattle.ax_script.specs.Progress.{ServesLast, outlets}
-use Rattle.ax_script.proofs.AnsweredLines.{last_answered, last_broken, no_last}
+use Rattle.ax_script.proofs.AnsweredLines.{last_answered, last_broken, no_last, works_durable}
 use Rattle.ax_script.proofs.ServedLines.{serves_last, serves_no_last, begins_last}
 use Rattle.ax_engine.proofs.Applying.{rests_over}
 use Rattle.ax_script.proofs.Written.{empty_list}
@@ -43,3 +43,12 @@ pub returns-in-Err-clause-broken : goal.returns-in-Err-clause-broken
 returns-in-Err-clause-broken g c =
     inr (last_broken (g.D.Disk.is_honest c.args.disk.now) c.args.pending.now (standing_of c.args.engine.now.documents) _ _ c.in-Err.status
     c.if-is_empty.ensures c.in-Err.ensures.broken)
+
+pub returns-in-Ok-clause-durable : goal.returns-in-Ok-clause-durable
+returns-in-Ok-clause-durable g c = λ _.
+    works_durable g.C.PageCache.pages (g.D.Disk.is_honest c.args.disk.now) c.serve_line.new.engine _ c.in-Ok.ensures.works
+    (c.in-Ok.ensures.unfaulted ∙ c.requires.unfaulted)
+
+pub returns-then-is_empty-clause-durable : goal.returns-then-is_empty-clause-durable
+returns-then-is_empty-clause-durable g c = λ _.
+    works_durable g.C.PageCache.pages (g.D.Disk.is_honest c.args.disk.now) c.args.engine.now _ c.requires.works c.requires.unfaulted

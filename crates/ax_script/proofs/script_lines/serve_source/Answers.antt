@@ -5,11 +5,11 @@ use Rattle.ax_container.specs.Container.{Container}
 use Rattle.ax_lines.specs.ScriptLines.{IsOneLine, last_line}
 use Rattle.ax_engine.specs.Engine.{HoldsOver, Works}
 use Rattle.ax_engine.specs.Course.{standing_of}
-use Rattle.ax_script.specs.Answered.{AnswersLast, AnswersLines, BreaksFirst, BreaksLines}
+use Rattle.ax_script.specs.Answered.{AnswersLast, AnswersLines, BreaksFirst, BreaksLines, IsDurable}
 use Rattle.ax_script.specs.Progress.{outlets, ServesLines, BeginsLines, ServesLast, BeginsLast, Progress}
 use Rattle.ax_script.specs.declared.status.Status.TheVariants as status
 use Rattle.ax_script.proofs.AnsweredLines.{AnswersSoMany, answered_at_end, answered_to_a_fault, answers_begin}
-use Rattle.ax_script.proofs.AnsweredLines.{answers_go_on, stopped_answered, taken_long}
+use Rattle.ax_script.proofs.AnsweredLines.{answers_go_on, stopped_answered, taken_long, works_durable}
 use Rattle.ax_script.proofs.Endings.{streams, progress_begins, progress_goes_on, ends_by_read_fault}
 use Rattle.ax_script.proofs.Endings.{ends_long, ends_in_piece, ends_at_end, last_ends, last_serving}
 use Rattle.ax_engine.proofs.Applying.{rests_over}
@@ -176,7 +176,10 @@ returns-in-Err-clause-of_serving g c =
 
 pub returns-in_default-clause-answered : goal.returns-in_default-clause-answered
 returns-in_default-clause-answered g c =
-    answered_to_a_fault (g.D.Disk.is_honest c.args.disk.now) _ _ _ _ _ _ c.pieces.invariant.answered (g.S.Source.rest c.read_some.new.self)
+    answered_to_a_fault (g.D.Disk.is_honest c.args.disk.now) _ _ _ _ _ _ c.pieces.invariant.answered (g.S.Source.rest c.read_some.new.self) _
+    (subst (λ honest. IsDurable honest (standing_of c.pieces.engine.documents) (g.D.Disk.history c.pieces.disk (g.D.Disk.attached c.pieces.disk)))
+    c.pieces.invariant.honest
+    (works_durable g.C.PageCache.pages (g.D.Disk.is_honest c.pieces.disk) c.pieces.engine _ c.pieces.invariant.works c.pieces.invariant.unfaulted))
     c.in_default.ensures.failed
 
 pub returns-then-count-eq0-clause-answered : goal.returns-then-count-eq0-clause-answered
@@ -203,10 +206,14 @@ returns-then-count-eq0-clause-answered g c =
     (g.K.Sink.written c.pieces.sink) (g.K.Sink.written c.serve_last.new.sink))
     c.pieces.invariant.honest c.serve_last.ensures.broken))
     c.serve_last.ensures.only
+    (λ is. subst (λ honest. IsDurable honest (standing_of c.serve_last.new.engine.documents)
+    (g.D.Disk.history c.serve_last.new.disk (g.D.Disk.attached c.serve_last.new.disk)))
+    c.pieces.invariant.honest (c.serve_last.ensures.durable is))
 
 pub returns-then-taken-gt-MOST_INPUT-clause-answered : goal.returns-then-taken-gt-MOST_INPUT-clause-answered
 returns-then-taken-gt-MOST_INPUT-clause-answered g c =
-    taken_long (g.D.Disk.is_honest c.args.disk.now) _ _ _ _ _ _ c.pieces.invariant.answered _ (take c.in-Ok.count c.read_some.new.buf) c.in-Ok.count
+    taken_long (g.D.Disk.is_honest c.args.disk.now) _ _ _ _ _ _ c.pieces.invariant.answered _
+    (g.D.Disk.history c.pieces.disk (g.D.Disk.attached c.pieces.disk)) (take c.in-Ok.count c.read_some.new.buf) c.in-Ok.count
     c.in-Ok.ensures.taken (sym c.in-Ok.ensures.bound.1) c.if-taken-gt-MOST_INPUT.true
 
 pub returns-in-Err-clause-answered : goal.returns-in-Err-clause-answered

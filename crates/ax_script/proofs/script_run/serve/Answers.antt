@@ -1,7 +1,8 @@
 -- Each way to end, from whether the store was opened.
-use Rattle.std.proofs.Common.{IsTrue, Bool, List, ℕ, inl, inr, refl, subst, sym}
+use Rattle.std.proofs.Common.{IsTrue, Bool, List, ℕ, inl, inr, refl, subst, sym, ◌∙◌}
 use Rattle.ax_area.specs.Image.{IsDamaged, IsNewer}
 use Rattle.ax_disk.specs.declared.extent.Extent.TheVariants.{Root}
+use Rattle.ax_disk.specs.model.Moments.{History}
 use Rattle.ax_image.specs.Readable.{newest}
 use Rattle.ax_documents.specs.Opening.{IsStore}
 use Rattle.ax_documents.specs.Opening.{IsWithin}
@@ -53,20 +54,28 @@ pub returns-in-Ok-clause-answered : goal.returns-in-Ok-clause-answered
 returns-in-Ok-clause-answered g c =
     let was = standing_of c.in-Ok.engine.documents in
     let new = streams (g.S.Source.rest c.serve_opened.new.source) (g.K.Sink.written c.serve_opened.new.sink) c.serve_opened.new.steps in
-    let T : ℕ → Type 0 = λ n. TellsAnswered (g.D.Disk.is_honest c.open_named.new.disk) was c.serve_opened.result
+    let after : List ℕ → History = λ name. g.D.Disk.history c.serve_opened.new.disk (g.D.Disk.store_named name) in
+    let N : List ℕ → Type 0 = λ name. TellsAnswered (g.D.Disk.is_honest c.args.disk.now) was (after name) c.serve_opened.result
+    (streams (g.S.Source.rest c.args.source.now) (g.K.Sink.written c.args.sink.now) c.args.steps.now) new in
+    let there : History = g.D.Disk.history c.serve_opened.new.disk (g.D.Disk.attached c.serve_opened.new.disk) in
+    let T : ℕ → Type 0 = λ n. TellsAnswered (g.D.Disk.is_honest c.open_named.new.disk) was there c.serve_opened.result
     (streams (g.S.Source.rest c.args.source.now) (g.K.Sink.written c.args.sink.now) n) new in
-    let H : Bool → Type 0 = λ honest. TellsAnswered honest was c.serve_opened.result
+    let H : Bool → Type 0 = λ honest. TellsAnswered honest was there c.serve_opened.result
     (streams (g.S.Source.rest c.args.source.now) (g.K.Sink.written c.args.sink.now) c.args.steps.now) new in
     let B : List ℕ → Type 0 = λ name.
     IsOpenedFrom (g.D.Disk.history c.args.disk.now (g.D.Disk.store_named name)).reads was in (
       was,
-      subst H c.open_named.ensures.honest (subst T c.open_named.ensures.steps c.serve_opened.ensures.answered),
+      subst N c.store_name.ensures
+          (subst (λ at. TellsAnswered (g.D.Disk.is_honest c.args.disk.now) was (g.D.Disk.history c.serve_opened.new.disk at) c.serve_opened.result
+          (streams (g.S.Source.rest c.args.source.now) (g.K.Sink.written c.args.sink.now) c.args.steps.now) new)
+          (c.serve_opened.ensures.attached ∙ c.in-Ok.ensures.attached)
+          (subst H c.open_named.ensures.honest (subst T c.open_named.ensures.steps c.serve_opened.ensures.answered))),
       inl (λ honest. subst B c.store_name.ensures (c.in-Ok.ensures.begins honest)),
     )
 
 pub returns-in-Err-clause-answered : goal.returns-in-Err-clause-answered
 returns-in-Err-clause-answered g c =
-    (nothing_found, early_answered (g.D.Disk.is_honest c.args.disk.now) nothing_found c.in-Err.status _ _ _ _ c.in-Err.ensures.only, inr (refl, refl))
+    (nothing_found, early_answered (g.D.Disk.is_honest c.args.disk.now) nothing_found _ c.in-Err.status _ _ _ _ c.in-Err.ensures.only, inr (refl, refl))
 
 pub returns-in-Ok-clause-refused : goal.returns-in-Ok-clause-refused
 returns-in-Ok-clause-refused g c = λ honest.

@@ -10,4 +10,5 @@ returns-in_default-clause-script g c = λ honest before holds.
     ends_without_memory _ before _ _ (rests_over g.C.PageCache.pages _ c.args.engine.now _ before c.requires.works holds)
 
 pub returns-in_default-clause-answered : goal.returns-in_default-clause-answered
-returns-in_default-clause-answered g c = memory_answered (g.D.Disk.is_honest c.args.disk.now) (standing_of c.args.engine.now.documents) _ _ _ _
+returns-in_default-clause-answered g c = memory_answered (g.D.Disk.is_honest c.args.disk.now) (standing_of c.args.engine.now.documents)
+    (g.D.Disk.history c.args.disk.now (g.D.Disk.attached c.args.disk.now)) _ _ _ _

@@ -33,11 +33,13 @@ returns-clause-sound g c = λ honest before holds.
 
 pub returns-clause-answered : goal.returns-clause-answered
 returns-clause-answered g c =
-    subst (λ (was : Standing). TellsAnswered (g.D.Disk.is_honest c.args.disk.now) was c.serve_cached.result
+    subst (λ (was : Standing). TellsAnswered (g.D.Disk.is_honest c.args.disk.now) was
+    (g.D.Disk.history c.serve_cached.new.disk (g.D.Disk.attached c.serve_cached.new.disk)) c.serve_cached.result
     (streams (g.S.Source.rest c.args.source.now) (g.K.Sink.written c.args.sink.now) c.args.steps.now)
     (streams (g.S.Source.rest c.serve_cached.new.source) (g.K.Sink.written c.serve_cached.new.sink) c.serve_cached.new.steps))
     (standing_still c.args.engine.documents c.with_cache-engine.result.documents c.with_cache-engine.ensures.documents)
     c.serve_cached.ensures.answered
 
 pub returns-in_default-clause-answered : goal.returns-in_default-clause-answered
-returns-in_default-clause-answered g c = memory_answered (g.D.Disk.is_honest c.args.disk.now) (standing_of c.args.engine.documents) _ _ _ _
+returns-in_default-clause-answered g c = memory_answered (g.D.Disk.is_honest c.args.disk.now) (standing_of c.args.engine.documents)
+    (g.D.Disk.history c.args.disk.now (g.D.Disk.attached c.args.disk.now)) _ _ _ _
