@@ -1,0 +1,11 @@
+mod Lists
+mod Said
+mod Short
+mod FewNumbers
+mod Numbers
+mod Tables
+mod Crowds
+mod Holding
+mod Committing
+mod Leaving
+mod Landing
