@@ -16,7 +16,7 @@ use Rattle.ax_write.specs.Batches.{meta_part}
 abbrev pub text_part : ℕ → List ℕ → PartValue
 text_part number text = record { kind = POLICY; key = number; payload = text }
 
--- the next number as the meta tells it: none can tell 0, and no image does
+-- the next number as the meta tells it: no meta can tell 0, and no image does
 abbrev pub next_told : ℕ → ℕ
 next_told next = if next == 0 then 1 else next
 

@@ -68,7 +68,7 @@ IsOfSetting (fault.Store why) = IsBrief why
 
 -- ---- when another policy is refused
 
--- so many others are in use, or fewer
+-- made where fewer than so many others are in use, refused where so many are
 abbrev pub RefusesExactly : Result (Unit {0}) TransformFault → Policy → Table → Type 0
 RefusesExactly (Ok done) policy table = others_in_use policy table < most_others
 RefusesExactly (Err fault.Policies) policy table = most_others ≤ others_in_use policy table

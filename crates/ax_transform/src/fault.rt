@@ -2,7 +2,7 @@
 
 use ax_store::StoreFault;
 
-/// Why the policy was not changed, or no document moved.
+/// Why the policy was not changed.
 #[derive(Clone, Copy, Debug, PartialEq, Eq)]
 pub enum TransformFault {
     /// As many other policies are in use as may be.

@@ -4,8 +4,9 @@
 //! table of policies is kept, and on `ax_write` for what a commit leaves. What a store stands for with its index is said by
 //! `ax_image_pairs`.
 //!
-//! Its one contract: over an honest disk and a store that holds a container with its index, `set_policy` makes of it what the
-//! container says of another policy, or is refused as the container says, or changes nothing; so does a crash at any moment.
+//! Its contract: over an honest disk and a store that holds a container with its index, `set_policy` makes of it what the
+//! container says of another policy, or is refused as the container says, or changes nothing; where the disk fails, and where a
+//! crash comes at any moment, the store is left as before or behind it.
 #![tactic(auto)]
 
 mod batches;

@@ -22,10 +22,11 @@ use ax_store::{Store, StoreFault};
 use std::alloc::Global;
 
 /// Makes the policy the one now, by which documents are indexed that are written from then on. Those that are held stay under
-/// the policies that they are under. `Policies` exactly where as many others are in use as may be, whatever the store holds.
+/// the policies that they are under. `Policies` exactly where as many others are in use as may be, whatever the store holds,
+/// unless memory runs out first.
 ///
-/// One batch is committed: the policy's text where its number has another one, and the meta. No document and no term page is
-/// read or written, so the work is the same in a store of any size.
+/// One batch is committed: the policy's text where its number has another one or none, and the meta. No document and no term
+/// page is read or written, so the work is the same in a store of any size.
 pub fn set_policy<D: Disk, C: PageCache>(
     alloc: Global,
     store: &mut Store<C>,
