@@ -7,7 +7,7 @@ use Rattle.std.specs.List.{list_any, AllByRecursion}
 use Rattle.std.specs.Str.{bytes_eq}
 use Rattle.ax_tree.specs.declared.tree.Tree.{Tree}
 use Rattle.ax_tree.specs.Document.{document_id}
-use Rattle.ax_lines.specs.Asked.{IsStorable}
+use Rattle.ax_storable.specs.Storable.{IsStorable}
 use Rattle.ax_policy.specs.declared.policy.Policy.{Policy}
 use Rattle.ax_policy.specs.Default.{default_policy}
 

@@ -3,7 +3,7 @@ ghost use Rattle.std.specs.Prelude.{◌≡◌, ◌<◌, ◌≤◌, ◌==◌, ◌
 ghost use Rattle.std.specs.Str.{bytes_eq};
 ghost use Rattle.ax_tree.specs.declared.tree.Tree.{Tree};
 ghost use Rattle.ax_tree.specs.Document.{document_id};
-ghost use Rattle.ax_lines.specs.Asked.{IsStorable};
+ghost use Rattle.ax_storable.specs.Storable.{IsStorable};
 ghost use Rattle.ax_policy.specs.declared.policy.Policy.{Policy};
 ghost use Rattle.ax_container.specs.Container.{Container, Entry, IsSound, contains, fresh, entry_at, entry_of, tree_of};
 ghost use Rattle.ax_container.specs.Writes.{Absent, Conflict, Full, created, deleted, exchanged, inserted, is_full, new_entry};

@@ -3,7 +3,7 @@
 //! cite in common, and laws about them. A program keeps pages, maps and counts; these definitions know
 //! a list of whole documents, each with the policy by which it is indexed, and nothing else.
 //!
-//! Stands on `ax_lines`, which says what a document is that a store can hold, on `ax_tree` and `ax_policy`.
+//! Stands on `ax_storable`, which says what a document is that a store can hold, on `ax_tree` and `ax_policy`.
 //! Its one contract: a write changes the entry of one number and
 //! leaves all others (`a_write_is_at_one_number`), is refused for a cause alone
 //! (`a_write_is_refused_for_a_cause`), after an upsert the container has the tree under its

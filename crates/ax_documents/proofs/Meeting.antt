@@ -21,8 +21,8 @@ use Rattle.ax_image_grammar.specs.Payloads.{IsDocumentText}
 use Rattle.ax_index.specs.Damage as index
 use Rattle.ax_index.specs.Damage.{is_base_at}
 use Rattle.ax_leaf.specs.Pairs.{pairs_of}
-use Rattle.ax_lines.specs.Lines.{most_bytes}
-use Rattle.ax_lines.specs.StoredTexts.{IsStoredText}
+use Rattle.ax_storable.specs.Storable.{most_bytes}
+use Rattle.ax_storable.specs.StoredTexts.{IsStoredText}
 use Rattle.ax_log.specs.Log.{log_slot}
 use Rattle.ax_pages.specs.Area.{extent_number}
 use Rattle.ax_pages.specs.Contents.{TermPage, term_page, term_parts}

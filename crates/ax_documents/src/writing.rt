@@ -5,7 +5,7 @@ ghost use Rattle.std.specs.FinMap as map;
 ghost use Rattle.ax_container.specs.Container.{Container, contains, tree_of};
 ghost use Rattle.ax_container.specs.Writes.{exchanged, inserted, removed, upserted};
 ghost use Rattle.ax_index.specs.Damage.{FailsBy};
-ghost use Rattle.ax_lines.specs.Asked.{IsStorable};
+ghost use Rattle.ax_storable.specs.Storable.{IsStorable};
 ghost use Rattle.ax_store.specs.Faults.{HasDiskCause};
 ghost use Rattle.ax_store.specs.Reads.{ReadsStore};
 ghost use Rattle.ax_store.specs.Store.{AgreesUnlessFailed, store_contents, store_failed, store_slots};

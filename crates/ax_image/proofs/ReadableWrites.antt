@@ -3,7 +3,7 @@ use Rattle.std.proofs.Common.{ℕ, refl}
 use Rattle.std.specs.List.{AllByRecursion}
 use Rattle.ax_tree.specs.declared.tree.Tree.{Tree}
 use Rattle.ax_tree.specs.CanonicalText.{canonical_text}
-use Rattle.ax_lines.specs.Asked.{IsStorable}
+use Rattle.ax_storable.specs.Storable.{IsStorable}
 use Rattle.ax_image_grammar.specs.Payloads.{IsReadable, IsDocumentText}
 use Rattle.ax_image.specs.Readable.{newest}
 use Rattle.ax_image.specs.WriteChanges.{replacing_changes, creating_changes, deleting_changes}

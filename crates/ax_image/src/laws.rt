@@ -10,7 +10,7 @@ ghost use Rattle.ax_container.specs.Writes.{created, deleted, is_full, replaced}
 ghost use Rattle.ax_area.specs.Contents.{Contents};
 ghost use Rattle.ax_area.specs.Image.{IsFresh};
 ghost use Rattle.ax_area.specs.Told.{Told};
-ghost use Rattle.ax_lines.specs.Asked.{IsStorable};
+ghost use Rattle.ax_storable.specs.Storable.{IsStorable};
 ghost use Rattle.ax_image_grammar.specs.Grammar.{IsGrammatical, IsOutside};
 ghost use Rattle.ax_image_grammar.specs.Rows.{text_row, policy_row, delta_row, superseded_row};
 ghost use Rattle.ax_image.specs.Documents.{ContentsHold, HasDocuments, LeadsTo};

@@ -17,8 +17,8 @@ use Rattle.ax_tree.specs.Document.{IsDocument}
 use Rattle.ax_tree.specs.Nesting.{nesting}
 use Rattle.ax_tree.specs.WellFormed.{IsWellFormed, is_well_formed}
 use Rattle.ax_tree.specs.Nesting.{greatest}
-use Rattle.ax_lines.specs.IndexLimits.{fits_within, most_path_bytes}
-use Rattle.ax_lines.specs.ShortNames.{has_short_names}
+use Rattle.ax_storable.specs.IndexLimits.{fits_within, most_path_bytes}
+use Rattle.ax_storable.specs.ShortNames.{has_short_names}
 use Rattle.ax_mean.specs.declared.query.Step.{Step}
 use Rattle.ax_mean.specs.declared.query.Step.TheVariants.{Name}
 use Rattle.ax_mean.specs.declared.value.Value.TheVariants.{Defined}

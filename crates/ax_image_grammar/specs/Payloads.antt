@@ -7,9 +7,9 @@ use Rattle.ax_tree.specs.CanonicalText.{canonical_text}
 use Rattle.ax_tree.specs.Document.{IsDocument}
 use Rattle.ax_tree.specs.Nesting.{nesting}
 use Rattle.ax_tree.specs.WellFormed.{IsWellFormed}
-use Rattle.ax_lines.specs.IndexLimits.{fits_within, most_term_bytes, most_terms}
-use Rattle.ax_lines.specs.Lines.{deepest, most_bytes}
-use Rattle.ax_lines.specs.ShortNames.{has_short_names}
+use Rattle.ax_storable.specs.IndexLimits.{fits_within, most_term_bytes, most_terms}
+use Rattle.ax_storable.specs.Storable.{deepest, most_bytes}
+use Rattle.ax_storable.specs.ShortNames.{has_short_names}
 use Rattle.ax_policy.specs.declared.policy.Policy.{Policy}
 use Rattle.ax_policy.specs.Policies.{policy_of}
 use Rattle.ax_policy.specs.Normal.{normal_text, normal_tree}

@@ -10,7 +10,7 @@ use Rattle.ax_delta.specs.declared.change.Change.{Change as PairChange}
 use Rattle.ax_area.specs.Changes.{Change}
 use Rattle.ax_area.specs.Contents.{Contents, after_changes}
 use Rattle.ax_area.proofs.Leading.{more_changes}
-use Rattle.ax_lines.specs.Asked.{IsStorable}
+use Rattle.ax_storable.specs.Storable.{IsStorable}
 use Rattle.ax_policy.specs.declared.policy.Policy.{Policy}
 use Rattle.ax_pages.specs.Contents.{TermPage}
 use Rattle.ax_pairs.specs.Index.{IsIndex}

@@ -10,7 +10,7 @@ ghost use Rattle.ax_pair.specs.Order.{Rise};
 ghost use Rattle.ax_delta.specs.Changes.{changed_pairs, term_changes_of};
 ghost use Rattle.ax_delta.specs.Payload.{IsDelta};
 ghost use Rattle.ax_delta.specs.declared.change.Change.{Change};
-ghost use Rattle.ax_lines.specs.Asked.{IsStorable};
+ghost use Rattle.ax_storable.specs.Storable.{IsStorable};
 ghost use Rattle.ax_container.specs.Container.{Container, Entry, contains, entry_at, entry_of, fresh};
 ghost use Rattle.ax_container.specs.Writes.{created, deleted, is_full, replaced};
 ghost use Rattle.ax_area.specs.Changes.{Change as StoreChange, Delta};

@@ -3,7 +3,5 @@ mod FineTrees
 mod Ids
 mod LastCounts
 mod Newlines
-mod Short
 pub mod Splits
-mod StoredDocuments
 mod Written

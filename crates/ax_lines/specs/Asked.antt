@@ -4,31 +4,17 @@
 use Rattle.std.specs.Prelude.{◌≡◌, ◌≤◌, ℕ, List, length, true}
 use Rattle.std.specs.List.{list_all}
 use Rattle.std.specs.Str.{is_utf8}
-use Rattle.ax_tree.specs.declared.tree.Tree.{Tree}
 use Rattle.ax_tree.specs.declared.tree.Tree.TheVariants as tree
 use Rattle.ax_tree.specs.CanonicalText.{canonical_text}
-use Rattle.ax_tree.specs.Document.{IsDocument, is_id}
+use Rattle.ax_tree.specs.Document.{is_id}
 use Rattle.ax_tree.specs.Names.{names}
 use Rattle.ax_tree.specs.Nesting.{nesting}
 use Rattle.ax_tree.specs.WellFormed.{IsWellFormed}
+use Rattle.ax_storable.specs.Storable.{IsStorable, deepest}
 use Rattle.ax_lines.specs.Bodies.{is_parameter_name, most_params_bytes}
-use Rattle.ax_lines.specs.IndexLimits.{fits_index}
-use Rattle.ax_lines.specs.Lines.{deepest, most_bytes}
-use Rattle.ax_lines.specs.ShortNames.{has_short_names}
 use Rattle.ax_lines.specs.declared.body.Body.{Body}
 use Rattle.ax_lines.specs.declared.line.Line.{Line}
 use Rattle.ax_lines.specs.declared.line.Line.TheVariants as line
-
--- the tree is a document that a store can hold
-pub record IsStorable (tree : Tree) : Type 0 where
-  pub document : IsDocument tree
-  pub well_formed : IsWellFormed tree
-  pub shallow : nesting tree ≤ deepest
-  -- its member names are short
-  pub named : has_short_names tree ≡ true
-  pub small : length (canonical_text tree) ≤ most_bytes
-  -- its paths are short, and its terms few
-  pub fits : fits_index tree ≡ true
 
 -- the body can be answered: its text is UTF-8, and its parameters have names of parameters and are
 -- small

@@ -2,9 +2,6 @@ pub mod Answers
 pub mod Asked
 pub mod Bodies
 pub mod Causes
-pub mod IndexLimits
 pub mod Lines
 pub mod Refusals
 pub mod ScriptLines
-pub mod ShortNames
-pub mod StoredTexts

@@ -3,14 +3,14 @@
 -- line is dropped, and only one. For each form a table of causes says when it is refused.
 use Rattle.std.specs.Prelude.{ℕ, ◌-◌, List, [], ◌∷◌, length, take, drop, slice_index, ◌==◌}
 use Rattle.std.specs.Prelude.{Bool, true, false, not, ◌||◌}
-use Rattle.std.specs.Prelude.{nat_lt, if◌then◌else◌, Option, Some, None, is_some, Result}
+use Rattle.std.specs.Prelude.{nat_lt, if◌then◌else◌, Option, Some, None, Result}
 use Rattle.std.specs.Prelude.{Ok, Err, codes}
 use Rattle.std.specs.Str.{bytes_eq, is_utf8}
 use Rattle.ax_tree.specs.declared.tree.Tree.{Tree}
-use Rattle.ax_tree.specs.CanonicalText.{canonical_text}
 use Rattle.ax_tree.specs.Nesting.{nesting}
-use Rattle.ax_tree.specs.Document.{document_id, is_id}
+use Rattle.ax_tree.specs.Document.{is_id}
 use Rattle.ax_text.specs.Reading.{Reading, Stands, NotJson, NotWhole, reading}
+use Rattle.ax_storable.specs.Storable.{deepest, has_no_id, is_too_large}
 use Rattle.ax_lines.specs.declared.body.Body.{Body}
 use Rattle.ax_lines.specs.declared.document_form.DocumentForm.{DocumentForm}
 use Rattle.ax_lines.specs.declared.document_form.DocumentForm.TheVariants as document
@@ -20,8 +20,6 @@ use Rattle.ax_lines.specs.declared.refusal.Refusal.{Refusal}
 use Rattle.ax_lines.specs.declared.refusal.Refusal.TheVariants as refusal
 use Rattle.ax_lines.specs.Bodies.{body_of}
 use Rattle.ax_lines.specs.Causes.{Cause, unless}
-use Rattle.ax_lines.specs.IndexLimits.{fits_index}
-use Rattle.ax_lines.specs.ShortNames.{has_short_names}
 
 abbrev pub carriage_return : ℕ
 carriage_return = 13
@@ -72,23 +70,11 @@ abbrev pub line_causes : List ℕ → List Cause
 line_causes bytes =
     record { applies = nat_lt most_line_bytes (length bytes); refusal = refusal.Line } ∷ []
 
--- the deepest that an argument may nest
-abbrev pub deepest : ℕ
-deepest = 100
-
--- the most bytes that the canonical text of a document has
-abbrev pub most_bytes : ℕ
-most_bytes = 60000
-
 -- of a line whose argument is a document
 abbrev pub document_causes : Tree → List Cause
 document_causes tree =
-    record { applies = not (is_some (document_id tree)); refusal = refusal.Id } ∷
-    record { applies = nat_lt deepest (nesting tree); refusal = refusal.Large } ∷
-    record { applies = not (has_short_names tree); refusal = refusal.Large } ∷
-    record { applies = nat_lt most_bytes (length (canonical_text tree)); refusal = refusal.Large } ∷
-    record { applies = not (fits_index tree); refusal = refusal.Large } ∷
-    []
+    record { applies = has_no_id tree; refusal = refusal.Id } ∷
+    record { applies = is_too_large tree; refusal = refusal.Large } ∷ []
 
 -- of a line whose argument is an id
 abbrev pub id_causes : List ℕ → List Cause

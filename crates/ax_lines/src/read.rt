@@ -2,44 +2,26 @@ ghost use Rattle.std.specs.Prelude.{◌≡◌, length, nat_lt, true, false, Ok, 
 ghost use Rattle.ax_lines.specs.declared.refusal.Refusal.{Refusal as RefusalOf};
 ghost use Rattle.ax_lines.specs.declared.line.Line.{Line as LineOf};
 ghost use Rattle.ax_tree.specs.declared.tree.Tree.{Tree as TreeOf};
-ghost use Rattle.ax_tree.specs.Nesting.{nesting as nesting_of};
 ghost use Rattle.ax_tree.specs.WellFormed.{IsWellFormed};
 ghost use Rattle.ax_text.specs.Reading.{reading, Stands};
 ghost use Rattle.ax_lines.specs.Answers.{Answers, IsRefusedBy};
-ghost use Rattle.ax_lines.specs.Asked.{IsAsked, IsIdText, IsStorable};
+ghost use Rattle.ax_lines.specs.Asked.{IsAsked, IsIdText};
 ghost use Rattle.ax_lines.specs.Bodies.{body_of};
 ghost use Rattle.ax_lines.specs.Causes.{unless};
-ghost use Rattle.ax_lines.specs.IndexLimits.{fits_index};
 ghost use Rattle.ax_lines.specs.Lines as spec;
 
 use crate::document_form::DocumentForm;
 use crate::line::{Line, LineFault};
 use crate::read_body::body_from;
 use crate::refusal::Refusal;
-use crate::short_names::has_short_names;
-use ax_terms::{TermCount, count_all};
-use ax_text::{TextFault, nesting, read_tree};
-use ax_tree::{Memory, Text, Tree, id_of, may_be_id, write_tree};
+use ax_storable::{Unstorable, is_too_deep, storable};
+use ax_text::{TextFault, read_tree};
+use ax_tree::{Text, Tree, may_be_id};
 use std::alloc::Global;
 use std::str;
 
 /// The most bytes that a line has, with a carriage return at its end.
 const MOST_LINE_BYTES: usize = 262_144;
-
-/// The deepest that the argument of a line may nest.
-const DEEPEST: u32 = 100;
-
-/// The most bytes that the canonical text of a document has.
-const MOST_BYTES: usize = 60_000;
-
-/// The most bytes that the encoded path of a leaf of a document has, its end with them.
-const MOST_PATH_BYTES: u64 = 1_024;
-
-/// The most terms that a document has where all its leaves are covered, each counted once.
-const MOST_TERMS: u64 = 4_096;
-
-/// The most bytes that all these terms have.
-const MOST_TERM_BYTES: u64 = 1_048_576;
 
 /// What a line asks for, or its first refusal. The line comes without its newline, and before a
 /// carriage return at its end is dropped.
@@ -188,52 +170,10 @@ fn document(alloc: Global, form: DocumentForm, tree: Tree) -> Result<Line, LineF
 {
     match storable(alloc, &tree) {
         Ok(()) => Ok(form.line(tree)),
-        Err(fault) => Err(fault),
+        Err(Unstorable::Id) => Err(LineFault::Refused(Refusal::Id)),
+        Err(Unstorable::Large) => Err(LineFault::Refused(Refusal::Large)),
+        Err(Unstorable::Memory) => Err(LineFault::Memory),
     }
-}
-
-/// Whether a store can hold the document, or the refusal of one that it can't.
-pub(crate) fn storable(alloc: Global, tree: &Tree) -> Result<(), LineFault>
-    requires { IsWellFormed tree.now }
-    ensures storable { IfOk result (λ _. IsStorable tree.now) }
-    ensures answered { IfOk result (λ _. (answer : Result LineOf Refusal)
-        → unless (spec.document_causes tree.now) answer ≡ answer) }
-    ensures refused { IfErr result (λ fault. (answer : Result LineOf Refusal)
-        → IsRefusedBy fault (unless (spec.document_causes tree.now) answer)) }
-{
-    if id_of(tree).is_none() {
-        return Err(LineFault::Refused(Refusal::Id));
-    }
-    if is_too_deep(tree) {
-        return Err(LineFault::Refused(Refusal::Large));
-    }
-    if !has_short_names(tree) {
-        return Err(LineFault::Refused(Refusal::Large));
-    }
-    let Ok(text) = write_tree(alloc, tree) else {
-        return Err(LineFault::Memory);
-    };
-    if text.len() > MOST_BYTES {
-        return Err(LineFault::Refused(Refusal::Large));
-    }
-    drop(text);
-    match has_room_in_index(alloc, tree) {
-        Ok(true) => Ok(()),
-        Ok(false) => Err(LineFault::Refused(Refusal::Large)),
-        Err(_) => Err(LineFault::Memory),
-    }
-}
-
-/// Whether the index can hold the document: its paths are short, and its terms few and small.
-fn has_room_in_index(alloc: Global, tree: &Tree) -> Result<bool, Memory>
-    ensures { IfOk result (λ fits. fits ≡ fits_index tree.now) }
-{
-    let TermCount {
-        count,
-        bytes,
-        longest_path,
-    } = count_all(alloc, tree)?;
-    Ok(longest_path <= MOST_PATH_BYTES && count <= MOST_TERMS && bytes <= MOST_TERM_BYTES)
 }
 
 fn query(alloc: Global, tree: Tree) -> Result<Line, LineFault>
@@ -250,10 +190,4 @@ fn query(alloc: Global, tree: Tree) -> Result<Line, LineFault>
         Ok(None) => Err(LineFault::Refused(Refusal::Query)),
         Err(_) => Err(LineFault::Memory),
     }
-}
-
-fn is_too_deep(tree: &Tree) -> bool
-    ensures { result ≡ nat_lt spec.deepest (nesting_of tree.now) }
-{
-    nesting(tree) > DEEPEST
 }

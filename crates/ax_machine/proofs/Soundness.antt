@@ -1,13 +1,9 @@
 -- A step keeps what holds of every container: only a write changes it, and only by a document that a store can
 -- hold.
-use Rattle.std.proofs.Common.{◌≡◌, ◌≤◌, ℕ, List, [], ◌∷◌, Bool, true, false, cond, Option, Some}
+use Rattle.std.proofs.Common.{◌≡◌, ℕ, List, [], ◌∷◌, Bool, true, false, cond, Option, Some}
 use Rattle.std.proofs.Common.{None, Result, Ok, Err, IfOk, refl, sym, ap, ◌∙◌}
-use Rattle.std.specs.Prelude.{is_some, length, nat_lt, not}
-use Rattle.std.proofs.lemmas.Bool.{ltb-false}
 use Rattle.ax_tree.specs.declared.tree.Tree.{Tree}
-use Rattle.ax_tree.specs.CanonicalText.{canonical_text}
-use Rattle.ax_tree.specs.Document.{IsDocument, document_id}
-use Rattle.ax_tree.specs.Nesting.{nesting}
+use Rattle.ax_tree.specs.Document.{document_id}
 use Rattle.ax_text.specs.Reading.{Reading, Stands, NotJson, NotWhole, reading}
 use Rattle.ax_text.proofs.ReadTrees.{IsStanding, stands}
 use Rattle.ax_container.specs.Container.{Container, IsSound}
@@ -15,7 +11,8 @@ use Rattle.ax_container.specs.Writes.{WriteRefusal, inserted, exchanged, removed
 use Rattle.ax_container.proofs.Soundness.{MayBe}
 use Rattle.ax_container.proofs.Upserts.{upsert_keeps_soundness}
 use Rattle.ax_container.proofs.Refusing.{insertion_keeps_soundness, exchange_keeps_soundness, removal_keeps_soundness}
-use Rattle.ax_lines.specs.Asked.{IsStorable}
+use Rattle.ax_storable.specs.Storable.{has_no_id, is_too_large, IsStorable}
+use Rattle.ax_storable.proofs.Within.{within_limits}
 use Rattle.ax_lines.specs.declared.body.Body.{Body}
 use Rattle.ax_lines.specs.declared.document_form.DocumentForm.{DocumentForm}
 use Rattle.ax_lines.specs.declared.document_form.DocumentForm.TheVariants as document
@@ -25,11 +22,9 @@ use Rattle.ax_lines.specs.declared.refusal.Refusal.{Refusal}
 use Rattle.ax_lines.specs.declared.refusal.Refusal.TheVariants as refusal
 use Rattle.ax_lines.specs.Bodies.{body_of}
 use Rattle.ax_lines.specs.Causes.{Cause, unless}
-use Rattle.ax_lines.specs.Lines.{Form, Document, Delete, Read, Query, form_of, without_return, with_tree_of, deepest, most_bytes}
+use Rattle.ax_lines.specs.Lines.{Form, Document, Delete, Read, Query, form_of, without_return, with_tree_of}
 use Rattle.ax_lines.specs.Lines.{line_causes, document_causes, id_causes, query_causes, query_from, line_with, of_form}
 use Rattle.ax_lines.specs.Lines.{line_of}
-use Rattle.ax_lines.specs.IndexLimits.{fits_index}
-use Rattle.ax_lines.specs.ShortNames.{has_short_names}
 use Rattle.ax_machine.specs.Step.{written, write_by, served, step}
 use Rattle.ax_machine.specs.Run.{Exchange, Outcome, Served, OutOfMemory, after_line, after}
 
@@ -76,58 +71,20 @@ with_form document.Replace tree allowed = allowed
 
 document_asks : (form : DocumentForm) (tree : Tree) → IsStanding tree
     → IfOk (unless (document_causes tree) (Ok (line_with form tree))) AsksForRead
-document_asks form tree good = by_id (is_some (document_id tree)) refl
+document_asks form tree good = by_id (has_no_id tree) refl
   where
-    size : ℕ
-    size = length (canonical_text tree)
-
     answer : Result Line Refusal
     answer = Ok (line_with form tree)
 
-    by_room : (fits : Bool) → fits_index tree ≡ fits → IsDocument tree → nesting tree ≤ deepest
-        → has_short_names tree ≡ true → size ≤ most_bytes
-        → IfOk (cond (not fits) (Err refusal.Large) answer) AsksForRead
-    by_room true is document shallow named small = with_form form tree (record {
-      document = document;
-      well_formed = good.formed;
-      shallow = shallow;
-      named = named;
-      small = small;
-      fits = is;
-    })
-    by_room false is document shallow named small = tt
+    by_size : (large : Bool) → is_too_large tree ≡ large → has_no_id tree ≡ false
+        → IfOk (cond large (Err refusal.Large) answer) AsksForRead
+    by_size true is id = tt
+    by_size false is id = with_form form tree (within_limits tree good.formed id is)
 
-    unless_full : Result Line Refusal
-    unless_full = cond (not (fits_index tree)) (Err refusal.Large) answer
-
-    by_size : (long : Bool) → nat_lt most_bytes size ≡ long → IsDocument tree → nesting tree ≤ deepest
-        → has_short_names tree ≡ true → IfOk (cond long (Err refusal.Large) unless_full) AsksForRead
-    by_size true is document shallow named = tt
-    by_size false is document shallow named =
-        by_room (fits_index tree) refl document shallow named (ltb-false most_bytes size is)
-
-    unless_long : Result Line Refusal
-    unless_long = cond (nat_lt most_bytes size) (Err refusal.Large) unless_full
-
-    by_names : (short : Bool) → has_short_names tree ≡ short → IsDocument tree → nesting tree ≤ deepest
-        → IfOk (cond (not short) (Err refusal.Large) unless_long) AsksForRead
-    by_names true is document shallow = by_size (nat_lt most_bytes size) refl document shallow is
-    by_names false is document shallow = tt
-
-    unless_named : Result Line Refusal
-    unless_named = cond (not (has_short_names tree)) (Err refusal.Large) unless_long
-
-    by_depth : (deep : Bool) → nat_lt deepest (nesting tree) ≡ deep → IsDocument tree
-        → IfOk (cond deep (Err refusal.Large) unless_named) AsksForRead
-    by_depth true is document = tt
-    by_depth false is document =
-        by_names (has_short_names tree) refl document (ltb-false deepest (nesting tree) is)
-
-    by_id : (there : Bool) → is_some (document_id tree) ≡ there
-        → IfOk (cond (not there) (Err refusal.Id) (cond (nat_lt deepest (nesting tree)) (Err refusal.Large) unless_named))
-        AsksForRead
-    by_id true is = by_depth (nat_lt deepest (nesting tree)) refl is
-    by_id false is = tt
+    by_id : (missing : Bool) → has_no_id tree ≡ missing
+        → IfOk (cond missing (Err refusal.Id) (cond (is_too_large tree) (Err refusal.Large) answer)) AsksForRead
+    by_id true is = tt
+    by_id false is = by_size (is_too_large tree) refl is
 
 form_asks : (form : Option Form) → IfOk (of_form form) AsksForRead
 form_asks None = tt

@@ -3,7 +3,7 @@
 use Rattle.std.specs.Prelude.{◌≡◌, ℕ, Some}
 use Rattle.ax_tree.specs.declared.tree.Tree.{Tree}
 use Rattle.ax_tree.specs.CanonicalText.{canonical_text}
-use Rattle.ax_lines.specs.Asked.{IsStorable}
+use Rattle.ax_storable.specs.Storable.{IsStorable}
 use Rattle.ax_area.specs.Contents.{Stored}
 use Rattle.ax_container.specs.Container.{Container}
 use Rattle.ax_skips.specs.Chosen.{document_at}

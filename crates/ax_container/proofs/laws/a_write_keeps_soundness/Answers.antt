@@ -1,7 +1,7 @@
 use Rattle.std.proofs.Common.{◌≡◌, ◌∙◌, ℕ, List, ap, sym, Some}
 use Rattle.ax_tree.specs.declared.tree.Tree.{Tree}
 use Rattle.ax_tree.specs.Document.{document_id}
-use Rattle.ax_lines.specs.Asked.{IsStorable}
+use Rattle.ax_storable.specs.Storable.{IsStorable}
 use Rattle.ax_policy.specs.declared.policy.Policy.{Policy}
 use Rattle.ax_container.proofs.Soundness.{MayBe, sound_created, sound_deleted, sound_replaced}
 use Rattle.ax_container.proofs.Upserts.{upsert_keeps_soundness}

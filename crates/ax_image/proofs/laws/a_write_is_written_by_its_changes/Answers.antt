@@ -2,7 +2,7 @@ use Rattle.std.proofs.Common.{◌≡◌, ℕ, List, sym, ap, ◌∙◌}
 use Rattle.std.specs.Prelude.{Some}
 use Rattle.ax_tree.specs.declared.tree.Tree.{Tree}
 use Rattle.ax_tree.specs.Document.{document_id}
-use Rattle.ax_lines.specs.Asked.{IsStorable}
+use Rattle.ax_storable.specs.Storable.{IsStorable}
 use Rattle.ax_policy.specs.declared.policy.Policy.{Policy}
 use Rattle.ax_container.proofs.Soundness.{MayBe}
 use Rattle.ax_image.proofs.Writing.{created_by, deleted_by, replaced_by}

@@ -1,14 +1,12 @@
 //! The texts of the documents that a store holds.
 
-ghost use Rattle.std.specs.Prelude.{◌≡◌, true, Err, IfOk};
+ghost use Rattle.std.specs.Prelude.{◌≡◌, ◌≢◌, true, Err, IfOk};
 ghost use Rattle.ax_tree.specs.declared.tree.Tree.{Tree as TreeOf};
 ghost use Rattle.ax_tree.specs.CanonicalText.{canonical_text};
 ghost use Rattle.ax_tree.specs.WellFormed.{IsWellFormed};
-ghost use Rattle.ax_lines.specs.StoredTexts.{IsStoredText};
-ghost use Rattle.ax_lines.specs.declared.refusal.Refusal.{Refusal as RefusalOf};
+ghost use Rattle.ax_storable.specs.StoredTexts.{IsStoredText};
 
-use crate::line::LineFault;
-use crate::read::storable;
+use crate::limits::{Unstorable, storable};
 use ax_text::laws::canonical_text_reads_back;
 use ax_text::{TextFault, read_tree};
 use ax_tree::{Memory, Tree, write_tree};
@@ -73,11 +71,11 @@ fn is_spelled(alloc: Global, tree: &Tree, text: &[u8]) -> Result<bool, Memory>
 }
 
 /// A document that a store can't hold is outside.
-fn outside_unless_memory(fault: LineFault) -> DocumentFault
-    ensures { result ≡ DocumentFault.Outside → (why : RefusalOf) × (fault ≡ LineFault.Refused why) }
+fn outside_unless_memory(fault: Unstorable) -> DocumentFault
+    ensures { result ≡ DocumentFault.Outside → fault ≢ Unstorable.Memory }
 {
     match fault {
-        LineFault::Refused(_) => DocumentFault::Outside,
-        LineFault::Memory => DocumentFault::Memory,
+        Unstorable::Id | Unstorable::Large => DocumentFault::Outside,
+        Unstorable::Memory => DocumentFault::Memory,
     }
 }

@@ -3,7 +3,7 @@ use Rattle.std.proofs.Common.{rules, Bool, ◌&&◌, ◌≡◌, ◌∙◌, ap, L
 use Rattle.std.specs.List.{list_all}
 use Rattle.ax_tree.specs.declared.members.Member.{Member}
 use Rattle.ax_tree.specs.declared.tree.Tree as tree
-use Rattle.ax_lines.specs.ShortNames.{is_short_name, has_short_names}
+use Rattle.ax_storable.specs.ShortNames.{is_short_name, has_short_names}
 
 -- a name beside whether the names in its value are short
 abbrev judged : Member tree.Tree → Member Bool

@@ -1,8 +1,8 @@
 -- What is left decides the whole: all names so far are short.
 use Rattle.std.proofs.Common.{◌≡◌, ◌&&◌, drop}
 use Rattle.std.specs.List.{list_all}
-use Rattle.ax_lines.specs.ShortNames.{is_short_name, has_short_names}
-use Rattle.ax_lines.proofs.short_names.+names.Given as goal
+use Rattle.ax_storable.specs.ShortNames.{is_short_name, has_short_names}
+use Rattle.ax_storable.proofs.short_names.+names.Given as goal
 
 abbrev pub invariant-items_have_short_names-loop-item
     : goal.invariant-items_have_short_names-loop-item

@@ -1,7 +1,7 @@
 ghost use Rattle.std.specs.Prelude.{◌≡◌, ◌&&◌};
 ghost use Rattle.std.specs.List.{list_all};
-ghost use Rattle.ax_lines.specs.ShortNames.{is_short_name as is_short};
-ghost use Rattle.ax_lines.specs.ShortNames.{has_short_names as has_short};
+ghost use Rattle.ax_storable.specs.ShortNames.{is_short_name as is_short};
+ghost use Rattle.ax_storable.specs.ShortNames.{has_short_names as has_short};
 
 use ax_tree::{Items, Members, Text, Tree};
 

@@ -1,0 +1,3 @@
+mod Short
+mod StoredDocuments
+pub mod Within

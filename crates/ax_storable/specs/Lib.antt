@@ -1,0 +1,4 @@
+pub mod IndexLimits
+pub mod ShortNames
+pub mod Storable
+pub mod StoredTexts
