@@ -1,17 +1,16 @@
 //! The batch by which a policy becomes the one now.
 
 ghost use Rattle.std.specs.Prelude.{◌≡◌, ◌≤◌, [], ◌∷◌, ◌++◌, length, if◌then◌else◌, IfOk, OnOk};
-ghost use Rattle.ax_pages.specs.Contents.{meta_bytes};
 ghost use Rattle.ax_policy.specs.Normal.{normal_text};
 ghost use Rattle.ax_policy.specs.Table.{is_text_of, policy_at};
 ghost use Rattle.ax_store.specs.Batch.{batch_parts};
 ghost use Rattle.ax_transform.specs.Parts as spec;
 ghost use Rattle.ax_transform.specs.Parts.{setting_parts, text_part};
-ghost use Rattle.ax_write.specs.Batches.{meta_part};
 
-use ax_pages::numbers::{PLAIN_META, POLICY};
+use ax_pages::numbers::POLICY;
 use ax_policy::{Policy, PolicyTable};
 use ax_store::{Batch, Memory, Part};
+use ax_write::add_meta;
 use std::alloc::Global;
 
 /// The batch by which a policy becomes the one now under a number: its text, unless the number has that text already, and
@@ -77,28 +76,4 @@ fn next_told(next: u32) -> u32
     ensures { result ≡ spec.next_told next }
 {
     if next == 0 { 1 } else { next }
-}
-
-/// Adds the meta: the next number, and the number of the policy now.
-fn add_meta(alloc: Global, batch: &mut Batch, next: u32, number: u8) -> Result<(), Memory>
-    ensures { OnOk result (batch_parts batch.new ≡ batch_parts batch.old ++ meta_part next number ∷ []) }
-{
-    let payload = meta_payload(next, number);
-    batch.add(
-        alloc,
-        Part {
-            kind: PLAIN_META,
-            key: 0,
-            payload: &payload,
-        },
-    )
-}
-
-/// The next number, and the number of the policy now.
-fn meta_payload(next: u32, policy: u8) -> [u8; 8]
-    ensures { result ≡ meta_bytes next policy }
-{
-    let [n0, n1, n2, n3] = next.to_le_bytes();
-    let [p0, p1, p2, p3] = u32::from(policy).to_le_bytes();
-    [n0, n1, n2, n3, p0, p1, p2, p3]
 }

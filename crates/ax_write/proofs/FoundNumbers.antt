@@ -19,7 +19,7 @@ use Rattle.ax_image_pairs.proofs.Finding.{number_by_contents}
 use Rattle.ax_image_pairs.specs.Found.{HasNumber, number_in}
 use Rattle.ax_image_pairs.specs.Indexed.{ContentsHoldAll}
 use Rattle.ax_index.specs.ById.{IsNumberOf}
-use Rattle.ax_lines.specs.StoredTexts.{IsStoredText}
+use Rattle.ax_storable.specs.StoredTexts.{IsStoredText}
 use Rattle.ax_pairs.specs.Index.{IsIndex}
 use Rattle.ax_pairs.specs.PairSets.{PairSet}
 use Rattle.ax_store.specs.Store.{store_contents}

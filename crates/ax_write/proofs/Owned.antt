@@ -21,7 +21,7 @@ use Rattle.ax_image_pairs.specs.Indexed.{ContentsHoldAll}
 use Rattle.ax_image_pairs.proofs.Carried.{creation, deletion, replacement}
 use Rattle.ax_keep.specs.Exchanges.{Exchanges}
 use Rattle.ax_keep.specs.Owned.{Owns}
-use Rattle.ax_lines.specs.Asked.{IsStorable}
+use Rattle.ax_storable.specs.Storable.{IsStorable}
 use Rattle.ax_pages.proofs.LastPart.{same_number}
 use Rattle.ax_policy.specs.Table.{Table, policy_at}
 use Rattle.ax_policy.specs.declared.policy.Policy.{Policy}

@@ -5,7 +5,7 @@ use Rattle.ax_delta.specs.declared.change.Change.{Change}
 use Rattle.ax_index.specs.DeltaSizes.{HaveShortTerms}
 use Rattle.ax_keep.specs.Exchanges.{Exchanges, IsNetted}
 use Rattle.ax_keep.specs.Owned.{Owns}
-use Rattle.ax_lines.specs.Asked.{IsStorable}
+use Rattle.ax_storable.specs.Storable.{IsStorable}
 use Rattle.ax_pair.specs.declared.pair.Pair.{Pair}
 use Rattle.ax_policy.specs.Normal.{normal_tree}
 use Rattle.ax_policy.specs.Policies.{policy_of}

@@ -27,8 +27,8 @@ use Rattle.ax_policy.specs.Rules.{rules_of}
 use Rattle.ax_policy.specs.declared.mode.Mode.{Mode}
 use Rattle.ax_policy.specs.declared.policy.Policy.{Policy}
 use Rattle.ax_tree.specs.Document.{document_id, is_id, member, text_member}
-use Rattle.ax_lines.specs.Asked.{IsStorable}
-use Rattle.ax_lines.specs.IndexLimits.{longest_path}
+use Rattle.ax_storable.specs.Storable.{IsStorable}
+use Rattle.ax_storable.specs.IndexLimits.{longest_path}
 use Rattle.ax_mean.specs.declared.query.Order.{Order}
 use Rattle.ax_mean.specs.declared.query.Step.{Step}
 use Rattle.ax_mean.specs.declared.query.Step.TheVariants.{Item, Name}

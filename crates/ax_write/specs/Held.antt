@@ -3,7 +3,7 @@
 use Rattle.std.specs.Prelude.{◌≡◌, ℕ, List, Option, Some, None}
 use Rattle.std.specs.FinMap as map
 use Rattle.ax_area.specs.Contents.{Stored}
-use Rattle.ax_lines.specs.StoredTexts.{IsStoredText}
+use Rattle.ax_storable.specs.StoredTexts.{IsStoredText}
 use Rattle.ax_pages.specs.Area.{extent_number}
 use Rattle.ax_store.specs.Store.{store_area, store_contents, store_offsets}
 use Rattle.ax_store.specs.declared.fault.StoreFault.{StoreFault}

@@ -7,7 +7,7 @@ use Rattle.ax_area.specs.Parts.{after_parts}
 use Rattle.ax_delta.specs.declared.change.Change.{Change}
 use Rattle.ax_frame.specs.Part.{PartValue}
 use Rattle.ax_index.specs.Plans.{IsPlan}
-use Rattle.ax_lines.specs.StoredTexts.{IsStoredText}
+use Rattle.ax_storable.specs.StoredTexts.{IsStoredText}
 use Rattle.ax_policy.specs.Table.{Table}
 use Rattle.ax_tree.specs.declared.tree.Tree.{Tree}
 use Rattle.ax_write.specs.Batches.{creating_parts, deleting_parts, replacing_parts}

@@ -16,7 +16,7 @@ use Rattle.ax_image_pairs.specs.Found.{number_in}
 use Rattle.ax_image_pairs.specs.Indexed.{ContentsHoldAll, HasAll}
 use Rattle.ax_index.specs.Damage.{FailsBy, TellsPart}
 use Rattle.ax_index.specs.Reads.{KeepsTaken, Reads}
-use Rattle.ax_lines.specs.StoredTexts.{IsStoredText}
+use Rattle.ax_storable.specs.StoredTexts.{IsStoredText}
 use Rattle.ax_pairs.specs.Index.{IsIndex}
 use Rattle.ax_pairs.specs.PairSets.{PairSet}
 use Rattle.ax_policy.specs.Table.{Table, policy_at}
@@ -156,10 +156,12 @@ FullOnly (Err (fault.Store why)) contents = Unit {0}
 
 -- ---- the policies of the table
 
--- each number has the policy that it had, and the number of the policy now is the same
+-- Each number has the policy that it had; the number of the policy now is the same, and so is that below which all documents are
+-- known to be under it.
 pub record SamePolicies (old new : Table) : Type 0 where
   pub policies : (number : ℕ) → policy_at new number ≡ policy_at old number
   pub current : new.current ≡ old.current
+  pub moved : new.moved ≡ old.moved
 
 -- ---- what calls leave
 

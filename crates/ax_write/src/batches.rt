@@ -2,10 +2,10 @@
 
 ghost use Rattle.std.specs.Prelude.{◌≡◌, ◌<◌, ◌≤◌, ◌+◌, ◌^◌, [], ◌∷◌, ◌++◌, length, IfOk, OnOk};
 ghost use Rattle.ax_tree.specs.CanonicalText.{canonical_text};
-ghost use Rattle.ax_lines.specs.Lines.{most_bytes};
+ghost use Rattle.ax_storable.specs.Storable.{most_bytes};
 ghost use Rattle.ax_pages.specs.Contents.{meta_bytes};
 ghost use Rattle.ax_store.specs.Batch.{batch_parts};
-ghost use Rattle.ax_write.specs.Batches.{replacing_parts, creating_parts, deleting_parts, stored_part};
+ghost use Rattle.ax_write.specs.Batches.{creating_parts, deleting_parts, document_part, meta_part, replacing_parts};
 
 use ax_pages::numbers::{GONE, PLAIN_DOCUMENT, PLAIN_META};
 use ax_store::{Batch, Memory, Part};
@@ -22,9 +22,8 @@ pub(crate) fn replacing(
     requires { length (canonical_text tree.now) ≤ most_bytes }
     ensures { IfOk result (λ batch. batch_parts batch ≡ replacing_parts number policy tree.now) }
 {
-    let payload = document_payload(alloc, policy, tree)?;
     let mut batch = Batch::begin(alloc);
-    add_document(alloc, &mut batch, number, payload.as_slice())?;
+    add_document(alloc, &mut batch, number, policy, tree)?;
     Ok(batch)
 }
 
@@ -34,18 +33,9 @@ pub(crate) fn creating(alloc: Global, number: u32, policy: u8, tree: &Tree) -> R
     requires left { number + 1 < 2 ^ 32 }
     ensures { IfOk result (λ batch. batch_parts batch ≡ creating_parts number policy tree.now) }
 {
-    let payload = document_payload(alloc, policy, tree)?;
-    let meta = meta_payload(number + 1, policy);
     let mut batch = Batch::begin(alloc);
-    batch.add(
-        alloc,
-        Part {
-            kind: PLAIN_META,
-            key: 0,
-            payload: &meta,
-        },
-    )?;
-    add_document(alloc, &mut batch, number, payload.as_slice())?;
+    add_meta(alloc, &mut batch, number + 1, policy)?;
+    add_document(alloc, &mut batch, number, policy, tree)?;
     Ok(batch)
 }
 
@@ -65,13 +55,21 @@ pub(crate) fn deleting(alloc: Global, number: u32) -> Result<Batch, Memory>
     Ok(batch)
 }
 
-/// Adds the part of a document.
-fn add_document(alloc: Global, batch: &mut Batch, number: u32, payload: &[u8]) -> Result<(), Memory>
-    requires { length payload.now ≤ 65536 }
-    ensures { OnOk result (batch_parts batch.new ≡ batch_parts batch.old ++ stored_part number payload.now ∷ []) }
+/// Puts behind a batch the part of a document, under the policy of a number.
+pub fn add_document(
+    alloc: Global,
+    batch: &mut Batch,
+    number: u32,
+    policy: u8,
+    tree: &Tree,
+) -> Result<(), Memory>
+    requires { length (canonical_text tree.now) ≤ most_bytes }
+    ensures { OnOk result (batch_parts batch.new ≡ batch_parts batch.old ++ document_part number policy tree.now ∷ []) }
 {
+    let text = document_payload(alloc, policy, tree)?;
     let kind = PLAIN_DOCUMENT;
     let key = number;
+    let payload = text.as_slice();
     let document = Part { kind, key, payload };
     batch.add(alloc, document)
 }
@@ -86,6 +84,21 @@ fn document_payload(alloc: Global, policy: u8, tree: &Tree) -> Result<Vec<u8>, M
         Ok(()) => Ok(payload),
         Err(_) => Err(Memory),
     }
+}
+
+/// Puts behind a batch the meta: the number that the next creation takes, and that of the policy now.
+pub fn add_meta(alloc: Global, batch: &mut Batch, next: u32, policy: u8) -> Result<(), Memory>
+    ensures { OnOk result (batch_parts batch.new ≡ batch_parts batch.old ++ meta_part next policy ∷ []) }
+{
+    let payload = meta_payload(next, policy);
+    batch.add(
+        alloc,
+        Part {
+            kind: PLAIN_META,
+            key: 0,
+            payload: &payload,
+        },
+    )
 }
 
 /// The next number, and the number of the policy now.

@@ -39,7 +39,7 @@ use std::alloc::Global;
 /// `Damaged` where a part of a term page that a plan reads is outside its grammar, with its place. `Memory` where
 /// there is no room for the plan or the frame. The contents are then as before, and so they are after `Disk`,
 /// where a call of the disk failed; the store has then failed.
-pub(crate) fn plan_and_commit<D: Disk, C: PageCache>(
+pub fn plan_and_commit<D: Disk, C: PageCache>(
     alloc: Global,
     store: &mut Store<C>,
     disk: &mut D,

@@ -2,14 +2,14 @@
 
 ghost use Rattle.std.specs.Prelude.{◌≡◌, ◌<◌, ◌≤◌, ◌+◌, ℕ, Some, IsTrue, IfOk, IfSome, false};
 ghost use Rattle.ax_container.specs.Container.{Container, contains};
-ghost use Rattle.ax_lines.specs.Asked.{IsStorable};
+ghost use Rattle.ax_storable.specs.Storable.{IsStorable};
 ghost use Rattle.ax_pool.specs.Frames.{free_count};
 ghost use Rattle.ax_store.specs.Store.{AgreesUnlessFailed, store_contents, store_slots};
 ghost use Rattle.ax_image_pairs.specs.Found.{number_in};
 ghost use Rattle.ax_write.specs.Learnt.{HasPut, Learns, Puts};
 ghost use Rattle.ax_write.specs.Writes.{Finds, HoldsAll, IsFoundIn, IsHeldAs, IsLookedUp, IsTextHeld, Looks};
 
-use crate::held::{HeldDocument, held};
+use crate::held::{HeldDocument, fetch_held};
 use ax_base::Steps;
 use ax_cache::PageCache;
 use ax_disk::Disk;
@@ -123,7 +123,7 @@ pub(crate) fn find_held<D: Disk, C: PageCache, L: Ledger>(
     if number == 0 {
         return Ok(None);
     }
-    match held(alloc, store, disk, number, steps) {
+    match fetch_held(alloc, store, disk, number, steps) {
         Ok(Some(document)) => Ok(Some(FoundDocument { number, document })),
         Ok(None) => Ok(None),
         Err(fault) => Err(fault),

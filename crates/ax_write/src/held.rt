@@ -3,7 +3,7 @@
 ghost use Rattle.std.specs.Prelude.{◌≡◌, ◌+◌, IsTrue, IfOk, IfErr, IfSome, Some, false};
 ghost use Rattle.std.specs.FinMap as map;
 ghost use Rattle.ax_index.specs.Damage.{FailsBy};
-ghost use Rattle.ax_lines.specs.Asked.{IsStorable};
+ghost use Rattle.ax_storable.specs.Storable.{IsStorable};
 ghost use Rattle.ax_pages.specs.Area.{extent_number};
 ghost use Rattle.ax_store.specs.Faults.{HasDiskCause};
 ghost use Rattle.ax_store.specs.Reads.{ReadsStore};
@@ -13,7 +13,7 @@ ghost use Rattle.ax_write.specs.Held.{HasPolicyOf, IsHeld, IsPlaced, IsRead, Tel
 use ax_base::Steps;
 use ax_cache::PageCache;
 use ax_disk::Disk;
-use ax_lines::{DocumentFault, read_document};
+use ax_storable::{DocumentFault, read_document};
 use ax_store::{Page, Store, StoreFault};
 use ax_tree::Tree;
 use std::alloc::Global;
@@ -21,16 +21,16 @@ use std::sync::ledger::Ledger;
 
 /// A document that is held: its tree, and the number of the policy by which it is indexed.
 #[derive(Drop)]
-pub(crate) struct HeldDocument {
-    pub(crate) policy: u8,
-    pub(crate) tree: Tree,
+pub struct HeldDocument {
+    pub policy: u8,
+    pub tree: Tree,
 }
 
 /// The document that is held under a number; `None` exactly where none is. It counts one step.
 ///
 /// `Damaged` where its text is that of no document that a store can hold, with the place of its part. `Disk` where a
 /// read failed, or the store has failed before. `Memory` where there is no room for the text or the tree.
-pub(crate) fn held<D: Disk, C: PageCache, L: Ledger>(
+pub fn fetch_held<D: Disk, C: PageCache, L: Ledger>(
     alloc: Global,
     store: &mut Store<C>,
     disk: &mut D,

@@ -2,7 +2,7 @@
 
 ghost use Rattle.std.specs.Prelude.{IfOk, IfSome, IsSome};
 ghost use Rattle.std.specs.Option.{option_copied};
-ghost use Rattle.ax_lines.specs.Asked.{IsStorable};
+ghost use Rattle.ax_storable.specs.Storable.{IsStorable};
 ghost use Rattle.ax_policy.specs.Table.{policy_at};
 ghost use Rattle.ax_table.specs.TableAgrees.{ArePolicies};
 ghost use Rattle.ax_write.specs.Exchanged.{IsExchanged};
@@ -15,7 +15,7 @@ use std::alloc::Global;
 
 /// The changes that take the pairs of a document as it was, under the policy of a number, out of the index, and put in
 /// those of it as it is to be, under the policy of another. They rise, and their terms are short.
-pub(crate) fn pair_changes(
+pub fn pair_changes(
     alloc: Global,
     table: &PolicyTable,
     number: u32,

@@ -8,7 +8,7 @@
 ghost use Rattle.std.specs.Prelude.{◌≡◌, ◌≤◌, ◌+◌, ℕ, List, Option, None, Some, Ok, Err, IsTrue, IfErr, IfOk, IfSome, true, false, OnOk};
 ghost use Rattle.ax_container.specs.Container.{Container, contains};
 ghost use Rattle.ax_container.specs.Writes.{exchanged, inserted, removed, upserted};
-ghost use Rattle.ax_lines.specs.Asked.{IsStorable};
+ghost use Rattle.ax_storable.specs.Storable.{IsStorable};
 ghost use Rattle.ax_pool.specs.Frames.{free_count};
 ghost use Rattle.ax_store.specs.Store.{AgreesUnlessFailed, store_contents, store_failed, store_slots};
 ghost use Rattle.ax_table.specs.TableAgrees.{TableAgrees};

@@ -23,72 +23,72 @@ returns-then-number-eq0-clause-met g c = λ honest.
     finds_zero c.args.ids.now c.args.id.now (store_contents c.args.store.now) c.in-Ok-Some.field-0 (c.in-Ok-Some.ensures.met honest)
     c.in-Ok-Some.number c.in-Ok-Some.field-0-is c.if-number-eq0.true
 
-pub returns-in-Ok-Some-held-clause-found : goal.returns-in-Ok-Some-held-clause-found
-returns-in-Ok-Some-held-clause-found g c = λ honest before holds.
+pub returns-in-Ok-Some-fetch_held-clause-found : goal.returns-in-Ok-Some-fetch_held-clause-found
+returns-in-Ok-Some-fetch_held-clause-found g c = λ honest before holds.
     found_under (store_contents c.find_number.new.store) before (c.find_number.ensures.ids honest before holds).contents.documents
     c.args.id.now c.in-Ok-Some.number (sym c.in-Ok-Some.field-0-is ∙ c.in-Ok-Some.ensures.number honest before holds)
-    c.in-Ok-Some-held.field-0 c.in-Ok-Some-held.document c.in-Ok-Some-held.field-0-is
-    (c.in-Ok-Some-held.ensures.held (subst IsTrue (sym c.find_number.ensures.honest) honest))
+    c.in-Ok-Some-fetch_held.field-0 c.in-Ok-Some-fetch_held.document c.in-Ok-Some-fetch_held.field-0-is
+    (c.in-Ok-Some-fetch_held.ensures.held (subst IsTrue (sym c.find_number.ensures.honest) honest))
 
-pub returns-in-Ok-Some-held-clause-met : goal.returns-in-Ok-Some-held-clause-met
-returns-in-Ok-Some-held-clause-met g c = λ honest.
+pub returns-in-Ok-Some-fetch_held-clause-met : goal.returns-in-Ok-Some-fetch_held-clause-met
+returns-in-Ok-Some-fetch_held-clause-met g c = λ honest.
     finds_held c.args.ids.now c.args.id.now (store_contents c.args.store.now) c.in-Ok-Some.field-0 (c.in-Ok-Some.ensures.met honest)
     c.in-Ok-Some.number c.in-Ok-Some.field-0-is (store_contents c.find_number.new.store)
-    (same_contents c.args.store.now c.find_number.new.store c.in-Ok-Some.ensures.leaves.reads.same.same) c.in-Ok-Some-held.field-0
-    (c.in-Ok-Some-held.ensures.held (subst IsTrue (sym c.find_number.ensures.honest) honest)) c.in-Ok-Some-held.document
-    c.in-Ok-Some-held.field-0-is
+    (same_contents c.args.store.now c.find_number.new.store c.in-Ok-Some.ensures.leaves.reads.same.same) c.in-Ok-Some-fetch_held.field-0
+    (c.in-Ok-Some-fetch_held.ensures.held (subst IsTrue (sym c.find_number.ensures.honest) honest)) c.in-Ok-Some-fetch_held.document
+    c.in-Ok-Some-fetch_held.field-0-is
 
-pub returns-in-Ok-Some-held-clause-text : goal.returns-in-Ok-Some-held-clause-text
-returns-in-Ok-Some-held-clause-text g c = λ honest.
+pub returns-in-Ok-Some-fetch_held-clause-text : goal.returns-in-Ok-Some-fetch_held-clause-text
+returns-in-Ok-Some-fetch_held-clause-text g c = λ honest.
     held_still (store_contents c.args.store.now) (store_contents c.find_number.new.store) c.in-Ok-Some.number
-    (same_contents c.args.store.now c.find_number.new.store c.in-Ok-Some.ensures.leaves.reads.same.same) c.in-Ok-Some-held.field-0
-    (c.in-Ok-Some-held.ensures.held (subst IsTrue (sym c.find_number.ensures.honest) honest)) c.in-Ok-Some-held.document
-    c.in-Ok-Some-held.field-0-is
+    (same_contents c.args.store.now c.find_number.new.store c.in-Ok-Some.ensures.leaves.reads.same.same) c.in-Ok-Some-fetch_held.field-0
+    (c.in-Ok-Some-fetch_held.ensures.held (subst IsTrue (sym c.find_number.ensures.honest) honest)) c.in-Ok-Some-fetch_held.document
+    c.in-Ok-Some-fetch_held.field-0-is
 
-pub returns-in-Ok-Some-held-clause-ids : goal.returns-in-Ok-Some-held-clause-ids
-returns-in-Ok-Some-held-clause-ids g c = λ honest before holds.
-    holds_still c.find_number.new.store c.held.new.store c.find_number.new.ids before
-    (same_contents c.find_number.new.store c.held.new.store c.held.ensures.reads.same) (c.find_number.ensures.ids honest before holds)
+pub returns-in-Ok-Some-fetch_held-clause-ids : goal.returns-in-Ok-Some-fetch_held-clause-ids
+returns-in-Ok-Some-fetch_held-clause-ids g c = λ honest before holds.
+    holds_still c.find_number.new.store c.fetch_held.new.store c.find_number.new.ids before
+    (same_contents c.find_number.new.store c.fetch_held.new.store c.fetch_held.ensures.reads.same) (c.find_number.ensures.ids honest before holds)
 
-pub returns-in-Ok-Some-held-clause-none : goal.returns-in-Ok-Some-held-clause-none
-returns-in-Ok-Some-held-clause-none g c = λ honest before holds absent.
+pub returns-in-Ok-Some-fetch_held-clause-none : goal.returns-in-Ok-Some-fetch_held-clause-none
+returns-in-Ok-Some-fetch_held-clause-none g c = λ honest before holds absent.
     absurd (never_absent c.args.id.now before c.in-Ok-Some.number (sym c.in-Ok-Some.field-0-is ∙ c.in-Ok-Some.ensures.number honest before holds)
     absent)
 
-pub returns-in-Ok-None-held-clause-found : goal.returns-in-Ok-None-held-clause-found
-returns-in-Ok-None-held-clause-found g c = λ honest before holds.
+pub returns-in-Ok-None-fetch_held-clause-found : goal.returns-in-Ok-None-fetch_held-clause-found
+returns-in-Ok-None-fetch_held-clause-found g c = λ honest before holds.
     absurd (one_under (store_contents c.find_number.new.store) before (c.find_number.ensures.ids honest before holds).contents.documents
     c.args.id.now c.in-Ok-Some.number (sym c.in-Ok-Some.field-0-is ∙ c.in-Ok-Some.ensures.number honest before holds)
-    c.in-Ok-None-held.field-0 c.in-Ok-None-held.field-0-is
-    (c.in-Ok-None-held.ensures.held (subst IsTrue (sym c.find_number.ensures.honest) honest)))
+    c.in-Ok-None-fetch_held.field-0 c.in-Ok-None-fetch_held.field-0-is
+    (c.in-Ok-None-fetch_held.ensures.held (subst IsTrue (sym c.find_number.ensures.honest) honest)))
 
-pub returns-in-Ok-None-held-clause-met : goal.returns-in-Ok-None-held-clause-met
-returns-in-Ok-None-held-clause-met g c = λ honest.
+pub returns-in-Ok-None-fetch_held-clause-met : goal.returns-in-Ok-None-fetch_held-clause-met
+returns-in-Ok-None-fetch_held-clause-met g c = λ honest.
     finds_unheld c.args.ids.now c.args.id.now (store_contents c.args.store.now) c.in-Ok-Some.field-0 (c.in-Ok-Some.ensures.met honest)
     c.in-Ok-Some.number c.in-Ok-Some.field-0-is (store_contents c.find_number.new.store)
-    (same_contents c.args.store.now c.find_number.new.store c.in-Ok-Some.ensures.leaves.reads.same.same) c.in-Ok-None-held.field-0
-    (c.in-Ok-None-held.ensures.held (subst IsTrue (sym c.find_number.ensures.honest) honest)) c.in-Ok-None-held.field-0-is
+    (same_contents c.args.store.now c.find_number.new.store c.in-Ok-Some.ensures.leaves.reads.same.same) c.in-Ok-None-fetch_held.field-0
+    (c.in-Ok-None-fetch_held.ensures.held (subst IsTrue (sym c.find_number.ensures.honest) honest)) c.in-Ok-None-fetch_held.field-0-is
 
-pub returns-in-Ok-None-held-clause-ids : goal.returns-in-Ok-None-held-clause-ids
-returns-in-Ok-None-held-clause-ids g c = λ honest before holds.
-    holds_still c.find_number.new.store c.held.new.store c.find_number.new.ids before
-    (same_contents c.find_number.new.store c.held.new.store c.held.ensures.reads.same) (c.find_number.ensures.ids honest before holds)
+pub returns-in-Ok-None-fetch_held-clause-ids : goal.returns-in-Ok-None-fetch_held-clause-ids
+returns-in-Ok-None-fetch_held-clause-ids g c = λ honest before holds.
+    holds_still c.find_number.new.store c.fetch_held.new.store c.find_number.new.ids before
+    (same_contents c.find_number.new.store c.fetch_held.new.store c.fetch_held.ensures.reads.same) (c.find_number.ensures.ids honest before holds)
 
-pub returns-in-Ok-None-held-clause-none : goal.returns-in-Ok-None-held-clause-none
-returns-in-Ok-None-held-clause-none g c = λ honest before holds absent.
+pub returns-in-Ok-None-fetch_held-clause-none : goal.returns-in-Ok-None-fetch_held-clause-none
+returns-in-Ok-None-fetch_held-clause-none g c = λ honest before holds absent.
     absurd (never_absent c.args.id.now before c.in-Ok-Some.number (sym c.in-Ok-Some.field-0-is ∙ c.in-Ok-Some.ensures.number honest before holds)
     absent)
 
-pub returns-in-Err-held-clause-ids : goal.returns-in-Err-held-clause-ids
-returns-in-Err-held-clause-ids g c = λ honest before holds.
-    holds_still c.find_number.new.store c.held.new.store c.find_number.new.ids before
-    (same_contents c.find_number.new.store c.held.new.store c.held.ensures.reads.same) (c.find_number.ensures.ids honest before holds)
+pub returns-in-Err-fetch_held-clause-ids : goal.returns-in-Err-fetch_held-clause-ids
+returns-in-Err-fetch_held-clause-ids g c = λ honest before holds.
+    holds_still c.find_number.new.store c.fetch_held.new.store c.find_number.new.ids before
+    (same_contents c.find_number.new.store c.fetch_held.new.store c.fetch_held.ensures.reads.same) (c.find_number.ensures.ids honest before holds)
 
-pub returns-in-Err-held-clause-none : goal.returns-in-Err-held-clause-none
-returns-in-Err-held-clause-none g c = λ honest before holds absent.
+pub returns-in-Err-fetch_held-clause-none : goal.returns-in-Err-fetch_held-clause-none
+returns-in-Err-fetch_held-clause-none g c = λ honest before holds absent.
     absurd (never_absent c.args.id.now before c.in-Ok-Some.number (sym c.in-Ok-Some.field-0-is ∙ c.in-Ok-Some.ensures.number honest before holds)
     absent)
 
-pub returns-in-Ok-Some-held-clause-number : goal.returns-in-Ok-Some-held-clause-number
-returns-in-Ok-Some-held-clause-number g c = λ honest.
+pub returns-in-Ok-Some-fetch_held-clause-number : goal.returns-in-Ok-Some-fetch_held-clause-number
+returns-in-Ok-Some-fetch_held-clause-number g c = λ honest.
     subst (IsLookedUp c.args.ids.now c.args.id.now (store_contents c.args.store.now)) c.in-Ok-Some.field-0-is (c.in-Ok-Some.ensures.met honest)
