@@ -13,8 +13,8 @@ use Rattle.ax_excerpt.specs.declared.excerpt.Excerpt.TheViews.{roll-Excerpt, rol
 use Rattle.ax_excerpt_text.specs.Left.{IsReadable}
 use Rattle.ax_excerpt_text.specs.Wholes.{IsNoMap}
 use Rattle.ax_excerpt_text.proofs.ReadLaws.{other_read}
-use Rattle.ax_lines.specs.Asked.{IsStorable}
-use Rattle.ax_lines.specs.StoredTexts.{IsStoredText}
+use Rattle.ax_storable.specs.Storable.{IsStorable}
+use Rattle.ax_storable.specs.StoredTexts.{IsStoredText}
 use Rattle.ax_answer_text.specs.Parts.{AreReadWhole, IsOfDocument, part_of}
 
 all_left : (tree : Tree) → excerpt_of excerpt.Whole tree ≡ tree

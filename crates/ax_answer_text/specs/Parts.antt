@@ -11,7 +11,7 @@ use Rattle.ax_excerpt.specs.Excerpts.{excerpt_of}
 use Rattle.ax_excerpt.specs.Needs.{NeedsAll}
 use Rattle.ax_excerpt.specs.Plain.{are_plain}
 use Rattle.ax_excerpt_text.specs.Wholes.{IsNoMap}
-use Rattle.ax_lines.specs.StoredTexts.{IsStoredText}
+use Rattle.ax_storable.specs.StoredTexts.{IsStoredText}
 
 -- what is read of a document: what an excerpt leaves of it, and all of it without one
 abbrev pub part_of : Option Excerpt → Tree → Tree

@@ -3,7 +3,7 @@
 ghost use Rattle.std.specs.Prelude.{◌≡◌, ◌≢◌, true, Ok, Err, None, Some, IfOk, OnOk, IfSome, IfNone, IsErr};
 ghost use Rattle.ax_tree.specs.CanonicalText.{canonical_text};
 ghost use Rattle.ax_tree.specs.declared.tree.Tree.{Tree as TreeOf};
-ghost use Rattle.ax_lines.specs.Asked.{IsStorable};
+ghost use Rattle.ax_storable.specs.Storable.{IsStorable};
 ghost use Rattle.ax_answer_text.specs.Parts.{is_plain, part_of, AreReadWhole, IsOfDocument};
 
 use crate::text_fault::{Memory, TextFault};
@@ -11,10 +11,10 @@ use ax_answer::Answer;
 use ax_base::Steps;
 use ax_excerpt::{Excerpt, excerpt_for};
 use ax_excerpt_text::read_excerpt;
-use ax_lines::{DocumentFault, read_document};
 use ax_mean::{KeyedRow, Query};
 use ax_sieve::Sieve;
 use ax_skim::after_prefix;
+use ax_storable::{DocumentFault, read_document};
 use ax_text::TreeReader;
 use ax_tree::Tree;
 use std::alloc::Global;
@@ -40,7 +40,7 @@ impl<'a> TextAnswer<'a> {
     ghost use Rattle.std.specs.List.Sorted.{IsStrictlySortedBy};
     ghost use Rattle.ax_tree.specs.CanonicalText.{canonical_text};
     ghost use Rattle.ax_mean.specs.declared.query.Query as queries;
-    ghost use Rattle.ax_lines.specs.Asked.{IsStorable};
+    ghost use Rattle.ax_storable.specs.Storable.{IsStorable};
     ghost use Rattle.ax_result.specs.Answers.{answer_of};
     ghost use Rattle.ax_answer.specs.Gathering.{HasEnough};
     ghost use Rattle.ax_sieve.specs.Conditions.{is_dropped, DropsNothing};

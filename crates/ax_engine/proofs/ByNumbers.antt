@@ -15,7 +15,7 @@ use Rattle.ax_gap.specs.Gaps.{IsRisingList}
 use Rattle.ax_image.specs.Documents.{ContentsHold}
 use Rattle.ax_image.specs.Readable.{newest}
 use Rattle.ax_image_grammar.specs.Payloads.{IsDocumentText}
-use Rattle.ax_lines.specs.Asked.{IsStorable}
+use Rattle.ax_storable.specs.Storable.{IsStorable}
 use Rattle.ax_machine.specs.Querying.{numbered}
 use Rattle.ax_mean.specs.declared.query.Query.{Query}
 use Rattle.ax_pairs.specs.PairSets.{PairSet}

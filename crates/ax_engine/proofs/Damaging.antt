@@ -14,8 +14,8 @@ use Rattle.ax_cache.specs.Pages.{CachedPages}
 use Rattle.ax_disk.specs.model.Moments.{History}
 use Rattle.ax_image.specs.Readable.{newest}
 use Rattle.ax_image_grammar.specs.Payloads.{IsDocumentText}
-use Rattle.ax_lines.specs.Asked.{IsStorable}
-use Rattle.ax_lines.specs.Lines.{most_bytes}
+use Rattle.ax_storable.specs.Storable.{IsStorable}
+use Rattle.ax_storable.specs.Storable.{most_bytes}
 use Rattle.ax_mean.specs.declared.query.Query.{Query}
 use Rattle.ax_store.specs.Kept.{Kept}
 use Rattle.ax_store.specs.ReadAhead.{IsAhead}

@@ -67,7 +67,7 @@ module _ {C : Type 0} (pages : C → CachedPages) (honest : Bool) (documents : D
 -- ---- tables with the same policies
 
 pub same_policies : (table : Table) → SamePolicies table table
-same_policies table = record { policies = λ number. refl; current = refl }
+same_policies table = record { policies = λ number. refl; current = refl; moved = refl }
 
 pub unchanged : (old new : Table) → new ≡ old → SamePolicies old new
 unchanged old new same = subst (SamePolicies old) (sym same) (same_policies old)

@@ -9,7 +9,7 @@ use Rattle.ax_area.specs.Contents.{Contents, Stored}
 use Rattle.ax_delta.specs.Said.{has_number}
 use Rattle.ax_image.specs.Readable.{newest}
 use Rattle.ax_image_grammar.specs.Payloads.{IsDocumentText}
-use Rattle.ax_lines.specs.StoredTexts.{IsStoredText}
+use Rattle.ax_storable.specs.StoredTexts.{IsStoredText}
 use Rattle.ax_mean.specs.declared.query.Query.{Query}
 use Rattle.ax_tree.specs.declared.tree.Tree.{Tree}
 

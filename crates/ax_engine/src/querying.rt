@@ -12,7 +12,7 @@ ghost use Rattle.ax_image.specs.Documents.{ContentsHold};
 ghost use Rattle.ax_image.specs.Readable.{newest};
 ghost use Rattle.ax_image_grammar.specs.Payloads.{IsDocumentText};
 ghost use Rattle.ax_image_pairs.specs.Indexed.{ContentsHoldAll};
-ghost use Rattle.ax_lines.specs.Asked.{IsStorable};
+ghost use Rattle.ax_storable.specs.Storable.{IsStorable};
 ghost use Rattle.ax_lines.specs.declared.refusal.Refusal as refusals;
 ghost use Rattle.ax_machine.specs.Needs.{query_need};
 ghost use Rattle.ax_machine.specs.Querying.{numbered, rows_of, rows_reply, rows_under};

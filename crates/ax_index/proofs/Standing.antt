@@ -1,6 +1,6 @@
 -- A walk over pages takes the number of each pair of the ranges that stands in its page, whatever the other pages hold.
-use Rattle.std.proofs.Common.{◌≡◌, ℕ, ◌<◌, List, [], ◌∷◌, length, true, ◌⊎◌, inl, inr, ⊎_elim, Option, Some, None, subst, sym, ◌∙◌}
-use Rattle.std.specs.Prelude.{IfOk, Result, Ok, Err}
+use Rattle.std.proofs.Common.{◌≡◌, ℕ, ◌<◌, List, [], ◌∷◌, length, true, ◌⊎◌, inl, inr, ⊎_elim, Option, Some, None, subst, ◌∙◌}
+use Rattle.std.specs.Prelude.{IfOk, Result}
 use Rattle.std.specs.declared.cmp.Ordering.TheVariants.{Less}
 use Rattle.ax_pair.specs.declared.pair.Pair.{Pair}
 use Rattle.ax_pair.specs.Order.{pair_cmp}

@@ -1,15 +1,18 @@
 -- What lines were answered, whatever the store holds: one, those of a piece, and all that a run took.
 use Rattle.std.proofs.Common.{◌≡◌, ◌==◌, ◌⊎◌, ◌+◌, ◌<◌, true, false, true≢false, inl, inr, ℕ, Bool, List, [], ◌∷◌, ◌++◌, length}
 use Rattle.std.proofs.Common.{Option, None, Result, Ok, Err, OnOk, OnErr, refl, sym, ap, subst, ◌∙◌, append_assoc, append-nil, length-append, arith}
-use Rattle.std.specs.Prelude.{◌≢◌, IfErr, IfOk}
+use Rattle.std.specs.Prelude.{◌≢◌, IfErr, IfOk, IsTrue}
 use Rattle.std.specs.Io.KnownBytes.{Consumes, IsAtEnd, Keeps}
 use Rattle.std.proofs.KnownBytes.{Appends-nil, Appends-trans, Consumes-kept, Consumes-nil, Consumes-trans}
 use Rattle.ax_area.specs.Contents.{no_contents}
+use Rattle.ax_disk.specs.model.Calls.{Idles}
+use Rattle.ax_disk.specs.model.Image.{Image}
 use Rattle.ax_disk.specs.model.Moments.{History}
+use Rattle.ax_disk.specs.model.Pending.{MayLeave, Unsynced}
 use Rattle.ax_cache.specs.Pages.{CachedPages}
 use Rattle.ax_store.proofs.StoreLemmas.{agrees_says}
-use Rattle.ax_engine.specs.Course.{Course, Standing, standing_of}
-use Rattle.ax_engine.specs.Engine.{Works}
+use Rattle.ax_engine.specs.Course.{Course, IsOpenedFrom, Standing, standing_of}
+use Rattle.ax_engine.specs.Engine.{LeavesLists, Works}
 use Rattle.ax_engine.specs.declared.engine.Engine.{Engine}
 use Rattle.ax_engine.specs.Reading.{IsWritten, Writes, text_of_reply}
 use Rattle.ax_engine.proofs.Applying.{if_ok}
@@ -28,7 +31,7 @@ use Rattle.ax_lines.specs.declared.line.LineFault.TheVariants as line_fault
 use Rattle.ax_lines.specs.declared.refusal.Refusal.{Refusal}
 use Rattle.ax_lines.specs.declared.refusal.Refusal.TheVariants as refusal
 use Rattle.ax_policy.specs.Table.{fresh}
-use Rattle.ax_script.specs.Answered.{AnswersAll, AnswersLast, AnswersLine, AnswersLines, AnswersTaken, TellsAnswered}
+use Rattle.ax_script.specs.Answered.{AnswersAll, AnswersLast, AnswersLine, AnswersLines, AnswersTaken, TellsAnswered, TellsOpened}
 use Rattle.ax_script.specs.Answered.{BreaksFirst, BreaksLine, BreaksLines, BreaksRun, IsDurable}
 use Rattle.ax_script.specs.Progress.{EndsEarly, IsLineFault, StopsBy}
 use Rattle.ax_script.specs.Replies.{AreTextsTo, IsAnswer, IsAnswerTo, IsTextTo, WritesPart, WritesWhole, fault_status, read_status, unread_refusal}
@@ -94,26 +97,28 @@ module _ (honest : Bool) (bytes : List ℕ) (was now : Standing) where
       → (result ≡ Err status.DiskFault → answered ≡ Err fault.Disk)
       → ((extent at : ℕ) → result ≡ Err (status.Damaged extent at) → answered ≡ Err (fault.Damaged extent at))
       → ((why : Fault) → answered ≡ Err why → result ≡ Err (fault_status why)) → answered ≢ Err fault.Sink
-      → IfErr result (λ ended. BreaksLine ended honest bytes was old new)
-  line_broken (Ok done) answered old new is part only disk damage told no_sink = tt
-  line_broken (Err status.WriteFault) (Ok made) old new is part only disk damage told no_sink =
-      (part.0, now, (made, is, part.1), part.2)
-  line_broken (Err status.WriteFault) (Err fault.Disk) old new is part only disk damage told no_sink =
+      → (after : History) → ((made : Reply) → answered ≡ Ok made → IsDurable honest now after)
+      → ((extent at : ℕ) → answered ≡ Err (fault.Damaged extent at) → IsDurable honest was after)
+      → IfErr result (λ ended. BreaksLine ended honest bytes was after old new)
+  line_broken (Ok done) answered old new is part only disk damage told no_sink after left there = tt
+  line_broken (Err status.WriteFault) (Ok made) old new is part only disk damage told no_sink after left there =
+      (part.0, now, (made, is, part.1), part.2, left made refl)
+  line_broken (Err status.WriteFault) (Err fault.Disk) old new is part only disk damage told no_sink after left there =
       absurd (let same : Err status.WriteFault ≡ Err status.DiskFault = told fault.Disk refl in cc)
-  line_broken (Err status.WriteFault) (Err (fault.Damaged extent at)) old new is part only disk damage told no_sink =
+  line_broken (Err status.WriteFault) (Err (fault.Damaged extent at)) old new is part only disk damage told no_sink after left there =
       absurd (let same : Err status.WriteFault ≡ Err (status.Damaged extent at) = told (fault.Damaged extent at) refl in cc)
-  line_broken (Err status.WriteFault) (Err fault.Sink) old new is part only disk damage told no_sink =
+  line_broken (Err status.WriteFault) (Err fault.Sink) old new is part only disk damage told no_sink after left there =
       absurd (no_sink refl)
-  line_broken (Err status.DiskFault) answered old new is part only disk damage told no_sink =
-      sym (subst (λ (a : Result Reply Fault). WritesPart a old new) (disk refl) part)
-  line_broken (Err (status.Damaged extent at)) answered old new is part only disk damage told no_sink =
-      sym (subst (λ (a : Result Reply Fault). WritesPart a old new) (damage extent at refl) part)
-  line_broken (Err status.Done) answered old new is part only disk damage told no_sink = absurd only
-  line_broken (Err status.Words) answered old new is part only disk damage told no_sink = absurd only
-  line_broken (Err status.ReadFault) answered old new is part only disk damage told no_sink = absurd only
-  line_broken (Err (status.Newer version)) answered old new is part only disk damage told no_sink = absurd only
-  line_broken (Err status.Memory) answered old new is part only disk damage told no_sink = absurd only
-  line_broken (Err status.Long) answered old new is part only disk damage told no_sink = absurd only
+  line_broken (Err status.DiskFault) answered old new is part only disk damage told no_sink after left there =
+      (sym (subst (λ (a : Result Reply Fault). WritesPart a old new) (disk refl) part), tt)
+  line_broken (Err (status.Damaged extent at)) answered old new is part only disk damage told no_sink after left there =
+      (sym (subst (λ (a : Result Reply Fault). WritesPart a old new) (damage extent at refl) part), there extent at (damage extent at refl))
+  line_broken (Err status.Done) answered old new is part only disk damage told no_sink after left there = absurd only
+  line_broken (Err status.Words) answered old new is part only disk damage told no_sink after left there = absurd only
+  line_broken (Err status.ReadFault) answered old new is part only disk damage told no_sink after left there = absurd only
+  line_broken (Err (status.Newer version)) answered old new is part only disk damage told no_sink after left there = absurd only
+  line_broken (Err status.Memory) answered old new is part only disk damage told no_sink after left there = absurd only
+  line_broken (Err status.Long) answered old new is part only disk damage told no_sink after left there = absurd only
 
   -- ---- a READ line, whose reply the engine has written
 
@@ -132,36 +137,42 @@ module _ (honest : Bool) (bytes : List ℕ) (was now : Standing) where
       subst (λ (r : Result (Unit {0}) Status). OnOk r (AnswersLine honest bytes was now old new)) (sym same)
       (read_whole told writes.0 old new (read_by_course (line.Read id) writes.0 is writes.1) writes.2)
 
-  read_piece : (told : Result (Unit {0}) Fault) (answer : Result Reply Fault) (old new : Option (List ℕ))
-      → IfOk answer (λ reply. IsAnswer honest bytes reply was now) → IsWritten answer told old new
-      → IfErr (read_status told) (λ ended. BreaksLine ended honest bytes was old new)
-  read_piece (Ok done) answer old new is written = tt
-  read_piece (Err fault.Sink) (Ok made) old new is written = (text_of_reply made, now, (made, is, inl refl), written)
-  read_piece (Err fault.Disk) (Ok made) old new is written = absurd written
-  read_piece (Err (fault.Damaged extent at)) (Ok made) old new is written = absurd written
-  read_piece (Err fault.Sink) (Err why) old new is written =
-      absurd (written.1 (let same : Err fault.Sink ≡ Err why = written.0 in cc))
-  read_piece (Err fault.Disk) (Err why) old new is written = written.2
-  read_piece (Err (fault.Damaged extent at)) (Err why) old new is written = written.2
+  module _ (after : History) where
+    read_piece : (told : Result (Unit {0}) Fault) (answer : Result Reply Fault) (old new : Option (List ℕ))
+        → IfOk answer (λ reply. IsAnswer honest bytes reply was now) → IsWritten answer told old new
+        → (told ≡ Err fault.Sink → IsDurable honest now after)
+        → ((extent at : ℕ) → told ≡ Err (fault.Damaged extent at) → IsDurable honest was after)
+        → IfErr (read_status told) (λ ended. BreaksLine ended honest bytes was after old new)
+    read_piece (Ok done) answer old new is written left there = tt
+    read_piece (Err fault.Sink) (Ok made) old new is written left there =
+        (text_of_reply made, now, (made, is, inl refl), written, left refl)
+    read_piece (Err fault.Disk) (Ok made) old new is written left there = absurd written
+    read_piece (Err (fault.Damaged extent at)) (Ok made) old new is written left there = absurd written
+    read_piece (Err fault.Sink) (Err why) old new is written left there =
+        absurd (written.1 (let same : Err fault.Sink ≡ Err why = written.0 in cc))
+    read_piece (Err fault.Disk) (Err why) old new is written left there = (written.2, tt)
+    read_piece (Err (fault.Damaged extent at)) (Err why) old new is written left there = (written.2, there extent at refl)
 
-  pub read_broken : (id : List ℕ) (result : Result (Unit {0}) Status) (told : Result (Unit {0}) Fault)
-      (old new : Option (List ℕ)) → result ≡ read_status told → line_of bytes ≡ Ok (line.Read id)
-      → Writes (λ answer. IfOk answer (λ reply. Course honest (line.Read id) reply was now)) told old new
-      → IfErr result (λ ended. BreaksLine ended honest bytes was old new)
-  read_broken id result told old new same is writes =
-      subst (λ (r : Result (Unit {0}) Status). IfErr r (λ ended. BreaksLine ended honest bytes was old new)) (sym same)
-      (read_piece told writes.0 old new (read_by_course (line.Read id) writes.0 is writes.1) writes.2)
+    pub read_broken : (id : List ℕ) (result : Result (Unit {0}) Status) (told : Result (Unit {0}) Fault)
+        (old new : Option (List ℕ)) → result ≡ read_status told → line_of bytes ≡ Ok (line.Read id)
+        → Writes (λ answer. IfOk answer (λ reply. Course honest (line.Read id) reply was now)) told old new
+        → (told ≡ Err fault.Sink → IsDurable honest now after)
+        → ((extent at : ℕ) → told ≡ Err (fault.Damaged extent at) → IsDurable honest was after)
+        → IfErr result (λ ended. BreaksLine ended honest bytes was after old new)
+    read_broken id result told old new same is writes left there =
+        subst (λ (r : Result (Unit {0}) Status). IfErr r (λ ended. BreaksLine ended honest bytes was after old new)) (sym same)
+        (read_piece told writes.0 old new (read_by_course (line.Read id) writes.0 is writes.1) writes.2 left there)
 
 -- nothing was written where memory ran out, or too much was taken
-none_by_memory : (honest : Bool) (left : List (List ℕ)) (was : Standing) (written : Option (List ℕ))
-    → BreaksFirst status.Memory honest left was written written
-none_by_memory honest [] was written = ((λ is. cc), refl)
-none_by_memory honest (line ∷ left) was written = refl
+none_by_memory : (honest : Bool) (left : List (List ℕ)) (was : Standing) (after : History) (written : Option (List ℕ))
+    → IsDurable honest was after → BreaksFirst status.Memory honest left was after written written
+none_by_memory honest [] was after written durable = ((λ is. cc), refl, durable)
+none_by_memory honest (line ∷ left) was after written durable = (refl, durable)
 
-none_by_length : (honest : Bool) (left : List (List ℕ)) (was : Standing) (written : Option (List ℕ))
-    → BreaksFirst status.Long honest left was written written
-none_by_length honest [] was written = ((λ is. cc), refl)
-none_by_length honest (line ∷ left) was written = refl
+none_by_length : (honest : Bool) (left : List (List ℕ)) (was : Standing) (after : History) (written : Option (List ℕ))
+    → IsDurable honest was after → BreaksFirst status.Long honest left was after written written
+none_by_length honest [] was after written durable = ((λ is. cc), refl, durable)
+none_by_length honest (line ∷ left) was after written durable = (refl, durable)
 
 -- what stands for what the first line finds, where there is none
 pub nothing_found : Standing
@@ -250,10 +261,10 @@ module _ (honest : Bool) where
     }
 
     -- its serving broke off
-    pub answered_breaks : (head tail : List ℕ) (later : Option (List ℕ)) (ended : Status) → rest ≡ with_newline head ++ tail
-        → IsOneLine head → BreaksLine ended honest (pending ++ head) now new later
-        → BreaksLines ended honest (first ++ piece) was old later
-    answered_breaks head tail later ended split plain broken =
+    pub answered_breaks : (head tail : List ℕ) (later : Option (List ℕ)) (ended : Status) (after : History) → rest ≡ with_newline head ++ tail
+        → IsOneLine head → BreaksLine ended honest (pending ++ head) now after new later
+        → BreaksLines ended honest (first ++ piece) was after old later
+    answered_breaks head tail later ended after split plain broken =
         let others = there_are_lines tail in
         record {
           lines = p.answers.lines ++ (pending ++ head) ∷ others.0;
@@ -277,8 +288,8 @@ module _ (honest : Bool) where
         }
 
     -- the rest could not be kept
-    pub answered_stops : BreaksLines status.Memory honest (first ++ piece) was old new
-    answered_stops =
+    pub answered_stops : (after : History) → IsDurable honest now after → BreaksLines status.Memory honest (first ++ piece) was after old new
+    answered_stops after durable =
         let others = there_are_lines (pending ++ rest) in
         record {
           lines = p.answers.lines ++ others.0;
@@ -294,7 +305,7 @@ module _ (honest : Bool) where
           parted = refl;
           answered = p.answers.answered;
           appended = p.answers.appended;
-          broken = none_by_memory honest others.0 now new;
+          broken = none_by_memory honest others.0 now after new durable;
         }
 
     -- no newline is left
@@ -313,10 +324,11 @@ module _ (honest : Bool) where
   last_answered (byte ∷ bytes) was now old new some answered =
       (answered.0, one_text (byte ∷ bytes) answered.0 was now answered.1, answered.2)
 
-  pub last_broken : (last : List ℕ) (was : Standing) (old new : Option (List ℕ)) (ended : Status) → false ≡ (length last == 0)
-      → BreaksLine ended honest last was old new → BreaksFirst ended honest (last_line last) was old new
-  last_broken [] was old new ended some broken = absurd (true≢false (sym some))
-  last_broken (byte ∷ bytes) was old new ended some broken = broken
+  pub last_broken : (last : List ℕ) (was : Standing) (after : History) (old new : Option (List ℕ)) (ended : Status)
+      → false ≡ (length last == 0) → BreaksLine ended honest last was after old new
+      → BreaksFirst ended honest (last_line last) was after old new
+  last_broken [] was after old new ended some broken = absurd (true≢false (sym some))
+  last_broken (byte ∷ bytes) was after old new ended some broken = broken
 
   pub no_last : (last : List ℕ) (was : Standing) (written : Option (List ℕ)) → last ≡ [] → AnswersLast honest last was was written written
   no_last last was written none =
@@ -383,10 +395,10 @@ module _ (honest : Bool) where
     )
 
     -- the serving of a piece broke off
-    broken_in_piece : (remaining written : Option (List ℕ)) (steps : ℕ) (piece : List ℕ) (ended : Status)
-        → Consumes new.remaining remaining piece → BreaksLines ended honest (pending ++ piece) now new.written written
-        → BreaksRun ended honest was old (streams remaining written steps)
-    broken_in_piece remaining written steps piece ended consumed more = record {
+    broken_in_piece : (remaining written : Option (List ℕ)) (steps : ℕ) (piece : List ℕ) (ended : Status) (after : History)
+        → Consumes new.remaining remaining piece → BreaksLines ended honest (pending ++ piece) now after new.written written
+        → BreaksRun ended honest was after old (streams remaining written steps)
+    broken_in_piece remaining written steps piece ended after consumed more = record {
       taken = p.0.taken ++ piece;
       lines = p.0.lines ++ more.lines;
       last = more.last;
@@ -405,16 +417,16 @@ module _ (honest : Bool) where
 
     pub stopped_answered : (trusted : Bool) (history : History) (remaining written : Option (List ℕ)) (steps : ℕ)
         (piece : List ℕ) (ended : Status) → Consumes new.remaining remaining piece
-        → BreaksLines ended honest (pending ++ piece) now new.written written → StopsBy trusted ended history
+        → BreaksLines ended honest (pending ++ piece) now history new.written written → StopsBy trusted ended history
         → TellsAnswered honest was history ended old (streams remaining written steps)
     stopped_answered trusted history remaining written steps piece status.DiskFault consumed more stops =
-        broken_in_piece remaining written steps piece status.DiskFault consumed more
+        broken_in_piece remaining written steps piece status.DiskFault history consumed more
     stopped_answered trusted history remaining written steps piece status.WriteFault consumed more stops =
-        broken_in_piece remaining written steps piece status.WriteFault consumed more
+        broken_in_piece remaining written steps piece status.WriteFault history consumed more
     stopped_answered trusted history remaining written steps piece (status.Damaged extent at) consumed more stops =
-        broken_in_piece remaining written steps piece (status.Damaged extent at) consumed more
+        inl (broken_in_piece remaining written steps piece (status.Damaged extent at) history consumed more)
     stopped_answered trusted history remaining written steps piece status.Memory consumed more stops =
-        broken_in_piece remaining written steps piece status.Memory consumed more
+        inl (broken_in_piece remaining written steps piece status.Memory history consumed more)
     stopped_answered trusted history remaining written steps piece status.Done consumed more stops = absurd stops
     stopped_answered trusted history remaining written steps piece status.ReadFault consumed more stops = absurd stops
     stopped_answered trusted history remaining written steps piece status.Long consumed more stops = absurd stops
@@ -423,9 +435,9 @@ module _ (honest : Bool) where
 
     -- more was taken than one run takes
     pub taken_long : (remaining : Option (List ℕ)) (after : History) (piece : List ℕ) (n : ℕ) → Consumes new.remaining remaining piece
-        → length piece ≡ n → most_input < count + n
+        → length piece ≡ n → most_input < count + n → IsDurable honest now after
         → TellsAnswered honest was after status.Long old (streams remaining new.written new.steps)
-    taken_long remaining after piece n consumed size more =
+    taken_long remaining after piece n consumed size more durable =
         let others = there_are_lines (pending ++ piece) in
         let enough : most_input < length (p.0.taken ++ piece) = omega (arith, length-append p.0.taken piece, p.1, size, more) in (
           record {
@@ -442,7 +454,7 @@ module _ (honest : Bool) where
             parted = inl refl;
             answered = p.0.answered;
             appended = p.0.moves.appended;
-            broken = none_by_length honest others.0 now new.written;
+            broken = none_by_length honest others.0 now after new.written durable;
           },
           enough,
         )
@@ -468,10 +480,11 @@ module _ (honest : Bool) where
     }
 
     -- the serving of the last piece broke off
-    broken_at_end : (remaining written : Option (List ℕ)) (steps : ℕ) (ended : Status) → Consumes new.remaining remaining []
-        → IsAtEnd remaining → BreaksFirst ended honest (last_line pending) now new.written written
-        → BreaksRun ended honest was old (streams remaining written steps)
-    broken_at_end remaining written steps ended consumed at_end broken = record {
+    broken_at_end : (remaining written : Option (List ℕ)) (steps : ℕ) (ended : Status) (after : History)
+        → Consumes new.remaining remaining [] → IsAtEnd remaining
+        → BreaksFirst ended honest (last_line pending) now after new.written written
+        → BreaksRun ended honest was after old (streams remaining written steps)
+    broken_at_end remaining written steps ended after consumed at_end broken = record {
       taken = p.0.taken;
       lines = p.0.lines;
       last = pending;
@@ -493,7 +506,7 @@ module _ (honest : Bool) where
     pub answered_at_end : (behind : Standing) (trusted : Bool) (history : History) (remaining written : Option (List ℕ)) (steps : ℕ)
         (ended : Status) → Consumes new.remaining remaining [] → IsAtEnd remaining
         → (ended ≡ status.Done → AnswersLast honest pending now behind new.written written)
-        → (ended ≡ status.Done) ⊎ BreaksFirst ended honest (last_line pending) now new.written written
+        → (ended ≡ status.Done) ⊎ BreaksFirst ended honest (last_line pending) now history new.written written
         → (ended ≡ status.Done) ⊎ StopsBy trusted ended history → (ended ≡ status.Done → IsDurable honest behind history)
         → TellsAnswered honest was history ended old (streams remaining written steps)
     answered_at_end behind trusted history remaining written steps status.Done consumed at_end last broken only durable =
@@ -509,21 +522,21 @@ module _ (honest : Bool) where
         absurd stops
     answered_at_end behind trusted history remaining written steps status.DiskFault consumed at_end last (inl is) only durable = absurd cc
     answered_at_end behind trusted history remaining written steps status.DiskFault consumed at_end last (inr broken) only durable =
-        broken_at_end remaining written steps status.DiskFault consumed at_end broken
+        broken_at_end remaining written steps status.DiskFault history consumed at_end broken
     answered_at_end behind trusted history remaining written steps status.WriteFault consumed at_end last (inl is) only durable = absurd cc
     answered_at_end behind trusted history remaining written steps status.WriteFault consumed at_end last (inr broken) only durable =
-        broken_at_end remaining written steps status.WriteFault consumed at_end broken
+        broken_at_end remaining written steps status.WriteFault history consumed at_end broken
     answered_at_end behind trusted history remaining written steps (status.Damaged extent at) consumed at_end last (inl is) only durable = absurd cc
     answered_at_end behind trusted history remaining written steps (status.Damaged extent at) consumed at_end last (inr broken) only durable =
-        broken_at_end remaining written steps (status.Damaged extent at) consumed at_end broken
+        inl (broken_at_end remaining written steps (status.Damaged extent at) history consumed at_end broken)
     answered_at_end behind trusted history remaining written steps status.Memory consumed at_end last (inl is) only durable = absurd cc
     answered_at_end behind trusted history remaining written steps status.Memory consumed at_end last (inr broken) only durable =
-        broken_at_end remaining written steps status.Memory consumed at_end broken
+        inl (broken_at_end remaining written steps status.Memory history consumed at_end broken)
 
-  -- nothing was taken yet
-  nothing_broken : (was : Standing) (remaining written : Option (List ℕ)) (before steps : ℕ) (ended : Status)
-      → ended ≢ status.WriteFault → BreaksRun ended honest was (streams remaining written before) (streams remaining written steps)
-  nothing_broken was remaining written before steps ended other = record {
+  -- nothing was taken yet when the disk failed
+  nothing_broken : (was : Standing) (after : History) (remaining written : Option (List ℕ)) (before steps : ℕ)
+      → BreaksRun status.DiskFault honest was after (streams remaining written before) (streams remaining written steps)
+  nothing_broken was after remaining written before steps = record {
     taken = [];
     lines = [];
     last = [];
@@ -537,13 +550,13 @@ module _ (honest : Bool) where
     parted = inl refl;
     answered = (refl, refl);
     appended = Appends-nil written;
-    broken = (other, refl);
+    broken = ((λ is. cc), refl, tt);
   }
 
   -- no memory was left for what serving takes
   pub memory_answered : (was : Standing) (after : History) (remaining written : Option (List ℕ)) (before steps : ℕ)
       → TellsAnswered honest was after status.Memory (streams remaining written before) (streams remaining written steps)
-  memory_answered was after remaining written before steps = nothing_broken was remaining written before steps status.Memory (λ is. cc)
+  memory_answered was after remaining written before steps = inr (refl, refl)
 
   -- the store was not opened
   pub early_answered : (was : Standing) (after : History) (ended : Status) (remaining written : Option (List ℕ)) (before steps : ℕ) → EndsEarly ended
@@ -553,12 +566,35 @@ module _ (honest : Bool) where
   early_answered was after status.Long remaining written before steps early = absurd early
   early_answered was after status.WriteFault remaining written before steps early = absurd early
   early_answered was after status.Words remaining written before steps early = absurd early
-  early_answered was after status.DiskFault remaining written before steps early =
-      nothing_broken was remaining written before steps status.DiskFault (λ is. cc)
-  early_answered was after (status.Damaged extent at) remaining written before steps early =
-      nothing_broken was remaining written before steps (status.Damaged extent at) (λ is. cc)
+  early_answered was after status.DiskFault remaining written before steps early = nothing_broken was after remaining written before steps
+  early_answered was after (status.Damaged extent at) remaining written before steps early = inr (refl, refl)
   early_answered was after (status.Newer version) remaining written before steps early = (refl, refl)
   early_answered was after status.Memory remaining written before steps early = memory_answered was after remaining written before steps
+
+  module _ (image : Image) (was : Standing) where
+    pub early_opened : (ended : Status) (remaining written : Option (List ℕ)) (before steps : ℕ) → EndsEarly ended
+        → TellsOpened ended honest image was (streams remaining written before) (streams remaining written steps)
+    early_opened status.Done remaining written before steps early = absurd early
+    early_opened status.ReadFault remaining written before steps early = absurd early
+    early_opened status.Long remaining written before steps early = absurd early
+    early_opened status.WriteFault remaining written before steps early = absurd early
+    early_opened status.Words remaining written before steps early = absurd early
+    early_opened status.DiskFault remaining written before steps early = inr (refl, refl)
+    early_opened (status.Damaged extent at) remaining written before steps early = inr (refl, refl)
+    early_opened (status.Newer version) remaining written before steps early = inr (refl, refl)
+    early_opened status.Memory remaining written before steps early = inr (refl, refl)
+
+    -- it was, and the first line finds what opening gave
+    pub opened_tells : (ended : Status) (old new : Streams) → (IsTrue honest → IsOpenedFrom image was) → TellsOpened ended honest image was old new
+    opened_tells status.Done old new opened = opened
+    opened_tells status.ReadFault old new opened = opened
+    opened_tells status.Long old new opened = opened
+    opened_tells status.WriteFault old new opened = opened
+    opened_tells status.Words old new opened = inl opened
+    opened_tells status.DiskFault old new opened = inl opened
+    opened_tells (status.Damaged extent at) old new opened = inl opened
+    opened_tells (status.Newer version) old new opened = inl opened
+    opened_tells status.Memory old new opened = inl opened
 
 -- ---- what lines left
 
@@ -568,3 +604,27 @@ pub works_durable : {C : Type 0} (pages : C → CachedPages) (honest : Bool) (en
 works_durable pages honest engine history works none = λ is.
     let says = agrees_says pages engine.documents.store history ((works.documents none).agrees is) in
     (says.version, says.told, says.says)
+
+-- a call that leaves the disk's lists as they were leaves them so that they say what they said
+pub idle_durable : (honest : Bool) (now : Standing) (old new : History) → (IsTrue honest → Idles old new)
+    → IsDurable honest now old → IsDurable honest now new
+idle_durable honest now old new idles durable = λ is.
+    let told = durable is in (
+      told.0,
+      told.1,
+      record {
+        each = λ image may. told.2.each image (subst (λ (u : Unsynced). MayLeave u image) (idles is).unsynced may);
+      },
+    )
+
+-- where a line meets damage it leaves the disk's lists as they were
+pub damaged_idles : (asked : Line) (extent at : ℕ) (old new : History) → LeavesLists asked (Err (fault.Damaged extent at)) old new → Idles old new
+damaged_idles (line.Create tree) extent at old new idle = idle
+damaged_idles (line.Upsert tree) extent at old new idle = idle
+damaged_idles (line.Replace tree) extent at old new idle = idle
+damaged_idles (line.Delete id) extent at old new idle = idle
+damaged_idles (line.Read id) extent at old new idle = idle
+damaged_idles (line.Query body) extent at old new idle = idle
+
+pub on_ok : {A B : Type 0} (result : Result A B) (P : Type 0) (value : A) → result ≡ Ok value → OnOk result P → P
+on_ok result P value is holds = subst (λ r. OnOk r P) is holds

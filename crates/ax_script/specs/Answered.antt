@@ -60,20 +60,28 @@ pub record AnswersAll (honest : Bool) (was : Standing) (after : History) (old ne
   pub durable : IsDurable honest now after
   pub at_end : IsAtEnd new.remaining
 
+-- the same, unless it is the disk that failed
+abbrev pub IsDurableUnlessDisk : Status → Bool → Standing → History → Type 0
+IsDurableUnlessDisk status.DiskFault honest now after = Unit {0}
+IsDurableUnlessDisk other honest now after = IsDurable honest now after
+
 -- A line was not answered, by why its serving broke off: where the sink failed, a first piece was written of a reply that is
--- the answer to it, and else nothing.
-abbrev pub BreaksLine : Status → Bool → List ℕ → Standing → Option (List ℕ) → Option (List ℕ) → Type 0
-BreaksLine status.WriteFault honest line was old new =
-    (text : List ℕ) × (now : Standing) × IsTextTo honest line text was now × AppendsPrefix old new text
-BreaksLine other honest line was old new = new ≡ old
+-- the answer to it, and what the line left is durable; else nothing was written, and unless the disk failed what was there before
+-- the line is durable.
+abbrev pub BreaksLine : Status → Bool → List ℕ → Standing → History → Option (List ℕ) → Option (List ℕ) → Type 0
+BreaksLine status.WriteFault honest line was after old new =
+    (text : List ℕ) × (now : Standing) × IsTextTo honest line text was now × AppendsPrefix old new text × IsDurable honest now after
+BreaksLine other honest line was after old new = (new ≡ old) × IsDurableUnlessDisk other honest was after
 
 -- the same of the first of the lines that were not answered, where there is one
-abbrev pub BreaksFirst : Status → Bool → List (List ℕ) → Standing → Option (List ℕ) → Option (List ℕ) → Type 0
-BreaksFirst ended honest [] was old new = (ended ≢ status.WriteFault) × (new ≡ old)
-BreaksFirst ended honest (line ∷ lines) was old new = BreaksLine ended honest line was old new
+abbrev pub BreaksFirst : Status → Bool → List (List ℕ) → Standing → History → Option (List ℕ) → Option (List ℕ) → Type 0
+BreaksFirst ended honest [] was after old new =
+    (ended ≢ status.WriteFault) × (new ≡ old) × IsDurableUnlessDisk ended honest was after
+BreaksFirst ended honest (line ∷ lines) was after old new = BreaksLine ended honest line was after old new
 
 -- of the lines among the bytes the first were answered, and the serving of the others broke off
-pub record BreaksLines (ended : Status) (honest : Bool) (bytes : List ℕ) (was : Standing) (old new : Option (List ℕ)) : Type 0 where
+pub record BreaksLines (ended : Status) (honest : Bool) (bytes : List ℕ) (was : Standing) (after : History) (old new : Option (List ℕ))
+    : Type 0 where
   pub lines : List (List ℕ)
   pub last : List ℕ
   pub served : List (List ℕ)
@@ -85,11 +93,11 @@ pub record BreaksLines (ended : Status) (honest : Bool) (bytes : List ℕ) (was 
   pub parted : served ++ left ≡ lines
   pub answered : AreTextsTo honest served text was now
   pub appended : Appends old between text
-  pub broken : BreaksFirst ended honest left now between new
+  pub broken : BreaksFirst ended honest left now after between new
 
 -- A run broke off: of the lines that it took, the last piece among them where the source has ended, the first were
--- answered, and of the next one nothing or a first piece was written.
-pub record BreaksRun (ended : Status) (honest : Bool) (was : Standing) (old new : Streams) : Type 0 where
+-- answered, and of the next one nothing or a first piece was written; what they left is durable, unless the disk failed.
+pub record BreaksRun (ended : Status) (honest : Bool) (was : Standing) (after : History) (old new : Streams) : Type 0 where
   pub taken : List ℕ
   pub lines : List (List ℕ)
   pub last : List ℕ
@@ -103,30 +111,37 @@ pub record BreaksRun (ended : Status) (honest : Bool) (was : Standing) (old new 
   pub parted : (served ++ left ≡ lines) ⊎ (IsAtEnd new.remaining × (served ++ left ≡ lines ++ last_line last))
   pub answered : AreTextsTo honest served text was now
   pub appended : Appends old.written between text
-  pub broken : BreaksFirst ended honest left now between new.written
+  pub broken : BreaksFirst ended honest left now after between new.written
 
 -- nothing was taken, and nothing written
 abbrev pub IsUntouched : Streams → Streams → Type 0
 IsUntouched old new = (new.remaining ≡ old.remaining) × (new.written ≡ old.written)
 
--- What was answered, by how the run ended: at `Done` all lines; where a read failed those whose newline had
--- come, and then what these left is durable; where a call failed, something is damaged or memory ran out, the first of the lines, none of them where the
--- store was not opened; at `Long` those of the pieces before the one with which more was taken than a run takes.
+-- What was answered, by how the run ended: at `Done` all lines; where a read failed those whose newline had come; where a call
+-- failed, something is damaged or memory ran out, the first of the lines; at `Long` those of the pieces before the one with which
+-- more was taken than a run takes. Unless the disk failed, what these left is durable. Where the store was not opened, and where
+-- memory ran out before a line was taken, nothing was taken and nothing written.
 abbrev pub TellsAnswered : Bool → Standing → History → Status → Streams → Streams → Type 0
 TellsAnswered honest was after status.Done old new = AnswersAll honest was after old new
 TellsAnswered honest was after status.ReadFault old new =
     (pending : List ℕ) × (now : Standing) × AnswersTaken honest was now old new pending × IsDurable honest now after
 TellsAnswered honest was after status.Long old new =
-    (broken : BreaksRun status.Long honest was old new) × (most_input < length broken.taken)
-TellsAnswered honest was after status.DiskFault old new = BreaksRun status.DiskFault honest was old new
-TellsAnswered honest was after status.WriteFault old new = BreaksRun status.WriteFault honest was old new
-TellsAnswered honest was after (status.Damaged extent at) old new = BreaksRun (status.Damaged extent at) honest was old new
-TellsAnswered honest was after status.Memory old new = BreaksRun status.Memory honest was old new
+    (broken : BreaksRun status.Long honest was after old new) × (most_input < length broken.taken)
+TellsAnswered honest was after status.DiskFault old new = BreaksRun status.DiskFault honest was after old new
+TellsAnswered honest was after status.WriteFault old new = BreaksRun status.WriteFault honest was after old new
+TellsAnswered honest was after (status.Damaged extent at) old new =
+    BreaksRun (status.Damaged extent at) honest was after old new ⊎ IsUntouched old new
+TellsAnswered honest was after status.Memory old new = BreaksRun status.Memory honest was after old new ⊎ IsUntouched old new
 TellsAnswered honest was after status.Words old new = IsUntouched old new
 TellsAnswered honest was after (status.Newer version) old new = IsUntouched old new
 
 -- ---- what the first line finds
 
--- over an honest disk it is what opening gives of the image; or no line was taken
-abbrev pub IsOpenedOrUntouched : Bool → Image → Standing → Streams → Streams → Type 0
-IsOpenedOrUntouched honest image was old new = (IsTrue honest → IsOpenedFrom image was) ⊎ IsUntouched old new
+-- Over an honest disk it is what opening gives of the image. Where the run ended by what may also end the opening, that may be so
+-- or nothing was taken and nothing written.
+abbrev pub TellsOpened : Status → Bool → Image → Standing → Streams → Streams → Type 0
+TellsOpened status.Done honest image was old new = IsTrue honest → IsOpenedFrom image was
+TellsOpened status.ReadFault honest image was old new = IsTrue honest → IsOpenedFrom image was
+TellsOpened status.Long honest image was old new = IsTrue honest → IsOpenedFrom image was
+TellsOpened status.WriteFault honest image was old new = IsTrue honest → IsOpenedFrom image was
+TellsOpened other honest image was old new = (IsTrue honest → IsOpenedFrom image was) ⊎ IsUntouched old new

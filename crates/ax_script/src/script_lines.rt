@@ -124,7 +124,7 @@ fn serve_piece<D: Disk, C: PageCache, K: Sink, L: Ledger>(
     ensures answered { OnOk result (AnswersLines (D.is_honest disk.old) (pending.old.items ++ piece.now) pending.new.items
         (standing_of engine.old.documents) (standing_of engine.new.documents) (K.written sink.old) (K.written sink.new)) }
     ensures broken { IfErr result (λ status. BreaksLines status (D.is_honest disk.old) (pending.old.items ++ piece.now)
-        (standing_of engine.old.documents) (K.written sink.old) (K.written sink.new)) }
+        (standing_of engine.old.documents) (D.history disk.new (D.attached disk.new)) (K.written sink.old) (K.written sink.new)) }
     ensures policy { policy_now engine.new.documents.table ≡ policy_now engine.old.documents.table }
     ensures sound { IsTrue (D.is_honest disk.old) → (before : Container) → HoldsOver engine.old (D.history disk.old (D.attached disk.old)) before
         → IfErr result BreaksOffWith }
@@ -180,7 +180,7 @@ fn serve_head<D: Disk, C: PageCache, K: Sink, L: Ledger>(
     ensures answered { OnOk result (AnswersLine (D.is_honest disk.old) (pending.old.items ++ head.now)
         (standing_of engine.old.documents) (standing_of engine.new.documents) (K.written sink.old) (K.written sink.new)) }
     ensures broken { IfErr result (λ status. BreaksLine status (D.is_honest disk.old) (pending.old.items ++ head.now)
-        (standing_of engine.old.documents) (K.written sink.old) (K.written sink.new)) }
+        (standing_of engine.old.documents) (D.history disk.new (D.attached disk.new)) (K.written sink.old) (K.written sink.new)) }
     ensures policy { policy_now engine.new.documents.table ≡ policy_now engine.old.documents.table }
     ensures err { IsTrue (D.is_honest disk.old) → (before : Container) → HoldsOver engine.old (D.history disk.old (D.attached disk.old)) before
         → OnErr result (BeginsToServe (IsTrue (D.is_honest disk.old)) before (pending.old.items ++ head.now)
@@ -243,7 +243,7 @@ fn serve_last<D: Disk, C: PageCache, K: Sink, L: Ledger>(
     ensures durable { result ≡ Status.Done
         → IsDurable (D.is_honest disk.old) (standing_of engine.new.documents) (D.history disk.new (D.attached disk.new)) }
     ensures broken { (result ≡ Status.Done) ⊎ BreaksFirst result (D.is_honest disk.old) (last_line pending.now)
-        (standing_of engine.old.documents) (K.written sink.old) (K.written sink.new) }
+        (standing_of engine.old.documents) (D.history disk.new (D.attached disk.new)) (K.written sink.old) (K.written sink.new) }
     ensures kept { (fault : Fault) → engine.new.fault ≡ Some fault → result ≡ fault_status fault }
     ensures disk_counted { CountsDisk result (D.faults disk.old) (D.faults disk.new) }
     ensures sink_cause { result ≡ Status.WriteFault → Rose (K.faults sink.old) (K.faults sink.new) }

@@ -10,7 +10,7 @@ ghost use Rattle.ax_documents.specs.Opening.{IsStore, IsWithin};
 ghost use Rattle.ax_image.specs.Readable.{newest};
 ghost use Rattle.ax_pages.specs.Area.{extent_number};
 ghost use Rattle.ax_engine.specs.Course.{Standing, standing_of};
-ghost use Rattle.ax_script.specs.Answered.{IsOpenedOrUntouched, TellsAnswered};
+ghost use Rattle.ax_script.specs.Answered.{TellsAnswered, TellsOpened};
 ghost use Rattle.ax_script.specs.DiskScript.{RunsOnDisk};
 ghost use Rattle.ax_script.specs.Opening.{IsEndUnlessDisk, Refuses, TellsServed};
 ghost use Rattle.ax_script.specs.Progress.{Ends, EndsServing, IsOfServing};
@@ -79,13 +79,14 @@ pub fn run<D: Disk, S: Source, K: Sink, L: Ledger>(
     // Over any store: at `Done` each line has a reply that is an answer to it by what the engine had behind the line before it,
     // the first of them by what opening gave: by its course, or its own refusal, or that memory ran out. A run that breaks off
     // has answered the first of the lines so, and of the next has written nothing, or where the sink failed a first piece of
-    // such a reply; `Long` has its cause. At `Done`, and where a read of the source failed, each image that a crash may leave over
-    // an honest disk says the contents that the last of these lines left.
+    // such a reply; `Long` has its cause. Unless the disk failed, each image that a crash may leave over an honest disk says the
+    // contents that the last of the lines left of which anything was written. Only where the store was not opened, or memory ran out
+    // before a line was taken, may the first line's finding be tied to nothing, and then no line was taken.
     ensures answered { (was : Standing) × TellsAnswered (D.is_honest disk.old) was
         (D.history disk.new (D.store_named (store_word words.now))) result
         (record { remaining = S.rest source.old; written = K.written sink.old; steps = steps.old })
         (record { remaining = S.rest source.new; written = K.written sink.new; steps = steps.new })
-        × IsOpenedOrUntouched (D.is_honest disk.old) (D.history disk.old (D.store_named (store_word words.now))).reads was
+        × TellsOpened result (D.is_honest disk.old) (D.history disk.old (D.store_named (store_word words.now))).reads was
         (record { remaining = S.rest source.old; written = K.written sink.old; steps = steps.old })
         (record { remaining = S.rest source.new; written = K.written sink.new; steps = steps.new }) }
 
@@ -151,7 +152,7 @@ fn serve<D: Disk, S: Source, K: Sink, L: Ledger>(
         (D.history disk.new (D.store_named (store_word words.now))) result
         (record { remaining = S.rest source.old; written = K.written sink.old; steps = steps.old })
         (record { remaining = S.rest source.new; written = K.written sink.new; steps = steps.new })
-        × IsOpenedOrUntouched (D.is_honest disk.old) (D.history disk.old (D.store_named (store_word words.now))).reads was
+        × TellsOpened result (D.is_honest disk.old) (D.history disk.old (D.store_named (store_word words.now))).reads was
         (record { remaining = S.rest source.old; written = K.written sink.old; steps = steps.old })
         (record { remaining = S.rest source.new; written = K.written sink.new; steps = steps.new }) }
     ensures disk_counted { CountsDisk result (D.faults disk.old) (D.faults disk.new) }

@@ -3,6 +3,7 @@ ghost use Rattle.std.specs.Io.KnownBytes.{Appends};
 ghost use Rattle.ax_base.specs.Appends.{AppendsPrefix};
 ghost use Rattle.ax_faults.specs.Faults.{Rose};
 ghost use Rattle.ax_container.specs.Container.{Container};
+ghost use Rattle.ax_disk.specs.model.Calls.{Idles};
 ghost use Rattle.ax_engine.specs.Course.{standing_of};
 ghost use Rattle.ax_engine.specs.Engine.{CountsAnswer, Holds, HoldsOver, Works};
 ghost use Rattle.ax_engine.specs.PolicyNow.{policy_now};
@@ -81,9 +82,10 @@ pub fn serve_line<D: Disk, C: PageCache, K: Sink, L: Ledger>(
         (standing_of engine.new.documents) (K.written sink.old) (K.written sink.new)) }
     ensures policy { policy_now engine.new.documents.table ≡ policy_now engine.old.documents.table }
 
-    // And a line that is not answered has nothing written, unless the sink failed: then a first piece of such a reply.
-    ensures broken { IfErr result (λ status. BreaksLine status (D.is_honest disk.old) line.now (standing_of engine.old.documents)
-        (K.written sink.old) (K.written sink.new)) }
+    // And a line that is not answered has nothing written, unless the sink failed: then a first piece of such a reply. Unless the
+    // disk failed, what was there before the line, or where the sink failed what it left, is durable.
+    ensures broken { engine.old.fault ≡ None → IfErr result (λ status. BreaksLine status (D.is_honest disk.old) line.now
+        (standing_of engine.old.documents) (D.history disk.new (D.attached disk.new)) (K.written sink.old) (K.written sink.new)) }
 
     // A fault that the engine has answered is answered again, and then nothing is touched.
     ensures again { (fault : Fault) → engine.old.fault ≡ Some fault → (result ≡ Err (fault_status fault))
@@ -135,6 +137,8 @@ fn answer<D: Disk, C: PageCache, L: Ledger>(
     ensures policy { policy_now engine.new.documents.table ≡ policy_now engine.old.documents.table }
     ensures met { IsTrue (D.is_honest disk.old) → engine.old.fault ≡ None
         → IfErr result (λ fault. Meets fault (D.history disk.new (D.attached disk.new)).reads) }
+    ensures lists { IsTrue (D.is_honest disk.old) → engine.old.fault ≡ None → (extent at : ℕ) → result ≡ Err (Fault.Damaged extent at)
+        → Idles (D.history disk.old (D.attached disk.old)) (D.history disk.new (D.attached disk.new)) }
     ensures counted { engine.old.fault ≡ None → CountsAnswer result (D.faults disk.old) (D.faults disk.new) }
     ensures unfaulted { OnOk result (engine.new.fault ≡ engine.old.fault) }
     ensures never_falls { D.faults disk.old ≤ D.faults disk.new }
@@ -177,6 +181,8 @@ fn answer_line<D: Disk, C: PageCache, L: Ledger>(
     ensures policy { policy_now engine.new.documents.table ≡ policy_now engine.old.documents.table }
     ensures met { IsTrue (D.is_honest disk.old) → engine.old.fault ≡ None
         → IfErr result (λ fault. Meets fault (D.history disk.new (D.attached disk.new)).reads) }
+    ensures lists { IsTrue (D.is_honest disk.old) → engine.old.fault ≡ None → (extent at : ℕ) → result ≡ Err (Fault.Damaged extent at)
+        → Idles (D.history disk.old (D.attached disk.old)) (D.history disk.new (D.attached disk.new)) }
     ensures counted { engine.old.fault ≡ None → CountsAnswer result (D.faults disk.old) (D.faults disk.new) }
     ensures unfaulted { OnOk result (engine.new.fault ≡ engine.old.fault) }
     ensures never_falls { D.faults disk.old ≤ D.faults disk.new }

@@ -1,5 +1,5 @@
 -- The line is what is pending and the head.
-use Rattle.std.proofs.Common.{◌≡◌, List, ℕ, [], ◌++◌, OnOk, IsTrue, sym, subst, ◌∙◌, arith}
+use Rattle.std.proofs.Common.{◌≡◌, List, ℕ, [], ◌++◌, OnOk, IsTrue, refl, sym, subst, ◌∙◌, arith}
 use Rattle.std.specs.Prelude.{IfErr}
 use Rattle.ax_container.specs.Container.{Container}
 use Rattle.ax_machine.specs.Run.{Served}
@@ -8,6 +8,7 @@ use Rattle.ax_engine.specs.Course.{standing_of}
 use Rattle.ax_script.specs.Answered.{AnswersLine, BreaksLine}
 use Rattle.ax_script.specs.Progress.{Serves, outlets}
 use Rattle.ax_engine.proofs.Applying.{still_over}
+use Rattle.ax_script.proofs.AnsweredLines.{works_durable}
 use Rattle.ax_script.proofs.Written.{begins_without, empty_list}
 use Rattle.ax_script.proofs.script_lines.serve_head.Goals as goal
 
@@ -63,14 +64,19 @@ returns-clause-answered g c =
 pub returns-then-is_empty-clause-broken : goal.returns-then-is_empty-clause-broken
 returns-then-is_empty-clause-broken g c =
     let P : List ℕ → Type 0 = λ pending. IfErr c.serve_line.result (λ ended. BreaksLine ended (g.D.Disk.is_honest c.args.disk.now)
-    (pending ++ c.args.head.now) (standing_of c.args.engine.now.documents)
+    (pending ++ c.args.head.now) (standing_of c.args.engine.now.documents) (g.D.Disk.history c.serve_line.new.disk (g.D.Disk.attached c.serve_line.new.disk))
     (g.K.Sink.written c.args.sink.now) (g.K.Sink.written c.serve_line.new.sink)) in
     let none : c.args.pending.now.items ≡ [] =
     empty_list c.args.pending.now.items c.args.pending.now.len (omega (arith, c.args.pending.now.ok)) (sym c.if-is_empty.true ∙ c.is_empty.ensures) in
-    subst P (sym none) c.serve_line.ensures.broken
+    subst P (sym none) (c.serve_line.ensures.broken c.requires.unfaulted)
 
 pub returns-in-Err-clause-broken : goal.returns-in-Err-clause-broken
 returns-in-Err-clause-broken g c =
     let P : List ℕ → Type 0 = λ line. BreaksLine c.in-Err.status (g.D.Disk.is_honest c.args.disk.now) line
-    (standing_of c.args.engine.now.documents) (g.K.Sink.written c.args.sink.now) (g.K.Sink.written c.serve_line-served.new.sink) in
-    subst P (c.as_slice.ensures.value ∙ c.in-Ok.ensures.items) c.in-Err.ensures.broken
+    (standing_of c.args.engine.now.documents) (g.D.Disk.history c.serve_line-served.new.disk (g.D.Disk.attached c.serve_line-served.new.disk)) (g.K.Sink.written c.args.sink.now)
+    (g.K.Sink.written c.serve_line-served.new.sink) in
+    subst P (c.as_slice.ensures.value ∙ c.in-Ok.ensures.items) (c.in-Err.ensures.broken c.requires.unfaulted)
+
+pub returns-in_default-clause-broken : goal.returns-in_default-clause-broken
+returns-in_default-clause-broken g c =
+    (refl, works_durable g.C.PageCache.pages (g.D.Disk.is_honest c.args.disk.now) c.args.engine.now _ c.requires.works c.requires.unfaulted)

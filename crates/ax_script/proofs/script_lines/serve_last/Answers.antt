@@ -41,8 +41,8 @@ returns-in-Err-clause-sound g c = λ honest before holds. inr (c.in-Err.ensures.
 
 pub returns-in-Err-clause-broken : goal.returns-in-Err-clause-broken
 returns-in-Err-clause-broken g c =
-    inr (last_broken (g.D.Disk.is_honest c.args.disk.now) c.args.pending.now (standing_of c.args.engine.now.documents) _ _ c.in-Err.status
-    c.if-is_empty.ensures c.in-Err.ensures.broken)
+    inr (last_broken (g.D.Disk.is_honest c.args.disk.now) c.args.pending.now (standing_of c.args.engine.now.documents) _ _ _ c.in-Err.status
+    c.if-is_empty.ensures (c.in-Err.ensures.broken c.requires.unfaulted))
 
 pub returns-in-Ok-clause-durable : goal.returns-in-Ok-clause-durable
 returns-in-Ok-clause-durable g c = λ _.

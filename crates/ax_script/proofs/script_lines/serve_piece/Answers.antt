@@ -5,9 +5,9 @@ use Rattle.ax_lines.specs.ScriptLines.{IsOneLine}
 use Rattle.ax_lines.proofs.Splits.{IsOneLine-append}
 use Rattle.ax_engine.specs.Engine.{HoldsOver, Works}
 use Rattle.ax_engine.specs.Course.{standing_of}
-use Rattle.ax_script.specs.Answered.{AnswersLine, AnswersLines, BreaksLine}
+use Rattle.ax_script.specs.Answered.{AnswersLine, AnswersLines, BreaksLine, IsDurable}
 use Rattle.ax_script.specs.Progress.{outlets, Serves, BeginsToServe, ServesLines, StopsBy}
-use Rattle.ax_script.proofs.AnsweredLines.{AnsweredIn, answered_begins, answered_breaks, answered_ends, answered_goes_on, answered_stops}
+use Rattle.ax_script.proofs.AnsweredLines.{AnsweredIn, answered_begins, answered_breaks, answered_ends, answered_goes_on, answered_stops, works_durable}
 use Rattle.ax_script.proofs.ServedLines.{InPiece, piece_begins, piece_goes_on, piece_fails}
 use Rattle.ax_script.proofs.ServedLines.{piece_ends, piece_breaks_off}
 use Rattle.ax_engine.proofs.Applying.{rests_over}
@@ -144,11 +144,15 @@ returns-in-Ok-clause-answered g c =
 pub returns-in-Err-clause-broken : goal.returns-in-Err-clause-broken
 returns-in-Err-clause-broken g c =
     answered_breaks (g.D.Disk.is_honest c.args.disk.now) _ _ _ _ _ _ _ _ c.lines.invariant.answered c.in-Some.head.now c.in-Some.tail.now _
-    c.in-Err.status c.in-Some.ensures.split c.in-Some.ensures.line
+    c.in-Err.status _ c.in-Some.ensures.split c.in-Some.ensures.line
     (subst (λ honest. BreaksLine c.in-Err.status honest (c.lines.pending.items ++ c.in-Some.head.now)
-    (standing_of c.lines.engine.documents) (g.K.Sink.written c.lines.sink) (g.K.Sink.written c.serve_head.new.sink))
+    (standing_of c.lines.engine.documents) (g.D.Disk.history c.serve_head.new.disk (g.D.Disk.attached c.serve_head.new.disk))
+    (g.K.Sink.written c.lines.sink) (g.K.Sink.written c.serve_head.new.sink))
     c.lines.invariant.honest c.in-Err.ensures.broken)
 
 pub returns-in-Err-put_behind-clause-broken : goal.returns-in-Err-put_behind-clause-broken
 returns-in-Err-put_behind-clause-broken g c =
-    answered_stops (g.D.Disk.is_honest c.args.disk.now) _ _ _ _ _ _ _ _ c.lines.invariant.answered
+    answered_stops (g.D.Disk.is_honest c.args.disk.now) _ _ _ _ _ _ _ _ c.lines.invariant.answered _
+    (subst (λ honest. IsDurable honest (standing_of c.lines.engine.documents) (g.D.Disk.history c.lines.disk (g.D.Disk.attached c.lines.disk)))
+    c.lines.invariant.honest
+    (works_durable g.C.PageCache.pages (g.D.Disk.is_honest c.lines.disk) c.lines.engine _ c.lines.invariant.works c.lines.invariant.unfaulted))

@@ -191,7 +191,7 @@ returns-then-count-eq0-clause-answered g c =
     (g.K.Sink.written c.pieces.sink) (g.K.Sink.written c.serve_last.new.sink) in
     let Broken : List ℕ → Type 0 = λ last. (c.serve_last.result ≡ status.Done)
     ⊎ BreaksFirst c.serve_last.result (g.D.Disk.is_honest c.args.disk.now) (last_line last)
-    (standing_of c.pieces.engine.documents) (g.K.Sink.written c.pieces.sink) (g.K.Sink.written c.serve_last.new.sink) in
+    (standing_of c.pieces.engine.documents) (g.D.Disk.history c.serve_last.new.disk (g.D.Disk.attached c.serve_last.new.disk)) (g.K.Sink.written c.pieces.sink) (g.K.Sink.written c.serve_last.new.sink) in
     answered_at_end (g.D.Disk.is_honest c.args.disk.now) _ _ _ _ _ _ c.pieces.invariant.answered
     (standing_of c.serve_last.new.engine.documents) _ _ _ _ _ c.serve_last.result
     (subst P c.if-count-eq0.true c.in-Ok.ensures.taken)
@@ -203,6 +203,7 @@ returns-then-count-eq0-clause-answered g c =
     c.pieces.invariant.honest (c.serve_last.ensures.answered is)))
     (subst Broken c.as_slice.ensures.value (subst (λ honest. (c.serve_last.result ≡ status.Done)
     ⊎ BreaksFirst c.serve_last.result honest (last_line c.as_slice.result.now) (standing_of c.pieces.engine.documents)
+    (g.D.Disk.history c.serve_last.new.disk (g.D.Disk.attached c.serve_last.new.disk))
     (g.K.Sink.written c.pieces.sink) (g.K.Sink.written c.serve_last.new.sink))
     c.pieces.invariant.honest c.serve_last.ensures.broken))
     c.serve_last.ensures.only
@@ -215,12 +216,16 @@ returns-then-taken-gt-MOST_INPUT-clause-answered g c =
     taken_long (g.D.Disk.is_honest c.args.disk.now) _ _ _ _ _ _ c.pieces.invariant.answered _
     (g.D.Disk.history c.pieces.disk (g.D.Disk.attached c.pieces.disk)) (take c.in-Ok.count c.read_some.new.buf) c.in-Ok.count
     c.in-Ok.ensures.taken (sym c.in-Ok.ensures.bound.1) c.if-taken-gt-MOST_INPUT.true
+    (subst (λ honest. IsDurable honest (standing_of c.pieces.engine.documents) (g.D.Disk.history c.pieces.disk (g.D.Disk.attached c.pieces.disk)))
+    c.pieces.invariant.honest
+    (works_durable g.C.PageCache.pages (g.D.Disk.is_honest c.pieces.disk) c.pieces.engine _ c.pieces.invariant.works c.pieces.invariant.unfaulted))
 
 pub returns-in-Err-clause-answered : goal.returns-in-Err-clause-answered
 returns-in-Err-clause-answered g c =
     stopped_answered (g.D.Disk.is_honest c.args.disk.now) _ _ _ _ _ _ c.pieces.invariant.answered _ _ _ _ _
     (take c.in-Ok.count c.read_some.new.buf) c.in-Err.status c.in-Ok.ensures.taken
     (subst (λ honest. BreaksLines c.in-Err.status honest (c.pieces.pending.items ++ take c.in-Ok.count c.read_some.new.buf)
-    (standing_of c.pieces.engine.documents) (g.K.Sink.written c.pieces.sink) (g.K.Sink.written c.serve_piece-served.new.sink))
+    (standing_of c.pieces.engine.documents) (g.D.Disk.history c.serve_piece-served.new.disk (g.D.Disk.attached c.serve_piece-served.new.disk))
+    (g.K.Sink.written c.pieces.sink) (g.K.Sink.written c.serve_piece-served.new.sink))
     c.pieces.invariant.honest c.in-Err.ensures.broken)
     c.in-Err.ensures.only

@@ -1,5 +1,5 @@
 -- Each way to end, from whether the store was opened.
-use Rattle.std.proofs.Common.{IsTrue, Bool, List, ℕ, inl, inr, refl, subst, sym, ◌∙◌}
+use Rattle.std.proofs.Common.{IsTrue, Bool, List, ℕ, subst, sym, ◌∙◌}
 use Rattle.ax_area.specs.Image.{IsDamaged, IsNewer}
 use Rattle.ax_disk.specs.declared.extent.Extent.TheVariants.{Root}
 use Rattle.ax_disk.specs.model.Moments.{History}
@@ -12,7 +12,7 @@ use Rattle.ax_script.specs.CommandLine.{store_word}
 use Rattle.ax_script.specs.DiskScript.{RunsOnDisk}
 use Rattle.ax_script.specs.Opening.{Refuses}
 use Rattle.ax_script.specs.Progress.{Ends}
-use Rattle.ax_script.proofs.AnsweredLines.{early_answered, nothing_found}
+use Rattle.ax_script.proofs.AnsweredLines.{early_answered, early_opened, nothing_found, opened_tells}
 use Rattle.ax_script.proofs.DiskCounts.{counts_since, fault_counted}
 use Rattle.ax_script.proofs.Endings.{streams, runs_early, complete_of}
 use Rattle.ax_script.proofs.OnDisk.{on_disk_early, on_disk_named}
@@ -70,12 +70,15 @@ returns-in-Ok-clause-answered g c =
           (streams (g.S.Source.rest c.args.source.now) (g.K.Sink.written c.args.sink.now) c.args.steps.now) new)
           (c.serve_opened.ensures.attached ∙ c.in-Ok.ensures.attached)
           (subst H c.open_named.ensures.honest (subst T c.open_named.ensures.steps c.serve_opened.ensures.answered))),
-      inl (λ honest. subst B c.store_name.ensures (c.in-Ok.ensures.begins honest)),
+      opened_tells (g.D.Disk.is_honest c.args.disk.now) _ was c.serve_opened.result _ _ (λ honest. subst B c.store_name.ensures (c.in-Ok.ensures.begins honest)),
     )
 
 pub returns-in-Err-clause-answered : goal.returns-in-Err-clause-answered
-returns-in-Err-clause-answered g c =
-    (nothing_found, early_answered (g.D.Disk.is_honest c.args.disk.now) nothing_found _ c.in-Err.status _ _ _ _ c.in-Err.ensures.only, inr (refl, refl))
+returns-in-Err-clause-answered g c = (
+  nothing_found,
+  early_answered (g.D.Disk.is_honest c.args.disk.now) nothing_found _ c.in-Err.status _ _ _ _ c.in-Err.ensures.only,
+  early_opened (g.D.Disk.is_honest c.args.disk.now) _ nothing_found c.in-Err.status _ _ _ _ c.in-Err.ensures.only,
+)
 
 pub returns-in-Ok-clause-refused : goal.returns-in-Ok-clause-refused
 returns-in-Ok-clause-refused g c = λ honest.

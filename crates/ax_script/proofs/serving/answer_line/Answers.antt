@@ -8,9 +8,12 @@ use Rattle.ax_lines.specs.Answers.{Answers}
 use Rattle.ax_lines.specs.Lines.{line_of}
 use Rattle.ax_engine.proofs.Applying.{still_over}
 use Rattle.ax_engine.specs.Course.{standing_of}
+use Rattle.ax_engine.specs.Engine.{LeavesLists}
+use Rattle.ax_engine.specs.declared.engine.Fault.{Fault}
+use Rattle.ax_engine.specs.declared.reply.Reply.{Reply}
 use Rattle.ax_engine.specs.declared.reply.Reply.TheVariants as given
 use Rattle.ax_script.specs.Replies.{IsAnswer, TellsLine}
-use Rattle.ax_script.proofs.AnsweredLines.{unread_is}
+use Rattle.ax_script.proofs.AnsweredLines.{damaged_idles, unread_is}
 use Rattle.ax_script.proofs.Replying.{tells_applied, tells_unread}
 use Rattle.ax_script.proofs.serving.answer_line.Goals as goal
 
@@ -38,3 +41,9 @@ returns-in-Err-clause-answers g c =
     let P : Refusal → Type 0 = λ why. IsAnswer honest c.args.line.now (given.Refused why) here here in
     subst P (sym c.refusal_of.ensures)
     (unread_is honest c.args.line.now here here c.args.asked c.in-Err.fault c.in-Err.is c.requires.answers c.requires.at_once refl)
+
+pub returns-in-Ok-clause-lists : goal.returns-in-Ok-clause-lists
+returns-in-Ok-clause-lists g c = λ honest unfaulted extent at is.
+    damaged_idles c.in-Ok.asked extent at _ _
+    (subst (λ (r : Result Reply Fault). LeavesLists c.in-Ok.asked r (g.D.Disk.history c.args.disk.now (g.D.Disk.attached c.args.disk.now))
+    (g.D.Disk.history c.apply.new.disk (g.D.Disk.attached c.apply.new.disk))) is (c.apply.ensures.lists honest unfaulted))
