@@ -48,7 +48,7 @@ use std::sync::ledger::Ledger;
 pub enum Fault {
     /// A call on the disk failed, and its count of faults rose.
     Disk,
-    /// The text of a document, or a part of a term page, is outside the format.
+    /// The text of a document or of a policy, or a part of a term page, is outside the format.
     Damaged {
         /// The list in which the part stands: 1 area A, 2 area B.
         extent: u8,
@@ -165,7 +165,7 @@ impl<C: PageCache> Engine<C> {
     /// line is answered by it. `Sink` it answers never: it writes to none.
     ///
     /// `Disk` where a call on the disk failed, and nowhere else does the disk count a fault. `Damaged` where the text of a
-    /// document is none that a document can have, or a part of the index is outside its grammar, over an honest disk with
+    /// document or of a policy is none that it can have, or a part of the index is outside its grammar, over an honest disk with
     /// the place at which its part stands; the disk's lists are then as they were, and so they are at a refusal. A
     /// query answers no rows over such a text that it reads whole, of a document that the index leaves, where it has no WHERE, or
     /// the text is that of a tree that has rows in it, and, with LIMIT, the documents before it are not enough; nor any but those

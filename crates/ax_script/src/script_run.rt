@@ -44,7 +44,7 @@ const CACHED_PARTS: u32 = 256;
 /// may fail, `Newer` exactly where the store is of that later version, and `Damaged` with its place where
 /// the root is damaged, whatever memory there is; the store is then as it was. Else `Damaged` only where the
 /// store is outside the format at that offset, or its policies make no table, and it is as it was, or where a store that
-/// was opened has at that place, as the run has left it, the text of a document that is none, or a part of the index that is
+/// was opened has at that place, as the run has left it, the text of a document or of a policy that is none, or a part of the index that is
 /// outside its grammar; `Done`, `ReadFault`,
 /// `WriteFault` and `Long` only where the store had contents; where it also stands for a container, `Long`
 /// exactly where more than 2^40 bytes were taken, and without a failed call only `Done`, `Memory` or `Long`.

@@ -37,7 +37,7 @@ use std::sync::ledger::Ledger;
 /// which nothing was written, and `WriteFault`: the sink was given some prefix of the reply. A disk fault comes where a
 /// call on the disk failed in this call, or in an earlier one of this engine, and a line served by an engine without a
 /// fault counts a fault of the disk nowhere else. A write fault comes only where one on the sink failed in this call.
-/// Over an honest disk damage comes only where the text of a document is none that a document can have, or a part of the
+/// Over an honest disk damage comes only where the text of a document or of a policy is none that it can have, or a part of the
 /// index is outside its grammar, with the place of its part, and so never over documents that are those of a container
 /// with their index. A fault that the engine has afterwards is the error.
 /// What is written at `Ok` is a reply that the line may have, whatever the documents are; a line that is judged at
