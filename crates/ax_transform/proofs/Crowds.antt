@@ -1,15 +1,10 @@
 -- As many other policies are in use in the table as documents of the container are indexed by: the numbers that are in use and
 -- the texts of the policies are one for one.
-use Rattle.std.proofs.Common.{◌≡◌, inl, inr, ℕ, ◌<◌, ◌≤◌, List, [], ◌∷◌, length, map, Bool, true, false, T, cond, Option, Some, None, refl, sym, ap, ap₂, subst, ◌∙◌, arith}
-use Rattle.std.specs.Prelude.{◌≢◌, ◌&&◌, ◌==◌, not, IsSome, IsTrue, Result, Ok, Err}
+use Rattle.std.proofs.Common.{◌≡◌, inr, ℕ, ◌<◌, ◌≤◌, List, [], ◌∷◌, length, map, Bool, true, false, cond, Option, Some, None, refl, sym, ap, ap₂, subst, ◌∙◌, arith}
+use Rattle.std.specs.Prelude.{◌&&◌, ◌==◌, not, IsSome, IsTrue, Result, Ok, Err}
 use Rattle.std.specs.FinMap as finite
-use Rattle.std.specs.FinMap.{is_sorted}
-use Rattle.std.specs.FinMap.Entries.{below_all}
 use Rattle.std.specs.List.{filter}
-use Rattle.std.specs.Ordering.{nat_cmp, is_eq, is_lt}
 use Rattle.std.specs.Str.{bytes_eq}
-use Rattle.std.specs.declared.cmp.Ordering.{Ordering}
-use Rattle.std.specs.declared.cmp.Ordering.TheVariants.{Less, Equal, Greater}
 use Rattle.std.proofs.lemmas.Bool.{eq-eqb, eqb-true, le-leb, lt-leb, lt-ltb, ltb-true, or_left}
 use Rattle.std.proofs.lemmas.List.Sums.{length-filter}
 use Rattle.ax_area.specs.Contents.{Contents, Stored}
@@ -18,55 +13,15 @@ use Rattle.ax_container.specs.Reindexing.{PolicyRefusal, Policies, distinct, rep
 use Rattle.ax_container.specs.Reindexing as container_of
 use Rattle.ax_image.specs.StandsFor.{AreUnder}
 use Rattle.ax_image_grammar.specs.Table.{IsTaken, policy_text}
-use Rattle.ax_pages.proofs.LastPart.{other_number, same_number}
 use Rattle.ax_policy.specs.Normal.{normal_text}
 use Rattle.ax_policy.specs.Table.{Table, count_at, is_other, is_taken, is_text_of, is_used, most_others, numbers, others_in_use, policy_at}
 use Rattle.ax_policy.specs.declared.policy.Policy.{Policy}
 use Rattle.ax_table.specs.TableAgrees.{TableAgrees, is_under}
 use Rattle.ax_transform.proofs.FewNumbers.{HasFewNumbers}
+use Rattle.ax_transform.proofs.Listed.{found_in}
 use Rattle.ax_transform.proofs.Lists.{In, distinct_no_twice, filter_no_twice, in_distinct, in_filter, in_map, no_more, of_distinct, of_filter}
 use Rattle.ax_transform.proofs.Lists.{of_map, one_counted, some_counted}
 use Rattle.ax_transform.proofs.Numbers.{in_numbers, no_number_twice}
-
--- ---- a document of the list is held under its number
-
-split : (a b : Bool) → T (a && b) → T a × T b
-split true b is = (tt, is)
-split false b is = absurd is
-
-less : (o : Ordering) → T (is_lt o) → o ≡ Less
-less Less is = refl
-less Equal is = absurd is
-less Greater is = absurd is
-
-above : (bound : ℕ) (documents : List (ℕ × Stored)) (d : ℕ × Stored) → T (below_all nat_cmp bound documents) → In d documents
-    → nat_cmp bound d.0 ≡ Less
-above bound [] d below there = absurd there
-above bound (first ∷ documents) d below (inl same) =
-    ap (λ (x : ℕ × Stored). nat_cmp bound x.0) same
-    ∙ less (nat_cmp bound first.0) (split (is_lt (nat_cmp bound first.0)) (below_all nat_cmp bound documents) below).0
-above bound (first ∷ documents) d below (inr later) =
-    above bound documents d (split (is_lt (nat_cmp bound first.0)) (below_all nat_cmp bound documents) below).1 later
-
-never_less : (n : ℕ) → nat_cmp n n ≡ Less → ⊥
-never_less n is =
-    let equal : is_eq (nat_cmp n n) ≡ true = same_number n in
-    let e : true ≡ false = sym equal ∙ ap is_eq is in
-    absurd cc
-
-found_in : (documents : List (ℕ × Stored)) (d : ℕ × Stored) → T (is_sorted nat_cmp documents) → In d documents
-    → finite.find nat_cmp d.0 documents ≡ Some d.1
-found_in [] d sorted there = absurd there
-found_in (first ∷ documents) d sorted (inl same) =
-    ap (λ (x : ℕ × Stored). finite.find nat_cmp x.0 (first ∷ documents)) same
-    ∙ ap (λ b. cond b (Some first.1) (finite.find nat_cmp first.0 documents)) (same_number first.0)
-    ∙ ap (λ (x : ℕ × Stored). Some x.1) (sym same)
-found_in (first ∷ documents) d sorted (inr later) =
-    let parts = split (below_all nat_cmp first.0 documents) (is_sorted nat_cmp documents) sorted in
-    let order : nat_cmp first.0 d.0 ≡ Less = above first.0 documents d parts.0 later in
-    let apart : d.0 ≢ first.0 = λ same. never_less first.0 (sym (ap (nat_cmp first.0) same) ∙ order) in
-    ap (λ b. cond b (Some first.1) (finite.find nat_cmp d.0 documents)) (other_number d.0 first.0 apart)
-    ∙ found_in documents d parts.1 later
 
 -- ---- the texts of the entries are those of the documents' numbers
 

@@ -1,2 +1,5 @@
 pub mod Parts
 pub mod Settings
+pub mod Moving
+pub mod Steps
+pub mod Gathering
