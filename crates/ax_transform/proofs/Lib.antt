@@ -21,3 +21,4 @@ mod Stepped
 mod StepLanding
 mod Looking
 mod Walked
+mod Merged

@@ -3,3 +3,4 @@ pub mod Settings
 pub mod Moving
 pub mod Steps
 pub mod Gathering
+pub mod Merges

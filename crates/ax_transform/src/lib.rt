@@ -6,8 +6,9 @@
 //!
 //! Its contract: over an honest disk and a store that holds a container with its index, `set_policy` makes of it what the
 //! container says of another policy, or is refused as the container says, or changes nothing; `step` puts the first documents
-//! that are under another policy under the one now, with their index, or changes nothing; where the disk fails, and where a
-//! crash comes at any moment, the store is left as before or behind it.
+//! that are under another policy under the one now, with their index, or changes nothing; `merge` writes term pages anew and
+//! changes neither documents nor pairs; where the disk fails, and where a crash comes at any moment, the store is left as
+//! before or behind it.
 #![tactic(auto)]
 
 mod batches;
@@ -15,6 +16,7 @@ mod commit;
 mod counting;
 mod fault;
 mod gather;
+mod merging;
 mod moves;
 mod next;
 mod ordering;
@@ -22,5 +24,6 @@ mod setting;
 mod stepping;
 
 pub use fault::TransformFault;
+pub use merging::merge;
 pub use setting::set_policy;
 pub use stepping::step;
